@@ -37,41 +37,43 @@ pub record Ready (input : Input) (plan : PlanData) (history : History) (sub : �
   pub left : length old.lines.items < length (steps_of (scripts_of (seen_input input)) sub)
   pub shown : IsShown (seen_input input) plan history sub old
 
-pub script-of : (input : Input) (plan : PlanData) (distances : DistanceTable) (sub : ℕ) (held : Vec Call Global)
-    (script : List Call) → BelongTogether (seen_input input) plan distances → sub < length input.homes.items
-    → held ≡ get_or input.scripts.items sub held → script ≡ held.items
-    → script ≡ get_or (seen_input input).scripts sub []
-script-of input plan distances sub held script together low reads same =
-    script-is input.scripts.items sub held script
-    (omega (arith, low, together.valid.scripts, length-map input.scripts.items (λ (s : Vec Call Global). s.items)))
-    reads same
+pub script-of : (input : Input) {plan : PlanData} {distances : DistanceTable} (sub : ℕ) {held : Vec Call Global}
+    {script : List Call} → BelongTogether (seen_input input) plan distances → sub < length input.homes.items
+    → held ≡ get_or input.scripts.items sub held → script ≡ held.items → script ≡ get_or (seen_input input).scripts sub
+    []
+script-of input sub together low reads same =
+    script-is input.scripts.items sub (omega (
+      arith,
+      low,
+      together.valid.scripts,
+      length-map input.scripts.items
+          (λ (s : Vec Call Global). s.items),
+    )) reads same
 
-pub ready : ScriptsAreValid → (input : Input) (plan : PlanData) (distances : DistanceTable) (history : History)
-    (sub : ℕ) (subscriber : Subscriber) (held : Vec Call Global) (script : List Call) (place : ℕ) (default : Call)
-    → BelongTogether (seen_input input) plan distances → sub < length input.homes.items
-    → subscriber.ahead.items ≡ [] → IsSubscriber (seen_input input) plan history sub subscriber
-    → due (setting_over (seen_input input) plan) subscriber.handset ≡ None
-    → held ≡ get_or input.scripts.items sub held → script ≡ held.items → place ≡ length subscriber.lines.items
-    → (place ≡ length script → ⊥)
+pub ready : ScriptsAreValid → (input : Input) {plan : PlanData} {distances : DistanceTable} {history : History}
+    {sub : ℕ} {subscriber : Subscriber} {held : Vec Call Global} {script : List Call} {place : ℕ} (default : Call)
+    → BelongTogether (seen_input input) plan distances → sub < length input.homes.items → subscriber.ahead.items ≡ []
+    → IsSubscriber (seen_input input) plan history sub subscriber
+    → due (setting_over (seen_input input) plan) subscriber.handset ≡ None → held ≡ get_or input.scripts.items sub held
+    → script ≡ held.items → place ≡ length subscriber.lines.items → (place ≡ length script → ⊥)
     → Ready input plan history sub (shown_at subscriber.handset subscriber) script place default
-ready scripts input plan distances history sub subscriber held script place default together low empty far rests reads
+ready scripts input {plan} {history} {sub} {subscriber} {script} {place} default together low empty far rests reads
     same here other =
     let old : Shown = shown_at subscriber.handset subscriber in
     let its : IsShown (seen_input input) plan history sub old =
-    shown-now (seen_input input) plan history sub subscriber empty far in
+    shown-now empty far in
     let script_is : script ≡ get_or (seen_input input).scripts sub [] =
-    script-of input plan distances sub held script together low reads same in
+    script-of input sub together low reads same in
     let steps : length (steps_of (scripts_of (seen_input input)) sub) ≡ length script =
     ap length (steps-are (seen_input input) sub together.valid low)
     ∙ (length-map (get_or (seen_input input).scripts sub []) step_of ∙ ap length (sym script_is)) in
     let short : place < length script = strictly place (length script) (omega (arith, here, its.few, steps)) other in
     let call : Call = get_or script place default in
     record {
-      begin = begins scripts (seen_input input) plan distances history sub old call together low its rests
-          (omega (arith, here, short, ap length script_is))
+      begin = begins scripts together low its rests (omega (arith, here, short, ap length script_is))
           (get_or_default script place default call short
-          ∙ (ap (λ s. get_or s place call) script_is
-          ∙ ap (λ i. get_or (get_or (seen_input input).scripts sub []) i call) here));
+          ∙ (ap (λ s. get_or s place call) script_is ∙ ap
+          (λ i. get_or (get_or (seen_input input).scripts sub []) i call) here));
       short = short;
       few = omega (arith, calls-few (seen_input input) sub together.valid, ap length script_is);
       left = omega (arith, here, short, steps);
@@ -81,27 +83,25 @@ ready scripts input plan distances history sub subscriber held script place defa
     strictly : (a b : ℕ) → a ≤ b → (a ≡ b → ⊥) → a < b
     strictly a b h n = omega (arith, h, n)
 
-pub on-some : {A : Type 0} (P : Type 0) (r : Option A) (x : A) → r ≡ Some x → OnSome r P → P
-on-some P r x e h = subst (λ o. OnSome o P) e h
+pub on-some : {A : Type 0} (P : Type 0) {r : Option A} {x : A} → r ≡ Some x → OnSome r P → P
+on-some P e h = subst (λ o. OnSome o P) e h
 
 pub on-ok : {A E : Type 0} (P : Type 0) (r : Result A E) → is_err r ≡ false → OnOk r P → P
 on-ok P (Ok x) e h = h
 on-ok P (Err x) e h = cc
 
-pub on-err : {A E : Type 0} (P : Type 0) (r : Result A E) → is_err r ≡ true → OnErr r P → P
-on-err P (Ok x) e h = cc
-on-err P (Err x) e h = h
+pub on-err : {A E : Type 0} {P : Type 0} (r : Result A E) → is_err r ≡ true → OnErr r P → P
+on-err (Ok x) e h = cc
+on-err (Err x) e h = h
 
 -- the first visit of the step that is begun
-pub its-visit : (input : Input) (plan : PlanData) (history : History) (sub : ℕ) (old : Shown) (script : List Call)
-    (place subject : ℕ) (default : Call) (result : Option Visit)
-    → Ready input plan history sub old script place default → subject ≡ old.handset.sub
-    → result ≡ slice_get (visits (setting_over (seen_input input) plan) subject
+pub its-visit : {input : Input} {plan : PlanData} {history : History} {sub : ℕ} {old : Shown} {script : List Call}
+    {place subject : ℕ} {default : Call} {result : Option Visit} → Ready input plan history sub old script place default
+    → subject ≡ old.handset.sub → result ≡ slice_get (visits (setting_over (seen_input input) plan) subject
     (begun_steps (seen_input input) sub old ++ step_of (get_or script place default) ∷ [])) (length (own sub history))
     → (visit : Visit) × (result ≡ Some visit)
-its-visit input plan history sub old script place subject default result at same visit =
-    let first = first-visit (setting_over (seen_input input) plan) sub (length (own sub history))
-    (begun_steps (seen_input input) sub old)
+its-visit {input} {plan} {history} {sub} {old} {script} {place} {default} at same visit =
+    let first = first-visit (setting_over (seen_input input) plan) sub (begun_steps (seen_input input) sub old)
     (step_of (get_or script place default)) at.begin.all in (
       first.0,
       visit ∙ (ap (λ s. slice_get (visits (setting_over (seen_input input) plan) s
@@ -110,22 +110,19 @@ its-visit input plan history sub old script place subject default result at same
     )
 
 -- so a write of it is ahead
-pub first-ahead : (input : Input) (plan : PlanData) (history : History) (sub : ℕ) (old : Shown) (script : List Call)
-    (place : ℕ) (default : Call) (begun : HandsetData) (ahead : List Ahead)
+pub first-ahead : {input : Input} {plan : PlanData} {history : History} {sub : ℕ} {old : Shown} {script : List Call}
+    {place : ℕ} {default : Call} {begun : HandsetData} (ahead : List Ahead)
     → Ready input plan history sub old script place default → begun.sub ≡ old.handset.sub
     → StandsForSteps (setting_over (seen_input input) plan) begun
     (begun_steps (seen_input input) sub old ++ step_of (get_or script place default) ∷ []) (length (own sub history))
     → (ahead ≡ [] → HasNone plan begun) → 0 < length ahead
-first-ahead input plan history sub old script place default begun [] at same stands rests =
-    let found = its-visit input plan history sub old script place begun.sub default
-    (slice_get (visits (setting_over (seen_input input) plan) begun.sub
-    (begun_steps (seen_input input) sub old ++ step_of (get_or script place default) ∷ [])) (length (own sub history)))
-    at same refl in
+first-ahead {input} {history} {sub} {old} {script} {place} {default} [] at same stands rests =
+    let found = its-visit at same refl in
     absurd (never-both found.1 ((rests refl).next (seen_input input).homes
     (begun_steps (seen_input input) sub old ++ step_of (get_or script place default) ∷ []) (length (own sub history))
     stands))
   where
     never-both : {r : Option Visit} {v : Visit} → r ≡ Some v → r ≡ None → ⊥
     never-both h e = cc
-first-ahead input plan history sub old script place default begun (write ∷ writes) at same stands rests =
+first-ahead (write ∷ writes) at same stands rests =
     omega arith

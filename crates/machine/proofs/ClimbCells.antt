@@ -15,9 +15,9 @@ use Rattle.machine.specs.Climbs.{rung_of}
 use Rattle.machine.proofs.Climbing.{climb-is}
 
 -- the place of a reader's entries is one of a subscriber's
-pub place-below : NumbersBelow → (plan : PlanData) (node : ℕ) (rung : Rung) → IsMatched plan → node < nodes_of plan
+pub place-below : NumbersBelow → {plan : PlanData} {node : ℕ} {rung : Rung} → IsMatched plan → node < nodes_of plan
     → IsRung plan node rung → entry_place plan node rung < width_of plan
-place-below numbers plan node rung matched inside is =
+place-below numbers {plan} {node} {rung} matched inside is =
     let held = reader-held plan rung.level node rung.index matched is.level inside is.index in
     omega (
       arith,
@@ -26,9 +26,9 @@ place-below numbers plan node rung matched inside is =
     )
 
 -- a climb looks at a cell of the plan
-pub ahead-cell : (plan : PlanData) (climb : Climb) (subs sub : ℕ) → IsMatched plan → IsClimbOver plan climb
-    → sub < subs → IsCell plan subs (Entry climb.level (cluster_at plan climb) sub)
-ahead-cell plan climb subs sub matched over known =
+pub ahead-cell : {plan : PlanData} {climb : Climb} (subs sub : ℕ) → IsMatched plan → IsClimbOver plan climb → sub < subs
+    → IsCell plan subs (Entry climb.level (cluster_at plan climb) sub)
+ahead-cell {plan} {climb} subs sub matched over known =
     record {
       place = (
         over.progress.0,
@@ -38,11 +38,11 @@ ahead-cell plan climb subs sub matched over known =
     }
 
 -- whose word is that at the place of its reader
-pub ahead-word : (plan : PlanData) (cells : CellData) (climb : Climb) (sub count word : ℕ) → GoWith plan cells
+pub ahead-word : {plan : PlanData} {cells : CellData} (climb : Climb) (sub count : ℕ) {word : ℕ} → GoWith plan cells
     → word_beside cells sub (entry_place plan climb.from (rung_past plan climb.from (rung_of climb) count)) ≡ word
-    → word_at plan cells (Entry (climb_past plan climb count).level
-    (cluster_at plan (climb_past plan climb count)) sub) ≡ word
-ahead-word plan cells climb sub count word goes is =
+    → word_at plan cells (Entry (climb_past plan climb count).level (cluster_at plan (climb_past plan climb count)) sub)
+    ≡ word
+ahead-word {plan} {cells} climb sub count {word} goes is =
     subst (λ (c : Climb). word_at plan cells (Entry c.level (cluster_at plan c) sub) ≡ word)
     (sym (climb-is plan climb count))
     (ap (λ w. slice_index cells.words

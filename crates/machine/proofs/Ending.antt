@@ -127,13 +127,11 @@ flat-few f (x ∷ xs) (script ∷ scripts) each within =
     )
 
 -- a caller has no more answers than finds
-pursuit-count : (caller : Seeker) (call : FindCall) (later : List FindCall) (pursuit : Pursuit) (answer : Option Found)
-    → caller.calls ≡ call ∷ later
-    → length (with_pursuit caller call later pursuit answer).answers + length
-    (with_pursuit caller call later pursuit answer).calls
-    ≡ length caller.answers + length caller.calls
-pursuit-count caller call later pursuit None same = refl
-pursuit-count caller call later pursuit (Some found) same =
+pursuit-count : (caller : Seeker) {call : FindCall} {later : List FindCall} (pursuit : Pursuit) (answer : Option Found)
+    → caller.calls ≡ call ∷ later → length (with_pursuit caller call later pursuit answer).answers + length
+    (with_pursuit caller call later pursuit answer).calls ≡ length caller.answers + length caller.calls
+pursuit-count caller pursuit None same = refl
+pursuit-count caller {call} pursuit (Some found) same =
     omega (
       arith,
       length-append caller.answers (record {
@@ -154,7 +152,7 @@ read-count setting caller word = at_calls caller.calls refl
         → length (read_by setting caller calls word).answers + length (read_by setting caller calls word).calls
         ≡ length caller.answers + length caller.calls
     at_calls [] same = refl
-    at_calls (call ∷ later) same = pursuit-count caller call later (after_word setting call caller.pursuit word)
+    at_calls (call ∷ later) same = pursuit-count caller (after_word setting call caller.pursuit word)
         (answer_of (after_word setting call caller.pursuit word)) same
 
 words-count : (setting : Setting) (words : List ℕ) (caller : Seeker)
@@ -177,11 +175,10 @@ caller-few input plan history actor =
     )
 
 -- there is room for the lines of the subscribers, and then for those of the callers
-pub room-for_both : (machine : Machine) (history : History) → HasHistory machine history
-    → length (flat_map (λ (one : Subscriber). one.lines.items) machine.subscribers.items)
-    + length (flat_map (λ (one : Caller). one.lines.items) machine.callers.items)
-    ≤ vec_capacity machine.calls
-room-for_both machine history is =
+pub room-for_both : {machine : Machine} {history : History} → HasHistory machine history
+    → length (flat_map (λ (one : Subscriber). one.lines.items) machine.subscribers.items) + length
+    (flat_map (λ (one : Caller). one.lines.items) machine.callers.items) ≤ vec_capacity machine.calls
+room-for_both {machine} {history} is =
     omega (
       arith,
       flat-few (λ (one : Subscriber). one.lines.items) machine.subscribers.items input.scripts
@@ -218,12 +215,12 @@ room-for_both machine history is =
     input = input_at machine
 
 -- the lines of all actors are those of the outcome
-pub lines-all : (machine : Machine) (history : History) → HasHistory machine history
+pub lines-all : {machine : Machine} {history : History} → HasHistory machine history
     → ((actor : ℕ) → IsDone (setting_at machine) (scripts_at machine) history actor)
-    → flat_map (λ (one : Subscriber). one.lines.items) machine.subscribers.items
-    ++ flat_map (λ (one : Caller). one.lines.items) machine.callers.items
+    → flat_map (λ (one : Subscriber). one.lines.items) machine.subscribers.items ++ flat_map
+    (λ (one : Caller). one.lines.items) machine.callers.items
     ≡ (outcome_in (setting_at machine) (scripts_at machine) history).calls
-lines-all machine history is done =
+lines-all {machine} {history} is done =
     rw (
       flat-each (λ (one : Subscriber). one.lines.items) (sub_lines (setting_at machine) (scripts_at machine) history)
           machine.subscribers.items 0 (λ s d h. lines-done input machine.plan.now history s

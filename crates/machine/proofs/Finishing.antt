@@ -44,11 +44,11 @@ turns-joined setting scripts history actor k n =
     sym (fold-append (after_turn setting scripts) history (replicate k actor) (replicate n actor))
     ∙ ap (after_turns setting scripts history) (replicate-append-replicate k n actor)
 
-pub made-joined : (entry now new : Machine) (history : History) (actor k n : ℕ) → IsSame entry now
-    → HasMade entry now history actor k
-    → HasMade now new (after_turns (setting_at entry) (scripts_at entry) history (replicate k actor)) actor n
+pub made-joined : {entry now new : Machine} {history : History} {actor k n : ℕ} → IsSame entry now
+    → HasMade entry now history actor k → HasMade now new
+    (after_turns (setting_at entry) (scripts_at entry) history (replicate k actor)) actor n
     → HasMade entry new history actor (k + n)
-made-joined entry now new history actor k n same first then =
+made-joined {entry} {now} {new} {history} {actor} {k} {n} same first then =
     let joined : after_turns (setting_at now) (scripts_at now)
     (after_turns (setting_at entry) (scripts_at entry) history (replicate k actor)) (replicate n actor)
     ≡ after_turns (setting_at entry) (scripts_at entry) history (replicate (k + n) actor) =
@@ -63,9 +63,9 @@ made-joined entry now new history actor k n same first then =
     }
 
 -- no turns
-pub made-none : (machine : Machine) (history : History) (actor : ℕ) → HasHistory machine history
+pub made-none : {machine : Machine} {history : History} (actor : ℕ) → HasHistory machine history
     → HasMade machine machine history actor 0
-made-none machine history actor is = record { stands = is; made = omega arith }
+made-none actor is = record { stands = is; made = omega arith }
 
 -- an actor without a visit has none later
 turns-idle : (setting : Setting) (scripts : Scripts) (history : History) (actor : ℕ)
@@ -77,13 +77,12 @@ turns-idle setting scripts history actor none (suc k) =
     ∙ turns-idle setting scripts history actor none k
 
 -- so where it makes none, all turns that are left change nothing
-pub made-idle : (entry now new : Machine) (history : History) (actor k count made : ℕ) → IsSame entry now
-    → HasMade entry now history actor k
-    → HasStridden now new (after_turns (setting_at entry) (scripts_at entry) history (replicate k actor)) actor made
-    → made ≡ 0 → k ≤ count
+pub made-idle : {entry now new : Machine} {history : History} {actor k : ℕ} (count : ℕ) {made : ℕ} → IsSame entry now
+    → HasMade entry now history actor k → HasStridden now new
+    (after_turns (setting_at entry) (scripts_at entry) history (replicate k actor)) actor made → made ≡ 0 → k ≤ count
     → HasHistory new (after_turns (setting_at entry) (scripts_at entry) history (replicate count actor))
     × (length (after_turns (setting_at entry) (scripts_at entry) history (replicate count actor)) ≡ length history + k)
-made-idle entry now new history actor k count made same first then zero_made low =
+made-idle {entry} {now} {new} {history} {actor} {k} count same first then zero_made low =
     let reached : History = after_turns (setting_at entry) (scripts_at entry) history (replicate k actor) in
     let none : next (setting_at entry) (scripts_at entry) reached actor ≡ None =
     sym (ap (λ setting. next setting (scripts_at now) reached actor) (same-setting entry now same)
@@ -101,16 +100,16 @@ made-idle entry now new history actor k count made same first then zero_made low
     )
 
 -- one turn: it makes a visit where one is left
-pub turned-once : (old new : Machine) (history : History) (actor count : ℕ) → count ≤ 1
-    → HasStridden old new history actor count
-    → HasHistory new (after_turn (setting_at old) (scripts_at old) history actor)
+pub turned-once : {old new : Machine} {history : History} {actor : ℕ} (count : ℕ) → count ≤ 1
+    → HasStridden old new history actor count → HasHistory new
+    (after_turn (setting_at old) (scripts_at old) history actor)
     × ((count ≡ 0) ↔ (next (setting_at old) (scripts_at old) history actor ≡ None))
-turned-once old new history actor zero few made =
+turned-once {old} {new} {history} {actor} zero few made =
     let none : next (setting_at old) (scripts_at old) history actor ≡ None = (made.1 refl).0 in (
       subst (HasHistory new) (sym (turn-none (setting_at old) (scripts_at old) history actor none)) made.0.stands,
       (λ same. none, λ same. refl),
     )
-turned-once old new history actor (suc zero) few made = (
+turned-once {old} {history} {actor} (suc zero) few made = (
   made.0.stands,
   (
     λ same. absurd (omega (arith, same)),
@@ -121,14 +120,14 @@ turned-once old new history actor (suc zero) few made = (
     )),
   ),
 )
-turned-once old new history actor (suc (suc count)) few made = absurd (omega (arith, few))
+turned-once (suc (suc count)) few made = absurd (omega (arith, few))
 
 -- turns that make visits leave fewer
-pub visits-fewer : VisitsAreFew → (old new : Machine) (history : History) (actor count : ℕ) → IsSame old new
+pub visits-fewer : VisitsAreFew → {old new : Machine} {history : History} {actor count : ℕ} → IsSame old new
     → HasHistory old history → HasMade old new history actor count → 0 < count
-    → most_visits (setting_at new) (input_at new).scripts - length new.order.items
-    < most_visits (setting_at old) (input_at old).scripts - length old.order.items
-visits-fewer few old new history actor count same is made some =
+    → most_visits (setting_at new) (input_at new).scripts - length new.order.items < most_visits (setting_at old)
+    (input_at old).scripts - length old.order.items
+visits-fewer few {old} {new} {history} {actor} {count} same is made some =
     let after : History = after_turns (setting_at old) (scripts_at old) history (replicate count actor) in
     let most : most_visits (setting_at new) (input_at new).scripts
     ≡ most_visits (setting_at old) (input_at old).scripts =
@@ -192,13 +191,13 @@ turns-next setting scripts history actor =
     ∙ ap (λ a. after_turns setting scripts (after_turns setting scripts history (turns_of setting scripts actor))
     (replicate (most_turns setting scripts a) a)) (let e : 0 + actor ≡ actor = omega arith in e)))
 
-pub turns-following : (entry now new : Machine) (history : History) (actor : ℕ) → IsSame entry now
+pub turns-following : (entry now : Machine) {new : Machine} (history : History) (actor : ℕ) → IsSame entry now
     → HasHistory new (after_turns (setting_at now) (scripts_at now)
     (after_turns (setting_at entry) (scripts_at entry) history (turns_of (setting_at entry) (scripts_at entry) actor))
     (replicate (most_turns (setting_at now) (scripts_at now) actor) actor))
     → HasHistory new (after_turns (setting_at entry) (scripts_at entry) history
     (turns_of (setting_at entry) (scripts_at entry) (suc actor)))
-turns-following entry now new history actor same goes =
+turns-following entry now {new} history actor same goes =
     subst (HasHistory new)
     (ap (λ setting. after_turns setting (scripts_at now) reached
     (replicate (most_turns setting (scripts_at now) actor) actor)) (same-setting entry now same)
@@ -228,10 +227,10 @@ turns-all machine valid = ap (turns_of (setting_at machine) (scripts_at machine)
     )
 
 -- and so many visits more
-pub counted-once : (old new : Machine) (history : History) (actor count : ℕ) → count ≤ 1
-    → HasStridden old new history actor count
-    → length (after_turns (setting_at old) (scripts_at old) history (replicate 1 actor)) ≡ length history + count
-counted-once old new history actor zero few made =
+pub counted-once : {old new : Machine} {history : History} {actor : ℕ} (count : ℕ) → count ≤ 1
+    → HasStridden old new history actor count → length (after_turns (setting_at old) (scripts_at old) history
+    (replicate 1 actor)) ≡ length history + count
+counted-once {old} {history} {actor} zero few made =
     ap length (turn-none (setting_at old) (scripts_at old) history actor (made.1 refl).0) ∙ omega arith
-counted-once old new history actor (suc zero) few made = made.0.made
-counted-once old new history actor (suc (suc count)) few made = absurd (omega (arith, few))
+counted-once (suc zero) few made = made.0.made
+counted-once (suc (suc count)) few made = absurd (omega (arith, few))

@@ -29,10 +29,10 @@ use Rattle.machine.proofs.Looking.{key-wanted}
 use Rattle.directory.specs.HistoryLaws.{next-caller}
 
 -- the ticket of the first look
-pub first-is : (first next ticket : ℕ) (seen : List ℕ) (kept : Option ℕ)
+pub first-is : (first : ℕ) {next : ℕ} (ticket : ℕ) (seen : List ℕ) {kept : Option ℕ}
     → kept ≡ (if nat_lt first next then Some (slice_index seen first) else None) → length seen ≡ next → first ≤ next
     → unwrap_or kept ticket ≡ slice_index (seen ++ ticket ∷ []) first
-first-is first next ticket seen kept same count low = at_test (nat_lt first next) refl same
+first-is first {next} ticket seen {kept} same count low = at_test (nat_lt first next) refl same
   where
     at_test : (b : Bool) → nat_lt first next ≡ b → kept ≡ (if b then Some (slice_index seen first) else None)
         → unwrap_or kept ticket ≡ slice_index (seen ++ ticket ∷ []) first
@@ -44,15 +44,15 @@ first-is first next ticket seen kept same count low = at_test (nat_lt first next
         ap (λ o. unwrap_or o ticket) h ∙ sym (get_or_push seen ticket 0 first at)
 
 -- a caller by its parts
-pub by-parts : (input : Contents) (plan : PlanData) (history : History) (actor : ℕ) (seeker : Seeker)
-    (seen : List ℕ) (caller : Caller)
-    → caller_in (setting_over input plan) (scripts_of input) history actor ≡ seeker → tickets actor history ≡ seen
-    → IsWalking plan seeker.calls seeker.pursuit caller.walk → caller.first ≡ first_ticket seeker seen
-    → caller.lines.items ≡ caller_lines (setting_over input plan) (scripts_of input) history actor
-    → seeker.calls ≡ drop (length caller.lines.items) (finds_of (setting_over input plan) (scripts_of input) actor)
+pub by-parts : (input : Contents) (plan : PlanData) (history : History) (actor : ℕ) {seeker : Seeker} {seen : List ℕ}
+    (caller : Caller) → caller_in (setting_over input plan) (scripts_of input) history actor ≡ seeker
+    → tickets actor history ≡ seen → IsWalking plan seeker.calls seeker.pursuit caller.walk
+    → caller.first ≡ first_ticket seeker seen → caller.lines.items ≡ caller_lines (setting_over input plan)
+    (scripts_of input) history actor → seeker.calls ≡ drop (length caller.lines.items)
+    (finds_of (setting_over input plan) (scripts_of input) actor)
     → length (finds_of (setting_over input plan) (scripts_of input) actor) ≤ vec_capacity caller.lines
     → IsCaller input plan history actor caller
-by-parts input plan history actor seeker seen caller e t walks first lines left room =
+by-parts input plan history actor {seen} caller e t walks first lines left room =
     record {
       walk = subst (λ (s : Seeker). IsWalking plan s.calls s.pursuit caller.walk) (sym e) walks;
       first = first ∙ (ap (λ s. first_ticket s seen) (sym e)
@@ -75,14 +75,13 @@ pub record Looks (input : Contents) (plan : PlanData) (history : History) (actor
   pub its : call_of next_walk ≡ call
   pub seen : tickets actor (history ++ look_by actor key ∷ []) ≡ tickets actor history ++ length history ∷ []
 
-pub looks : TicketsGrow → (input : Contents) (plan : PlanData) (history : History) (actor : ℕ) (caller : Caller)
-    (walk next_walk : WalkData) (key : Key) (word : ℕ) → length input.homes ≤ actor
+pub looks : TicketsGrow → {input : Contents} {plan : PlanData} {history : History} {actor : ℕ} {caller : Caller}
+    {walk : WalkData} (next_walk : WalkData) {key : Key} {word : ℕ} → length input.homes ≤ actor
     → IsCaller input plan history actor caller → caller.walk ≡ Some walk
-    → key_of (call_of walk) (pursuit_of plan walk) ≡ Some key
-    → word ≡ cell (setting_over input plan) history key → call_of next_walk ≡ call_of walk
-    → pursuit_of plan next_walk ≡ after_word (setting_of plan []) (call_of walk) (pursuit_of plan walk) word
-    → Looks input plan history actor caller key next_walk
-looks grow input plan history actor caller walk next_walk key word high its held wants reads same saw =
+    → key_of (call_of walk) (pursuit_of plan walk) ≡ Some key → word ≡ cell (setting_over input plan) history key
+    → call_of next_walk ≡ call_of walk → pursuit_of plan next_walk ≡ after_word (setting_of plan []) (call_of walk)
+    (pursuit_of plan walk) word → Looks input plan history actor caller key next_walk
+looks grow {input} {plan} {history} {actor} {caller} {walk} next_walk {key} high its held wants reads same saw =
     let seeker : Seeker = caller_in (setting_over input plan) (scripts_of input) history actor in
     let at : Walks plan seeker.calls seeker.pursuit walk =
     walking plan seeker.calls seeker.pursuit caller.walk walk held its.walk in
@@ -91,7 +90,7 @@ looks grow input plan history actor caller walk next_walk key word high its held
       later = at.later;
       calls_are = at.calls_are;
       turn = next-caller (setting_over input plan) (scripts_of input) history actor high
-          ∙ ap (option_map (look_by actor)) (sym (key-wanted plan seeker walk at) ∙ wants);
+          ∙ ap (option_map (look_by actor)) (sym (key-wanted seeker at) ∙ wants);
       pursuit = saw
           ∙ (ap (after_word (setting_of plan []) (call_of walk) (pursuit_of plan walk)) reads
           ∙ (ap (λ s. after_word (setting_of plan []) (call_of walk) s (cell (setting_over input plan) history key))
@@ -104,14 +103,15 @@ looks grow input plan history actor caller walk next_walk key word high its held
     }
 
 -- the find goes on
-pub looked-on : CallersRead → CallerLinesGrow → CallersCount → (input : Contents) (plan : PlanData) (cells : CellData)
-    (history : History) (actor ticket : ℕ) (old new : Caller) (key : Key) (walk : WalkData) → length input.homes ≤ actor
+pub looked-on : CallersRead → CallerLinesGrow → CallersCount → {input : Contents} {plan : PlanData} {cells : CellData}
+    {history : History} {actor ticket : ℕ} {old new : Caller} {key : Key} {walk : WalkData} → length input.homes ≤ actor
     → Sees input plan cells history → length history ≡ ticket → IsCaller input plan history actor old
     → Looks input plan history actor old key walk → IsWalkOver plan walk → None ≡ answer_of (pursuit_of plan walk)
     → new ≡ record old { walk = Some walk; first = Some (unwrap_or old.first ticket) }
-    → (k : Key) × (next (setting_over input plan) (scripts_of input) history actor ≡ Some (look_by actor k))
-    × IsCaller input plan (history ++ look_by actor k ∷ []) actor new
-looked-on read grow count input plan cells history actor ticket old new key walk high sees place its at goes none same =
+    → (k : Key) × (next (setting_over input plan) (scripts_of input) history actor ≡ Some (look_by actor k)) × IsCaller
+    input plan (history ++ look_by actor k ∷ []) actor new
+looked-on read grow count {input} {plan} {history} {actor} {ticket} {old} {key} {walk} high sees place its at goes none
+    same =
     let setting : Setting = setting_over input plan in
     let scripts : Scripts = scripts_of input in
     let seeker : Seeker = caller_in setting scripts history actor in
@@ -123,42 +123,39 @@ looked-on read grow count input plan cells history actor ticket old new key walk
     read setting scripts history actor key
     ∙ read-on setting seeker at.call at.later (cell setting history key) None at.calls_are unanswered in
     let first : unwrap_or old.first ticket ≡ slice_index (tickets actor history ++ ticket ∷ []) seeker.first =
-    first-is seeker.first seeker.next ticket (tickets actor history) old.first its.first (sym counted.0) counted.1 in
+    first-is seeker.first ticket (tickets actor history) its.first (sym counted.0) counted.1 in
     let seen : tickets actor (history ++ look_by actor key ∷ []) ≡ tickets actor history ++ ticket ∷ [] =
     at.seen ∙ ap (λ n. tickets actor history ++ n ∷ []) place in
     let low : nat_lt seeker.first (suc seeker.next) ≡ true = grind (arith, nat_tests, counted.1) in
     let there : IsCaller input plan (history ++ look_by actor key ∷ []) actor
     (record old { walk = Some walk; first = Some (unwrap_or old.first ticket) }) =
-    by-parts input plan (history ++ look_by actor key ∷ []) actor (with_pursuit seeker at.call at.later pursuit None)
-    (tickets actor history ++ ticket ∷ []) (record old { walk = Some walk; first = Some (unwrap_or old.first ticket) })
-    after seen
+    by-parts input plan (history ++ look_by actor key ∷ []) actor
+    (record old { walk = Some walk; first = Some (unwrap_or old.first ticket) }) after seen
     (subst (λ cs. IsWalking plan cs pursuit (Some walk)) (sym at.calls_are) (at.its, at.pursuit, goes, unanswered))
-    (ap Some first ∙ sym (ap (λ b. if b then Some (slice_index (tickets actor history ++ ticket ∷ []) seeker.first)
-    else None) low))
-    (its.lines ∙ (sym (append-nil (caller_lines setting scripts history actor))
+    (ap Some first ∙ sym (ap (λ b. if b then Some (slice_index (tickets actor history ++ ticket ∷ []) seeker.first) else
+    None) low)) (its.lines ∙ (sym (append-nil (caller_lines setting scripts history actor))
     ∙ sym (grow setting scripts history actor key at.call at.later high sees.played at.calls_are
-    ∙ ap (λ o. caller_lines setting scripts history actor ++ option_to_list (option_map
-    (λ found. found_line actor at.call found
+    ∙ ap (λ o. caller_lines setting scripts history actor ++ option_to_list
+    (option_map (λ found. found_line actor at.call found
     (slice_index (tickets actor history ++ length history ∷ []) seeker.first) (length history)) o)) unanswered)))
     its.left its.room in
     (key, at.turn, subst (IsCaller input plan (history ++ look_by actor key ∷ []) actor) (sym same) there)
 
 -- the find has its answer
-pub looked-up : CallersRead → CallerLinesGrow → CallersCount → (input : Contents) (plan : PlanData) (cells : CellData)
-    (history : History) (actor ticket : ℕ) (old new : Caller) (key : Key) (walk : WalkData) (found : Found)
-    (line : Done)
-    (left : ℕ) → length input.homes ≤ actor
-    → Sees input plan cells history → length history ≡ ticket → IsCaller input plan history actor old
-    → Looks input plan history actor old key walk → Some found ≡ answer_of (pursuit_of plan walk)
-    → ((call : FindCall) (later : List FindCall)
+pub looked-up : CallersRead → CallerLinesGrow → CallersCount → {input : Contents} {plan : PlanData} {cells : CellData}
+    {history : History} {actor ticket : ℕ} {old : Caller} (new : Caller) {key : Key} {walk : WalkData} {found : Found}
+    {line : Done} {left : ℕ} → length input.homes ≤ actor → Sees input plan cells history → length history ≡ ticket
+    → IsCaller input plan history actor old → Looks input plan history actor old key walk
+    → Some found ≡ answer_of (pursuit_of plan walk) → ((call : FindCall) (later : List FindCall)
     → call ∷ later ≡ drop (length old.lines.items) (finds_of (setting_over input plan) (scripts_of input) actor)
     → line ≡ found_line actor call found (unwrap_or old.first ticket) ticket)
     → new.lines.items ≡ old.lines.items ++ line ∷ [] → left ≡ suc (length old.lines.items)
     → vec_capacity old.lines ≤ vec_capacity new.lines → new.first ≡ None
     → IsWalking plan (drop left (finds_of (setting_over input plan) (scripts_of input) actor)) at_origin new.walk
-    → (k : Key) × (next (setting_over input plan) (scripts_of input) history actor ≡ Some (look_by actor k))
-    × IsCaller input plan (history ++ look_by actor k ∷ []) actor new
-looked-up read grow count input plan cells history actor ticket old new key walk found line left high sees place its at
+    → (k : Key) × (next (setting_over input plan) (scripts_of input) history actor ≡ Some (look_by actor k)) × IsCaller
+    input plan (history ++ look_by actor k ∷ []) actor new
+looked-up read grow count {input} {plan} {history} {actor} {ticket} {old} new {key} {found} {line} high sees place its
+    at
     answered line_is lines left_is room first_is walks =
     let setting : Setting = setting_over input plan in
     let scripts : Scripts = scripts_of input in
@@ -171,7 +168,7 @@ looked-up read grow count input plan cells history actor ticket old new key walk
     read setting scripts history actor key
     ∙ read-on setting seeker at.call at.later (cell setting history key) (Some found) at.calls_are ends in
     let first : unwrap_or old.first ticket ≡ slice_index (tickets actor history ++ ticket ∷ []) seeker.first =
-    first-is seeker.first seeker.next ticket (tickets actor history) old.first its.first (sym counted.0) counted.1 in
+    first-is seeker.first ticket (tickets actor history) its.first (sym counted.0) counted.1 in
     let seen : tickets actor (history ++ look_by actor key ∷ []) ≡ tickets actor history ++ ticket ∷ [] =
     at.seen ∙ ap (λ n. tickets actor history ++ n ∷ []) place in
     let late : nat_lt (suc seeker.next) (suc seeker.next) ≡ false = grind (arith, nat_tests) in
@@ -187,19 +184,15 @@ looked-up read grow count input plan cells history actor ticket old new key walk
     ∙ ap (λ n. found_line actor at.call found (slice_index (tickets actor history ++ n ∷ []) seeker.first) n)
     (sym place)) in
     let there : IsCaller input plan (history ++ look_by actor key ∷ []) actor new =
-    by-parts input plan (history ++ look_by actor key ∷ []) actor
-    (with_pursuit seeker at.call at.later pursuit (Some found)) (tickets actor history ++ ticket ∷ []) new
-    after seen
+    by-parts input plan (history ++ look_by actor key ∷ []) actor new after seen
     (subst (λ cs. IsWalking plan cs at_origin new.walk)
     (ap (λ n. drop n (finds_of setting scripts actor)) left_is ∙ sym more.1) walks)
-    (first_is ∙ sym (ap (λ b. if b then Some (slice_index (tickets actor history ++ ticket ∷ []) (suc seeker.next))
-    else None) late))
-    (lines ∙ (ap (λ ls. ls ++ line ∷ []) its.lines
+    (first_is ∙ sym (ap (λ b. if b then Some (slice_index (tickets actor history ++ ticket ∷ []) (suc seeker.next)) else
+    None) late)) (lines ∙ (ap (λ ls. ls ++ line ∷ []) its.lines
     ∙ (ap (λ l. caller_lines setting scripts history actor ++ l ∷ []) told
     ∙ sym (grow setting scripts history actor key at.call at.later high sees.played at.calls_are
-    ∙ ap (λ o. caller_lines setting scripts history actor ++ option_to_list (option_map
-    (λ found. found_line actor at.call found
+    ∙ ap (λ o. caller_lines setting scripts history actor ++ option_to_list
+    (option_map (λ found. found_line actor at.call found
     (slice_index (tickets actor history ++ length history ∷ []) seeker.first) (length history)) o)) ends))))
-    (more.1 ∙ ap (λ n. drop n (finds_of setting scripts actor)) (sym longer))
-    (omega (arith, its.room, room)) in
+    (more.1 ∙ ap (λ n. drop n (finds_of setting scripts actor)) (sym longer)) (omega (arith, its.room, room)) in
     (key, at.turn, there)

@@ -30,18 +30,18 @@ use Rattle.net_reader.specs.Valid.{IsValid}
 use Rattle.scripts.specs.Laws.{ScriptsAreValid}
 use Rattle.scripts.specs.ScriptLaws.{finds-are}
 
-pub key-wanted : (plan : PlanData) (seeker : Seeker) (walk : WalkData)
-    → Walks plan seeker.calls seeker.pursuit walk → key_of (call_of walk) (pursuit_of plan walk) ≡ next_key seeker
-key-wanted plan seeker walk at =
+pub key-wanted : {plan : PlanData} (seeker : Seeker) {walk : WalkData} → Walks plan seeker.calls seeker.pursuit walk
+    → key_of (call_of walk) (pursuit_of plan walk) ≡ next_key seeker
+key-wanted seeker {walk} at =
     ap (λ s. key_of (call_of walk) s) at.so_far
     ∙ (ap (λ c. key_of c seeker.pursuit) at.its ∙ sym (ap (λ cs. key_in cs seeker.pursuit) at.calls_are))
 
 -- the find that a caller is at is one of its script
-pub call-known : (input : Contents) (plan : PlanData) (actor n : ℕ) (call : FindCall) (later : List FindCall)
+pub call-known : (input : Contents) (plan : PlanData) (actor n : ℕ) {call : FindCall} {later : List FindCall}
     → AreValid (setting_over input plan) (scripts_of input) → length input.homes ≤ actor → actor < length input.scripts
     → call ∷ later ≡ drop n (finds_of (setting_over input plan) (scripts_of input) actor)
     → IsFindCall (setting_over input plan) call
-call-known input plan actor n call later valid high low left =
+call-known input plan actor n {call} {later} valid high low left =
     let at = drop-more n (finds_of (setting_over input plan) (scripts_of input) actor) call later left in
     let short : actor - length input.homes < length (scripts_of input).finds =
     omega (
@@ -55,26 +55,25 @@ call-known input plan actor n call later valid high low left =
     (valid.finds (actor - length input.homes) [] short n call at.0)
 
 -- a caller's walk goes with the plan
-pub walks-over : (input : Contents) (plan : PlanData) (history : History) (actor : ℕ) (caller : Caller)
-    (walk : WalkData) → IsCaller input plan history actor caller → caller.walk ≡ Some walk → IsWalkOver plan walk
-walks-over input plan history actor caller walk its held =
+pub walks-over : {input : Contents} {plan : PlanData} {history : History} {actor : ℕ} {caller : Caller}
+    {walk : WalkData} → IsCaller input plan history actor caller → caller.walk ≡ Some walk → IsWalkOver plan walk
+walks-over {input} {plan} {history} {actor} {caller} {walk} its held =
     let seeker : Seeker = caller_in (setting_over input plan) (scripts_of input) history actor in
     (walking plan seeker.calls seeker.pursuit caller.walk walk held its.walk).goes
 
 -- the subscriber that a caller looks for
-pub sub-known : ScriptsAreValid → (input : Contents) (plan : PlanData) (distances : DistanceTable) (history : History)
-    (actor : ℕ) (caller : Caller) (walk : WalkData) → BelongTogether input plan distances → length input.homes ≤ actor
+pub sub-known : ScriptsAreValid → {input : Contents} {plan : PlanData} {distances : DistanceTable} {history : History}
+    {actor : ℕ} {caller : Caller} {walk : WalkData} → BelongTogether input plan distances → length input.homes ≤ actor
     → actor < length input.scripts → IsCaller input plan history actor caller → caller.walk ≡ Some walk
     → IsWalkOver plan walk × (walk.sub < length input.homes)
-sub-known scripts input plan distances history actor caller walk together high low its held =
+sub-known scripts {input} {plan} {distances} {history} {actor} {caller} {walk} together high low its held =
     let seeker : Seeker = caller_in (setting_over input plan) (scripts_of input) history actor in
     let at : Walks plan seeker.calls seeker.pursuit walk =
     walking plan seeker.calls seeker.pursuit caller.walk walk held its.walk in
     let valid : AreValid (setting_over input plan) (scripts_of input) =
     scripts input (setting_over input plan) together.valid (over input plan distances together) in
     let known : IsFindCall (setting_over input plan) at.call =
-    call-known input plan actor (length caller.lines.items) at.call at.later valid high low
-    (sym at.calls_are ∙ its.left) in
+    call-known input plan actor (length caller.lines.items) valid high low (sym at.calls_are ∙ its.left) in
     (at.goes, subst (λ (c : FindCall). c.sub < length input.homes) (sym at.its) known.known)
 
 -- what a caller's look leans on
@@ -83,17 +82,17 @@ pub record Wanted (input : Contents) (plan : PlanData) (cells : CellData) (histo
   pub is_cell : IsCell plan cells.subs key
   pub is_below : IsWordBelow (nodes_of plan) walk.progress (cell (setting_over input plan) history key)
 
-pub wanted : MarksTell → EntriesTell → PlayedIsLegal → ScriptsAreValid → (input : Contents) (plan : PlanData)
-    (distances : DistanceTable) (cells : CellData) (history : History) (actor : ℕ) (caller : Caller) (walk : WalkData)
-    (key : Key) → BelongTogether input plan distances → IsMatched plan → length input.homes ≤ actor
-    → actor < length input.scripts → Sees input plan cells history → IsCaller input plan history actor caller
-    → caller.walk ≡ Some walk
+pub wanted : MarksTell → EntriesTell → PlayedIsLegal → ScriptsAreValid
+    → {input : Contents} {plan : PlanData} {distances : DistanceTable} {cells : CellData} {history : History}
+    {actor : ℕ} {caller : Caller} {walk : WalkData} {key : Key} → BelongTogether input plan distances → IsMatched plan
+    → length input.homes ≤ actor → actor < length input.scripts → Sees input plan cells history
+    → IsCaller input plan history actor caller → caller.walk ≡ Some walk
     → key_of (call_of walk) (pursuit_of plan walk) ≡ Some key → Wanted input plan cells history walk key
-wanted marks entries legal scripts input plan distances cells history actor caller walk key together matched high low
+wanted marks entries legal scripts {input} {plan} {distances} {cells} {history} {walk} {key} together matched high low
     sees its held wants =
     let valid : AreValid (setting_over input plan) (scripts_of input) =
     scripts input (setting_over input plan) together.valid (over input plan distances together) in
-    let known = sub-known scripts input plan distances history actor caller walk together high low its held in
+    let known = sub-known scripts together high low its held in
     let small : nodes_of plan ≤ 2 ^ 16 = omega (arith, matched.metric.few) in
     record {
       is_cell = cell-wanted plan walk cells.subs key matched known.0
@@ -104,31 +103,30 @@ wanted marks entries legal scripts input plan distances cells history actor call
     }
 
 -- the script that the code reads
-pub script-is : (scripts : List (Vec Call Global)) (actor : ℕ) (held : Vec Call Global) (script : List Call)
+pub script-is : (scripts : List (Vec Call Global)) (actor : ℕ) {held : Vec Call Global} {script : List Call}
     → actor < length scripts → held ≡ get_or scripts actor held → script ≡ held.items
     → script ≡ get_or (map (λ (s : Vec Call Global). s.items) scripts) actor []
-script-is scripts actor held script low same its = its ∙ (ap (λ (s : Vec Call Global). s.items) same
+script-is scripts actor {held} low same its = its ∙ (ap (λ (s : Vec Call Global). s.items) same
     ∙ sym (get_or-map (λ (s : Vec Call Global). s.items) scripts actor held [] low))
 
 pub scripts-low : (scripts : List (Vec Call Global)) (actor : ℕ) → actor < length scripts
     → actor < length (map (λ (s : Vec Call Global). s.items) scripts)
 scripts-low scripts actor low = omega (arith, low, length-map scripts (λ (s : Vec Call Global). s.items))
 
-pub script-searches : (input : Contents) (plan : PlanData) (actor : ℕ) (script : List Call) (count : ℕ)
-    → IsValid input → nodes_of plan ≡ input.nodes → length input.homes ≤ actor → actor < length input.scripts
-    → script ≡ get_or input.scripts actor [] → count ≡ length input.homes
-    → All (IsSearch (nodes_of plan) count) script
-script-searches input plan actor script count valid nodes high low same few =
+pub script-searches : {input : Contents} (plan : PlanData) (actor : ℕ) {script : List Call} {count : ℕ} → IsValid input
+    → nodes_of plan ≡ input.nodes → length input.homes ≤ actor → actor < length input.scripts
+    → script ≡ get_or input.scripts actor [] → count ≡ length input.homes → All (IsSearch (nodes_of plan) count) script
+script-searches {input} plan actor {script} {count} valid nodes high low same few =
     subst (λ n. All (IsSearch n count) script) (sym nodes)
     (subst (λ n. All (IsSearch input.nodes n) script) (sym few)
     (subst (λ s. All (IsSearch input.nodes (length input.homes)) s) (sym same)
     (valid.searches actor high low)))
 
 -- a caller that has a walk has lines for fewer finds than it makes
-pub finds-left : (input : Contents) (plan : PlanData) (history : History) (actor : ℕ) (caller : Caller)
-    (walk : WalkData) → IsCaller input plan history actor caller → caller.walk ≡ Some walk
+pub finds-left : {input : Contents} {plan : PlanData} {history : History} {actor : ℕ} {caller : Caller}
+    {walk : WalkData} → IsCaller input plan history actor caller → caller.walk ≡ Some walk
     → length caller.lines.items < length (finds_of (setting_over input plan) (scripts_of input) actor)
-finds-left input plan history actor caller walk its held =
+finds-left {input} {plan} {history} {actor} {caller} {walk} its held =
     let seeker : Seeker = caller_in (setting_over input plan) (scripts_of input) history actor in
     let at : Walks plan seeker.calls seeker.pursuit walk =
     walking plan seeker.calls seeker.pursuit caller.walk walk held its.walk in
@@ -136,32 +134,31 @@ finds-left input plan history actor caller walk its held =
     at.call at.later (sym at.calls_are ∙ its.left)).0
 
 -- so there is room for one more
-pub room-left : (input : Contents) (plan : PlanData) (history : History) (actor : ℕ) (caller : Caller)
-    (walk : WalkData) → IsCaller input plan history actor caller → caller.walk ≡ Some walk
+pub room-left : {input : Contents} {plan : PlanData} {history : History} {actor : ℕ} {caller : Caller} {walk : WalkData}
+    → IsCaller input plan history actor caller → caller.walk ≡ Some walk
     → vec_capacity caller.lines ≤ vec_len caller.lines → ⊥
-room-left input plan history actor caller walk its held full =
-    omega (arith, finds-left input plan history actor caller walk its held, its.room, full, caller.lines.ok.0)
+room-left {caller} its held full =
+    omega (arith, finds-left its held, its.room, full, caller.lines.ok.0)
 
 -- a caller that has a walk has lines for fewer finds than its script has
-pub place-low : (input : Contents) (plan : PlanData) (history : History) (actor : ℕ) (caller : Caller)
-    (walk : WalkData) → length input.homes ≤ actor → actor < length input.scripts
-    → IsCaller input plan history actor caller → caller.walk ≡ Some walk
-    → length caller.lines.items < length (get_or input.scripts actor [])
-place-low input plan history actor caller walk high low its held =
+pub place-low : {input : Contents} {plan : PlanData} {history : History} {actor : ℕ} {caller : Caller} {walk : WalkData}
+    → length input.homes ≤ actor → actor < length input.scripts → IsCaller input plan history actor caller
+    → caller.walk ≡ Some walk → length caller.lines.items < length (get_or input.scripts actor [])
+place-low {input} {plan} {actor} high low its held =
     omega (
       arith,
-      finds-left input plan history actor caller walk its held,
+      finds-left its held,
       ap length (finds-are input (setting_over input plan) actor refl high low),
       length-map (get_or input.scripts actor []) find_of,
     )
 
 -- the call at that place is the find that it is at
-pub call-at : (input : Contents) (plan : PlanData) (actor n : ℕ) (script : List Call) (call : FindCall)
-    (later : List FindCall) (default : Call) → length input.homes ≤ actor → actor < length input.scripts
+pub call-at : (input : Contents) (plan : PlanData) (actor n : ℕ) {script : List Call} {call : FindCall}
+    {later : List FindCall} (default : Call) → length input.homes ≤ actor → actor < length input.scripts
     → script ≡ get_or input.scripts actor [] → n < length script
     → call ∷ later ≡ drop n (finds_of (setting_over input plan) (scripts_of input) actor)
     → find_of (get_or script n default) ≡ call
-call-at input plan actor n script call later default high low same short left =
+call-at input plan actor n {script} {call} {later} default high low same short left =
     let more = drop-more n (finds_of (setting_over input plan) (scripts_of input) actor) call later left in
     sym (get_or-map find_of script n default call short)
     ∙ (ap (λ s. get_or (map find_of s) n call) same

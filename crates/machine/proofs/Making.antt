@@ -13,10 +13,10 @@ use Rattle.machine.specs.Stands.{AreMade, Sees, setting_over}
 use Rattle.machine.proofs.Finishing.{turns-joined}
 
 -- no turns
-pub made-none : (input : Contents) (plan : PlanData) (cells : CellData) (history : History) (actor : ℕ)
+pub made-none : {input : Contents} {plan : PlanData} {cells : CellData} {history : History} (actor : ℕ)
     (Holds : History → Type 0) → Sees input plan cells history → Holds history
     → AreMade input plan cells history actor 0 Holds
-made-none input plan cells history actor Holds sees its =
+made-none {input} {plan} {cells} {history} actor Holds sees its =
     let same : history ≡ history ++ [] = sym (append-nil history) in
     record {
       visits = [];
@@ -27,12 +27,11 @@ made-none input plan cells history actor Holds sees its =
     }
 
 -- a turn that makes a visit
-pub made-one : (input : Contents) (plan : PlanData) (cells : CellData) (history : History) (actor : ℕ)
-    (visit : Visit) (Holds : History → Type 0) → visit.actor ≡ actor
-    → next (setting_over input plan) (scripts_of input) history actor ≡ Some visit
-    → Sees input plan cells (history ++ visit ∷ []) → Holds (history ++ visit ∷ [])
+pub made-one : {input : Contents} {plan : PlanData} {cells : CellData} (history : History) {actor : ℕ} {visit : Visit}
+    (Holds : History → Type 0) → visit.actor ≡ actor → next (setting_over input plan) (scripts_of input) history
+    actor ≡ Some visit → Sees input plan cells (history ++ visit ∷ []) → Holds (history ++ visit ∷ [])
     → AreMade input plan cells history actor 1 Holds
-made-one input plan cells history actor visit Holds mine wants sees its =
+made-one history {visit} Holds mine wants sees its =
     record {
       visits = visit ∷ [];
       turns = ap (λ o. history ++ option_to_list o) wants;
@@ -42,11 +41,11 @@ made-one input plan cells history actor visit Holds mine wants sees its =
     }
 
 -- turns behind turns
-pub made-joined : (input : Contents) (plan : PlanData) (before after : CellData) (history : History)
-    (actor count more : ℕ) (First Then : History → Type 0) (first : AreMade input plan before history actor count First)
+pub made-joined : {input : Contents} {plan : PlanData} {before after : CellData} {history : History}
+    {actor count more : ℕ} {First Then : History → Type 0} (first : AreMade input plan before history actor count First)
     → AreMade input plan after (history ++ first.visits) actor more Then
     → AreMade input plan after history actor (count + more) Then
-made-joined input plan before after history actor count more First Then first then =
+made-joined {input} {plan} {after} {history} {actor} {count} {more} {Then} first then =
     let joined : (history ++ first.visits) ++ then.visits ≡ history ++ (first.visits ++ then.visits) =
     append_assoc history first.visits then.visits in
     record {
@@ -62,10 +61,10 @@ made-joined input plan before after history actor count more First Then first th
     }
 
 -- how many visits there were
-pub made-count : (input : Contents) (plan : PlanData) (cells : CellData) (history : History) (actor count : ℕ)
-    (Holds : History → Type 0) (made : AreMade input plan cells history actor count Holds)
+pub made-count : {input : Contents} {plan : PlanData} {cells : CellData} {history : History} {actor count : ℕ}
+    {Holds : History → Type 0} (made : AreMade input plan cells history actor count Holds)
     → length (history ++ made.visits) ≡ length history + count
-made-count input plan cells history actor count Holds made =
+made-count {history} {actor} {count} made =
     omega (
       arith,
       length-append history made.visits,
@@ -75,10 +74,10 @@ made-count input plan cells history actor count Holds made =
     )
 
 -- and where there were none, there are none
-pub no-visits : (input : Contents) (plan : PlanData) (cells : CellData) (history : History) (actor count : ℕ)
-    (Holds : History → Type 0) (made : AreMade input plan cells history actor count Holds) → count ≡ 0
+pub no-visits : {input : Contents} {plan : PlanData} {cells : CellData} {history : History} {actor count : ℕ}
+    {Holds : History → Type 0} (made : AreMade input plan cells history actor count Holds) → count ≡ 0
     → made.visits ≡ []
-no-visits input plan cells history actor count Holds made none = empty made.visits
+no-visits {actor} {count} made none = empty made.visits
     (omega (
       arith,
       none,

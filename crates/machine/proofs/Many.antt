@@ -52,10 +52,10 @@ behind old handset line ticket count =
     }
 
 -- a subscriber by its handset, its lines and the room for them
-its-same : (input : Contents) (plan : PlanData) (history : History) (sub : ℕ) (one other : Shown)
+its-same : {input : Contents} {plan : PlanData} {history : History} {sub : ℕ} {one : Shown} (other : Shown)
     → IsShown input plan history sub one → other.handset ≡ one.handset → other.lines.items ≡ one.lines.items
     → vec_capacity one.lines ≤ vec_capacity other.lines → IsShown input plan history sub other
-its-same input plan history sub one other its handset lines room =
+its-same {input} {plan} {history} {sub} {one} other its handset lines room =
     let begun : begun_steps input sub one ≡ begun_steps input sub other =
     ap (λ (ls : List Done). take (length ls) (steps_of (scripts_of input) sub)) (sym lines) in
     record {
@@ -73,19 +73,18 @@ its-same input plan history sub one other its handset lines room =
     }
 
 -- and so are many turns of it
-pub made-same : (input : Contents) (plan : PlanData) (cells : CellData) (history : History) (sub count : ℕ)
-    (one other : Shown)
-    → AreMade input plan cells history sub count (λ later. IsShown input plan later sub one)
-    → other.handset ≡ one.handset → other.lines.items ≡ one.lines.items
-    → vec_capacity one.lines ≤ vec_capacity other.lines
-    → AreMade input plan cells history sub count (λ later. IsShown input plan later sub other)
-made-same input plan cells history sub count one other made handset lines room =
+pub made-same : {input : Contents} {plan : PlanData} {cells : CellData} {history : History} {sub count : ℕ}
+    {one : Shown} (other : Shown) → AreMade input plan cells history sub count
+    (λ later. IsShown input plan later sub one) → other.handset ≡ one.handset → other.lines.items ≡ one.lines.items
+    → vec_capacity one.lines ≤ vec_capacity other.lines → AreMade input plan cells history sub count
+    (λ later. IsShown input plan later sub other)
+made-same other made handset lines room =
     record {
       visits = made.visits;
       turns = made.turns;
       actors = made.actors;
       sees = made.sees;
-      its = its-same input plan (history ++ made.visits) sub one other made.its handset lines room;
+      its = its-same other made.its handset lines room;
     }
 
 -- of two visits that don't commit a line keeps the later ticket
@@ -126,20 +125,18 @@ lines-more lines line ticket (suc count) some =
 pub written-many : MarksUnpack → OwnGrow → TicketsGrow → TicketsAreOwn → ScriptsAreValid → MoreIsPlayed
     → ((setting : Setting) (scripts : Scripts) (history : History) (actor : ℕ) (visit : Visit)
     → next setting scripts history actor ≡ Some visit → visit.actor ≡ actor)
-    → (input : Contents) (plan : PlanData) (distances : DistanceTable) (cells : CellData) (history : History)
-    (ticket sub : ℕ) (old : Shown) (line : Done)
-    → BelongTogether input plan distances → sub < length input.homes → length history ≡ ticket
-    → Sees input plan cells history → IsShown input plan history sub old
+    → {input : Contents} {plan : PlanData} {distances : DistanceTable} {cells : CellData} {history : History}
+    {ticket sub : ℕ} {old : Shown} (line : Done) → BelongTogether input plan distances → sub < length input.homes
+    → length history ≡ ticket → Sees input plan cells history → IsShown input plan history sub old
     → (count : ℕ) (handset : HandsetData) (after : CellData) → HavePut plan old.handset cells count handset after
-    → AreMade input plan after history sub count
-    (λ later. IsShown input plan later sub (behind old handset line ticket count))
-written-many unpack own_law ticket_law tell scripts more mine input plan distances cells history ticket sub old line
+    → AreMade input plan after history sub count (λ later. IsShown input plan later sub
+    (behind old handset line ticket count))
+written-many unpack own_law ticket_law tell scripts more mine {input} {plan} {history} {ticket} {sub} {old} line
     together low place sees its zero handset after puts =
-    made-same input plan after history sub 0 old (behind old handset line ticket 0)
-    (subst (λ k. AreMade input plan k history sub 0 (λ later. IsShown input plan later sub old)) (sym puts.1)
-    (made-none input plan cells history sub (λ later. IsShown input plan later sub old) sees its))
-    puts.0 refl (omega arith)
-written-many unpack own_law ticket_law tell scripts more mine input plan distances cells history ticket sub old line
+    made-same (behind old handset line ticket 0) (subst
+    (λ k. AreMade input plan k history sub 0 (λ later. IsShown input plan later sub old)) (sym puts.1)
+    (made-none sub (λ later. IsShown input plan later sub old) sees its)) puts.0 refl (omega arith)
+written-many unpack own_law ticket_law tell scripts more mine {input} {plan} {history} {ticket} {sub} {old} line
     together low place sees its (suc count) handset after (before, between, rest, entry) =
     let one : count + 1 ≡ suc count = omega arith in
     let mid : Shown = behind old before line ticket count in
@@ -151,23 +148,20 @@ written-many unpack own_law ticket_law tell scripts more mine input plan distanc
     × New (later ++ v ∷ []) × GoWith plan after × Hold plan input.homes after (later ++ v ∷ []) =
     λ later sight at stands.
     let here = entry.put.next input.homes (begun_steps input sub mid) (length (own sub later)) stands.handset in
-    let way = under-way unpack tell scripts input plan distances later sub mid entry.put.visit together low stands
+    let way = under-way unpack tell scripts together low stands
     (ap (λ s. slice_get (visits (setting_over input plan) s (begun_steps input sub mid)) (length (own sub later)))
     (sym stands.its) ∙ here) in
     let size : length (lines_behind old.lines.items line ticket count) ≡ suc (length way.rows) =
     ap length way.are ∙ omega (arith, length_push way.rows way.row) in
-    written-on unpack own_law ticket_law tell scripts input plan distances after later sub (ticket + count)
-    (length (lines_behind old.lines.items line ticket count) - 1) mid new entry.put.visit _ line together low at
-    stands here (entry.put.stands input.homes (begun_steps input sub mid) (length (own sub later)) stands.handset)
-    entry.goes entry.its
-    (lines-more old.lines.items line ticket count (some-lines count size)) (omega arith) (omega (arith, size))
+    written-on unpack own_law ticket_law tell scripts new line together low at stands here
+    (entry.put.stands input.homes (begun_steps input sub mid) (length (own sub later)) stands.handset) entry.goes
+    entry.its (lines-more old.lines.items line ticket count (some-lines count size)) (omega arith) (omega (arith, size))
     (ap (λ b. line_after (get_or (lines_behind old.lines.items line ticket count)
     (length (lines_behind old.lines.items line ticket count) - 1) line) b (ticket + count)) (sym entry.plain))
     entry.over (entry.put.hold input.homes later sight.hold) in
     subst (λ n. AreMade input plan after history sub n (λ later. IsShown input plan later sub new)) one
-    (written-more more mine input plan between after history ticket sub count Mid New place
-    (written-many unpack own_law ticket_law tell scripts more mine input plan distances cells history ticket sub old
-    line together low place sees its count before between rest) turn)
+    (written-more more mine New place (written-many unpack own_law ticket_law tell scripts more mine line together low
+    place sees its count before between rest) turn)
   where
     some-lines : (n : ℕ) {k : ℕ} → length (lines_behind old.lines.items line ticket n) ≡ suc k
         → 0 < length old.lines.items
@@ -189,36 +183,33 @@ lines-are lines line ticket (suc count) some =
     ap (λ n. set lines (length lines - 1) (line_after (get_or lines (length lines - 1) line) false n)) e
 
 -- turns behind turns
-pub makes-more : (input : Contents) (plan : PlanData) (cells between after : CellData) (ticket sub count more : ℕ)
-    (old mid new : Subscriber) → MakesTurns input plan ticket sub old mid cells between count
+pub makes-more : {input : Contents} {plan : PlanData} {cells between after : CellData} {ticket sub count more : ℕ}
+    {old mid new : Subscriber} → MakesTurns input plan ticket sub old mid cells between count
     → MakesTurns input plan (ticket + count) sub mid new between after more
     → MakesTurns input plan ticket sub old new cells after (count + more)
-makes-more input plan cells between after ticket sub count more old mid new first then = λ history sees place its.
+makes-more {input} {plan} {sub} {count} {mid} first then = λ history sees place its.
     let Mid : History → Type 0 = λ later. IsSubscriber input plan later sub mid in
     let made = first history sees place its in
-    made-joined input plan between after history sub count more Mid (λ later. IsSubscriber input plan later sub new)
-    made (then (history ++ made.visits) made.sees
-    (made-count input plan between history sub count Mid made ∙ ap (λ n. n + count) place) made.its)
+    made-joined made (then (history ++ made.visits) made.sees (made-count made ∙ ap (λ n. n + count) place) made.its)
 
 -- a subscriber behind turns has its turn
-pub may-turn : (input : Contents) (plan : PlanData) (cells after : CellData) (ticket sub count : ℕ)
-    (old mid : Subscriber) → MayTakeTurn input plan cells ticket sub old
-    → MakesTurns input plan ticket sub old mid cells after count
-    → MayTakeTurn input plan after (ticket + count) sub mid
-may-turn input plan cells after ticket sub count old mid may then =
+pub may-turn : {input : Contents} {plan : PlanData} {cells after : CellData} {ticket sub count : ℕ}
+    {old mid : Subscriber} → MayTakeTurn input plan cells ticket sub old
+    → MakesTurns input plan ticket sub old mid cells after count → MayTakeTurn input plan after (ticket + count) sub mid
+may-turn {count} may then =
     let made = then may.0 may.1 may.2 may.3 in (
       may.0 ++ made.visits,
       made.sees,
-      made-count input plan after may.0 sub count (λ later. IsSubscriber input plan later sub mid) made
+      made-count made
           ∙ ap (λ n. n + count) may.2,
       made.its,
     )
 
 -- what is known of the history behind many turns, by what is known else
-pub made-so : (input : Contents) (plan : PlanData) (cells : CellData) (history : History) (sub count : ℕ)
-    (First Then : History → Type 0) → AreMade input plan cells history sub count First
+pub made-so : {input : Contents} {plan : PlanData} {cells : CellData} {history : History} {sub count : ℕ}
+    {First : History → Type 0} (Then : History → Type 0) → AreMade input plan cells history sub count First
     → ((later : History) → First later → Then later) → AreMade input plan cells history sub count Then
-made-so input plan cells history sub count First Then made so =
+made-so {history} Then made so =
     record {
       visits = made.visits;
       turns = made.turns;

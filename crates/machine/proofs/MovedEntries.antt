@@ -30,12 +30,12 @@ first-passed test above last low is =
     ∙ ap (λ n. first_with test n (last - above)) next ∙ ap (first_with test (above + 1)) rest)
 
 -- the new address of a level below the last one that the move renews
-pub renewal-at : (plan : PlanData) (handset : HandsetData) (at cluster word : ℕ) → at < handset.last.renewed
+pub renewal-at : (plan : PlanData) (handset : HandsetData) (at : ℕ) {cluster word : ℕ} → at < handset.last.renewed
     → home plan at handset.last.to ≡ cluster
     → address_word (Some (record { number = handset.last.number; node = handset.last.to })) ≡ word
     → entry_write (setting_of plan []) handset (entries.Renewing at)
     ≡ Some (record { level = at; cluster = cluster; word = word; next = entries.Renewing (suc at) })
-renewal-at plan handset at cluster word below home_is word_is =
+renewal-at plan handset at {cluster} {word} below home_is word_is =
     subst (λ w. entry_write (setting_of plan []) handset (entries.Renewing at)
     ≡ Some (record { level = at; cluster = cluster; word = w; next = entries.Renewing (suc at) })) word_is
     (subst (λ c. entry_write (setting_of plan []) handset (entries.Renewing at) ≡ Some (record {

@@ -9,7 +9,7 @@ use Rattle.directory.specs.Settings.{start}
 use Rattle.directory.specs.Courses.{course_at}
 use Rattle.directory.specs.Finds.{at_origin}
 use Rattle.directory.specs.Histories.{tickets, tickets_from, words_after}
-use Rattle.directory.specs.Orders.{caller_at, finds_of, steps_of}
+use Rattle.directory.specs.Orders.{finds_of, steps_of}
 use Rattle.directory.specs.Outcomes.{step_lines}
 use Rattle.net_reader.specs.declared.said.Call.{Call}
 use Rattle.net_reader.specs.declared.said.Call.TheVariants as calls
@@ -28,13 +28,12 @@ use Rattle.machine.specs.Subscribers.{IsShown, IsSubscriber, Shown, begun_steps,
 use Rattle.machine.proofs.Looked.{by-parts}
 use Rattle.scripts.specs.ScriptLaws.{finds-are, steps-are}
 
-shown-opens : (input : Contents) (plan : PlanData) (sub : ℕ) (shown : Shown) → IsValid input
-    → sub < length input.homes → StandsForSteps (setting_over input plan) shown.handset [] 0
-    → GoesWith plan shown.handset → shown.handset.sub ≡ sub → shown.lines.items ≡ []
-    → length (get_or input.scripts sub []) ≤ vec_capacity shown.lines
+shown-opens : {input : Contents} {plan : PlanData} {sub : ℕ} (shown : Shown) → IsValid input → sub < length input.homes
+    → StandsForSteps (setting_over input plan) shown.handset [] 0 → GoesWith plan shown.handset
+    → shown.handset.sub ≡ sub → shown.lines.items ≡ [] → length (get_or input.scripts sub []) ≤ vec_capacity shown.lines
     → IsShown input plan [] sub shown
 unfolding step_lines
-shown-opens input plan sub shown valid low stands goes its none room =
+shown-opens {input} {plan} {sub} shown valid low stands goes its none room =
     let begun : begun_steps input sub shown ≡ [] =
     ap (λ n. take n (steps_of (scripts_of input) sub)) (ap length none) in
     record {
@@ -50,17 +49,15 @@ shown-opens input plan sub shown valid low stands goes its none room =
           (arith, room, ap length (steps-are input sub valid low), length-map (get_or input.scripts sub []) step_of);
     }
 
-pub sub-opens : (input : Contents) (plan : PlanData) (sub : ℕ) (subscriber : Subscriber) → IsValid input
+pub sub-opens : {input : Contents} {plan : PlanData} {sub : ℕ} (subscriber : Subscriber) → IsValid input
     → sub < length input.homes → StandsForSteps (setting_over input plan) subscriber.handset [] 0
     → GoesWith plan subscriber.handset → subscriber.handset.sub ≡ sub → subscriber.ahead.items ≡ []
     → subscriber.made ≡ 0 → 1 ≤ vec_capacity subscriber.ahead → subscriber.lines.items ≡ []
-    → length (get_or input.scripts sub []) ≤ vec_capacity subscriber.lines
-    → IsSubscriber input plan [] sub subscriber
-sub-opens input plan sub subscriber valid low stands goes its empty none space no_lines room =
+    → length (get_or input.scripts sub []) ≤ vec_capacity subscriber.lines → IsSubscriber input plan [] sub subscriber
+sub-opens {input} {plan} subscriber valid low stands goes its empty none space no_lines room =
     record {
       handset = subscriber.handset;
-      shown = shown-opens input plan sub (shown_at subscriber.handset subscriber) valid low stands goes its no_lines
-          room;
+      shown = shown-opens (shown_at subscriber.handset subscriber) valid low stands goes its no_lines room;
       owes = subst (λ writes. Owes plan (length input.homes) subscriber.handset subscriber.handset
           (drop subscriber.made writes)) (sym empty)
           (subst (λ n. Owes plan (length input.homes) subscriber.handset subscriber.handset (drop n []))
@@ -71,25 +68,23 @@ sub-opens input plan sub subscriber valid low stands goes its empty none space n
       space = space;
     }
 
-pub caller-opens : (input : Contents) (plan : PlanData) (actor : ℕ) (caller : Caller) (script : List Call)
+pub caller-opens : (input : Contents) (plan : PlanData) (actor : ℕ) (caller : Caller) {script : List Call}
     → length input.homes ≤ actor → actor < length input.scripts → script ≡ get_or input.scripts actor []
     → IsWalking plan (map find_of script) at_origin caller.walk → caller.first ≡ None → caller.lines.items ≡ []
     → length script ≤ vec_capacity caller.lines → IsCaller input plan [] actor caller
 unfolding words_after tickets_from
-caller-opens input plan actor caller script high low same walks first none room =
+caller-opens input plan actor caller {script} high low same walks first none room =
     let finds : finds_of (setting_over input plan) (scripts_of input) actor ≡ map find_of script =
     finds-are input (setting_over input plan) actor refl high low ∙ ap (map find_of) (sym same) in
-    by-parts input plan [] actor
-    (caller_at (finds_of (setting_over input plan) (scripts_of input) actor)) [] caller refl refl
-    (subst (λ fs. IsWalking plan fs at_origin caller.walk) (sym finds) walks) first none
-    (ap (λ n. drop n (finds_of (setting_over input plan) (scripts_of input) actor)) (sym (ap length none)))
-    (omega (arith, room, ap length finds, length-map script find_of))
+    by-parts input plan [] actor caller refl refl (subst (λ fs. IsWalking plan fs at_origin caller.walk) (sym finds)
+    walks) first none (ap (λ n. drop n (finds_of (setting_over input plan) (scripts_of input) actor))
+    (sym (ap length none))) (omega (arith, room, ap length finds, length-map script find_of))
 
 -- what holds at each place of a list and of one item more
-pub each-more : {A : Type 0} (P : ℕ → A → Type 0) (xs : List A) (x : A) (n : ℕ) (ys : List A)
-    → ys ≡ xs ++ x ∷ [] → length xs ≡ n → ((s : ℕ) (d : A) → s < n → P s (get_or xs s d)) → P n x
-    → (s : ℕ) (d : A) → s < n + 1 → P s (get_or ys s d)
-each-more P xs x n ys more count each last s d low = subst (λ zs. P s (get_or zs s d)) (sym more)
+pub each-more : {A : Type 0} (P : ℕ → A → Type 0) (xs : List A) {x : A} {n : ℕ} {ys : List A} → ys ≡ xs ++ x ∷ []
+    → length xs ≡ n → ((s : ℕ) (d : A) → s < n → P s (get_or xs s d)) → P n x → (s : ℕ) (d : A) → s < n + 1
+    → P s (get_or ys s d)
+each-more P xs {x} {n} more count each last s d low = subst (λ zs. P s (get_or zs s d)) (sym more)
     (elim (cases s n) as (λ _. P s (get_or (xs ++ x ∷ []) s d)) [
       | inl less ↦ subst (P s) (sym (get_or-append xs (x ∷ []) d s (omega (arith, less, count)))) (each s d less)
       | inr more ↦ let same : s ≡ n = omega (arith, low, more) in
@@ -123,9 +118,9 @@ search-inside n subs (call ∷ script) all =
     at_call calls.Off h = absurd h
     at_call calls.On h = absurd h
 
-script-inside : (input : Contents) (actor : ℕ) → IsValid input → actor < length input.scripts
+script-inside : {input : Contents} (actor : ℕ) → IsValid input → actor < length input.scripts
     → BeginInside input.nodes (get_or input.scripts actor [])
-script-inside input actor valid low =
+script-inside {input} actor valid low =
     elim (cases actor (length input.homes)) as (λ _. BeginInside input.nodes (get_or input.scripts actor [])) [
       | inl sub ↦ course-inside input.format input.nodes (get_or input.homes actor 0) false
           (get_or input.scripts actor []) (valid.courses actor sub)
@@ -136,12 +131,11 @@ script-inside input actor valid low =
     cases : (a b : ℕ) → (a < b) ⊎ (b ≤ a)
     cases a b = grind (arith, nat_tests)
 
-pub scripts-inside : (input : Contents) (scripts : List (Vec Call Global)) (n : ℕ) → IsValid input
-    → input.scripts ≡ map (λ (s : Vec Call Global). s.items) scripts → n ≡ input.nodes
-    → (k : ℕ) (d : Vec Call Global) → k < length scripts → BeginInside n (get_or scripts k d).items
-scripts-inside input scripts n valid same nodes k d low =
+pub scripts-inside : {input : Contents} (scripts : List (Vec Call Global)) {n : ℕ} → IsValid input
+    → input.scripts ≡ map (λ (s : Vec Call Global). s.items) scripts → n ≡ input.nodes → (k : ℕ) (d : Vec Call Global)
+    → k < length scripts → BeginInside n (get_or scripts k d).items
+scripts-inside {input} scripts valid same nodes k d low =
     subst (λ m. BeginInside m (get_or scripts k d).items) (sym nodes)
     (subst (BeginInside input.nodes) (ap (λ ss. get_or ss k []) same
     ∙ get_or-map (λ (s : Vec Call Global). s.items) scripts k d [] low)
-    (script-inside input k valid
-    (omega (arith, low, ap length same, length-map scripts (λ (s : Vec Call Global). s.items)))))
+    (script-inside k valid (omega (arith, low, ap length same, length-map scripts (λ (s : Vec Call Global). s.items)))))

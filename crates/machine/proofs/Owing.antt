@@ -14,29 +14,29 @@ use Rattle.machine.specs.declared.ahead.Ahead.{Ahead}
 use Rattle.machine.specs.Owed.{HasCome, IsAhead, IsNextAhead, MayPut, Owes}
 
 -- one write more
-pub owes-push : (plan : PlanData) (subs : ℕ) (start old new : HandsetData) (write : Ahead) (writes : List Ahead)
-    → Owes plan subs start old writes → IsNextAhead plan subs old new write
+pub owes-push : {plan : PlanData} {subs : ℕ} (start : HandsetData) {old new : HandsetData} {write : Ahead}
+    (writes : List Ahead) → Owes plan subs start old writes → IsNextAhead plan subs old new write
     → Owes plan subs start new (writes ++ write ∷ [])
-owes-push plan subs start old new write [] owes its =
+owes-push {plan} {subs} start {new} {write} [] owes its =
     (new, refl, subst (λ h. IsNextAhead plan subs h new write) owes its)
-owes-push plan subs start old new write (one ∷ writes) (between, rest, first) its =
-    (between, owes-push plan subs between old new write writes rest its, first)
+owes-push start (one ∷ writes) (between, rest, first) its =
+    (between, owes-push between writes rest its, first)
 
 -- no write
-pub ahead-none : (plan : PlanData) (subs : ℕ) (old : HandsetData) (before : Vec Ahead) → GoesWith plan old
+pub ahead-none : {plan : PlanData} (subs : ℕ) {old : HandsetData} (before : Vec Ahead) → GoesWith plan old
     → IsAhead plan subs old old before before
-ahead-none plan subs old before goes =
+ahead-none subs before goes =
     record { owes = λ start owes. owes; goes = goes; its = refl; grown = omega arith; room = refl }
 
 -- one write behind others
-pub ahead-more : (plan : PlanData) (subs : ℕ) (old mid new : HandsetData) (write : Ahead)
-    (before between after : Vec Ahead) → IsAhead plan subs old mid before between
-    → IsNextAhead plan subs mid new write → after.items ≡ between.items ++ write ∷ []
-    → vec_capacity after ≡ vec_capacity between → IsAhead plan subs old new before after
-ahead-more plan subs old mid new write before between after first its items room =
+pub ahead-more : {plan : PlanData} {subs : ℕ} {old mid new : HandsetData} {write : Ahead} {before between : Vec Ahead}
+    (after : Vec Ahead) → IsAhead plan subs old mid before between → IsNextAhead plan subs mid new write
+    → after.items ≡ between.items ++ write ∷ [] → vec_capacity after ≡ vec_capacity between
+    → IsAhead plan subs old new before after
+ahead-more {plan} {subs} {new} {write} {between} after first its items room =
     record {
       owes = λ start owes. subst (Owes plan subs start new) (sym items)
-          (owes-push plan subs start mid new write between.items (first.owes start owes) its);
+          (owes-push start between.items (first.owes start owes) its);
       goes = its.goes;
       its = its.its ∙ first.its;
       grown = omega (arith, first.grown, ap length items, length_push between.items write);
@@ -44,10 +44,10 @@ ahead-more plan subs old mid new write before between after first its items room
     }
 
 -- writes behind others
-pub ahead-joined : (plan : PlanData) (subs : ℕ) (old mid new : HandsetData) (before between after : Vec Ahead)
+pub ahead-joined : {plan : PlanData} {subs : ℕ} {old mid new : HandsetData} {before between after : Vec Ahead}
     → IsAhead plan subs old mid before between → IsAhead plan subs mid new between after
     → IsAhead plan subs old new before after
-ahead-joined plan subs old mid new before between after first then =
+ahead-joined first then =
     record {
       owes = λ start owes. then.owes start (first.owes start owes);
       goes = then.goes;
@@ -69,10 +69,10 @@ pub record Next (plan : PlanData) (subs : ℕ) (old new : HandsetData) (write : 
     pub owes : Owes plan subs handset new left
     pub its : IsNextAhead plan subs old handset write
 
-pub next-of : (plan : PlanData) (subs : ℕ) (old new : HandsetData) (writes : List Ahead) (place : ℕ)
-    (write : Ahead) → place < length writes → write ≡ get_or writes place write
-    → Owes plan subs old new (drop place writes) → Next plan subs old new write (drop (suc place) writes)
-next-of plan subs old new writes place write low same owes =
+pub next-of : (plan : PlanData) (subs : ℕ) (old new : HandsetData) (writes : List Ahead) (place : ℕ) {write : Ahead}
+    → place < length writes → write ≡ get_or writes place write → Owes plan subs old new (drop place writes)
+    → Next plan subs old new write (drop (suc place) writes)
+next-of plan subs old new writes place {write} low same owes =
     let found = subst (Owes plan subs old new) (drop-next writes place write low) owes in
     record {
       handset = found.0;
@@ -81,37 +81,35 @@ next-of plan subs old new writes place write low same owes =
     }
 
 -- what the cells hold behind it
-pub holds-next : (plan : PlanData) (subs : ℕ) (old new : HandsetData) (write : Ahead) (cells after : CellData)
-    (its : IsNextAhead plan subs old new write)
-    → ((starts : List ℕ) (history : History) (actor : ℕ) → Hold plan starts cells history
+pub holds-next : {plan : PlanData} {subs : ℕ} {old new : HandsetData} {write : Ahead} {cells after : CellData}
+    (its : IsNextAhead plan subs old new write) → ((starts : List ℕ) (history : History) (actor : ℕ)
+    → Hold plan starts cells history
     → Hold plan starts after (history ++ record { actor = actor; act = Put its.key write.word } ∷ []))
     → (starts : List ℕ) (history : History) → Hold plan starts cells history
     → Hold plan starts after (history ++ its.visit ∷ [])
-holds-next plan subs old new write cells after its put starts history held =
+holds-next {plan} {write} {after} its put starts history held =
     let same : record { actor = its.visit.actor; act = Put its.key write.word } ≡ its.visit =
     ap (λ a. record { actor = its.visit.actor; act = a }) (sym its.act) in
     subst (λ (v : Visit). Hold plan starts after (history ++ v ∷ [])) same
     (put starts history its.visit.actor held)
 
 -- none of them
-pub come-none : (plan : PlanData) (sub : ℕ) (old new : HandsetData) (cells : CellData) (left : List Ahead)
+pub come-none : {plan : PlanData} {sub : ℕ} {old new : HandsetData} {cells : CellData} {left : List Ahead}
     → MayPut plan sub old new cells left → HasCome plan sub old new cells cells 0 left
-come-none plan sub old new cells left may = record { handset = old; put = (refl, refl); may = may }
+come-none {old} may = record { handset = old; put = (refl, refl); may = may }
 
 -- one more that doesn't commit
-pub come-more : (plan : PlanData) (sub : ℕ) (old new : HandsetData) (cells between after : CellData)
-    (count place : ℕ) (writes : List Ahead) (write : Ahead) → place < length writes
-    → write ≡ get_or writes place write → write.commits ≡ false
-    → HasCome plan sub old new cells between count (drop place writes)
-    → ((key : Key) → IsPlaceOf plan between.subs sub write.place key
-    → (starts : List ℕ) (history : History) (actor : ℕ) → Hold plan starts between history
-    → Hold plan starts after (history ++ record { actor = actor; act = Put key write.word } ∷ []))
-    → GoWith plan after
+pub come-more : {plan : PlanData} {sub : ℕ} {old new : HandsetData} {cells between after : CellData} {count : ℕ}
+    (place : ℕ) (writes : List Ahead) {write : Ahead} → place < length writes → write ≡ get_or writes place write
+    → write.commits ≡ false → HasCome plan sub old new cells between count (drop place writes)
+    → ((key : Key) → IsPlaceOf plan between.subs sub write.place key → (starts : List ℕ) (history : History) (actor : ℕ)
+    → Hold plan starts between history
+    → Hold plan starts after (history ++ record { actor = actor; act = Put key write.word } ∷ [])) → GoWith plan after
     → ((key : Key) → IsPlaceOf plan between.subs sub write.place key → after.subs ≡ between.subs)
     → HasCome plan sub old new cells after (suc count) (drop (suc place) writes)
-come-more plan sub old new cells between after count place writes write low same plain come put over subs =
+come-more {plan} {sub} {new} {between} place writes {write} low same plain come put over subs =
     let next : Next plan between.subs come.handset new write (drop (suc place) writes) =
-    next-of plan between.subs come.handset new writes place write low same come.may.owes in
+    next-of plan between.subs come.handset new writes place low same come.may.owes in
     let its : IsNextAhead plan between.subs come.handset next.handset write = next.its in
     let cell : IsPlaceOf plan between.subs sub write.place its.key =
     subst (λ s. IsPlaceOf plan between.subs s write.place its.key) come.may.its its.cell in
@@ -126,8 +124,7 @@ come-more plan sub old new cells between after count place writes write low same
             visit = its.visit;
             next = its.next;
             stands = its.stands;
-            hold = holds-next plan between.subs come.handset next.handset write between after its
-                (put its.key cell);
+            hold = holds-next its (put its.key cell);
           };
           plain = sym its.commits ∙ plain;
           goes = its.goes;

@@ -21,58 +21,54 @@ owner sub (mark_at node mark) = refl
 owner sub (entry_at level cluster address) = refl
 
 -- the cell of a write that is the next one
-cell-of : (plan : PlanData) (subs sub : ℕ) (write : Write) (visit : Visit) (key : Key) (word : ℕ)
+cell-of : {plan : PlanData} {subs : ℕ} (sub : ℕ) (write : Write) {visit : Visit} {key : Key} {word : ℕ}
     → Some (visit_of sub write) ≡ Some visit → visit.act ≡ Put key word → IsCell plan subs (write_key sub write)
     → IsCell plan subs key × (key_sub key ≡ sub)
-cell-of plan subs sub write visit key word same act cell =
+cell-of {plan} {subs} sub write {visit} {key} {word} same act cell =
     let its : visit_of sub write ≡ visit = cc in
     let put : Put (write_key sub write) (write_word write) ≡ Put key word =
     ap (λ (v : Visit). v.act) its ∙ act in
     let here : write_key sub write ≡ key = cc in
     subst (λ k. IsCell plan subs k × (key_sub k ≡ sub)) here (cell, owner sub write)
 
-cell-at : (plan : PlanData) (handset : HandsetData) (subs : ℕ) (visit : Visit) (key : Key) (word : ℕ)
-    → ((level node : ℕ) → level < levels_of plan → node < nodes_of plan
-    → home plan level node < clusters_of plan level)
+cell-at : {plan : PlanData} {handset : HandsetData} (subs : ℕ) {visit : Visit} {key : Key} {word : ℕ}
+    → ((level node : ℕ) → level < levels_of plan → node < nodes_of plan → home plan level node < clusters_of plan level)
     → GoesWith plan handset → handset.sub < subs → visit.act ≡ Put key word → (stage : Stage)
-    → IsMoveStage (nodes_of plan) handset.last stage
-    → option_map (visit_of handset.sub) (due_at (setting_of plan []) handset stage) ≡ Some visit
-    → IsCell plan subs key × (key_sub key ≡ handset.sub)
-cell-at plan handset subs visit key word homes goes known act Resting its same = absurd (let e : ⊥ = cc in e)
-cell-at plan handset subs visit key word homes goes known act Coming its same =
-    cell-of plan subs handset.sub (mark_at handset.last.to (ComingMark handset.last.number handset.last.from)) visit
-    key word same act (record { place = goes.to; known = known })
-cell-at plan handset subs visit key word homes goes known act (Renewing level) its same =
-    let low : level < levels_of plan = omega (arith, its, goes.renewed) in
-    cell-of plan subs handset.sub (new_address (setting_of plan []) handset.last level) visit key word same act
-    (record { place = (low, homes level handset.last.to low goes.to); known = known })
-cell-at plan handset subs visit key word homes goes known act Committing its same =
-    cell-of plan subs handset.sub (mark_at handset.last.from (Gone handset.last.number handset.last.to)) visit key word
-    same act (record { place = goes.from; known = known })
-cell-at plan handset subs visit key word homes goes known act Confirming its same =
-    cell-of plan subs handset.sub (mark_at handset.last.to (Here handset.last.number)) visit key word same act
+    → IsMoveStage (nodes_of plan) handset.last stage → option_map (visit_of handset.sub)
+    (due_at (setting_of plan []) handset stage) ≡ Some visit → IsCell plan subs key × (key_sub key ≡ handset.sub)
+cell-at subs homes goes known act Resting its same = absurd (let e : ⊥ = cc in e)
+cell-at {handset} subs homes goes known act Coming its same =
+    cell-of handset.sub (mark_at handset.last.to (ComingMark handset.last.number handset.last.from)) same act
     (record { place = goes.to; known = known })
-cell-at plan handset subs visit key word homes goes known act (Erasing level) its same =
+cell-at {plan} {handset} subs homes goes known act (Renewing level) its same =
     let low : level < levels_of plan = omega (arith, its, goes.renewed) in
-    cell-of plan subs handset.sub (erasure (setting_of plan []) handset level) visit key word same act
-    (record {
+    cell-of handset.sub (new_address (setting_of plan []) handset.last level) same act
+    (record { place = (low, homes level handset.last.to low goes.to); known = known })
+cell-at {handset} subs homes goes known act Committing its same =
+    cell-of handset.sub (mark_at handset.last.from (Gone handset.last.number handset.last.to))
+    same act (record { place = goes.from; known = known })
+cell-at {handset} subs homes goes known act Confirming its same =
+    cell-of handset.sub (mark_at handset.last.to (Here handset.last.number)) same act
+    (record { place = goes.to; known = known })
+cell-at {plan} {handset} subs homes goes known act (Erasing level) its same =
+    let low : level < levels_of plan = omega (arith, its, goes.renewed) in
+    cell-of handset.sub (erasure (setting_of plan []) handset level) same act (record {
       place = (low, homes level (slice_index handset.addresses level) low (goes.inside level low));
       known = known;
     })
-cell-at plan handset subs visit key word homes goes known act (Purging node) its same =
-    cell-of plan subs handset.sub (mark_at node Empty) visit key word same act
+cell-at {handset} subs homes goes known act (Purging node) its same =
+    cell-of handset.sub (mark_at node Empty) same act
     (record { place = its; known = known })
-cell-at plan handset subs visit key word homes goes known act (Switching off) its same =
-    cell-of plan subs handset.sub (switch_mark handset off) visit key word same act
+cell-at {handset} subs homes goes known act (Switching off) its same =
+    cell-of handset.sub (switch_mark handset off) same act
     (record { place = goes.place; known = known })
 
-pub cell-due : (plan : PlanData) (handset : HandsetData) (subs : ℕ) (visit : Visit) (key : Key) (word : ℕ)
-    → ((level node : ℕ) → level < levels_of plan → node < nodes_of plan
-    → home plan level node < clusters_of plan level)
+pub cell-due : {plan : PlanData} {handset : HandsetData} (subs : ℕ) {visit : Visit} {key : Key} {word : ℕ}
+    → ((level node : ℕ) → level < levels_of plan → node < nodes_of plan → home plan level node < clusters_of plan level)
     → GoesWith plan handset → handset.sub < subs → due (setting_of plan []) handset ≡ Some visit
     → visit.act ≡ Put key word → IsCell plan subs key × (key_sub key ≡ handset.sub)
-cell-due plan handset subs visit key word homes goes known is act =
-    cell-at plan handset subs visit key word homes goes known act handset.stage goes.stage is
+cell-due {handset} subs homes goes known is act =
+    cell-at subs homes goes known act handset.stage goes.stage is
 
 -- a write changes nothing of whose handset it is
 stays-own : (setting : Setting) (handset : HandsetData) (stage : Stage)

@@ -44,19 +44,18 @@ pub record LooksAhead (input : Contents) (plan : PlanData) (cells : CellData) (a
       (cluster_at plan (climb_past plan climb i)) walk.sub) ≡ 0
 
 -- the first ticket that a caller keeps
-first-kept : (walk : WalkData) (old : Caller) (ticket : ℕ) (climb : Climb) (count later : ℕ)
-    → (count ≡ 0 → later ≡ ticket)
-    → unwrap_or (behind walk old ticket climb count).first later ≡ unwrap_or old.first ticket
-first-kept walk old ticket climb zero later same = ap (unwrap_or old.first) (same refl)
-first-kept walk old ticket climb (suc count) later same = refl
+first-kept : (walk : WalkData) (old : Caller) {ticket : ℕ} (climb : Climb) (count : ℕ) {later : ℕ}
+    → (count ≡ 0 → later ≡ ticket) → unwrap_or (behind walk old ticket climb count).first later ≡ unwrap_or old.first
+    ticket
+first-kept walk old climb zero same = ap (unwrap_or old.first) (same refl)
+first-kept walk old climb (suc count) same = refl
 
-behind-more : (walk : WalkData) (old : Caller) (ticket : ℕ) (climb next_climb : Climb) (count first : ℕ)
-    → first ≡ unwrap_or old.first ticket
-    → behind walk old ticket next_climb (suc count)
+behind-more : (walk : WalkData) (old : Caller) (ticket : ℕ) (climb next_climb : Climb) (count : ℕ) {first : ℕ}
+    → first ≡ unwrap_or old.first ticket → behind walk old ticket next_climb (suc count)
     ≡ record (behind walk old ticket climb count) { walk = Some (walk_at walk next_climb); first = Some first }
-behind-more walk old ticket climb next_climb zero first same =
+behind-more walk old ticket climb next_climb zero {first} same =
     ap (λ f. record old { walk = Some (walk_at walk next_climb); first = Some f }) (sym same)
-behind-more walk old ticket climb next_climb (suc count) first same =
+behind-more walk old ticket climb next_climb (suc count) {first} same =
     ap (λ f. record old { walk = Some (walk_at walk next_climb); first = Some f }) (sym same)
 
 behind-walk : (walk : WalkData) (old : Caller) (ticket : ℕ) (climb : Climb) (count : ℕ)
@@ -65,51 +64,47 @@ behind-walk walk old ticket climb zero = refl
 behind-walk walk old ticket climb (suc count) = refl
 
 -- with no looks it is where it was
-pub behind-none : (walk : WalkData) (old : Caller) (ticket : ℕ) (climb : Climb) → old.walk ≡ Some walk
+pub behind-none : {walk : WalkData} (old : Caller) (ticket : ℕ) {climb : Climb} → old.walk ≡ Some walk
     → IsClimbOf walk climb → behind walk old ticket climb 0 ≡ old
-behind-none walk old ticket climb held at =
+behind-none {walk} old ticket held at =
     ap (λ w. record old { walk = w }) (ap Some at.same ∙ sym held)
 
 -- no looks
-pub passed-none : (input : Contents) (plan : PlanData) (cells : CellData) (history : History) (actor : ℕ)
-    (old : Caller) → Sees input plan cells history → IsCaller input plan history actor old
-    → HasPassed input plan cells history actor 0 old
-passed-none input plan cells history actor old sees its =
-    made-none input plan cells history actor (λ later. IsCaller input plan later actor old) sees its
+pub passed-none : {input : Contents} {plan : PlanData} {cells : CellData} {history : History} {actor : ℕ} {old : Caller}
+    → Sees input plan cells history → IsCaller input plan history actor old → HasPassed input plan cells history actor 0
+    old
+passed-none {input} {plan} {actor} {old} sees its =
+    made-none actor (λ later. IsCaller input plan later actor old) sees its
 
 -- looks behind looks
-pub passed-behind : (input : Contents) (plan : PlanData) (cells : CellData) (history : History)
-    (ticket actor count more : ℕ) (mid new : Caller) → length history ≡ ticket
-    → HasPassed input plan cells history actor count mid
-    → MakesLooks input plan cells (ticket + count) actor more mid new
-    → HasPassed input plan cells history actor (count + more) new
-passed-behind input plan cells history ticket actor count more mid new place first then =
+pub passed-behind : {input : Contents} {plan : PlanData} {cells : CellData} {history : History}
+    {ticket actor count more : ℕ} {mid new : Caller} → length history ≡ ticket
+    → HasPassed input plan cells history actor count mid → MakesLooks input plan cells (ticket + count) actor more mid
+    new → HasPassed input plan cells history actor (count + more) new
+passed-behind {input} {plan} {history} {actor} {count} {mid} place first then =
     let Mid : History → Type 0 = λ later. IsCaller input plan later actor mid in
-    made-joined input plan cells cells history actor count more Mid (λ later. IsCaller input plan later actor new) first
-    (then (history ++ first.visits) first.sees
-    (made-count input plan cells history actor count Mid first ∙ ap (λ n. n + count) place) first.its)
+    made-joined first (then (history ++ first.visits) first.sees (made-count first ∙ ap (λ n. n + count) place)
+    first.its)
 
 -- one look, as a turn makes it
-pub passed-one : MoreIsPlayed → (input : Contents) (plan : PlanData) (cells : CellData) (history : History) (actor : ℕ)
-    (new : Caller) → Sees input plan cells history
-    → ((k : Key) × (next (setting_over input plan) (scripts_of input) history actor ≡ Some (look_by actor k))
-    × IsCaller input plan (history ++ look_by actor k ∷ []) actor new)
-    → HasPassed input plan cells history actor 1 new
-passed-one more input plan cells history actor new sees turned =
-    made-one input plan cells history actor (look_by actor turned.0) (λ later. IsCaller input plan later actor new)
-    refl turned.1 (sees-more more input plan cells history actor turned.0 sees turned.1) turned.2
+pub passed-one : MoreIsPlayed → {input : Contents} {plan : PlanData} {cells : CellData} {history : History} {actor : ℕ}
+    {new : Caller} → Sees input plan cells history → ((k : Key)
+    × (next (setting_over input plan) (scripts_of input) history actor ≡ Some (look_by actor k)) × IsCaller input plan
+    (history ++ look_by actor k ∷ []) actor new) → HasPassed input plan cells history actor 1 new
+passed-one more {input} {plan} {history} {actor} {new} sees turned =
+    made-one history (λ later. IsCaller input plan later actor new) refl turned.1
+    (sees-more more actor turned.0 sees turned.1) turned.2
 
 -- a look more
-passed-more : TicketsGrow → CallersRead → CallerLinesGrow → CallersCount → MoreIsPlayed → (input : Contents)
-    (plan : PlanData) (cells : CellData) (history : History) (actor ticket : ℕ) (old : Caller) (walk : WalkData)
-    (climb : Climb) (limit : ℕ) → length history ≡ ticket
-    → LooksAhead input plan cells actor walk climb limit → (count : ℕ) → count < limit
-    → HasPassed input plan cells history actor count
-    (behind walk old ticket (climb_past plan climb count) count)
+passed-more : TicketsGrow → CallersRead → CallerLinesGrow → CallersCount → MoreIsPlayed
+    → {input : Contents} {plan : PlanData} {cells : CellData} {history : History} {actor ticket : ℕ} (old : Caller)
+    {walk : WalkData} {climb : Climb} {limit : ℕ} → length history ≡ ticket
+    → LooksAhead input plan cells actor walk climb limit → {count : ℕ} → count < limit
+    → HasPassed input plan cells history actor count (behind walk old ticket (climb_past plan climb count) count)
     → HasPassed input plan cells history actor (suc count)
     (behind walk old ticket (climb_past plan climb (suc count)) (suc count))
-passed-more grow read lines counts more input plan cells history actor ticket old walk climb limit place at
-    count low passed =
+passed-more grow read lines counts more {input} {plan} {cells} {history} {actor} {ticket} old {walk} {climb} place at
+    {count} low passed =
     let here : Climb = climb_past plan climb count in
     let there : Climb = climb_past plan climb (suc count) in
     let now : History = history ++ passed.visits in
@@ -118,90 +113,75 @@ passed-more grow read lines counts more input plan cells history actor ticket ol
     let reads : 0 ≡ cell (setting_over input plan) now key =
     sym (sym (passed.sees.hold.words key (subst (λ n. IsCell plan n key) passed.sees.hold.subs (at.cell count low)))
     ∙ at.empty count low) in
-    let seen = looks grow input plan now actor (behind walk old ticket here count) (walk_at walk here)
-    (walk_at walk there) key 0 at.high passed.its (behind-walk walk old ticket here count) entry.key
+    let seen = looks grow (walk_at walk there) at.high passed.its (behind-walk walk old ticket here count) entry.key
     reads refl entry.pursuit in
     let size : length passed.visits ≡ count =
     sym (length-map passed.visits (λ (v : Visit). v.actor)) ∙ (ap length passed.actors ∙ length-replicate count actor)
     in
     let tickets_at : count ≡ 0 → length now ≡ ticket =
     λ none. omega (arith, none, size, place, length-append history passed.visits) in
-    let turned = looked-on read lines counts input plan cells now actor (length now)
-    (behind walk old ticket here count) (behind walk old ticket there (suc count)) key (walk_at walk there)
-    at.high passed.sees refl passed.its seen entry.over (sym entry.on)
-    (behind-more walk old ticket here there count (unwrap_or (behind walk old ticket here count).first (length now))
-    (first-kept walk old ticket here count (length now) tickets_at)) in
+    let turned = looked-on read lines counts at.high passed.sees refl passed.its seen entry.over (sym entry.on)
+    (behind-more walk old ticket here there count (first-kept walk old here count tickets_at)) in
     let caller : Caller = behind walk old ticket there (suc count) in
     let one : count + 1 ≡ suc count = omega arith in
     subst (λ m. HasPassed input plan cells history actor m caller) one
-    (made-joined input plan cells cells history actor count 1 (λ later. IsCaller input plan later actor
-    (behind walk old ticket here count)) (λ later. IsCaller input plan later actor caller) passed
-    (passed-one more input plan cells now actor caller passed.sees turned))
+    (made-joined passed (passed-one more passed.sees turned))
 
 -- all of them
-pub passed-ahead : TicketsGrow → CallersRead → CallerLinesGrow → CallersCount → MoreIsPlayed → (input : Contents)
-    (plan : PlanData) (cells : CellData) (history : History) (actor ticket : ℕ) (old : Caller) (walk : WalkData)
-    (climb : Climb) (limit : ℕ) → length history ≡ ticket
-    → LooksAhead input plan cells actor walk climb limit
-    → HasPassed input plan cells history actor 0 (behind walk old ticket climb 0)
-    → (count : ℕ) → count ≤ limit
-    → HasPassed input plan cells history actor count (behind walk old ticket (climb_past plan climb count) count)
-passed-ahead grow read lines counts more input plan cells history actor ticket old walk climb limit place at
+pub passed-ahead : TicketsGrow → CallersRead → CallerLinesGrow → CallersCount → MoreIsPlayed
+    → {input : Contents} {plan : PlanData} {cells : CellData} {history : History} {actor ticket : ℕ} (old : Caller)
+    {walk : WalkData} {climb : Climb} {limit : ℕ} → length history ≡ ticket
+    → LooksAhead input plan cells actor walk climb limit → HasPassed input plan cells history actor 0
+    (behind walk old ticket climb 0) → (count : ℕ) → count ≤ limit → HasPassed input plan cells history actor count
+    (behind walk old ticket (climb_past plan climb count) count)
+passed-ahead grow read lines counts more old place at
     passed zero low = passed
-passed-ahead grow read lines counts more input plan cells history actor ticket old walk climb limit place at
+passed-ahead grow read lines counts more old place at
     passed (suc count) low =
-    passed-more grow read lines counts more input plan cells history actor ticket old walk climb limit place at
-    count (omega (arith, low))
-    (passed-ahead grow read lines counts more input plan cells history actor ticket old walk climb limit place at
-    passed count (omega (arith, low)))
+    passed-more grow read lines counts more old place at (omega (arith, low))
+    (passed-ahead grow read lines counts more old place at passed count (omega (arith, low)))
 
 -- and where there are some, the caller keeps a walk and a first ticket
-pub behind-some : (walk after : WalkData) (old : Caller) (ticket : ℕ) (climb : Climb) (count first : ℕ) → 0 < count
-    → after ≡ walk_at walk climb → first ≡ unwrap_or old.first ticket
+pub behind-some : (walk : WalkData) {after : WalkData} (old : Caller) (ticket : ℕ) (climb : Climb) (count : ℕ)
+    {first : ℕ} → 0 < count → after ≡ walk_at walk climb → first ≡ unwrap_or old.first ticket
     → behind walk old ticket climb count ≡ record old { walk = Some after; first = Some first }
-behind-some walk after old ticket climb zero first some same kept = absurd (omega (arith, some))
-behind-some walk after old ticket climb (suc count) first some same kept =
+behind-some walk old ticket climb zero some same kept = absurd (omega (arith, some))
+behind-some walk {after} old ticket climb (suc count) {first} some same kept =
     ap (λ w. record old { walk = Some w; first = Some (unwrap_or old.first ticket) }) (sym same)
     ∙ ap (λ f. record old { walk = Some after; first = Some f }) (sym kept)
 
 -- a caller behind looks has its turn
-pub may-look : (input : Contents) (plan : PlanData) (cells : CellData) (ticket actor count : ℕ) (old mid : Caller)
+pub may-look : {input : Contents} {plan : PlanData} {cells : CellData} {ticket actor count : ℕ} {old mid : Caller}
     → MayLook input plan cells ticket actor old → MakesLooks input plan cells ticket actor count old mid
     → MayLook input plan cells (ticket + count) actor mid
-may-look input plan cells ticket actor count old mid may then =
+may-look {count} may then =
     let made = then may.0 may.1 may.2 may.3 in (
       may.0 ++ made.visits,
       made.sees,
-      made-count input plan cells may.0 actor count (λ later. IsCaller input plan later actor mid) made
+      made-count made
           ∙ ap (λ n. n + count) may.2,
       made.its,
     )
 
 -- looks, and one more
-pub looked-through : MoreIsPlayed → (input : Contents) (plan : PlanData) (cells : CellData) (history : History)
-    (ticket actor count : ℕ) (far new : Caller) → length history ≡ ticket
-    → HasPassed input plan cells history actor count far
-    → Looks input plan cells (ticket + count) actor far new Visited
+pub looked-through : MoreIsPlayed → {input : Contents} {plan : PlanData} {cells : CellData} {history : History}
+    {ticket actor count : ℕ} {far new : Caller} → length history ≡ ticket
+    → HasPassed input plan cells history actor count far → Looks input plan cells (ticket + count) actor far new Visited
     → HasPassed input plan cells history actor (count + 1) new
-looked-through more input plan cells history ticket actor count far new place all last =
+looked-through more {input} {plan} {history} {actor} {count} {far} place all last =
     let Far : History → Type 0 = λ later. IsCaller input plan later actor far in
-    made-joined input plan cells cells history actor count 1 Far
-    (λ later. IsCaller input plan later actor new) all
-    (passed-one more input plan cells (history ++ all.visits) actor new all.sees
-    (last (history ++ all.visits) all.sees (made-count input plan cells history actor count Far all
-    ∙ ap (λ n. n + count) place) all.its))
+    made-joined all (passed-one more all.sees (last (history ++ all.visits) all.sees
+    (made-count all ∙ ap (λ n. n + count) place) all.its))
 
 -- looks behind which none is left
-pub looks-ended : (input : Contents) (plan : PlanData) (cells : CellData) (history : History)
-    (ticket actor count most : ℕ) (far new : Caller) → length history ≡ ticket
-    → HasPassed input plan cells history actor count far
+pub looks-ended : {input : Contents} {plan : PlanData} {cells : CellData} {history : History} {ticket actor count : ℕ}
+    (most : ℕ) {far new : Caller} → length history ≡ ticket → HasPassed input plan cells history actor count far
     → Looks input plan cells (ticket + count) actor far new Finished
-    → (made : HasPassed input plan cells history actor count new)
-    × (count < most
+    → (made : HasPassed input plan cells history actor count new) × (count < most
     → next (setting_over input plan) (scripts_of input) (history ++ made.visits) actor ≡ None)
-looks-ended input plan cells history ticket actor count most far new place all last =
+looks-ended {input} {plan} {history} {actor} {count} most {far} place all last =
     let Far : History → Type 0 = λ later. IsCaller input plan later actor far in
-    let done = last (history ++ all.visits) all.sees (made-count input plan cells history actor count Far all
+    let done = last (history ++ all.visits) all.sees (made-count all
     ∙ ap (λ n. n + count) place) all.its in (
       record {
         visits = all.visits;
@@ -214,9 +194,9 @@ looks-ended input plan cells history ticket actor count most far new place all l
     )
 
 -- looks behind looks
-pub looks-more : (input : Contents) (plan : PlanData) (cells : CellData) (ticket actor count more : ℕ)
-    (old mid new : Caller) → MakesLooks input plan cells ticket actor count old mid
+pub looks-more : {input : Contents} {plan : PlanData} {cells : CellData} {ticket actor count more : ℕ}
+    {old mid new : Caller} → MakesLooks input plan cells ticket actor count old mid
     → MakesLooks input plan cells (ticket + count) actor more mid new
     → MakesLooks input plan cells ticket actor (count + more) old new
-looks-more input plan cells ticket actor count more old mid new first then = λ history sees place its.
-    passed-behind input plan cells history ticket actor count more mid new place (first history sees place its) then
+looks-more first then = λ history sees place its.
+    passed-behind place (first history sees place its) then

@@ -35,15 +35,13 @@ run-more order start end on inside same so_far =
     ∙ ap (λ n. replicate n a ++ drop (end + 1) order) longer)))
 
 -- the history behind one run more
-pub played-run : (entry now new : Machine) (history wanted : History) (order : List ℕ) (start end : ℕ)
-    → IsSame entry now
-    → drop start order ≡ replicate (end - start) (get_or order start 0) ++ drop end order
-    → after_turns (setting_at entry) (scripts_at entry) history (drop start order) ≡ wanted
+pub played-run : (entry now : Machine) {new : Machine} (history : History) {wanted : History} (order : List ℕ)
+    (start end : ℕ) → IsSame entry now → drop start order ≡ replicate (end - start) (get_or order start 0) ++ drop end
+    order → after_turns (setting_at entry) (scripts_at entry) history (drop start order) ≡ wanted
     → HasHistory new (after_turns (setting_at now) (scripts_at now) history
-    (replicate (end - start) (get_or order start 0)))
-    → (after : History) × HasHistory new after
-    × (after_turns (setting_at entry) (scripts_at entry) after (drop end order) ≡ wanted)
-played-run entry now new history wanted order start end same run so_far goes =
+    (replicate (end - start) (get_or order start 0))) → (after : History) × HasHistory new
+    after × (after_turns (setting_at entry) (scripts_at entry) after (drop end order) ≡ wanted)
+played-run entry now {new} history order start end same run so_far goes =
     let turns : List ℕ = replicate (end - start) (get_or order start 0) in (
       after_turns (setting_at entry) (scripts_at entry) history turns,
       subst (HasHistory new)
@@ -54,9 +52,9 @@ played-run entry now new history wanted order start end same run so_far goes =
     )
 
 -- and behind all of them
-pub played-whole : (entry now : Machine) (history wanted : History) (order : List ℕ) (start : ℕ)
-    → length order ≤ start → HasHistory now history
-    → after_turns (setting_at entry) (scripts_at entry) history (drop start order) ≡ wanted → HasHistory now wanted
-played-whole entry now history wanted order start past is so_far =
+pub played-whole : (entry : Machine) {now : Machine} {history wanted : History} (order : List ℕ) (start : ℕ)
+    → length order ≤ start → HasHistory now history → after_turns (setting_at entry) (scripts_at entry) history
+    (drop start order) ≡ wanted → HasHistory now wanted
+played-whole entry {now} {history} order start past is so_far =
     subst (HasHistory now)
     (ap (after_turns (setting_at entry) (scripts_at entry) history) (sym (drop_all start order past)) ∙ so_far) is

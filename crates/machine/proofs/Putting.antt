@@ -29,7 +29,7 @@ use Rattle.machine.specs.declared.turn.Turn.TheVariants.{Visited}
 use Rattle.machine.specs.Owed.{HasCome, IsAhead, IsNextAhead, MayPut, Owes}
 use Rattle.machine.specs.Stands.{AreMade, BelongTogether, Sees, setting_over}
 use Rattle.machine.specs.Subscribers.{HasWritten, IsShown, IsSubscriber, Shown, begun_line, begun_steps, line_after, shown_at}
-use Rattle.machine.proofs.Many.{behind, lines-are, made-same, made-so, written-many}
+use Rattle.machine.proofs.Many.{lines-are, made-same, made-so, written-many}
 use Rattle.machine.proofs.Owing.{Next, holds-next, next-of}
 use Rattle.machine.proofs.Rests.{Begins, written-first}
 use Rattle.machine.proofs.Written.{Under, under-way, written-on}
@@ -40,10 +40,10 @@ drop-past (suc n) [] high = refl
 drop-past zero (x ∷ xs) high = absurd (omega (arith, high))
 drop-past (suc n) (x ∷ xs) high = drop-past n xs (omega (arith, high))
 
-pub none-there : (xs : List Ahead) (count : ℕ) (test : Bool) → length xs ≡ count → test ≡ (count == 0)
+pub none-there : (xs : List Ahead) {count : ℕ} {test : Bool} → length xs ≡ count → test ≡ (count == 0)
     → not test ≡ false → xs ≡ []
-none-there [] count test size is quiet = refl
-none-there (x ∷ xs) count test size is quiet =
+none-there [] size is quiet = refl
+none-there (x ∷ xs) {count} size is quiet =
     let some : (count == 0) ≡ false = ne_eqb count 0 (λ none. omega (arith, size, none)) in
     absurd (never (sym quiet ∙ ap not (is ∙ some)))
   where
@@ -51,27 +51,26 @@ none-there (x ∷ xs) count test size is quiet =
     never h = cc
 
 -- where all writes that were ahead are in their cells, the handset is as far as the history
-now-at : (input : Contents) (plan : PlanData) (history : History) (sub : ℕ) (old : Subscriber)
-    → length old.ahead.items ≤ old.made → (its : IsSubscriber input plan history sub old)
-    → old.handset ≡ its.handset
-now-at input plan history sub old full its =
+now-at : {input : Contents} {plan : PlanData} {history : History} {sub : ℕ} {old : Subscriber}
+    → length old.ahead.items ≤ old.made → (its : IsSubscriber input plan history sub old) → old.handset ≡ its.handset
+now-at {input} {plan} {old} full its =
     subst (Owes plan (length input.homes) its.handset old.handset) (drop-past old.made old.ahead.items full) its.owes
 
-pub shown-now : (input : Contents) (plan : PlanData) (history : History) (sub : ℕ) (old : Subscriber)
+pub shown-now : {input : Contents} {plan : PlanData} {history : History} {sub : ℕ} {old : Subscriber}
     → old.ahead.items ≡ [] → IsSubscriber input plan history sub old
     → IsShown input plan history sub (shown_at old.handset old)
-shown-now input plan history sub old empty its =
+shown-now {input} {plan} {history} {sub} {old} empty its =
     subst (λ h. IsShown input plan history sub (shown_at h old))
-    (sym (now-at input plan history sub old (omega (arith, ap length empty)) its)) its.shown
+    (sym (now-at (omega (arith, ap length empty)) its)) its.shown
 
 -- other writes are ahead then
-pub refilled : (input : Contents) (plan : PlanData) (history : History) (sub subs : ℕ) (old : Subscriber)
-    (handset : HandsetData) (empty ahead : Vec Ahead) → length input.homes ≡ subs
-    → length old.ahead.items ≤ old.made → empty.items ≡ [] → vec_capacity empty ≡ vec_capacity old.ahead
-    → IsAhead plan subs old.handset handset empty ahead → IsSubscriber input plan history sub old
+pub refilled : {input : Contents} {plan : PlanData} {history : History} {sub subs : ℕ} {old : Subscriber}
+    {handset : HandsetData} {empty ahead : Vec Ahead} → length input.homes ≡ subs → length old.ahead.items ≤ old.made
+    → empty.items ≡ [] → vec_capacity empty ≡ vec_capacity old.ahead → IsAhead plan subs old.handset handset empty ahead
+    → IsSubscriber input plan history sub old
     → IsSubscriber input plan history sub (record old { handset = handset; ahead = ahead; made = 0 })
-refilled input plan history sub subs old handset empty ahead known full none space is its =
-    let same : old.handset ≡ its.handset = now-at input plan history sub old full its in
+refilled {plan} {subs} {old} {handset} {empty} {ahead} known full none space is its =
+    let same : old.handset ≡ its.handset = now-at full its in
     let before : Owes plan subs its.handset old.handset empty.items =
     subst (Owes plan subs its.handset old.handset) (sym none) same in
     record {
@@ -85,58 +84,53 @@ refilled input plan history sub subs old handset empty ahead known full none spa
     }
 
 -- a subscriber that has a write ahead has a line
-pub line-there : MarksUnpack → TicketsAreOwn → ScriptsAreValid → (input : Contents) (plan : PlanData)
-    (distances : DistanceTable) (history : History) (sub : ℕ) (old : Subscriber)
+pub line-there : MarksUnpack → TicketsAreOwn → ScriptsAreValid
+    → {input : Contents} {plan : PlanData} {distances : DistanceTable} {history : History} {sub : ℕ} {old : Subscriber}
     → BelongTogether input plan distances → sub < length input.homes → IsSubscriber input plan history sub old
     → old.made < length old.ahead.items → 0 < length old.lines.items
-line-there unpack tell scripts input plan distances history sub old together low its left =
+line-there unpack tell scripts {input} {plan} {history} {sub} {old} together low its left =
     let shown : Shown = shown_at its.handset old in
     let none : Ahead = record { place = 0; commits = false; word = 0 } in
     let write : Ahead = get_or old.ahead.items old.made none in
     let next : Next plan (length input.homes) its.handset old.handset write (drop (suc old.made) old.ahead.items) =
-    next-of plan (length input.homes) its.handset old.handset old.ahead.items old.made write left
+    next-of plan (length input.homes) its.handset old.handset old.ahead.items old.made left
     (get_or_default old.ahead.items old.made none write left) its.owes in
     let way : Under input plan history sub shown next.its.visit =
-    under-way unpack tell scripts input plan distances history sub shown next.its.visit together low its.shown
+    under-way unpack tell scripts together low its.shown
     (ap (λ s. slice_get (visits (setting_over input plan) s (begun_steps input sub shown)) (length (own sub history)))
-    (sym its.shown.its)
-    ∙ next.its.next input.homes (begun_steps input sub shown) (length (own sub history)) its.shown.handset) in
+    (sym its.shown.its) ∙ next.its.next input.homes (begun_steps input sub shown) (length (own sub history))
+    its.shown.handset) in
     omega (arith, ap length way.are, length_push way.rows way.row)
 
 -- the write that comes next goes into its cell
-pub one-put : MarksUnpack → OwnGrow → TicketsGrow → TicketsAreOwn → ScriptsAreValid → (input : Contents)
-    (plan : PlanData) (distances : DistanceTable) (cells after : CellData) (history : History) (sub ticket last : ℕ)
-    (old : Subscriber) (lines : Vec Done) (write : Ahead) (line default : Done)
+pub one-put : MarksUnpack → OwnGrow → TicketsGrow → TicketsAreOwn → ScriptsAreValid
+    → {input : Contents} {plan : PlanData} {distances : DistanceTable} {cells after : CellData} {history : History}
+    {sub ticket last : ℕ} {old : Subscriber} (lines : Vec Done) {write : Ahead} {line : Done} (default : Done)
     → BelongTogether input plan distances → sub < length input.homes → length history ≡ ticket
-    → Sees input plan cells history → IsSubscriber input plan history sub old
-    → old.made < length old.ahead.items → write ≡ get_or old.ahead.items old.made write
-    → lines.items ≡ slice_set old.lines.items last line → vec_capacity old.lines ≤ vec_capacity lines
-    → suc last ≡ length old.lines.items
+    → Sees input plan cells history → IsSubscriber input plan history sub old → old.made < length old.ahead.items
+    → write ≡ get_or old.ahead.items old.made write → lines.items ≡ slice_set old.lines.items last line
+    → vec_capacity old.lines ≤ vec_capacity lines → suc last ≡ length old.lines.items
     → line ≡ line_after (get_or old.lines.items last default) write.commits ticket
-    → ((key : Key) → IsPlaceOf plan cells.subs sub write.place key
-    → (starts : List ℕ) (history : History) (actor : ℕ) → Hold plan starts cells history
-    → Hold plan starts after (history ++ record { actor = actor; act = Put key write.word } ∷ []))
-    → GoWith plan after
+    → ((key : Key) → IsPlaceOf plan cells.subs sub write.place key → (starts : List ℕ) (history : History) (actor : ℕ)
+    → Hold plan starts cells history
+    → Hold plan starts after (history ++ record { actor = actor; act = Put key write.word } ∷ [])) → GoWith plan after
     → HasWritten input plan history sub old (record old { made = old.made + 1; lines = lines }) cells after Visited
-one-put unpack own_law ticket_law tell scripts input plan distances cells after history sub ticket last old lines write
-    line default together low place sees its left same lines_are room last_is line_is put go =
+one-put unpack own_law ticket_law tell scripts {input} {plan} {cells} {history} {sub} {ticket} {last} {old} lines
+    {write} default together low place sees its left same lines_are room last_is line_is put go =
     let shown : Shown = shown_at its.handset old in
     let next : Next plan (length input.homes) its.handset old.handset write (drop (suc old.made) old.ahead.items) =
-    next-of plan (length input.homes) its.handset old.handset old.ahead.items old.made write left same its.owes in
+    next-of plan (length input.homes) its.handset old.handset old.ahead.items old.made left same its.owes in
     let one : IsNextAhead plan (length input.homes) its.handset next.handset write = next.its in
     let new : Shown = record { handset = next.handset; lines = lines } in
     let more : suc old.made ≡ old.made + 1 = omega arith in
     let cell : IsPlaceOf plan cells.subs sub write.place one.key =
     subst (λ n. IsPlaceOf plan n sub write.place one.key) (sym sees.hold.subs)
     (subst (λ s. IsPlaceOf plan (length input.homes) s write.place one.key) its.shown.its one.cell) in
-    let done = written-on unpack own_law ticket_law tell scripts input plan distances after history sub ticket last
-    shown new one.visit line default together low place its.shown
+    let done = written-on unpack own_law ticket_law tell scripts new default together low place its.shown
     (one.next input.homes (begun_steps input sub shown) (length (own sub history)) its.shown.handset)
-    (one.stands input.homes (begun_steps input sub shown) (length (own sub history)) its.shown.handset)
-    one.goes one.its lines_are room last_is
-    (line_is ∙ ap (λ b. line_after (get_or old.lines.items last default) b ticket) one.commits) go
-    (holds-next plan (length input.homes) its.handset next.handset write cells after one (put one.key cell) input.homes
-    history sees.hold) in (
+    (one.stands input.homes (begun_steps input sub shown) (length (own sub history)) its.shown.handset) one.goes one.its
+    lines_are room last_is (line_is ∙ ap (λ b. line_after (get_or old.lines.items last default) b ticket) one.commits)
+    go (holds-next one (put one.key cell) input.homes history sees.hold) in (
       done.0,
       done.1,
       record {
@@ -154,11 +148,10 @@ one-put unpack own_law ticket_law tell scripts input plan distances cells after 
     )
 
 -- the writes that are ahead may go into their cells
-pub may-put : (input : Contents) (plan : PlanData) (cells : CellData) (history : History) (sub : ℕ)
-    (old : Subscriber) (writes : List Ahead) → Sees input plan cells history
-    → (its : IsSubscriber input plan history sub old) → writes ≡ old.ahead.items
-    → MayPut plan sub its.handset old.handset cells (drop old.made writes)
-may-put input plan cells history sub old writes sees its same =
+pub may-put : {input : Contents} {plan : PlanData} {cells : CellData} {history : History} {sub : ℕ} {old : Subscriber}
+    {writes : List Ahead} → Sees input plan cells history → (its : IsSubscriber input plan history sub old)
+    → writes ≡ old.ahead.items → MayPut plan sub its.handset old.handset cells (drop old.made writes)
+may-put {input} {plan} {old} {writes} sees its same =
     record {
       over = sees.goes;
       its = its.shown.its;
@@ -170,27 +163,23 @@ may-put input plan cells history sub old writes sees its same =
 pub plain-put : MarksUnpack → OwnGrow → TicketsGrow → TicketsAreOwn → ScriptsAreValid → MoreIsPlayed
     → ((setting : Setting) (scripts : Scripts) (history : History) (actor : ℕ) (visit : Visit)
     → next setting scripts history actor ≡ Some visit → visit.actor ≡ actor)
-    → (input : Contents) (plan : PlanData) (distances : DistanceTable) (cells after : CellData) (history : History)
-    (sub ticket count place : ℕ) (old : Subscriber) (lines : Vec Done) (writes : List Ahead) (line : Done)
+    → {input : Contents} {plan : PlanData} {distances : DistanceTable} {cells after : CellData} {history : History}
+    {sub ticket count : ℕ} (place : ℕ) {old : Subscriber} (lines : Vec Done) {writes : List Ahead} (line : Done)
     → BelongTogether input plan distances → sub < length input.homes → length history ≡ ticket
     → Sees input plan cells history → (its : IsSubscriber input plan history sub old) → writes ≡ old.ahead.items
-    → HasCome plan sub its.handset old.handset cells after count (drop place writes) → 0 < count
-    → place ≤ length writes
+    → HasCome plan sub its.handset old.handset cells after count (drop place writes) → 0 < count → place ≤ length writes
     → lines.items ≡ set old.lines.items (length old.lines.items - 1)
     (line_after (get_or old.lines.items (length old.lines.items - 1) line) false (ticket + count - 1))
-    → vec_capacity old.lines ≤ vec_capacity lines
-    → AreMade input plan after history sub count
+    → vec_capacity old.lines ≤ vec_capacity lines → AreMade input plan after history sub count
     (λ later. IsSubscriber input plan later sub (record old { made = place; lines = lines }))
-plain-put unpack own_law ticket_law tell scripts more mine input plan distances cells after history sub ticket count
-    place old lines writes line together low at sees its same come some within lines_are room =
+plain-put unpack own_law ticket_law tell scripts more mine {input} {plan} {after} {history} {sub} {ticket} {count}
+    place {old} lines {writes} line together low at sees its same come some within lines_are room =
     let shown : Shown = shown_at its.handset old in
     let new : Shown = record { handset = come.handset; lines = lines } in
     let made : AreMade input plan after history sub count (λ later. IsShown input plan later sub new) =
-    made-same input plan after history sub count (behind shown come.handset line ticket count) new
-    (written-many unpack own_law ticket_law tell scripts more mine input plan distances cells history ticket sub shown
-    line together low at sees its.shown count come.handset after come.put) refl
-    (lines_are ∙ sym (lines-are old.lines.items line ticket count some)) room in
-    made-so input plan after history sub count (λ later. IsShown input plan later sub new)
+    made-same new (written-many unpack own_law ticket_law tell scripts more mine line together low at sees its.shown
+    count come.handset after come.put) refl (lines_are ∙ sym (lines-are old.lines.items line ticket count some)) room in
+    made-so
     (λ later. IsSubscriber input plan later sub (record old { made = place; lines = lines })) made
     (λ later seen. record {
       handset = come.handset;
@@ -204,52 +193,46 @@ plain-put unpack own_law ticket_law tell scripts more mine input plan distances 
     })
 
 -- the cell of the first write ahead
-pub first-cell : (plan : PlanData) (subs sub : ℕ) (begun handset : HandsetData) (ahead : List Ahead)
-    (write : Ahead) → 0 < length ahead → write ≡ get_or ahead 0 write → Owes plan subs begun handset ahead
+pub first-cell : (plan : PlanData) (subs : ℕ) {sub : ℕ} (begun handset : HandsetData) (ahead : List Ahead)
+    {write : Ahead} → 0 < length ahead → write ≡ get_or ahead 0 write → Owes plan subs begun handset ahead
     → begun.sub ≡ sub → (key : Key) × IsPlaceOf plan subs sub write.place key
-first-cell plan subs sub begun handset ahead write some same owes mine =
+first-cell plan subs begun handset ahead {write} some same owes mine =
     let next : Next plan subs begun handset write (drop 1 ahead) =
-    next-of plan subs begun handset ahead 0 write some same owes in
+    next-of plan subs begun handset ahead 0 some same owes in
     (next.its.key, subst (λ s. IsPlaceOf plan subs s write.place next.its.key) mine next.its.cell)
 
 -- the first write of a step that begins goes into its cell
-pub first-put : OwnGrow → TicketsGrow → TicketsAreOwn → (input : Contents) (plan : PlanData)
-    (cells after : CellData) (history : History) (sub ticket : ℕ) (old : Subscriber) (begun handset : HandsetData)
-    (ahead : Vec Ahead) (lines : Vec Done) (call : Call) (write : Ahead) (line : Done)
-    → sub < length input.homes → length history ≡ ticket → Sees input plan cells history
+pub first-put : OwnGrow → TicketsGrow → TicketsAreOwn → {input : Contents} {plan : PlanData} {cells after : CellData}
+    {history : History} {sub ticket : ℕ} (old : Subscriber) (begun : HandsetData) {handset : HandsetData}
+    (ahead : Vec Ahead) (lines : Vec Done) {call : Call} {write : Ahead} {line : Done} → sub < length input.homes
+    → length history ≡ ticket → Sees input plan cells history
     → IsShown input plan history sub (shown_at old.handset old)
-    → Begins input plan history sub (shown_at old.handset old) call
-    → StandsForSteps (setting_over input plan) begun
+    → Begins input plan history sub (shown_at old.handset old) call → StandsForSteps (setting_over input plan) begun
     (begun_steps input sub (shown_at old.handset old) ++ step_of call ∷ []) (length (own sub history))
     → begun.sub ≡ old.handset.sub → Owes plan cells.subs begun handset ahead.items → GoesWith plan handset
     → handset.sub ≡ begun.sub → 1 ≤ vec_capacity ahead → 0 < length ahead.items → write ≡ get_or ahead.items 0 write
     → lines.items ≡ old.lines.items ++ line ∷ [] → vec_capacity old.lines ≤ vec_capacity lines
-    → line ≡ begun_line plan old.handset call ticket
-    → length old.lines.items < length (steps_of (scripts_of input) sub)
-    → ((key : Key) → IsPlaceOf plan cells.subs sub write.place key
-    → (starts : List ℕ) (history : History) (actor : ℕ) → Hold plan starts cells history
-    → Hold plan starts after (history ++ record { actor = actor; act = Put key write.word } ∷ []))
-    → GoWith plan after
+    → line ≡ begun_line plan old.handset call ticket → length old.lines.items < length (steps_of (scripts_of input) sub)
+    → ((key : Key) → IsPlaceOf plan cells.subs sub write.place key → (starts : List ℕ) (history : History) (actor : ℕ)
+    → Hold plan starts cells history
+    → Hold plan starts after (history ++ record { actor = actor; act = Put key write.word } ∷ [])) → GoWith plan after
     → HasWritten input plan history sub old (record { handset = handset; ahead = ahead; made = 1; lines = lines }) cells
     after Visited
-first-put own_law ticket_law tell input plan cells after history sub ticket old begun handset ahead lines call write
-    line low place sees shown begin stands same_sub owes goes own_sub space some same lines_are room line_is short put
+first-put own_law ticket_law tell {input} {plan} {cells} {history} {sub} old begun {handset} ahead lines {call} {write}
+    low place sees shown begin stands same_sub owes goes own_sub space some same lines_are room line_is short put
     go =
     let steps = begun_steps input sub (shown_at old.handset old) ++ step_of call ∷ [] in
     let next : Next plan cells.subs begun handset write (drop 1 ahead.items) =
-    next-of plan cells.subs begun handset ahead.items 0 write some same owes in
+    next-of plan cells.subs begun handset ahead.items 0 some same owes in
     let one : IsNextAhead plan cells.subs begun next.handset write = next.its in
     let new : Shown = record { handset = next.handset; lines = lines } in
     let cell : IsPlaceOf plan cells.subs sub write.place one.key =
     subst (λ s. IsPlaceOf plan cells.subs s write.place one.key) (same_sub ∙ shown.its) one.cell in
-    let done = written-first own_law ticket_law tell input plan after history sub ticket (shown_at old.handset old) new
-    call one.visit line low place shown begin
+    let done = written-first own_law ticket_law tell new low place shown begin
     (ap (λ s. slice_get (visits (setting_over input plan) s steps) (length (own sub history))) (sym same_sub)
     ∙ one.next input.homes steps (length (own sub history)) stands)
     (one.stands input.homes steps (length (own sub history)) stands) one.goes (one.its ∙ same_sub) lines_are room
-    line_is short go
-    (holds-next plan cells.subs begun next.handset write cells after one (put one.key cell) input.homes history
-    sees.hold) in (
+    line_is short go (holds-next one (put one.key cell) input.homes history sees.hold) in (
       done.0,
       done.1,
       record {

@@ -52,14 +52,12 @@ pub record Begins (input : Contents) (plan : PlanData) (history : History) (sub 
       ≡ length (writes (setting_over input plan) (course_at (start (setting_over input plan) sub))
       (begun_steps input sub old))
 
-first-line : (plan : PlanData) (starts : List ℕ) (handset : HandsetData) (steps : List Step) (made sub : ℕ)
-    (call : Call) (ticket : ℕ)
-    → IsRestAfter (setting_of plan starts) handset.sub handset steps made → handset.sub ≡ sub → IsStep call
-    → begun_line plan handset call ticket
-    ≡ step_line (setting_of plan starts) sub
-    (after_steps (setting_of plan starts) (course_at (start (setting_of plan starts) sub)) steps)
-    (step_of call) (ticket ∷ [])
-first-line plan starts handset steps made sub call ticket at same its =
+first-line : (plan : PlanData) (starts : List ℕ) {handset : HandsetData} {steps : List Step} {made sub : ℕ}
+    (call : Call) (ticket : ℕ) → IsRestAfter (setting_of plan starts) handset.sub handset steps made → handset.sub ≡ sub
+    → IsStep call → begun_line plan handset call ticket ≡ step_line (setting_of plan starts) sub
+    (after_steps (setting_of plan starts) (course_at (start (setting_of plan starts) sub)) steps) (step_of call)
+    (ticket ∷ [])
+first-line plan starts {handset} {steps} {sub} call ticket at same its =
     at_call call its
   where
     course : Course
@@ -97,13 +95,12 @@ first-line plan starts handset steps made sub call ticket at same its =
         (course_at (start (setting_of plan starts) handset.sub)) steps).moves) ticket) at.place
         ∙ swap switch_on)
 
-pub begins : ScriptsAreValid → (input : Contents) (plan : PlanData) (distances : DistanceTable) (history : History)
-    (sub : ℕ) (old : Shown) (call : Call)
-    → BelongTogether input plan distances → sub < length input.homes → IsShown input plan history sub old
-    → due (setting_over input plan) old.handset ≡ None → length old.lines.items < length (get_or input.scripts sub [])
-    → call ≡ get_or (get_or input.scripts sub []) (length old.lines.items) call
-    → Begins input plan history sub old call
-begins scripts input plan distances history sub old call together low its none short same =
+pub begins : ScriptsAreValid → {input : Contents} {plan : PlanData} {distances : DistanceTable} {history : History}
+    {sub : ℕ} {old : Shown} {call : Call} → BelongTogether input plan distances → sub < length input.homes
+    → IsShown input plan history sub old → due (setting_over input plan) old.handset ≡ None
+    → length old.lines.items < length (get_or input.scripts sub []) → call ≡ get_or (get_or input.scripts sub [])
+    (length old.lines.items) call → Begins input plan history sub old call
+begins scripts {input} {plan} {history} {sub} {old} {call} together low its none short same =
     let setting : Setting = setting_over input plan in
     let at : IsRestAfter setting old.handset.sub old.handset (begun_steps input sub old) (length (own sub history)) =
     rests setting old.handset (begun_steps input sub old) (length (own sub history)) its.handset none in
@@ -117,15 +114,14 @@ begins scripts input plan distances history sub old call together low its none s
     (step-at input sub (length old.lines.items) call together.valid low short ∙ ap (λ c. Some (step_of c)) (sym same))
     in
     let allowed =
-    step-allowed scripts input plan distances sub (suc (length old.lines.items)) (begun_steps input sub old)
-    (step_of call) together low more in
+    step-allowed scripts sub (suc (length old.lines.items)) (begun_steps input sub old) (step_of call) together low
+    more in
     record {
       may = may-begin plan input.homes old.handset (begun_steps input sub old)
           (length (own sub history)) call at is_step
           (subst (λ s. MayStep setting (after_steps setting (course_at (start setting s)) (begun_steps input sub old))
           (step_of call)) (sym its.its) allowed.0);
-      line = λ ticket. first-line plan input.homes old.handset (begun_steps input sub old)
-          (length (own sub history)) sub call ticket at its.its is_step;
+      line = λ ticket. first-line plan input.homes call ticket at its.its is_step;
       more = more;
       all = at.all
           ∙ (length-map (writes setting (course_at (start setting old.handset.sub)) (begun_steps input sub old))
@@ -134,11 +130,11 @@ begins scripts input plan distances history sub old call together low its none s
     }
 
 -- nothing is left where each step is done
-pub all-written : (input : Contents) (plan : PlanData) (history : History) (sub : ℕ) (old : Shown)
-    → IsValid input → sub < length input.homes → IsShown input plan history sub old
-    → due (setting_over input plan) old.handset ≡ None → length old.lines.items ≡ length (get_or input.scripts sub [])
-    → next (setting_over input plan) (scripts_of input) history sub ≡ None
-all-written input plan history sub old valid low its none same =
+pub all-written : {input : Contents} {plan : PlanData} {history : History} {sub : ℕ} {old : Shown} → IsValid input
+    → sub < length input.homes → IsShown input plan history sub old → due (setting_over input plan) old.handset ≡ None
+    → length old.lines.items ≡ length (get_or input.scripts sub []) → next (setting_over input plan) (scripts_of input)
+    history sub ≡ None
+all-written {input} {plan} {history} {sub} {old} valid low its none same =
     let setting : Setting = setting_over input plan in
     let at : IsRestAfter setting old.handset.sub old.handset (begun_steps input sub old) (length (own sub history)) =
     rests setting old.handset (begun_steps input sub old) (length (own sub history)) its.handset none in
@@ -170,10 +166,10 @@ one-step : (setting : Setting) (course : Course) (step : Step)
 unfolding writes
 one-step setting course step = ap length (append-nil (step_writes setting course step))
 
-pub first-visit : (setting : Setting) (sub n : ℕ) (steps : List Step) (step : Step)
+pub first-visit : (setting : Setting) (sub : ℕ) {n : ℕ} (steps : List Step) (step : Step)
     → n ≡ length (writes setting (course_at (start setting sub)) steps)
     → (visit : Visit) × (slice_get (visits setting sub (steps ++ step ∷ [])) n ≡ Some visit)
-first-visit setting sub n steps step all =
+first-visit setting sub {n} steps step all =
     let course : Course = course_at (start setting sub) in
     slice_get-within (visits setting sub (steps ++ step ∷ [])) n
     (omega (
@@ -186,24 +182,21 @@ first-visit setting sub n steps step all =
       one-step setting (after_steps setting course steps) step,
     ))
 
-pub written-first : OwnGrow → TicketsGrow → TicketsAreOwn → (input : Contents) (plan : PlanData)
-    (after : CellData) (history : History) (sub ticket : ℕ) (old new : Shown) (call : Call) (visit : Visit)
-    (line : Done)
+pub written-first : OwnGrow → TicketsGrow → TicketsAreOwn → {input : Contents} {plan : PlanData} {after : CellData}
+    {history : History} {sub ticket : ℕ} {old : Shown} (new : Shown) {call : Call} {visit : Visit} {line : Done}
     → sub < length input.homes → length history ≡ ticket → IsShown input plan history sub old
-    → Begins input plan history sub old call
-    → slice_get (visits (setting_over input plan) old.handset.sub (begun_steps input sub old ++ step_of call ∷ []))
-    (length (own sub history)) ≡ Some visit
-    → StandsForSteps (setting_over input plan) new.handset (begun_steps input sub old ++ step_of call ∷ [])
-    (suc (length (own sub history)))
-    → GoesWith plan new.handset → new.handset.sub ≡ old.handset.sub
-    → new.lines.items ≡ old.lines.items ++ line ∷ [] → vec_capacity old.lines ≤ vec_capacity new.lines
-    → line ≡ begun_line plan old.handset call ticket → length old.lines.items < length (steps_of (scripts_of input) sub)
-    → GoWith plan after → Hold plan input.homes after (history ++ visit ∷ [])
-    → (v : Visit) × (next (setting_over input plan) (scripts_of input) history sub ≡ Some v)
-    × IsShown input plan (history ++ v ∷ []) sub new × GoWith plan after
-    × Hold plan input.homes after (history ++ v ∷ [])
-written-first own_law ticket_law tell input plan after history sub ticket old new call visit line low place its begin at
-    stands goes same
+    → Begins input plan history sub old call → slice_get
+    (visits (setting_over input plan) old.handset.sub (begun_steps input sub old ++ step_of call ∷ []))
+    (length (own sub history)) ≡ Some visit → StandsForSteps (setting_over input plan) new.handset
+    (begun_steps input sub old ++ step_of call ∷ []) (suc (length (own sub history))) → GoesWith plan new.handset
+    → new.handset.sub ≡ old.handset.sub → new.lines.items ≡ old.lines.items ++ line ∷ []
+    → vec_capacity old.lines ≤ vec_capacity new.lines → line ≡ begun_line plan old.handset call ticket
+    → length old.lines.items < length (steps_of (scripts_of input) sub) → GoWith plan after
+    → Hold plan input.homes after (history ++ visit ∷ [])
+    → (v : Visit) × (next (setting_over input plan) (scripts_of input) history sub ≡ Some v) × IsShown input plan
+    (history ++ v ∷ []) sub new × GoWith plan after × Hold plan input.homes after (history ++ v ∷ [])
+written-first own_law ticket_law tell {input} {plan} {history} {sub} {ticket} {old} new {call} {visit} {line} low place
+    its begin at stands goes same
     lines room line_is short go hold =
     let setting : Setting = setting_over input plan in
     let course : Course = course_at (start setting sub) in
@@ -217,7 +210,7 @@ written-first own_law ticket_law tell input plan after history sub ticket old ne
     ∙ (ap (λ s. slice_get (visits setting s (begun_steps input sub old ++ step_of call ∷ []))
     (length (own sub history))) (sym its.its) ∙ at) in
     let seen : Seen input plan history sub visit =
-    seen-after own_law ticket_law input plan history sub (suc (length old.lines.items)) visit low here in
+    seen-after own_law ticket_law input plan history sub (suc (length old.lines.items)) low here in
     let last : Course = after_steps setting course (begun_steps input sub old) in
     let count : length (tickets sub history) ≡ length (writes setting course (begun_steps input sub old)) =
     tickets-count sub history ∙ begin.all in (

@@ -15,12 +15,12 @@ use Rattle.scripts.specs.ScriptLaws.{few-nodes}
 use Rattle.machine.specs.Stands.{over}
 use Rattle.walk.specs.ReaderLaws.{reads-top}
 
-pub right-outcome : OutcomesAreRight → OrdersAreOwn → ScriptsAreValid → (machine : Machine) (history : History)
+pub right-outcome : OutcomesAreRight → OrdersAreOwn → ScriptsAreValid → {machine : Machine} {history : History}
     → IsMatched machine.plan.now → HasHistory machine history
     → ((actor : ℕ) → IsDone (setting_at machine) (scripts_at machine) history actor)
-    → All (IsRightLine (setting_at machine) history)
-    (outcome_in (setting_at machine) (scripts_at machine) history).calls
-right-outcome right own valid machine history matched is done =
+    → All (IsRightLine (setting_at machine) history) (outcome_in (setting_at machine) (scripts_at machine)
+    history).calls
+right-outcome right own valid {machine} {history} matched is done =
     subst (λ h. All (IsRightLine (setting_at machine) h)
     (outcome_in (setting_at machine) (scripts_at machine) h).calls)
     (own (setting_at machine) (scripts_at machine) history is.sees.played done)
@@ -31,10 +31,10 @@ right-outcome right own valid machine history matched is done =
     (over (input_at machine) machine.plan.now machine.distances.now is.together)))
 
 -- and later lines tell no lower numbers
-pub rising-outcome : NumbersRise → OrdersAreOwn → ScriptsAreValid → (machine : Machine) (history : History)
+pub rising-outcome : NumbersRise → OrdersAreOwn → ScriptsAreValid → {machine : Machine} {history : History}
     → HasHistory machine history → ((actor : ℕ) → IsDone (setting_at machine) (scripts_at machine) history actor)
     → TellRisingNumbers (outcome_in (setting_at machine) (scripts_at machine) history).calls
-rising-outcome rise own valid machine history is done =
+rising-outcome rise own valid {machine} {history} is done =
     subst (λ h. TellRisingNumbers (outcome_in (setting_at machine) (scripts_at machine) h).calls)
     (own (setting_at machine) (scripts_at machine) history is.sees.played done)
     (rise (setting_at machine) (scripts_at machine) (map (λ (visit : Visit). visit.actor) history)

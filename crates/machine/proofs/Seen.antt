@@ -28,11 +28,11 @@ get-right [] ys i j h = let e : i ≡ j = omega (arith, h) in ap (slice_get ys) 
 get-right (x ∷ xs) ys zero j h = absurd (omega (arith, h))
 get-right (x ∷ xs) ys (suc i) j h = get-right xs ys i j (omega (arith, h))
 
-actor-of : (sub : ℕ) (ws : List Write) (i : ℕ) (visit : Visit) → slice_get (map (visit_of sub) ws) i ≡ Some visit
+actor-of : (sub : ℕ) (ws : List Write) (i : ℕ) {visit : Visit} → slice_get (map (visit_of sub) ws) i ≡ Some visit
     → visit.actor ≡ sub
-actor-of sub [] i visit h = cc
-actor-of sub (w ∷ ws) zero visit h = let e : visit_of sub w ≡ visit = cc in sym (ap (λ (v : Visit). v.actor) e)
-actor-of sub (w ∷ ws) (suc i) visit h = actor-of sub ws i visit h
+actor-of sub [] i h = cc
+actor-of sub (w ∷ ws) zero {visit} h = let e : visit_of sub w ≡ visit = cc in sym (ap (λ (v : Visit). v.actor) e)
+actor-of sub (w ∷ ws) (suc i) h = actor-of sub ws i h
 
 -- a list that isn't empty has a last element
 pub record HasLast (steps : List Step) : Type 0 where
@@ -45,21 +45,20 @@ has-last x [] = record { before = []; last = x; are = refl }
 has-last x (y ∷ ys) = let deep = has-last y ys in
     record { before = x ∷ deep.before; last = deep.last; are = ap (λ zs. x ∷ zs) deep.are }
 
-pub steps-last : (setting : Setting) (sub n : ℕ) (steps : List Step) (visit : Visit)
+pub steps-last : (setting : Setting) (sub n : ℕ) (steps : List Step) {visit : Visit}
     → slice_get (visits setting sub steps) n ≡ Some visit → HasLast steps
 unfolding writes
-steps-last setting sub n [] visit h = cc
-steps-last setting sub n (step ∷ steps) visit h = has-last step steps
+steps-last setting sub n [] h = cc
+steps-last setting sub n (step ∷ steps) h = has-last step steps
 
 -- the visits of the last of some steps
-pub last-visit : (setting : Setting) (sub n : ℕ) (before : List Step) (step : Step) (visit : Visit)
+pub last-visit : (setting : Setting) (sub n : ℕ) (before : List Step) (step : Step) {visit : Visit}
     → length (writes setting (course_at (start setting sub)) before) ≤ n
     → slice_get (visits setting sub (before ++ step ∷ [])) n ≡ Some visit
-    → slice_get (map (visit_of sub)
-    (step_writes setting (after_steps setting (course_at (start setting sub)) before) step))
-    (n - length (writes setting (course_at (start setting sub)) before)) ≡ Some visit
+    → slice_get (map (visit_of sub) (step_writes setting (after_steps setting (course_at (start setting sub)) before)
+    step)) (n - length (writes setting (course_at (start setting sub)) before)) ≡ Some visit
 unfolding writes
-last-visit setting sub n before step visit past h =
+last-visit setting sub n before step past h =
     let course : Course = course_at (start setting sub) in
     let back : n ≡ length (map (visit_of sub) (writes setting course before))
     + (n - length (writes setting course before)) =
@@ -80,13 +79,12 @@ pub record Seen (input : Contents) (plan : PlanData) (history : History) (sub : 
   pub seen : tickets sub (history ++ visit ∷ []) ≡ tickets sub history ++ length history ∷ []
 
 pub seen-after : OwnGrow → TicketsGrow → (input : Contents) (plan : PlanData) (history : History) (sub k : ℕ)
-    (visit : Visit) → sub < length input.homes
-    → slice_get (visits (setting_over input plan) sub (take k (steps_of (scripts_of input) sub)))
-    (length (own sub history)) ≡ Some visit
-    → Seen input plan history sub visit
-seen-after own_law ticket_law input plan history sub k visit low at =
+    {visit : Visit} → sub < length input.homes → slice_get
+    (visits (setting_over input plan) sub (take k (steps_of (scripts_of input) sub))) (length (own sub history)) ≡ Some
+    visit → Seen input plan history sub visit
+seen-after own_law ticket_law input plan history sub k {visit} low at =
     let mine : (visit.actor == sub) ≡ true =
-    eq-eqb visit.actor sub (actor-of sub _ (length (own sub history)) visit at) in
+    eq-eqb visit.actor sub (actor-of sub _ (length (own sub history)) at) in
     record {
       turn = next-sub (setting_over input plan) (scripts_of input) history sub low
           ∙ in-script (setting_over input plan) sub k (length (own sub history))
@@ -97,16 +95,14 @@ seen-after own_law ticket_law input plan history sub k visit low at =
     }
 
 -- a step of a valid script, where it comes
-pub step-allowed : ScriptsAreValid → (input : Contents) (plan : PlanData) (distances : DistanceTable) (sub k : ℕ)
-    (before : List Step)
-    (step : Step)
-    → BelongTogether input plan distances → sub < length input.homes
+pub step-allowed : ScriptsAreValid → {input : Contents} {plan : PlanData} {distances : DistanceTable} (sub k : ℕ)
+    (before : List Step) (step : Step) → BelongTogether input plan distances → sub < length input.homes
     → take k (steps_of (scripts_of input) sub) ≡ before ++ step ∷ []
-    → MayStep (setting_over input plan)
-    (after_steps (setting_over input plan) (course_at (start (setting_over input plan) sub)) before) step
-    × (last_stop (after_steps (setting_over input plan) (course_at (start (setting_over input plan) sub)) before)
+    → MayStep (setting_over input plan) (after_steps (setting_over input plan)
+    (course_at (start (setting_over input plan) sub)) before)
+    step × (last_stop (after_steps (setting_over input plan) (course_at (start (setting_over input plan) sub)) before)
     < nodes_of plan)
-step-allowed scripts input plan distances sub k before step together low same =
+step-allowed scripts {input} {plan} {distances} sub k before step together low same =
     let valid : AreValid (setting_over input plan) (scripts_of input) =
     scripts input (setting_over input plan) together.valid (over input plan distances together) in
     let script : IsScript (setting_over input plan) sub (steps_of (scripts_of input) sub) = valid.steps sub low in

@@ -69,48 +69,48 @@ unfolding AllQuiet
 quiet-map sub f h [] = tt
 quiet-map sub f h (x ∷ xs) = (h x, quiet-map sub f h xs)
 
-quiet-get : (sub : ℕ) (ys : List Write) (i : ℕ) (visit : Visit) → AllQuiet sub ys
+quiet-get : (sub : ℕ) (ys : List Write) (i : ℕ) {visit : Visit} → AllQuiet sub ys
     → slice_get (map (visit_of sub) ys) i ≡ Some visit → is_commit visit.act ≡ false
 unfolding AllQuiet
-quiet-get sub [] i visit q h = cc
-quiet-get sub (y ∷ ys) zero visit q h =
+quiet-get sub [] i q h = cc
+quiet-get sub (y ∷ ys) zero {visit} q h =
     let e : visit_of sub y ≡ visit = cc in subst (λ (v : Visit). is_commit v.act ≡ false) e q.0
-quiet-get sub (y ∷ ys) (suc i) visit q h = quiet-get sub ys i visit q.1 h
+quiet-get sub (y ∷ ys) (suc i) q h = quiet-get sub ys i q.1 h
 
 pub record Tells (commits : Bool) (i place : ℕ) : Type 0 where
   pub there : commits ≡ true → i ≡ place
   pub alone : i ≡ place → commits ≡ true
 
 gone-at : (sub : ℕ) (xs : List Write) (gone : Write) (ys : List Write) → AllQuiet sub xs
-    → is_commit (visit_of sub gone).act ≡ true → AllQuiet sub ys → (i : ℕ) (visit : Visit)
+    → is_commit (visit_of sub gone).act ≡ true → AllQuiet sub ys → (i : ℕ) {visit : Visit}
     → slice_get (map (visit_of sub) (xs ++ gone ∷ ys)) i ≡ Some visit → Tells (is_commit visit.act) i (length xs)
 unfolding AllQuiet
-gone-at sub [] gone ys q g r zero visit h =
+gone-at sub [] gone ys q g r zero {visit} h =
     let e : visit_of sub gone ≡ visit = cc in
     record { there = λ _. refl; alone = λ _. subst (λ (v : Visit). is_commit v.act ≡ true) e g }
-gone-at sub [] gone ys q g r (suc i) visit h =
-    let quiet : is_commit visit.act ≡ false = quiet-get sub ys i visit r h in
+gone-at sub [] gone ys q g r (suc i) {visit} h =
+    let quiet : is_commit visit.act ≡ false = quiet-get sub ys i r h in
     record { there = λ t. absurd (never _ t quiet); alone = λ e. absurd (omega arith) }
   where
     never : (b : Bool) → b ≡ true → b ≡ false → ⊥
     never b h g = cc
-gone-at sub (x ∷ xs) gone ys q g r zero visit h =
+gone-at sub (x ∷ xs) gone ys q g r zero {visit} h =
     let e : visit_of sub x ≡ visit = cc in
     let quiet : is_commit visit.act ≡ false = subst (λ (v : Visit). is_commit v.act ≡ false) e q.0 in
     record { there = λ t. absurd (never _ t quiet); alone = λ e. absurd (omega arith) }
   where
     never : (b : Bool) → b ≡ true → b ≡ false → ⊥
     never b h g = cc
-gone-at sub (x ∷ xs) gone ys q g r (suc i) visit h =
-    let deep = gone-at sub xs gone ys q.1 g r i visit h in
+gone-at sub (x ∷ xs) gone ys q g r (suc i) h =
+    let deep = gone-at sub xs gone ys q.1 g r i h in
     record { there = λ t. ap suc (deep.there t); alone = λ e. deep.alone (omega arith) }
 
 pub move-commits : MarksUnpack → (setting : Setting) (sub : ℕ) (course : Course) (move : Move) → move.number < 2 ^ 32
-    → move.from < 2 ^ 16 → move.to < 2 ^ 16 → (i : ℕ) (visit : Visit)
+    → move.from < 2 ^ 16 → move.to < 2 ^ 16 → (i : ℕ) {visit : Visit}
     → slice_get (map (visit_of sub) (move_writes setting course move)) i ≡ Some visit
     → Tells (is_commit visit.act) i (suc (suc move.renewed))
 unfolding AllQuiet
-move-commits unpack setting sub course move number from to i visit h =
+move-commits unpack setting sub course move number from to i {visit} h =
     let says : (node : ℕ) (mark : PresenceMark) (b : Bool) → IsSmallMark mark → is_some (commit_of node mark) ≡ b
     → is_some (commit_of node (mark_in (mark_word mark))) ≡ b =
     λ node mark b small e. ap (λ m. is_some (commit_of node m)) (read-mark unpack mark small) ∙ e in
@@ -123,16 +123,13 @@ move-commits unpack setting sub course move number from to i visit h =
     (gone-at sub front (mark_at move.from (Gone move.number move.to))
     (mark_at move.to (Here move.number) ∷ (erasure_writes setting course move ++ purge_writes setting course move)) (
       says move.to (Coming move.number move.from) false (number, from) refl,
-      quiet-map sub (new_address setting move) (λ level. refl)
-          (numbers_from 0 (suc move.renewed)),
-    )
-    (says move.from (Gone move.number move.to) true (number, to) refl) (
+      quiet-map sub (new_address setting move) (λ level. refl) (numbers_from 0 (suc move.renewed)),
+    ) (says move.from (Gone move.number move.to) true (number, to) refl) (
       says move.to (Here move.number) false number refl,
       quiet-append sub (erasure_writes setting course move) (purge_writes setting course move)
           (quiet-map sub _ (λ level. refl) _) (quiet-purge (move.renewed == setting.top) _
           (λ node. says node Empty false tt refl)),
-    )
-    i visit h)
+    ) i h)
   where
     quiet-purge : (b : Bool) (nodes : List ℕ)
         → ((node : ℕ) → is_some (commit_of node (mark_in (mark_word Empty))) ≡ false)
@@ -141,10 +138,10 @@ move-commits unpack setting sub course move number from to i visit h =
     quiet-purge false nodes e = tt
 
 -- the commit of a line, a ticket more
-commit-grows : (seen : List ℕ) (ticket place : ℕ) (commits : Bool) → Tells commits (length seen) place
+commit-grows : (seen : List ℕ) (ticket : ℕ) {place : ℕ} (commits : Bool) → Tells commits (length seen) place
     → get_or (seen ++ ticket ∷ []) place 0 ≡ (if commits then ticket else get_or seen place 0)
-commit-grows seen ticket place true tells = get_or_push seen ticket 0 place (tells.there refl)
-commit-grows seen ticket place false tells =
+commit-grows seen ticket {place} true tells = get_or_push seen ticket 0 place (tells.there refl)
+commit-grows seen ticket {place} false tells =
     elim (cases place (length seen)) as (λ _. get_or (seen ++ ticket ∷ []) place 0 ≡ get_or seen place 0) [
       | inl low ↦ get_or-append seen (ticket ∷ []) 0 place low
       | inr high ↦ elim (cases (length seen) place)
@@ -161,23 +158,22 @@ commit-grows seen ticket place false tells =
     never : false ≡ true → ⊥
     never h = cc
 
-one_get : (xs : Visit) (i : ℕ) (visit : Visit) → slice_get (xs ∷ []) i ≡ Some visit → i < 1
-one_get x zero visit h = omega arith
-one_get x (suc i) visit h = cc
+one_get : (xs : Visit) (i : ℕ) {visit : Visit} → slice_get (xs ∷ []) i ≡ Some visit → i < 1
+one_get x zero h = omega arith
+one_get x (suc i) h = cc
 
 -- the line of a step under way, a ticket more
 pub line-grows : MarksUnpack → (setting : Setting) (sub : ℕ) (course : Course) (step : Step) (seen : List ℕ)
-    (ticket : ℕ) (visit : Visit) → MayStep setting course step → setting.nodes ≤ 2 ^ 16
+    (ticket : ℕ) {visit : Visit} → MayStep setting course step → setting.nodes ≤ 2 ^ 16
     → last_stop course < setting.nodes → 0 < length seen
     → slice_get (map (visit_of sub) (step_writes setting course step)) (length seen) ≡ Some visit
-    → step_line setting sub course step (seen ++ ticket ∷ [])
-    ≡ line_after (step_line setting sub course step seen) (is_commit visit.act) ticket
-line-grows unpack setting sub course (move_to node) seen ticket visit may small inside some at =
+    → step_line setting sub course step (seen ++ ticket ∷ []) ≡ line_after (step_line setting sub course step seen)
+    (is_commit visit.act) ticket
+line-grows unpack setting sub course (move_to node) seen ticket {visit} may small inside some at =
     let move : Move = next_move setting course node in
     let tells : Tells (is_commit visit.act) (length seen) (suc (suc move.renewed)) =
     move-commits unpack setting sub course move may.few (omega (arith, inside, small))
-    (omega (arith, may.inside, small))
-    (length seen) visit at in
+    (omega (arith, may.inside, small)) (length seen) at in
     let first : get_or (seen ++ ticket ∷ []) 0 0 ≡ get_or seen 0 0 = get_or-append seen (ticket ∷ []) 0 0 some in
     let last : get_or (seen ++ ticket ∷ []) (length (seen ++ ticket ∷ []) - 1) 0 ≡ ticket =
     get_or_push seen ticket 0 (length (seen ++ ticket ∷ []) - 1) (omega (arith, length_push seen ticket)) in
@@ -186,13 +182,13 @@ line-grows unpack setting sub course (move_to node) seen ticket visit may small 
     (get_or (seen ++ ticket ∷ []) (length (seen ++ ticket ∷ []) - 1) 0)) first
     ∙ (ap (λ k. Moved sub move.number move.from move.to move.weight (get_or seen 0 0) k
     (get_or (seen ++ ticket ∷ []) (length (seen ++ ticket ∷ []) - 1) 0))
-    (commit-grows seen ticket (suc (suc move.renewed)) (is_commit visit.act) tells)
+    (commit-grows seen ticket (is_commit visit.act) tells)
     ∙ ap (λ l. Moved sub move.number move.from move.to move.weight (get_or seen 0 0)
     (if is_commit visit.act then ticket else get_or seen (suc (suc move.renewed)) 0) l) last)
-line-grows unpack setting sub course switch_off seen ticket visit may small inside some at =
-    absurd (omega (arith, some, one_get _ (length seen) visit at))
-line-grows unpack setting sub course switch_on seen ticket visit may small inside some at =
-    absurd (omega (arith, some, one_get _ (length seen) visit at))
+line-grows unpack setting sub course switch_off seen ticket may small inside some at =
+    absurd (omega (arith, some, one_get _ (length seen) at))
+line-grows unpack setting sub course switch_on seen ticket may small inside some at =
+    absurd (omega (arith, some, one_get _ (length seen) at))
 
 -- steps that may be made, one of them
 pub may-at : (setting : Setting) (course : Course) (before : List Step) (step : Step) (later : List Step)

@@ -27,15 +27,15 @@ use Rattle.scripts.specs.Scripts.{scripts_of}
 use Rattle.scripts.specs.Laws.{VisitsAreFew}
 use Rattle.machine.specs.Stands.{Sees, over, setting_over}
 use Rattle.machine.specs.Callers.{IsCaller}
-use Rattle.machine.specs.Subscribers.{IsShown, IsSubscriber, Shown, begun_steps, shown_at}
+use Rattle.machine.specs.Subscribers.{IsShown, IsSubscriber, Shown, begun_steps}
 use Rattle.machine.specs.Machines.{HasHistory, input_at, scripts_at, setting_at}
 use Rattle.machine.proofs.Looked.{by-parts}
 
 -- a visit of another changes nothing of what is seen of a subscriber
-shown-kept : OwnGrow → TicketsGrow → (input : Contents) (plan : PlanData) (history : History) (sub : ℕ)
-    (shown : Shown) (visit : Visit) → (visit.actor == sub) ≡ false
-    → IsShown input plan history sub shown → IsShown input plan (history ++ visit ∷ []) sub shown
-shown-kept own_law ticket_law input plan history sub shown visit other its =
+shown-kept : OwnGrow → TicketsGrow → {input : Contents} {plan : PlanData} {history : History} {sub : ℕ} {shown : Shown}
+    (visit : Visit) → (visit.actor == sub) ≡ false → IsShown input plan history sub shown
+    → IsShown input plan (history ++ visit ∷ []) sub shown
+shown-kept own_law ticket_law {input} {plan} {history} {sub} {shown} visit other its =
     let same : own sub (history ++ visit ∷ []) ≡ own sub history =
     own_law sub history visit
     ∙ (ap (λ b. own sub history ++ cond b (visit ∷ []) []) other ∙ append-nil (own sub history)) in
@@ -59,14 +59,13 @@ shown-kept own_law ticket_law input plan history sub shown visit other its =
     }
 
 -- nor of the subscriber
-sub-kept : OwnGrow → TicketsGrow → (input : Contents) (plan : PlanData) (history : History) (sub : ℕ)
-    (subscriber : Subscriber) (visit : Visit) → (visit.actor == sub) ≡ false
+sub-kept : OwnGrow → TicketsGrow → {input : Contents} {plan : PlanData} {history : History} {sub : ℕ}
+    {subscriber : Subscriber} (visit : Visit) → (visit.actor == sub) ≡ false
     → IsSubscriber input plan history sub subscriber → IsSubscriber input plan (history ++ visit ∷ []) sub subscriber
-sub-kept own_law ticket_law input plan history sub subscriber visit other its =
+sub-kept own_law ticket_law visit other its =
     record {
       handset = its.handset;
-      shown = shown-kept own_law ticket_law input plan history sub (shown_at its.handset subscriber) visit other
-          its.shown;
+      shown = shown-kept own_law ticket_law visit other its.shown;
       owes = its.owes;
       goes = its.goes;
       its = its.its;
@@ -75,21 +74,15 @@ sub-kept own_law ticket_law input plan history sub subscriber visit other its =
     }
 
 -- nor of a caller
-caller-kept : CallersKept
-    → (input : Contents) (plan : PlanData) (history : History) (actor : ℕ) (caller : Caller) (visit : Visit)
-    → (visit.actor == actor) ≡ false → IsCaller input plan history actor caller
+caller-kept : CallersKept → {input : Contents} {plan : PlanData} {history : History} {actor : ℕ} {caller : Caller}
+    (visit : Visit) → (visit.actor == actor) ≡ false → IsCaller input plan history actor caller
     → IsCaller input plan (history ++ visit ∷ []) actor caller
-caller-kept law input plan history actor caller visit other its =
+caller-kept law {input} {plan} {history} {actor} {caller} visit other its =
     let same = law (setting_over input plan) (scripts_of input) history actor visit other in
-    by-parts input plan (history ++ visit ∷ []) actor
-    (caller_in (setting_over input plan) (scripts_of input) history actor)
-    (tickets actor history) caller same.0 same.1 its.walk its.first
-    (its.lines ∙
-    (ap (λ ts. map (answer_line actor ts)
-    (caller_in (setting_over input plan) (scripts_of input) history actor).answers)
-    (sym same.1)
-    ∙ ap (λ (s : Seeker). map (answer_line actor (tickets actor (history ++ visit ∷ []))) s.answers) (sym same.0)))
-    its.left its.room
+    by-parts input plan (history ++ visit ∷ []) actor caller same.0 same.1 its.walk its.first
+    (its.lines ∙ (ap (λ ts. map (answer_line actor ts) (caller_in (setting_over input plan) (scripts_of input) history
+    actor).answers) (sym same.1) ∙ ap (λ (s : Seeker). map (answer_line actor (tickets actor (history ++ visit ∷ [])))
+    s.answers) (sym same.0))) its.left its.room
 
 -- elements of a list with one changed
 set-same : {A : Type 0} (xs : List A) (i : ℕ) (x d : A) → i < length xs → get_or (slice_set xs i x) i d ≡ x
@@ -104,14 +97,25 @@ set-other (y ∷ xs) zero (suc j) x d h = refl
 set-other (y ∷ xs) (suc i) zero x d h = refl
 set-other (y ∷ xs) (suc i) (suc j) x d h = set-other xs i j x d (λ e. h (ap suc e))
 
+-- what holds of the changed element of a list, and of the others, holds of each behind the change
+each-set : {A : Type 0} (P : ℕ → A → Type 0) (xs ys : List A) (i : ℕ) (x : A) → ys ≡ slice_set xs i x → P i x
+    → ((k : ℕ) (d : A) → k < length xs → k ≢ i → P k (get_or xs k d)) → (k : ℕ) (d : A) → k < length xs
+    → P k (get_or ys k d)
+each-set P xs ys i x items its others k d low =
+    subst (λ zs. P k (get_or zs k d)) (sym items) (elim (cases_eq k i) as (λ _. P k (get_or (slice_set xs i x) k d)) [
+      | inl same ↦ subst (λ j. P k (get_or (slice_set xs j x) k d)) same
+          (subst (P k) (sym (set-same xs k x d low)) (subst (λ j. P j x) (sym same) its))
+      | inr other ↦ subst (P k) (sym (set-other xs i k x d (λ e. other (sym e)))) (others k d low other)
+    ])
+
 set-length : {A : Type 0} (xs : List A) (i : ℕ) (x : A) → length (slice_set xs i x) ≡ length xs
 set-length [] i x = refl
 set-length (y ∷ xs) zero x = refl
 set-length (y ∷ xs) (suc i) x = ap suc (set-length xs i x)
 
-hold-look : (plan : PlanData) (starts : List ℕ) (cells : CellData) (history : History) (actor : ℕ) (key : Key)
+hold-look : {plan : PlanData} {starts : List ℕ} {cells : CellData} {history : History} (actor : ℕ) (key : Key)
     → Hold plan starts cells history → Hold plan starts cells (history ++ look_by actor key ∷ [])
-hold-look plan starts cells history actor key hold =
+hold-look {plan} {starts} {history} actor key hold =
     record {
       subs = hold.subs;
       words = λ at its. hold.words at its
@@ -120,41 +124,39 @@ hold-look plan starts cells history actor key hold =
     }
 
 -- each visit was its actor's next one, and cells hold what the history leaves
-pub sees-more : MoreIsPlayed → (input : Contents) (plan : PlanData) (cells : CellData) (history : History) (actor : ℕ)
-    (key : Key) → Sees input plan cells history
-    → next (setting_over input plan) (scripts_of input) history actor ≡ Some (look_by actor key)
-    → Sees input plan cells (history ++ look_by actor key ∷ [])
-sees-more more input plan cells history actor key sees wants =
+pub sees-more : MoreIsPlayed → {input : Contents} {plan : PlanData} {cells : CellData} {history : History} (actor : ℕ)
+    (key : Key) → Sees input plan cells history → next (setting_over input plan) (scripts_of input) history actor ≡ Some
+    (look_by actor key) → Sees input plan cells (history ++ look_by actor key ∷ [])
+sees-more more {input} {plan} {history} actor key sees wants =
     record {
       played = more (setting_over input plan) (scripts_of input) history actor (look_by actor key) wants sees.played;
       goes = sees.goes;
-      hold = hold-look plan input.homes cells history actor key sees.hold;
+      hold = hold-look actor key sees.hold;
     }
 
 -- what a visit of an actor keeps, many keep
-kept-all : (P : History → Type 0) (actor : ℕ) (visits : List Visit) (count : ℕ) (history : History)
+kept-all : (P : History → Type 0) {actor : ℕ} (visits : List Visit) (count : ℕ) {history : History}
     → ((before : History) (visit : Visit) → visit.actor ≡ actor → P before → P (before ++ visit ∷ []))
     → map (λ (v : Visit). v.actor) visits ≡ replicate count actor → P history → P (history ++ visits)
-kept-all P actor [] count history step same is = subst P (sym (append-nil history)) is
-kept-all P actor (visit ∷ visits) zero history step same is = cc
-kept-all P actor (visit ∷ visits) (suc count) history step same is =
+kept-all P [] count {history} step same is = subst P (sym (append-nil history)) is
+kept-all P (visit ∷ visits) zero step same is = cc
+kept-all P {actor} (visit ∷ visits) (suc count) {history} step same is =
     let its : visit.actor ≡ actor = cc in
     let rest : map (λ (v : Visit). v.actor) visits ≡ replicate count actor = cc in
     subst P (append_assoc history (visit ∷ []) visits)
-    (kept-all P actor visits count (history ++ visit ∷ []) step rest (step history visit its is))
+    (kept-all P visits count step rest (step history visit its is))
 
 -- after visits of a subscriber
-pub sub-turned : OwnGrow → TicketsGrow → CallersKept
-    → (old : Machine) (history : History) (actor count : ℕ) (visits : List Visit) (subscriber : Subscriber)
-    (cells : CellData) (subscribers : Vec Subscriber Global) (order : Vec ℕ Global) → HasHistory old history
-    → actor < length (input_at old).homes
+pub sub-turned : OwnGrow → TicketsGrow → CallersKept → {old : Machine} {history : History} {actor : ℕ} (count : ℕ)
+    (visits : List Visit) {subscriber : Subscriber} {cells : CellData} (subscribers : Vec Subscriber Global)
+    (order : Vec ℕ Global) → HasHistory old history → actor < length (input_at old).homes
     → map (λ (v : Visit). v.actor) visits ≡ replicate count actor
     → Sees (input_at old) old.plan.now cells (history ++ visits)
     → IsSubscriber (input_at old) old.plan.now (history ++ visits) actor subscriber
     → subscribers.items ≡ slice_set old.subscribers.items actor subscriber
     → order.items ≡ old.order.items ++ replicate count actor → vec_capacity old.order ≤ vec_capacity order
     → HasHistory (record old { cells = cells; subscribers = subscribers; order = order }) (history ++ visits)
-sub-turned own_law ticket_law kept old history actor count visits subscriber cells subscribers order stands low actors
+sub-turned own_law ticket_law kept {old} {history} {actor} count visits {subscriber} subscribers order stands low actors
     sees its items pushed room =
     record {
       together = stands.together;
@@ -169,30 +171,17 @@ sub-turned own_law ticket_law kept old history actor count visits subscriber cel
       subscribers_count = ap length items
           ∙ (set-length old.subscribers.items actor subscriber ∙ stands.subscribers_count);
       callers_count = stands.callers_count;
-      subscribers =
-          λ s d below.
-          elim (cases_eq s actor) as (λ _. IsSubscriber (input_at old) old.plan.now (history ++ visits) s
-          (get_or subscribers.items s d)) [
-            | inl same ↦ subst (λ x. IsSubscriber (input_at old) old.plan.now (history ++ visits) s x)
-                (sym (ap (λ xs. get_or xs s d) items
-                ∙ (ap (λ i. get_or (slice_set old.subscribers.items i subscriber) s d) (sym same)
-                ∙ set-same old.subscribers.items s subscriber d (omega (arith, below, stands.subscribers_count)))))
-                (subst (λ a. IsSubscriber (input_at old) old.plan.now (history ++ visits) a subscriber)
-                (sym same) its)
-            | inr other ↦ subst (λ x. IsSubscriber (input_at old) old.plan.now (history ++ visits) s x)
-                (sym (ap (λ xs. get_or xs s d) items
-                ∙ set-other old.subscribers.items actor s subscriber d (λ e. other (sym e))))
-                (kept-all (λ h. IsSubscriber (input_at old) old.plan.now h s (get_or old.subscribers.items s d)) actor
-                visits count history
-                (λ before visit same. sub-kept own_law ticket_law (input_at old) old.plan.now before s
-                (get_or old.subscribers.items s d) visit
-                (ne_eqb visit.actor s (λ e. other (sym e ∙ same)))) actors (stands.subscribers s d below))
-          ];
+      subscribers = λ s d below. each-set (IsSubscriber (input_at old) old.plan.now (history ++ visits))
+          old.subscribers.items subscribers.items actor subscriber items its
+          (λ k e within other. kept-all
+          (λ h. IsSubscriber (input_at old) old.plan.now h k (get_or old.subscribers.items k e)) visits count
+          (λ before visit same. sub-kept own_law ticket_law visit
+          (ne_eqb visit.actor k (λ q. other (sym q ∙ same)))) actors
+          (stands.subscribers k e (omega (arith, within, stands.subscribers_count)))) s d
+          (omega (arith, below, stands.subscribers_count));
       callers = λ c d below.
           kept-all (λ h. IsCaller (input_at old) old.plan.now h (length (input_at old).homes + c)
-          (get_or old.callers.items c d)) actor visits count history
-          (λ before visit same. caller-kept kept (input_at old) old.plan.now before (length (input_at old).homes + c)
-          (get_or old.callers.items c d) visit
+          (get_or old.callers.items c d)) visits count (λ before visit same. caller-kept kept visit
           (ne_eqb visit.actor (length (input_at old).homes + c) (λ e. omega (arith, e, same, low)))) actors
           (stands.callers c d below);
       calls = stands.calls;
@@ -200,19 +189,17 @@ sub-turned own_law ticket_law kept old history actor count visits subscriber cel
     }
 
 -- after visits of a caller
-pub caller-turned : OwnGrow → TicketsGrow → CallersKept
-    → (old : Machine) (history : History) (actor place count : ℕ) (visits : List Visit) (caller : Caller)
-    (callers : Vec Caller Global) (order : Vec ℕ Global) → HasHistory old history
-    → actor ≡ length (input_at old).homes + place
-    → actor < length (input_at old).scripts
+pub caller-turned : OwnGrow → TicketsGrow → CallersKept → {old : Machine} {history : History} {actor : ℕ}
+    (place count : ℕ) (visits : List Visit) {caller : Caller} (callers : Vec Caller Global) (order : Vec ℕ Global)
+    → HasHistory old history → actor ≡ length (input_at old).homes + place → actor < length (input_at old).scripts
     → map (λ (v : Visit). v.actor) visits ≡ replicate count actor
     → Sees (input_at old) old.plan.now old.cells (history ++ visits)
     → IsCaller (input_at old) old.plan.now (history ++ visits) actor caller
-    → callers.items ≡ slice_set old.callers.items place caller
-    → order.items ≡ old.order.items ++ replicate count actor → vec_capacity old.order ≤ vec_capacity order
+    → callers.items ≡ slice_set old.callers.items place caller → order.items ≡ old.order.items ++ replicate count actor
+    → vec_capacity old.order ≤ vec_capacity order
     → HasHistory (record old { callers = callers; order = order }) (history ++ visits)
-caller-turned own_law ticket_law kept old history actor place count visits caller callers order stands at low actors
-    sees
+caller-turned own_law ticket_law kept {old} {history} {actor} place count visits {caller} callers order stands at low
+    actors sees
     its items pushed room =
     record {
       together = stands.together;
@@ -227,65 +214,51 @@ caller-turned own_law ticket_law kept old history actor place count visits calle
       subscribers_count = stands.subscribers_count;
       callers_count = ap length items ∙ (set-length old.callers.items place caller ∙ stands.callers_count);
       subscribers =
-          λ s d below. kept-all (λ h. IsSubscriber (input_at old) old.plan.now h s
-          (get_or old.subscribers.items s d)) actor visits count history
-          (λ before visit same. sub-kept own_law ticket_law (input_at old) old.plan.now before s
-          (get_or old.subscribers.items s d) visit
+          λ s d below. kept-all (λ h. IsSubscriber (input_at old) old.plan.now h s (get_or old.subscribers.items s d))
+          visits count (λ before visit same. sub-kept own_law ticket_law visit
           (ne_eqb visit.actor s (λ e. omega (arith, same, e, at, below)))) actors (stands.subscribers s d below);
-      callers = λ c d below.
-          elim (cases_eq c place) as (λ _. IsCaller (input_at old) old.plan.now (history ++ visits)
-          (length (input_at old).homes + c) (get_or callers.items c d)) [
-            | inl same ↦ subst
-                (λ x. IsCaller (input_at old) old.plan.now (history ++ visits) (length (input_at old).homes + c) x)
-                (sym (ap (λ xs. get_or xs c d) items
-                ∙ (ap (λ i. get_or (slice_set old.callers.items i caller) c d) (sym same)
-                ∙ set-same old.callers.items c caller d (omega (arith, below, stands.callers_count)))))
-                (subst (λ a. IsCaller (input_at old) old.plan.now (history ++ visits) a caller)
-                (at ∙ ap (λ i. length (input_at old).homes + i) (sym same)) its)
-            | inr other ↦ subst
-                (λ x. IsCaller (input_at old) old.plan.now (history ++ visits) (length (input_at old).homes + c) x)
-                (sym (ap (λ xs. get_or xs c d) items
-                ∙ set-other old.callers.items place c caller d (λ e. other (sym e))))
-                (kept-all (λ h. IsCaller (input_at old) old.plan.now h (length (input_at old).homes + c)
-                (get_or old.callers.items c d)) actor visits count history
-                (λ before visit same. caller-kept kept (input_at old) old.plan.now before
-                (length (input_at old).homes + c) (get_or old.callers.items c d) visit
-                (ne_eqb visit.actor (length (input_at old).homes + c) (λ e. other (omega (arith, same, e, at)))))
-                actors (stands.callers c d below))
-          ];
+      callers = λ c d below. each-set
+          (λ k x. IsCaller (input_at old) old.plan.now (history ++ visits) (length (input_at old).homes + k) x)
+          old.callers.items callers.items place caller items
+          (subst (λ a. IsCaller (input_at old) old.plan.now (history ++ visits) a caller) at its)
+          (λ k e within other. kept-all (λ h. IsCaller (input_at old) old.plan.now h (length (input_at old).homes + k)
+          (get_or old.callers.items k e)) visits count
+          (λ before visit same. caller-kept kept visit
+          (ne_eqb visit.actor (length (input_at old).homes + k) (λ q. other (omega (arith, same, q, at))))) actors
+          (stands.callers k e (omega (arith, within, stands.callers_count)))) c d
+          (omega (arith, below, stands.callers_count));
       calls = stands.calls;
       total = stands.total;
     }
 
 -- what a turn leans on
-pub at-sub : (machine : Machine) (history : History) (actor : ℕ) (x : Subscriber) → HasHistory machine history
+pub at-sub : {machine : Machine} {history : History} (actor : ℕ) {x : Subscriber} → HasHistory machine history
     → actor < length (input_at machine).homes → x ≡ get_or machine.subscribers.items actor x
     → IsSubscriber (input_at machine) machine.plan.now history actor x
-at-sub machine history actor x stands low same =
+at-sub {machine} {history} actor {x} stands low same =
     subst (λ y. IsSubscriber (input_at machine) machine.plan.now history actor y) (sym same)
     (stands.subscribers actor x low)
 
-pub at-caller : (machine : Machine) (history : History) (actor place : ℕ) (x : Caller)
-    → HasHistory machine history
-    → actor ≡ length (input_at machine).homes + place → actor < length (input_at machine).scripts
-    → x ≡ get_or machine.callers.items place x
+pub at-caller : {machine : Machine} {history : History} {actor : ℕ} (place : ℕ) {x : Caller}
+    → HasHistory machine history → actor ≡ length (input_at machine).homes + place
+    → actor < length (input_at machine).scripts → x ≡ get_or machine.callers.items place x
     → IsCaller (input_at machine) machine.plan.now history actor x
-at-caller machine history actor place x stands at low same =
+at-caller {machine} {history} place {x} stands at low same =
     subst (λ a. IsCaller (input_at machine) machine.plan.now history a x) (sym at)
     (subst (λ y. IsCaller (input_at machine) machine.plan.now history (length (input_at machine).homes + place) y)
     (sym same)
     (stands.callers place x (omega (arith, at, low, stands.together.valid.scripts))))
 
-pub ticket-is : (machine : Machine) (history : History) (ticket : ℕ) → HasHistory machine history
+pub ticket-is : {machine : Machine} {history : History} (ticket : ℕ) → HasHistory machine history
     → ticket ≡ length machine.order.items → length history ≡ ticket
-ticket-is machine history ticket stands same =
+ticket-is {history} ticket stands same =
     sym (same ∙ (ap length stands.order ∙ length-map history (λ (v : Visit). v.actor)))
 
 -- the order has room for one visit more
-pub room-left : VisitsAreFew → MoreIsPlayed → (machine : Machine) (history : History) (actor : ℕ) (visit : Visit)
+pub room-left : VisitsAreFew → MoreIsPlayed → {machine : Machine} {history : History} (actor : ℕ) {visit : Visit}
     → HasHistory machine history → next (setting_at machine) (scripts_at machine) history actor ≡ Some visit
     → length history < vec_capacity machine.order
-room-left few more machine history actor visit is wants =
+room-left few more {machine} {history} actor {visit} is wants =
     omega (
       arith,
       few (input_at machine) (setting_at machine) (history ++ visit ∷ []) is.together.valid
@@ -296,12 +269,11 @@ room-left few more machine history actor visit is wants =
     )
 
 -- and for many, which are those of a played history
-pub rooms-left : VisitsAreFew → (machine : Machine) (cells : CellData) (history : History) (actor count : ℕ)
-    (visits : List Visit)
-    → HasHistory machine history → map (λ (v : Visit). v.actor) visits ≡ replicate count actor
+pub rooms-left : VisitsAreFew → {machine : Machine} {cells : CellData} {history : History} (actor count : ℕ)
+    (visits : List Visit) → HasHistory machine history → map (λ (v : Visit). v.actor) visits ≡ replicate count actor
     → Sees (input_at machine) machine.plan.now cells (history ++ visits)
     → length history + count ≤ vec_capacity machine.order
-rooms-left few machine cells history actor count visits is actors sees =
+rooms-left few {machine} {history} actor count visits is actors sees =
     omega (
       arith,
       few (input_at machine) (setting_at machine) (history ++ visits) is.together.valid
@@ -314,13 +286,12 @@ rooms-left few machine cells history actor count visits is actors sees =
     )
 
 -- an actor that makes none of the visits that the order has room for has none left
-pub none-left : VisitsAreFew → MoreIsPlayed → (machine : Machine) (history : History) (actor reach : ℕ)
-    (wants : Option Visit) → HasHistory machine history
-    → (reach ≡ 0 → vec_capacity machine.order ≤ length history)
+pub none-left : VisitsAreFew → MoreIsPlayed → {machine : Machine} {history : History} (actor reach : ℕ)
+    (wants : Option Visit) → HasHistory machine history → (reach ≡ 0 → vec_capacity machine.order ≤ length history)
     → next (setting_at machine) (scripts_at machine) history actor ≡ wants
     → (0 < reach → next (setting_at machine) (scripts_at machine) history actor ≡ None)
     → next (setting_at machine) (scripts_at machine) history actor ≡ None
-none-left few more machine history actor reach None is full same law = same
-none-left few more machine history actor zero (Some visit) is full same law =
-    absurd (omega (arith, full refl, room-left few more machine history actor visit is same))
-none-left few more machine history actor (suc reach) (Some visit) is full same law = law (omega arith)
+none-left few more actor reach None is full same law = same
+none-left few more actor zero (Some visit) is full same law =
+    absurd (omega (arith, full refl, room-left few more actor is same))
+none-left few more actor (suc reach) (Some visit) is full same law = law (omega arith)

@@ -44,17 +44,15 @@ pub record Under (input : Contents) (plan : PlanData) (history : History) (sub :
       (tickets sub history ++ length history ∷ []) ≡ rows ++ line_after row (is_commit visit.act) (length history) ∷ []
 
 pub under-way : MarksUnpack → TicketsAreOwn → ScriptsAreValid
-    → (input : Contents) (plan : PlanData) (distances : DistanceTable) (history : History) (sub : ℕ)
-    (old : Shown) (visit : Visit) → BelongTogether input plan distances → sub < length input.homes
-    → IsShown input plan history sub old
-    → slice_get (visits (setting_over input plan) sub (begun_steps input sub old)) (length (own sub history))
-    ≡ Some visit
-    → Under input plan history sub old visit
-under-way unpack own_law scripts input plan distances history sub old visit together low its at =
+    → {input : Contents} {plan : PlanData} {distances : DistanceTable} {history : History} {sub : ℕ} {old : Shown}
+    {visit : Visit} → BelongTogether input plan distances → sub < length input.homes
+    → IsShown input plan history sub old → slice_get (visits (setting_over input plan) sub (begun_steps input sub old))
+    (length (own sub history)) ≡ Some visit → Under input plan history sub old visit
+under-way unpack own_law scripts {input} {plan} {history} {sub} {old} {visit} together low its at =
     let setting : Setting = setting_over input plan in
     let course : Course = course_at (start setting sub) in
     let split : HasLast (begun_steps input sub old) =
-    steps-last setting sub (length (own sub history)) (begun_steps input sub old) visit at in
+    steps-last setting sub (length (own sub history)) (begun_steps input sub old) at in
     let past : length (writes setting course split.before) < length (own sub history) =
     its.under split.before split.last split.are in
     let after : Course = after_steps setting course split.before in
@@ -66,7 +64,7 @@ under-way unpack own_law scripts input plan distances history sub old visit toge
     length-take-le n (tickets sub history) (omega (arith, past, count)) in
     let here : slice_get (map (visit_of sub) (step_writes setting after split.last)) (length p) ≡ Some visit =
     ap (slice_get (map (visit_of sub) (step_writes setting after split.last))) size
-    ∙ last-visit setting sub (length (own sub history)) split.before split.last visit (omega (arith, past))
+    ∙ last-visit setting sub (length (own sub history)) split.before split.last (omega (arith, past))
     (ap (λ ss. slice_get (visits setting sub ss) (length (own sub history))) (sym split.are) ∙ at) in
     let room : length p < length (step_writes setting after split.last) =
     omega (
@@ -74,8 +72,7 @@ under-way unpack own_law scripts input plan distances history sub old visit toge
       slice_get_within (map (visit_of sub) (step_writes setting after split.last)) (length p) visit here,
       length-map (step_writes setting after split.last) (visit_of sub),
     ) in
-    let may = step-allowed scripts input plan distances sub
-    (length old.lines.items) split.before split.last together low split.are in
+    let may = step-allowed scripts sub (length old.lines.items) split.before split.last together low split.are in
     let parts : tickets sub history ≡ take n (tickets sub history) ++ p =
     sym (take-append-drop n (tickets sub history)) in
     record {
@@ -98,7 +95,7 @@ under-way unpack own_law scripts input plan distances history sub old visit toge
           (take_all (length (step_writes setting after split.last)) (p ++ length history ∷ [])
           (omega (arith, room, length_push p (length history))))
           ∙ ap (λ l. step_lines setting sub course split.before (take n (tickets sub history)) ++ l ∷ [])
-          (line-grows unpack setting sub after split.last p (length history) visit may.0
+          (line-grows unpack setting sub after split.last p (length history) may.0
           (omega (arith, together.nodes, few-nodes input together.valid)) may.1 (omega (arith, size, past)) here))));
     }
   where
@@ -107,36 +104,30 @@ under-way unpack own_law scripts input plan distances history sub old visit toge
     assoc (y ∷ xs) ys x = ap (λ zs. y ∷ zs) (assoc xs ys x)
 
 -- so a step goes on
-pub written-on : MarksUnpack → OwnGrow → TicketsGrow → TicketsAreOwn → ScriptsAreValid → (input : Contents)
-    (plan : PlanData) (distances : DistanceTable) (after : CellData) (history : History) (sub ticket last : ℕ)
-    (old new : Shown)
-    (visit : Visit) (line default : Done)
+pub written-on : MarksUnpack → OwnGrow → TicketsGrow → TicketsAreOwn → ScriptsAreValid
+    → {input : Contents} {plan : PlanData} {distances : DistanceTable} {after : CellData} {history : History}
+    {sub ticket last : ℕ} {old : Shown} (new : Shown) {visit : Visit} {line : Done} (default : Done)
     → BelongTogether input plan distances → sub < length input.homes → length history ≡ ticket
-    → IsShown input plan history sub old
-    → slice_get (visits (setting_over input plan) old.handset.sub (begun_steps input sub old))
-    (length (own sub history))
-    ≡ Some visit
+    → IsShown input plan history sub old → slice_get (visits (setting_over input plan) old.handset.sub
+    (begun_steps input sub old)) (length (own sub history)) ≡ Some visit
     → StandsForSteps (setting_over input plan) new.handset (begun_steps input sub old) (suc (length (own sub history)))
-    → GoesWith plan new.handset → new.handset.sub ≡ old.handset.sub
-    → new.lines.items ≡ slice_set old.lines.items last line → vec_capacity old.lines ≤ vec_capacity new.lines
-    → suc last ≡ length old.lines.items
-    → line ≡ line_after (get_or old.lines.items last default) (is_commit visit.act) ticket
-    → GoWith plan after → Hold plan input.homes after (history ++ visit ∷ [])
-    → (v : Visit) × (next (setting_over input plan) (scripts_of input) history sub ≡ Some v)
-    × IsShown input plan (history ++ v ∷ []) sub new × GoWith plan after
-    × Hold plan input.homes after (history ++ v ∷ [])
-written-on unpack own_law ticket_law tell scripts input plan distances after history sub ticket last old new visit line
-    default
-    together low place its at
+    → GoesWith plan new.handset → new.handset.sub ≡ old.handset.sub → new.lines.items ≡ slice_set old.lines.items last
+    line → vec_capacity old.lines ≤ vec_capacity new.lines → suc last ≡ length old.lines.items
+    → line ≡ line_after (get_or old.lines.items last default) (is_commit visit.act) ticket → GoWith plan after
+    → Hold plan input.homes after (history ++ visit ∷ [])
+    → (v : Visit) × (next (setting_over input plan) (scripts_of input) history sub ≡ Some v) × IsShown input plan
+    (history ++ v ∷ []) sub new × GoWith plan after × Hold plan input.homes after (history ++ v ∷ [])
+written-on unpack own_law ticket_law tell scripts {input} {plan} {history} {sub} {ticket} {last} {old} new {visit}
+    {line} default together low place its at
     stands goes same lines room last_is line_is go hold =
     let setting : Setting = setting_over input plan in
     let course : Course = course_at (start setting sub) in
     let here : slice_get (visits setting sub (begun_steps input sub old)) (length (own sub history)) ≡ Some visit =
     ap (λ s. slice_get (visits setting s (begun_steps input sub old)) (length (own sub history))) (sym its.its) ∙ at in
     let seen : Seen input plan history sub visit =
-    seen-after own_law ticket_law input plan history sub (length old.lines.items) visit low here in
+    seen-after own_law ticket_law input plan history sub (length old.lines.items) low here in
     let way : Under input plan history sub old visit =
-    under-way unpack tell scripts input plan distances history sub old visit together low its here in
+    under-way unpack tell scripts together low its here in
     let end : last ≡ length way.rows = omega (arith, last_is, ap length way.are, length_push way.rows way.row) in
     let row : get_or old.lines.items last default ≡ way.row =
     ap (λ ls. get_or ls last default) way.are ∙ get_or_push way.rows way.row default last (sym end) in
@@ -168,22 +159,19 @@ written-on unpack own_law ticket_law tell scripts input plan distances after his
     )
 
 -- a write more, whatever is known of the actor before it and behind it
-pub written-more : MoreIsPlayed
-    → ((setting : Setting) (scripts : Scripts) (history : History) (actor : ℕ) (visit : Visit)
-    → next setting scripts history actor ≡ Some visit → visit.actor ≡ actor)
-    → (input : Contents) (plan : PlanData) (cells after : CellData) (history : History) (ticket sub count : ℕ)
-    (Mid New : History → Type 0) → length history ≡ ticket → AreMade input plan cells history sub count Mid
-    → ((later : History) → Sees input plan cells later → length later ≡ ticket + count → Mid later
-    → (v : Visit) × (next (setting_over input plan) (scripts_of input) later sub ≡ Some v)
-    × New (later ++ v ∷ []) × GoWith plan after × Hold plan input.homes after (later ++ v ∷ []))
-    → AreMade input plan after history sub (count + 1) New
-written-more more mine input plan cells after history ticket sub count Mid New place made then =
+pub written-more : MoreIsPlayed → ((setting : Setting) (scripts : Scripts) (history : History) (actor : ℕ)
+    (visit : Visit) → next setting scripts history actor ≡ Some visit → visit.actor ≡ actor)
+    → {input : Contents} {plan : PlanData} {cells after : CellData} {history : History} {ticket sub count : ℕ}
+    {Mid : History → Type 0} (New : History → Type 0) → length history ≡ ticket
+    → AreMade input plan cells history sub count Mid → ((later : History) → Sees input plan cells later
+    → length later ≡ ticket + count → Mid later → (v : Visit)
+    × (next (setting_over input plan) (scripts_of input) later sub ≡ Some v) × New (later ++ v ∷ []) × GoWith plan
+    after × Hold plan input.homes after (later ++ v ∷ [])) → AreMade input plan after history sub (count + 1) New
+written-more more mine {input} {plan} {history} {sub} {count} New place made then =
     let now : History = history ++ made.visits in
-    let done = then now made.sees (made-count input plan cells history sub count Mid made
+    let done = then now made.sees (made-count made
     ∙ ap (λ n. n + count) place) made.its in
-    made-joined input plan cells after history sub count 1 Mid New made
-    (made-one input plan after now sub done.0 New
-    (mine (setting_over input plan) (scripts_of input) now sub done.0 done.1) done.1
+    made-joined made (made-one now New (mine (setting_over input plan) (scripts_of input) now sub done.0 done.1) done.1
     (record {
       played = more (setting_over input plan) (scripts_of input) now sub done.0 done.1 made.sees.played;
       goes = done.3;
@@ -191,15 +179,14 @@ written-more more mine input plan cells after history ticket sub count Mid New p
     }) done.2)
 
 -- a write that isn't left
-pub ended : (input : Contents) (plan : PlanData) (cells after : CellData) (history : History) (ticket sub count : ℕ)
-    (most : ℕ) (mid new : Subscriber) → length history ≡ ticket
-    → AreMade input plan cells history sub count (λ later. IsSubscriber input plan later sub mid)
-    → TakesTurn input plan (ticket + count) sub mid new cells after Finished
-    → (made : AreMade input plan after history sub count (λ later. IsSubscriber input plan later sub new))
+pub ended : {input : Contents} {plan : PlanData} {cells after : CellData} {history : History} {ticket sub count : ℕ}
+    (most : ℕ) {mid new : Subscriber} → length history ≡ ticket → AreMade input plan cells history sub count
+    (λ later. IsSubscriber input plan later sub mid) → TakesTurn input plan (ticket + count) sub mid new cells after
+    Finished → (made : AreMade input plan after history sub count (λ later. IsSubscriber input plan later sub new))
     × (count < most → next (setting_over input plan) (scripts_of input) (history ++ made.visits) sub ≡ None)
-ended input plan cells after history ticket sub count most mid new place made then =
+ended {input} {plan} {history} {sub} {count} most {mid} place made then =
     let Mid : History → Type 0 = λ later. IsSubscriber input plan later sub mid in
-    let done = then (history ++ made.visits) made.sees (made-count input plan cells history sub count Mid made
+    let done = then (history ++ made.visits) made.sees (made-count made
     ∙ ap (λ n. n + count) place) made.its in (
       record {
         visits = made.visits;

@@ -7,7 +7,7 @@ pub writes-init : goal.writes-init
 writes-init c = record {
   goes = c.requires.goes;
   its = refl;
-  ahead = ahead-none c.args.plan.now c.args.cells.now.subs c.args.handset.now c.args.ahead.now c.requires.goes;
+  ahead = ahead-none c.args.cells.now.subs c.args.ahead.now c.requires.goes;
 }
 
 pub writes-preserved : goal.writes-preserved
@@ -15,12 +15,9 @@ writes-preserved c =
     let plan = c.args.plan.now in
     let subs = c.args.cells.now.subs in
     let old = c.args.handset.now in
-    let one = ahead-more plan subs old c.writes.handset c.next_ahead.new.handset c.in-Some.write c.args.ahead.now
-    c.writes.ahead c.push_reserved.new.self c.writes.invariant.ahead c.in-Some.ensures.next
+    let one = ahead-more c.push_reserved.new.self c.writes.invariant.ahead c.in-Some.ensures.next
     c.push_reserved.ensures.items c.push_reserved.ensures.capacity in
-    let all = ahead-joined plan subs old c.next_ahead.new.handset c.push_entries.new.handset c.args.ahead.now
-    c.push_reserved.new.self c.push_entries.new.ahead one
-    (c.push_entries.ensures subs (omega (arith, c.requires.known, one.its))) in
+    let all = ahead-joined one (c.push_entries.ensures subs (omega (arith, c.requires.known, one.its))) in
     record { goes = all.goes; its = all.its; ahead = all }
 
 pub returns-in_default-clause-rests : goal.returns-in_default-clause-rests

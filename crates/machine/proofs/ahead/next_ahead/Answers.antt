@@ -12,8 +12,8 @@ returns-clause-next c =
     let old = c.args.handset.now in
     let visit = c.in-Some.visit in
     let is : due (setting_of plan []) old ≡ Some visit = sym c.write.ensures.exact ∙ c.in-Some.is in
-    let cell = cell-due plan old c.args.cells.now.subs visit c.in-Put.key c.in-Put.word
-    c.plan_is_sound.ensures.matched.homes c.requires.goes c.requires.known is c.in-Put.is in
+    let cell = cell-due c.args.cells.now.subs c.plan_is_sound.ensures.matched.homes c.requires.goes c.requires.known is
+    c.in-Put.is in
     record {
       visit = visit;
       key = c.in-Put.key;
@@ -22,7 +22,7 @@ returns-clause-next c =
           c.requires.goes is;
       cell = record { cell = cell.0; owner = cell.1; place = c.place.ensures };
       next = λ starts steps made stands. sym (c.write.ensures.visit starts steps made stands) ∙ c.in-Some.is;
-      stands = on-some _ c.write.result visit c.in-Some.is c.write.ensures.stands;
+      stands = on-some _ c.in-Some.is c.write.ensures.stands;
       goes = c.write.ensures.goes;
       its = ap (λ (h : HandsetData). h.sub) c.write.ensures.after
           ∙ same-owner (setting_of plan []) old old.stage;

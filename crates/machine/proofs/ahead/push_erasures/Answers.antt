@@ -19,31 +19,28 @@ use Rattle.machine.proofs.ahead.push_erasures.Goals as goal
 use Rattle.machine.proofs.ahead.push_erasures.Goals.{then-old-new, else-old-new}
 
 -- a level that is looked at is one of the plan's
-low-above : (plan : PlanData) (handset : HandsetData) (erasures : Erasures) (above : ℕ) → GoesWith plan handset
+low-above : {plan : PlanData} {handset : HandsetData} {erasures : Erasures} (above : ℕ) → GoesWith plan handset
     → erasures ≡ erasures_from handset erasures.level → above < erasures.last + 1 → above < levels_of plan
-low-above plan handset erasures above goes they below =
+low-above above goes they below =
     omega (arith, goes.renewed, below, ap (λ (e : Erasures). e.last) they)
 
 -- the node of an address is one of the plan's
-node-inside : (plan : PlanData) (handset : HandsetData) (addresses : List ℕ) (above : ℕ) → GoesWith plan handset
+node-inside : {plan : PlanData} {handset : HandsetData} {addresses : List ℕ} (above : ℕ) → GoesWith plan handset
     → addresses ≡ handset.addresses → above < levels_of plan → get_or addresses above 0 < nodes_of plan
-node-inside plan handset addresses above goes same low =
+node-inside {plan} above goes same low =
     subst (λ (xs : List ℕ). slice_index xs above < nodes_of plan) (sym same) (goes.inside above low)
 
 pub bounds-of-above : goal.bounds-of-above
 bounds-of-above c =
-    let low = low-above c.args.plan.now c.args.handset.now c.args.erasures c.loop-above.above c.requires.goes
-    c.requires.they c.loop-above-test.true in
+    let low = low-above c.loop-above.above c.requires.goes c.requires.they c.loop-above-test.true in
     subst (λ n. c.loop-above.above < n) (sym (c.of-in-loop-above.ensures.count c.args.plan.now c.requires.homes
-    (node-inside c.args.plan.now c.args.handset.now c.addresses-addresses.result.now c.loop-above.above c.requires.goes
-    c.addresses-addresses.ensures low))) low
+    (node-inside c.loop-above.above c.requires.goes c.addresses-addresses.ensures low))) low
 
 pub bounds-new-above : goal.bounds-new-above
 bounds-new-above c =
     subst (λ n. c.loop-above.above < n) (sym (c.of-new.ensures.count c.args.plan.now c.requires.homes
     (subst (λ n. n < nodes_of c.args.plan.now) (sym (ap (λ (e : Erasures). e.node) c.requires.they))
-    c.requires.goes.to))) (low-above c.args.plan.now c.args.handset.now c.args.erasures c.loop-above.above
-    c.requires.goes c.requires.they c.loop-above-test.true)
+    c.requires.goes.to))) (low-above c.loop-above.above c.requires.goes c.requires.they c.loop-above-test.true)
 
 pub loop-above-init : goal.loop-above-init
 loop-above-init c =
@@ -58,8 +55,7 @@ loop-above-init c =
       subst (λ s. IsMoveStage (nodes_of plan) handset.last s) c.requires.stage c.requires.goes.stage,
       c.requires.goes.renewed,
     ) in
-    let inside = node-inside plan handset c.addresses-addresses.result.now at c.requires.goes
-    c.addresses-addresses.ensures low in
+    let inside = node-inside at c.requires.goes c.addresses-addresses.ensures low in
     let here_place : get_or c.of.result.now at 0 ≡ home_place plan (slice_index handset.addresses at) at =
     c.of.ensures.places plan c.requires.homes inside at low
     ∙ ap (λ (xs : List ℕ). home_place plan (slice_index xs at) at) c.addresses-addresses.ensures in
@@ -70,7 +66,7 @@ loop-above-init c =
       next = ap (λ n. first_with (is_old (setting_of plan []) handset) n (suc handset.last.renewed - n)) next;
       ahead = λ subs known.
           subst (λ h. IsAhead plan subs handset h c.args.ahead.now c.args.ahead.now) here
-          (ahead-none plan subs handset c.args.ahead.now c.requires.goes);
+          (ahead-none subs c.args.ahead.now c.requires.goes);
     }
 
 pub loop-above-preserved : goal.loop-above-preserved
@@ -81,9 +77,8 @@ loop-above-preserved c =
     let above : ℕ = c.loop-above.above in
     let below : above ≤ handset.last.renewed =
     omega (arith, c.loop-above-test.true, ap (λ (e : Erasures). e.last) c.requires.they) in
-    let high = low-above plan handset c.args.erasures above c.requires.goes c.requires.they c.loop-above-test.true in
-    let inside = node-inside plan handset c.addresses-addresses.result.now above c.requires.goes
-    c.addresses-addresses.ensures high in
+    let high = low-above above c.requires.goes c.requires.they c.loop-above-test.true in
+    let inside = node-inside above c.requires.goes c.addresses-addresses.ensures high in
     let here : get_or c.of-in-loop-above.result.now above 0
     ≡ home_place plan (slice_index handset.addresses above) above =
     c.of-in-loop-above.ensures.places plan c.requires.homes inside above high
@@ -113,11 +108,8 @@ loop-above-preserved c =
             place = here;
             next = ap (λ n. first_with (is_old (setting_of plan []) handset) n (suc handset.last.renewed - n))
                 (let e : suc above ≡ above + 1 = omega arith in e);
-            ahead = λ subs known. ahead-more plan subs handset (at_entry handset (entries.Erasing at))
-                (at_entry handset (entries.Erasing above))
-                (record { place = c.loop-above.place; commits = false; word = c.pack_address-word.result })
-                c.args.ahead.now c.loop-above.ahead w.push_reserved.new.self
-                (c.loop-above.invariant.ahead subs known) (record {
+            ahead = λ subs known. ahead-more w.push_reserved.new.self (c.loop-above.invariant.ahead subs known)
+                (record {
                   visit = entry_put handset.sub write;
                   key = Entry at (home plan at (slice_index handset.addresses at)) handset.sub;
                   act = ap (Put (Entry at (home plan at (slice_index handset.addresses at)) handset.sub))

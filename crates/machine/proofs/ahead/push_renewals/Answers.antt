@@ -17,10 +17,11 @@ use Rattle.machine.proofs.Owing.{ahead-more, ahead-none}
 use Rattle.machine.proofs.ahead.push_renewals.Goals as goal
 
 -- a level that is renewed is one of the plan's
-level-low : (plan : PlanData) (handset : HandsetData) (renewals : Renewals) (at room most : ℕ) → GoesWith plan handset
-    → renewals ≡ renewals_from handset renewals.level → most ≡ min room (renewals.end - renewals.level)
-    → renewals.level ≤ at → at < renewals.level + most → (at < handset.last.renewed) × (at < levels_of plan)
-level-low plan handset renewals at room most goes they few from to =
+level-low : {plan : PlanData} {handset : HandsetData} {renewals : Renewals} (at room : ℕ) {most : ℕ}
+    → GoesWith plan handset → renewals ≡ renewals_from handset renewals.level
+    → most ≡ min room (renewals.end - renewals.level) → renewals.level ≤ at → at < renewals.level + most
+    → (at < handset.last.renewed) × (at < levels_of plan)
+level-low {handset} {renewals} at room goes they few from to =
     let below : at < handset.last.renewed = omega (
       arith,
       to,
@@ -49,16 +50,15 @@ loop-level-init c =
       );
       ahead = λ subs known.
           subst (λ h. IsAhead c.args.plan.now subs handset h c.args.ahead.now c.args.ahead.now) here
-          (ahead-none c.args.plan.now subs handset c.args.ahead.now c.requires.goes);
+          (ahead-none subs c.args.ahead.now c.requires.goes);
     }
 
 pub bounds-places-level : goal.bounds-places-level
 bounds-places-level c =
     subst (λ n. c.loop-level.level < n) (sym (c.of-places.ensures.count c.args.plan.now c.requires.homes
     (subst (λ n. n < nodes_of c.args.plan.now) (sym (ap (λ (r : Renewals). r.node) c.requires.they))
-    c.requires.goes.to))) (level-low c.args.plan.now c.args.handset.now c.args.renewals c.loop-level.level
-    (c.capacity.result - c.len.result) c.min.result c.requires.goes c.requires.they c.min.ensures
-    c.loop-level.auto.level c.loop-level-test.true).1
+    c.requires.goes.to))) (level-low c.loop-level.level (c.capacity.result - c.len.result) c.requires.goes
+    c.requires.they c.min.ensures c.loop-level.auto.level c.loop-level-test.true).1
 
 pub loop-level-preserved : goal.loop-level-preserved
 loop-level-preserved c =
@@ -71,16 +71,15 @@ loop-level-preserved c =
       word = c.args.renewals.word;
       next = entries.Renewing (suc at);
     } in
-    let low = level-low plan handset c.args.renewals at (c.capacity.result - c.len.result) c.min.result c.requires.goes
-    c.requires.they c.min.ensures c.loop-level.auto.level c.loop-level-test.true in
+    let low = level-low at (c.capacity.result - c.len.result) c.requires.goes c.requires.they c.min.ensures
+    c.loop-level.auto.level c.loop-level-test.true in
     let place : ℕ = get_or c.of-places.result.now at 0 in
     let node : c.args.renewals.node ≡ handset.last.to = ap (λ (r : Renewals). r.node) c.requires.they in
     let there : place ≡ home_place plan handset.last.to at =
     c.of-places.ensures.places plan c.requires.homes
     (subst (λ n. n < nodes_of plan) (sym node) c.requires.goes.to) at low.1 ∙ ap (λ n. home_place plan n at) node in
     let is : entry_write (setting_of plan []) handset (entries.Renewing at) ≡ Some write =
-    renewal-at plan handset at (home plan at handset.last.to) c.args.renewals.word low.0 refl
-    (sym (ap (λ (r : Renewals). r.word) c.requires.they))
+    renewal-at plan handset at low.0 refl (sym (ap (λ (r : Renewals). r.word) c.requires.they))
     in
     let its : IsNextEntry plan handset (entries.Renewing at) write =
     c.entry_writes_are_next.ensures plan handset (entries.Renewing at) write c.plan_is_sound.ensures.sound
@@ -104,10 +103,7 @@ loop-level-preserved c =
       ahead = λ subs known.
           subst (λ n. IsAhead plan subs handset (at_entry handset (entries.Renewing n)) c.args.ahead.now
           c.push_reserved.new.self) more
-          (ahead-more plan subs handset (at_entry handset (entries.Renewing at))
-          (at_entry handset (entries.Renewing (suc at)))
-          (record { place = place; commits = false; word = c.args.renewals.word }) c.args.ahead.now
-          c.loop-level.ahead c.push_reserved.new.self (c.loop-level.invariant.ahead subs known) (record {
+          (ahead-more c.push_reserved.new.self (c.loop-level.invariant.ahead subs known) (record {
             visit = entry_put handset.sub write;
             key = Entry at (home plan at handset.last.to) handset.sub;
             act = refl;

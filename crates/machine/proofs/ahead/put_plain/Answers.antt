@@ -11,7 +11,7 @@ pub loop-place-init : goal.loop-place-init
 loop-place-init c = λ plan old new may.
     let none : 0 ≡ c.args.made - c.args.made = omega arith in
     subst (λ n. HasCome plan c.args.sub old new c.args.cells.now c.args.cells.now n (drop c.args.made c.args.ahead.now))
-    none (come-none plan c.args.sub old new c.args.cells.now (drop c.args.made c.args.ahead.now) may)
+    none (come-none may)
 
 pub loop-place-preserved : goal.loop-place-preserved
 loop-place-preserved c = λ plan old new may.
@@ -32,9 +32,7 @@ loop-place-preserved c = λ plan old new may.
     subst (λ n. HasCome plan c.args.sub old new c.args.cells.now c.put_at.new.self n (drop (place + 1) writes)) one
     (subst (λ n. HasCome plan c.args.sub old new c.args.cells.now c.put_at.new.self (suc (place - c.args.made))
     (drop n writes)) more
-    (come-more plan c.args.sub old new c.args.cells.now c.loop-place.cells c.put_at.new.self (place - c.args.made) place
-    writes write low
-    (get_or_default writes place (record { place = 0; commits = false; word = 0 }) write low)
-    c.if-write.false come (λ key its. c.put_at.ensures.history plan key come.may.over its)
-    (c.put_at.ensures.goes plan come.may.over)
+    (come-more place writes low
+    (get_or_default writes place (record { place = 0; commits = false; word = 0 }) write low) c.if-write.false come
+    (λ key its. c.put_at.ensures.history plan key come.may.over its) (c.put_at.ensures.goes plan come.may.over)
     (λ key its. ap (λ (k : CellData). k.subs) (c.put_at.ensures.words plan key come.may.over its))))

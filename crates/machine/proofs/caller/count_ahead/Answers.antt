@@ -3,7 +3,7 @@ use Rattle.std.specs.Prelude.{slice_index, slice_index_or}
 use Rattle.std.proofs.Math.Nat.{min-le_left}
 use Rattle.std.proofs.lemmas.List.{get_or-take, get_or_default, length-take-le}
 use Rattle.visit_log.specs.Cells.{word_beside}
-use Rattle.visit_log.specs.Routes.{IsAt, rung_past}
+use Rattle.visit_log.specs.Routes.{IsAt}
 use Rattle.machine.specs.Climbs.{rung_of}
 use Rattle.machine.proofs.ClimbCells.{place-below}
 use Rattle.machine.proofs.caller.count_ahead.Goals as goal
@@ -31,9 +31,8 @@ count_empty-requires-clause-inside g c = λ k d low.
       arith,
       one.1,
       c.ahead-ahead.ensures.places plan at k one.0,
-      place-below c.cell_numbers.ensures.below plan c.args.climb.from
-          (rung_past plan c.args.climb.from (rung_of c.args.climb) k) c.plan_is_sound.ensures.matched
-          c.requires.over.from (c.ahead-ahead.ensures.rungs plan at k one.0),
+      place-below c.cell_numbers.ensures.below c.plan_is_sound.ensures.matched c.requires.over.from
+          (c.ahead-ahead.ensures.rungs plan at k one.0),
       c.requires.goes.width,
     )
 

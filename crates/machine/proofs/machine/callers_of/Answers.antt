@@ -21,14 +21,11 @@ new-requires c =
       length-map c.args.input.now.scripts.items (λ (s : Vec Call Global). s.items),
     ) in
     record {
-      searches = script-searches (seen_input c.args.input.now) c.args.plan.now
-          (c.len-subs.result + c.loop-caller.caller) c.as_slice-script.result.now c.len-subs.result
-          c.requires.together.valid c.requires.together.nodes (omega (arith, c.len-subs.ensures))
+      searches = script-searches c.args.plan.now (c.len-subs.result + c.loop-caller.caller) c.requires.together.valid
+          c.requires.together.nodes (omega (arith, c.len-subs.ensures))
           (omega (arith, low, length-map c.args.input.now.scripts.items (λ (s : Vec Call Global). s.items)))
-          (script-is c.args.input.now.scripts.items
-          (c.len-subs.result + c.loop-caller.caller) c.index.result.now c.as_slice-script.result.now low c.index.ensures
-          c.as_slice-script.ensures.value)
-          (omega (arith, c.len-subs.ensures));
+          (script-is c.args.input.now.scripts.items (c.len-subs.result + c.loop-caller.caller) low c.index.ensures
+          c.as_slice-script.ensures.value) (omega (arith, c.len-subs.ensures));
     }
 
 pub loop-caller-preserved : goal.loop-caller-preserved
@@ -44,28 +41,22 @@ loop-caller-preserved c =
     let count : c.len-subs.result ≡ length c.args.input.now.homes.items = omega (arith, c.len-subs.ensures) in
     let script : c.as_slice-script.result.now
     ≡ get_or (seen_input c.args.input.now).scripts (c.len-subs.result + c.loop-caller.caller) [] =
-    script-is c.args.input.now.scripts.items (c.len-subs.result + c.loop-caller.caller) c.index.result.now
-    c.as_slice-script.result.now low c.index.ensures c.as_slice-script.ensures.value in
+    script-is c.args.input.now.scripts.items (c.len-subs.result + c.loop-caller.caller) low c.index.ensures
+    c.as_slice-script.ensures.value in
     record {
       count = omega (arith, c.push_reserved.new.self.ok.0, c.push_reserved.ensures.len, c.loop-caller.invariant.count);
       room = c.push_reserved.ensures.capacity ∙ c.loop-caller.invariant.room;
       each = each-more (λ i x. IsCaller (seen_input c.args.input.now) c.args.plan.now []
-          (length c.args.input.now.homes.items + i) x) c.loop-caller.callers.items c.in_ok-new.field-0
-          c.loop-caller.caller c.push_reserved.new.self.items c.push_reserved.ensures.items
+          (length c.args.input.now.homes.items + i) x) c.loop-caller.callers.items c.push_reserved.ensures.items
           (omega (arith, c.loop-caller.invariant.count)) c.loop-caller.invariant.each
-          (subst (λ n. IsCaller (seen_input c.args.input.now) c.args.plan.now []
-          (n + c.loop-caller.caller) c.in_ok-new.field-0) count
-          (caller-opens (seen_input c.args.input.now) c.args.plan.now
-          (c.len-subs.result + c.loop-caller.caller) c.in_ok-new.field-0 c.as_slice-script.result.now
-          (omega (arith, c.len-subs.ensures))
-          (omega (arith, low, length-map c.args.input.now.scripts.items (λ (s : Vec Call Global). s.items)))
-          script
+          (subst (λ n. IsCaller (seen_input c.args.input.now) c.args.plan.now [] (n + c.loop-caller.caller)
+          c.in_ok-new.field-0) count (caller-opens (seen_input c.args.input.now) c.args.plan.now
+          (c.len-subs.result + c.loop-caller.caller) c.in_ok-new.field-0 (omega (arith, c.len-subs.ensures))
+          (omega (arith, low, length-map c.args.input.now.scripts.items (λ (s : Vec Call Global). s.items))) script
           c.in_ok-new.ensures.walk c.in_ok-new.ensures.first c.in_ok-new.ensures.lines
           (omega (arith, c.in_ok-new.ensures.room))));
-      rooms = each-more (λ i (x : Caller). vec_capacity x.lines
-          ≡ calls_of (seen_input c.args.input.now) (length c.args.input.now.homes.items + i))
-          c.loop-caller.callers.items c.in_ok-new.field-0
-          c.loop-caller.caller c.push_reserved.new.self.items c.push_reserved.ensures.items
+      rooms = each-more (λ i (x : Caller). vec_capacity x.lines ≡ calls_of (seen_input c.args.input.now)
+          (length c.args.input.now.homes.items + i)) c.loop-caller.callers.items c.push_reserved.ensures.items
           (omega (arith, c.loop-caller.invariant.count)) c.loop-caller.invariant.rooms
           (c.in_ok-new.ensures.room ∙ (ap length script
           ∙ ap (λ n. calls_of (seen_input c.args.input.now) (n + c.loop-caller.caller)) count));

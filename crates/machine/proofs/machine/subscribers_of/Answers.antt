@@ -14,25 +14,20 @@ loop-sub-preserved c =
     let steps : c.len-steps.result ≡ calls_of (seen_input c.args.input.now) c.loop-sub.sub = omega (
       arith,
       c.len-steps.ensures,
-      ap length (script-of c.args.input.now c.args.plan.now c.args.distances.now c.loop-sub.sub
-          c.index.result.now c.index.result.now.items c.requires.together low c.index.ensures refl),
+      ap length (script-of c.args.input.now c.loop-sub.sub c.requires.together low c.index.ensures refl),
     ) in
     record {
       count = omega (arith, c.push_reserved.new.self.ok.0, c.push_reserved.ensures.len, c.loop-sub.invariant.count);
       room = c.push_reserved.ensures.capacity ∙ c.loop-sub.invariant.room;
       each = each-more (λ i x. IsSubscriber (seen_input c.args.input.now) c.args.plan.now [] i x)
-          c.loop-sub.subscribers.items c.in_ok-new.field-0 c.loop-sub.sub c.push_reserved.new.self.items
-          c.push_reserved.ensures.items (omega (arith, c.loop-sub.invariant.count)) c.loop-sub.invariant.each
-          (sub-opens (seen_input c.args.input.now) c.args.plan.now c.loop-sub.sub c.in_ok-new.field-0
-          c.requires.together.valid low
+          c.loop-sub.subscribers.items c.push_reserved.ensures.items (omega (arith, c.loop-sub.invariant.count))
+          c.loop-sub.invariant.each (sub-opens c.in_ok-new.field-0 c.requires.together.valid low
           (c.in_ok-new.ensures.handset c.args.input.now.homes.items
           (get_or_default c.args.input.now.homes.items c.loop-sub.sub 0 c.index-home.result.now low
-          ∙ sym c.index-home.ensures))
-          c.in_ok-new.ensures.goes c.in_ok-new.ensures.its c.in_ok-new.ensures.ahead.0
+          ∙ sym c.index-home.ensures)) c.in_ok-new.ensures.goes c.in_ok-new.ensures.its c.in_ok-new.ensures.ahead.0
           c.in_ok-new.ensures.ahead.1 (omega (arith, c.in_ok-new.ensures.space)) c.in_ok-new.ensures.lines
           (omega (arith, c.in_ok-new.ensures.room, steps)));
-      rooms = each-more (λ i x. HasRoomFor (calls_of (seen_input c.args.input.now) i) x)
-          c.loop-sub.subscribers.items c.in_ok-new.field-0 c.loop-sub.sub c.push_reserved.new.self.items
+      rooms = each-more (λ i x. HasRoomFor (calls_of (seen_input c.args.input.now) i) x) c.loop-sub.subscribers.items
           c.push_reserved.ensures.items (omega (arith, c.loop-sub.invariant.count)) c.loop-sub.invariant.rooms
           (record { lines = c.in_ok-new.ensures.room ∙ steps; ahead = c.in_ok-new.ensures.space });
     }

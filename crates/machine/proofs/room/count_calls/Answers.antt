@@ -7,8 +7,7 @@ use Rattle.machine.proofs.room.count_calls.Goals as goal
 
 pub loop-script-preserved : goal.loop-script-preserved
 loop-script-preserved c =
-    let sum = added _ _ c.in_ok-count.count c.checked_add.result _ c.ok_or.result c.checked_add.ensures
-    c.ok_or.ensures.value c.in_ok-count.was in
+    let sum = added _ c.checked_add.result _ c.checked_add.ensures c.ok_or.ensures.value c.in_ok-count.was in
     let step = calls-more c.args.scripts.now c.loop-script.script-index c.script-item.result c.loop-script-test.true in
     let next : c.loop-script.script-index + 1 ≡ suc c.loop-script.script-index = omega arith in
     omega (

@@ -8,8 +8,7 @@ use Rattle.machine.proofs.room.most_visits.Goals as goal
 
 pub loop-script-preserved : goal.loop-script-preserved
 loop-script-preserved c = λ starts.
-    let sum = added _ _ c.in_ok-most.most c.checked_add.result _ c.ok_or.result c.checked_add.ensures
-    c.ok_or.ensures.value c.in_ok-most.was in
+    let sum = added _ c.checked_add.result _ c.checked_add.ensures c.ok_or.ensures.value c.in_ok-most.was in
     let here = c.in_ok-more.ensures starts ∙ (ap (most_in (setting_of c.args.plan.now starts)) c.deref.ensures.value
     ∙ ap (λ (s : Vec Call Global). most_in (setting_of c.args.plan.now starts) s.items) c.script-item.is) in
     let step = visits-more

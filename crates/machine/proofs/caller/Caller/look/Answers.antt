@@ -1,5 +1,4 @@
-use Rattle.std.proofs.Common.{◌+◌, arith}
-use Rattle.net_reader.specs.Seen.{seen_input}
+use Rattle.std.proofs.Common.{arith}
 use Rattle.machine.proofs.Passing.{looked-through, looks-ended, looks-more, may-look, passed-none}
 use Rattle.machine.proofs.caller.Caller.look.Goals as goal
 
@@ -7,28 +6,20 @@ pub looks-init : goal.looks-init
 looks-init g c = record {
   few = omega arith;
   passed = λ history sees place its.
-      passed-none (seen_input c.args.input.now) c.args.plan.now c.args.cells.now history c.args.actor c.args.self.now
-      sees its;
+      passed-none sees its;
 }
 
 pub pass-made-requires-clause-stands : goal.pass-made-requires-clause-stands
 pass-made-requires-clause-stands g c =
-    may-look (seen_input c.args.input.now) c.args.plan.now c.args.cells.now c.args.ticket c.args.actor c.looks.made
-    c.args.self.now c.looks.self c.requires.stands c.looks.invariant.passed
+    may-look c.requires.stands c.looks.invariant.passed
 
 pub look_one-requires-clause-stands : goal.look_one-requires-clause-stands
 look_one-requires-clause-stands g c =
-    may-look (seen_input c.args.input.now) c.args.plan.now c.args.cells.now c.args.ticket c.args.actor
-    (c.looks.made + c.pass-made.result) c.args.self.now c.pass-made.new.self c.requires.stands
-    (looks-more (seen_input c.args.input.now) c.args.plan.now c.args.cells.now c.args.ticket c.args.actor
-    c.looks.made c.pass-made.result c.args.self.now c.looks.self c.pass-made.new.self c.looks.invariant.passed
-    c.pass-made.ensures.passed)
+    may-look c.requires.stands (looks-more c.looks.invariant.passed c.pass-made.ensures.passed)
 
 pub returns-then-made-most-clause-taken : goal.returns-then-made-most-clause-taken
 returns-then-made-most-clause-taken g c = λ history sees place its. (
-  looks-more (seen_input c.args.input.now) c.args.plan.now c.args.cells.now c.args.ticket c.args.actor
-      c.looks.made c.pass-made.result c.args.self.now c.looks.self c.pass-made.new.self c.looks.invariant.passed
-      c.pass-made.ensures.passed history sees place its,
+  looks-more c.looks.invariant.passed c.pass-made.ensures.passed history sees place its,
   λ fewer. absurd (omega (arith, fewer, c.if-made-most.true)),
 )
 
@@ -36,24 +27,14 @@ pub looks-preserved : goal.looks-preserved
 looks-preserved g c = record {
   few = omega (arith, c.looks-test.true, c.pass-made.ensures.few, c.if-made-most.false);
   passed = λ history sees place its.
-      looked-through c.each_visit_is_next.ensures.more (seen_input c.args.input.now) c.args.plan.now c.args.cells.now
-      history c.args.ticket c.args.actor (c.looks.made + c.pass-made.result) c.pass-made.new.self
-      c.look_one.new.self place
-      (looks-more (seen_input c.args.input.now) c.args.plan.now c.args.cells.now c.args.ticket c.args.actor
-      c.looks.made c.pass-made.result c.args.self.now c.looks.self c.pass-made.new.self c.looks.invariant.passed
-      c.pass-made.ensures.passed
-      history sees place its) c.in-Visited.ensures;
+      looked-through c.each_visit_is_next.ensures.more place
+      (looks-more c.looks.invariant.passed c.pass-made.ensures.passed history sees place its) c.in-Visited.ensures;
 }
 
 pub returns-in-Finished-clause-taken : goal.returns-in-Finished-clause-taken
 returns-in-Finished-clause-taken g c = λ history sees place its.
-    looks-ended (seen_input c.args.input.now) c.args.plan.now c.args.cells.now
-    history c.args.ticket c.args.actor (c.looks.made + c.pass-made.result) c.args.most c.pass-made.new.self
-    c.look_one.new.self place
-    (looks-more (seen_input c.args.input.now) c.args.plan.now c.args.cells.now c.args.ticket c.args.actor
-    c.looks.made c.pass-made.result c.args.self.now c.looks.self c.pass-made.new.self c.looks.invariant.passed
-    c.pass-made.ensures.passed
-    history sees place its) c.in-Finished.ensures
+    looks-ended c.args.most place (looks-more c.looks.invariant.passed c.pass-made.ensures.passed history sees place
+    its) c.in-Finished.ensures
 
 pub returns-clause-taken : goal.returns-clause-taken
 returns-clause-taken g c = λ history sees place its.

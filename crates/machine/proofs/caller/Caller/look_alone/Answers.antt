@@ -10,8 +10,7 @@ use Rattle.machine.proofs.caller.Caller.look_alone.Goals as goal
 
 pub returns-then-most-eq0-clause-taken : goal.returns-then-most-eq0-clause-taken
 returns-then-most-eq0-clause-taken c = λ history sees place its. (
-  passed-none (seen_input c.args.input.now) c.args.plan.now c.args.cells.now history c.args.actor c.args.self.now sees
-      its,
+  passed-none sees its,
   λ fewer. absurd (omega (arith, fewer, c.if-most-eq0.true)),
 )
 
@@ -24,17 +23,15 @@ returns-then-made-eq1-clause-taken c = λ history sees place its. (
 
 pub look_one-requires-clause-stands : goal.look_one-requires-clause-stands
 look_one-requires-clause-stands c =
-    may-look (seen_input c.args.input.now) c.args.plan.now c.args.cells.now c.args.ticket c.args.actor
-    c.pass-made.result c.args.self.now c.pass-made.new.self c.requires.stands c.pass-made.ensures.passed
+    may-look c.requires.stands c.pass-made.ensures.passed
 
 pub returns-in-Visited-clause-taken : goal.returns-in-Visited-clause-taken
 returns-in-Visited-clause-taken c = λ history sees place its.
     let one : c.pass-made.result + 1 ≡ 1 = omega (arith, c.pass-made.ensures.few, c.if-made-eq1.false) in (
       subst (λ n. HasPassed (seen_input c.args.input.now) c.args.plan.now c.args.cells.now history c.args.actor n
           c.look_one.new.self) one
-          (looked-through c.each_visit_is_next.ensures.more (seen_input c.args.input.now) c.args.plan.now
-          c.args.cells.now history c.args.ticket c.args.actor c.pass-made.result c.pass-made.new.self
-          c.look_one.new.self place (c.pass-made.ensures.passed history sees place its) c.in-Visited.ensures),
+          (looked-through c.each_visit_is_next.ensures.more place (c.pass-made.ensures.passed history sees place its)
+          c.in-Visited.ensures),
       λ fewer. absurd (omega (arith, fewer, c.requires.alone)),
     )
 
@@ -45,6 +42,4 @@ returns-in-Finished-clause-taken c = λ history sees place its.
     c.args.actor n c.look_one.new.self) × (n < c.args.most
     → next (setting_over (seen_input c.args.input.now) c.args.plan.now) (scripts_of (seen_input c.args.input.now))
     (history ++ made.visits) c.args.actor ≡ None)) none
-    (looks-ended (seen_input c.args.input.now) c.args.plan.now c.args.cells.now history c.args.ticket c.args.actor
-    c.pass-made.result c.args.most c.pass-made.new.self c.look_one.new.self place
-    (c.pass-made.ensures.passed history sees place its) c.in-Finished.ensures)
+    (looks-ended c.args.most place (c.pass-made.ensures.passed history sees place its) c.in-Finished.ensures)

@@ -22,30 +22,23 @@ use Rattle.machine.proofs.caller.Caller.look_one.Goals.{After-len}
 pub look-requires-clause-cell : goal.look-requires-clause-cell
 look-requires-clause-cell c =
     (wanted c.marks_tell.ensures.marks c.entries_tell.ensures.entries c.every_order_is_legal.ensures
-    c.scripts_are_valid.ensures (seen_input c.args.input.now) c.args.plan.now c.args.distances.now c.args.cells.now
-    c.requires.stands.0 c.args.actor
-    c.args.self.now c.in-Some.walk c.in-Some-next.key c.requires.together c.plan_is_sound.ensures.matched
-    c.requires.high (scripts-low c.args.input.now.scripts.items c.args.actor c.requires.low) c.requires.stands.1
-    c.requires.stands.3 c.in-Some.is (sym c.next.ensures ∙ c.in-Some-next.is)).is_cell
+    c.scripts_are_valid.ensures c.requires.together c.plan_is_sound.ensures.matched c.requires.high
+    (scripts-low c.args.input.now.scripts.items c.args.actor c.requires.low) c.requires.stands.1 c.requires.stands.3
+    c.in-Some.is (sym c.next.ensures ∙ c.in-Some-next.is)).is_cell
 
 pub saw-requires-clause-word : goal.saw-requires-clause-word
 saw-requires-clause-word c =
     subst (IsWordBelow (nodes_of c.args.plan.now) c.in-Some.walk.progress)
     (sym (c.look.ensures.history c.args.input.now.homes.items c.requires.stands.0 c.requires.stands.1.hold))
     (wanted c.marks_tell.ensures.marks c.entries_tell.ensures.entries c.every_order_is_legal.ensures
-    c.scripts_are_valid.ensures (seen_input c.args.input.now) c.args.plan.now c.args.distances.now c.args.cells.now
-    c.requires.stands.0 c.args.actor
-    c.args.self.now c.in-Some.walk c.in-Some-next.key c.requires.together c.plan_is_sound.ensures.matched
-    c.requires.high (scripts-low c.args.input.now.scripts.items c.args.actor c.requires.low) c.requires.stands.1
-    c.requires.stands.3 c.in-Some.is (sym c.next.ensures ∙ c.in-Some-next.is)).is_below
+    c.scripts_are_valid.ensures c.requires.together c.plan_is_sound.ensures.matched c.requires.high
+    (scripts-low c.args.input.now.scripts.items c.args.actor c.requires.low) c.requires.stands.1 c.requires.stands.3
+    c.in-Some.is (sym c.next.ensures ∙ c.in-Some-next.is)).is_below
 
 pub returns-in_default-answer : goal.returns-in_default-answer
 returns-in_default-answer c = λ history sees place its.
-    looked-on c.lines_grow.ensures.read c.lines_grow.ensures.finds c.lines_grow.ensures.count
-    (seen_input c.args.input.now) c.args.plan.now c.args.cells.now history c.args.actor c.args.ticket c.args.self.now _
-    c.in-Some-next.key c.saw.new.self c.requires.high sees place its
-    (looks c.own_after.ensures.tickets (seen_input c.args.input.now) c.args.plan.now history c.args.actor
-    c.args.self.now c.in-Some.walk c.saw.new.self c.in-Some-next.key c.look.result c.requires.high its c.in-Some.is
+    looked-on c.lines_grow.ensures.read c.lines_grow.ensures.finds c.lines_grow.ensures.count c.requires.high sees place
+    its (looks c.own_after.ensures.tickets c.saw.new.self c.requires.high its c.in-Some.is
     (sym c.next.ensures ∙ c.in-Some-next.is) (c.look.ensures.history c.args.input.now.homes.items history sees.hold)
     c.saw.ensures.call c.saw.ensures.pursuit) c.saw.ensures.goes
     (sym c.in_default-answer.is ∙ c.answer.ensures c.args.plan.now c.saw.ensures.goes)
@@ -53,13 +46,12 @@ returns-in_default-answer c = λ history sees place its.
 
 script-here : (c : After-len)
     → c.as_slice-script.result.now ≡ get_or (seen_input c.args.input.now).scripts c.args.actor []
-script-here c = script-is c.args.input.now.scripts.items c.args.actor c.index.result.now c.as_slice-script.result.now
-    c.requires.low c.index.ensures c.as_slice-script.ensures.value
+script-here c = script-is c.args.input.now.scripts.items c.args.actor c.requires.low c.index.ensures
+    c.as_slice-script.ensures.value
 
 low-here : (c : After-len) → c.len.result < length c.as_slice-script.result.now
 low-here c =
-    let few = place-low (seen_input c.args.input.now) c.args.plan.now c.requires.stands.0 c.args.actor c.args.self.now
-    c.in-Some.walk c.requires.high (scripts-low c.args.input.now.scripts.items c.args.actor c.requires.low)
+    let few = place-low c.requires.high (scripts-low c.args.input.now.scripts.items c.args.actor c.requires.low)
     c.requires.stands.3 c.in-Some.is in
     omega (arith, few, ap length (script-here c), c.len.ensures)
 
@@ -73,57 +65,44 @@ bounds-script-len c = low-here c
 
 pub unreachable-requires-then-is_err : goal.unreachable-requires-then-is_err
 unreachable-requires-then-is_err c =
-    room-left (seen_input c.args.input.now) c.args.plan.now c.requires.stands.0 c.args.actor c.args.self.now
-    c.in-Some.walk c.requires.stands.3 c.in-Some.is
-    (on-err _ c.push.result (sym c.is_err.ensures.value ∙ c.if-is_err.true) c.push.ensures.full)
+    room-left c.requires.stands.3 c.in-Some.is (on-err c.push.result (sym c.is_err.ensures.value ∙ c.if-is_err.true)
+    c.push.ensures.full)
 
 pub walk_at-self-requires : goal.walk_at-self-requires
 walk_at-self-requires c = record {
-  searches = script-searches (seen_input c.args.input.now) c.args.plan.now c.args.actor c.as_slice-script.result.now
-      c.len-3.result c.requires.together.valid c.requires.together.nodes c.requires.high
-      (scripts-low c.args.input.now.scripts.items c.args.actor c.requires.low)
-      (script-is c.args.input.now.scripts.items c.args.actor c.index.result.now c.as_slice-script.result.now
-      c.requires.low c.index.ensures c.as_slice-script.ensures.value) (omega (arith, c.len-3.ensures));
+  searches = script-searches c.args.plan.now c.args.actor c.requires.together.valid c.requires.together.nodes
+      c.requires.high (scripts-low c.args.input.now.scripts.items c.args.actor c.requires.low)
+      (script-is c.args.input.now.scripts.items c.args.actor c.requires.low c.index.ensures
+      c.as_slice-script.ensures.value) (omega (arith, c.len-3.ensures));
 }
 
 pub returns : goal.returns
 returns c = λ history sees place its.
     let low = scripts-low c.args.input.now.scripts.items c.args.actor c.requires.low in
-    let script = script-is c.args.input.now.scripts.items c.args.actor c.index.result.now c.as_slice-script.result.now
-    c.requires.low c.index.ensures c.as_slice-script.ensures.value in
+    let script = script-is c.args.input.now.scripts.items c.args.actor c.requires.low c.index.ensures
+    c.as_slice-script.ensures.value in
     let count : length c.args.self.now.lines.items ≡ c.len.result = omega (arith, c.len.ensures) in
     let lines : c.push.new.self.items ≡ c.args.self.now.lines.items ++ c.line_of-line.result ∷ [] =
     c.push.ensures.items ∙ ap (λ b. if b then c.args.self.now.lines.items ++ c.line_of-line.result ∷ []
     else c.args.self.now.lines.items) (ok-of c.push.result (sym c.is_err.ensures.value ∙ c.if-is_err.false)) in
-    looked-up c.lines_grow.ensures.read c.lines_grow.ensures.finds c.lines_grow.ensures.count
-    (seen_input c.args.input.now) c.args.plan.now c.args.cells.now history c.args.actor c.args.ticket c.args.self.now _
-    c.in-Some-next.key c.saw.new.self c.in-Some-answer.found c.line_of-line.result c.len-2.result
-    c.requires.high sees place its
-    (looks c.own_after.ensures.tickets (seen_input c.args.input.now) c.args.plan.now history c.args.actor
-    c.args.self.now c.in-Some.walk c.saw.new.self c.in-Some-next.key c.look.result c.requires.high its c.in-Some.is
+    looked-up c.lines_grow.ensures.read c.lines_grow.ensures.finds c.lines_grow.ensures.count _ c.requires.high sees
+    place its (looks c.own_after.ensures.tickets c.saw.new.self c.requires.high its c.in-Some.is
     (sym c.next.ensures ∙ c.in-Some-next.is) (c.look.ensures.history c.args.input.now.homes.items history sees.hold)
-    c.saw.ensures.call c.saw.ensures.pursuit)
-    (sym c.in-Some-answer.is ∙ c.answer.ensures c.args.plan.now c.saw.ensures.goes)
-    (λ call later left. c.line_of-line.ensures
-    ∙ (ap (λ f. found_line c.args.actor f c.in-Some-answer.found c.unwrap_or-first.result c.args.ticket)
-    (call-at (seen_input c.args.input.now) c.args.plan.now c.args.actor c.len.result c.as_slice-script.result.now call
-    later _
-    c.requires.high low script (omega (
+    c.saw.ensures.call c.saw.ensures.pursuit) (sym c.in-Some-answer.is
+    ∙ c.answer.ensures c.args.plan.now c.saw.ensures.goes)
+    (λ call later left. c.line_of-line.ensures ∙ (ap (λ f. found_line c.args.actor f c.in-Some-answer.found
+    c.unwrap_or-first.result c.args.ticket) (call-at (seen_input c.args.input.now) c.args.plan.now c.args.actor
+    c.len.result _ c.requires.high low script (omega (
       arith,
       c.len.ensures,
       ap length script,
-      place-low (seen_input c.args.input.now) c.args.plan.now history c.args.actor c.args.self.now
-          c.in-Some.walk c.requires.high low its c.in-Some.is,
-    )) (left ∙ ap
-    (λ n. drop n
-    (finds_of (setting_over (seen_input c.args.input.now) c.args.plan.now)
+      place-low c.requires.high low its c.in-Some.is,
+    )) (left ∙ ap (λ n. drop n (finds_of (setting_over (seen_input c.args.input.now) c.args.plan.now)
     (scripts_of (seen_input c.args.input.now)) c.args.actor)) count))
-    ∙ ap (λ f. found_line c.args.actor call c.in-Some-answer.found f c.args.ticket) c.unwrap_or-first.ensures))
-    lines (omega
-    (arith, c.len-2.ensures, ap length lines, length_push c.args.self.now.lines.items c.line_of-line.result))
-    (omega (arith, c.push.ensures.capacity)) refl
-    (subst (λ fs. IsWalking c.args.plan.now (drop c.len-2.result fs) at_origin c.walk_at-self.result)
-    (ap (map find_of) script
-    ∙ sym (finds-are (seen_input c.args.input.now) (setting_over (seen_input c.args.input.now) c.args.plan.now)
-    c.args.actor refl c.requires.high low))
+    ∙ ap (λ f. found_line c.args.actor call c.in-Some-answer.found f c.args.ticket) c.unwrap_or-first.ensures)) lines
+    (omega (arith, c.len-2.ensures, ap length lines, length_push c.args.self.now.lines.items c.line_of-line.result))
+    (omega (arith, c.push.ensures.capacity)) refl (subst
+    (λ fs. IsWalking c.args.plan.now (drop c.len-2.result fs) at_origin c.walk_at-self.result)
+    (ap (map find_of) script ∙ sym (finds-are (seen_input c.args.input.now)
+    (setting_over (seen_input c.args.input.now) c.args.plan.now) c.args.actor refl c.requires.high low))
     c.walk_at-self.ensures)

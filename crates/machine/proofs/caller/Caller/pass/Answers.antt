@@ -4,7 +4,7 @@ use Rattle.net_reader.specs.Seen.{seen_input}
 use Rattle.visit_log.specs.Cells.{word_beside}
 use Rattle.visit_log.specs.Routes.{entry_place, rung_past}
 use Rattle.machine.specs.Climbs.{rung_of}
-use Rattle.walk.specs.Climbs.{IsClimbOf, climb_past}
+use Rattle.walk.specs.Climbs.{IsClimbOf}
 use Rattle.machine.specs.Callers.{HasPassed}
 use Rattle.machine.proofs.ClimbCells.{ahead-cell, ahead-word}
 use Rattle.machine.proofs.Climbing.{past-from}
@@ -16,26 +16,21 @@ pub returns-in_default-climb-clause-passed : goal.returns-in_default-climb-claus
 returns-in_default-climb-clause-passed g c = λ history sees place its.
     subst (λ w. HasPassed (seen_input c.args.input.now) c.args.plan.now c.args.cells.now history c.args.actor 0
     (record c.args.self.now { walk = w })) c.in-Some.is
-    (passed-none (seen_input c.args.input.now) c.args.plan.now c.args.cells.now history c.args.actor c.args.self.now
-    sees its)
+    (passed-none sees its)
 
 pub count_ahead-count-requires-clause-known : goal.count_ahead-count-requires-clause-known
 count_ahead-count-requires-clause-known g c =
-    let known = sub-known c.scripts_are_valid.ensures (seen_input c.args.input.now) c.args.plan.now
-    c.args.distances.now c.requires.stands.0 c.args.actor c.args.self.now c.in-Some.walk c.requires.together
-    c.requires.high (scripts-low c.args.input.now.scripts.items c.args.actor c.requires.low) c.requires.stands.3
-    c.in-Some.is in
+    let known = sub-known c.scripts_are_valid.ensures c.requires.together c.requires.high
+    (scripts-low c.args.input.now.scripts.items c.args.actor c.requires.low) c.requires.stands.3 c.in-Some.is in
     omega (arith, c.sub.ensures, known.1, c.requires.stands.1.hold.subs)
 
 pub count_ahead-count-requires-clause-over : goal.count_ahead-count-requires-clause-over
 count_ahead-count-requires-clause-over g c =
-    c.in-Some-climb.ensures.over c.args.plan.now (walks-over (seen_input c.args.input.now) c.args.plan.now
-    c.requires.stands.0 c.args.actor c.args.self.now c.in-Some.walk c.requires.stands.3 c.in-Some.is)
+    c.in-Some-climb.ensures.over c.args.plan.now (walks-over c.requires.stands.3 c.in-Some.is)
 
 pub climb_past-requires-clause-over : goal.climb_past-requires-clause-over
 climb_past-requires-clause-over g c =
-    c.in-Some-climb.ensures.over c.args.plan.now (walks-over (seen_input c.args.input.now) c.args.plan.now
-    c.requires.stands.0 c.args.actor c.args.self.now c.in-Some.walk c.requires.stands.3 c.in-Some.is)
+    c.in-Some-climb.ensures.over c.args.plan.now (walks-over c.requires.stands.3 c.in-Some.is)
 
 pub returns-then-count-gt0-clause-passed : goal.returns-then-count-gt0-clause-passed
 returns-then-count-gt0-clause-passed g c = λ history sees place its.
@@ -43,9 +38,8 @@ returns-then-count-gt0-clause-passed g c = λ history sees place its.
     let walk = c.in-Some.walk in
     let climb = c.in-Some-climb.climb in
     let count = c.count_ahead-count.result in
-    let known = sub-known c.scripts_are_valid.ensures (seen_input c.args.input.now) plan
-    c.args.distances.now history c.args.actor c.args.self.now walk c.requires.together
-    c.requires.high (scripts-low c.args.input.now.scripts.items c.args.actor c.requires.low) its c.in-Some.is in
+    let known = sub-known c.scripts_are_valid.ensures c.requires.together c.requires.high
+    (scripts-low c.args.input.now.scripts.items c.args.actor c.requires.low) its c.in-Some.is in
     let at : IsClimbOf walk climb = c.in-Some-climb.ensures.is in
     let low : walk.sub < c.args.cells.now.subs = omega (arith, known.1, sees.hold.subs) in
     let ahead : LooksAhead (seen_input c.args.input.now) plan c.args.cells.now c.args.actor walk climb count = record {
@@ -53,28 +47,22 @@ returns-then-count-gt0-clause-passed g c = λ history sees place its.
       each = λ i short.
           (c.climb_past.ensures.each i short).on.passes walk (past-from plan climb i ∙ at.from);
       cell = λ i short.
-          ahead-cell plan (climb_past plan climb i) c.args.cells.now.subs walk.sub c.plan_is_sound.ensures.matched
+          ahead-cell c.args.cells.now.subs walk.sub c.plan_is_sound.ensures.matched
           (c.climb_past.ensures.each i short).over low;
       empty = λ i short.
-          ahead-word plan c.args.cells.now climb walk.sub i 0 sees.goes
-          (subst (λ sub. word_beside c.args.cells.now sub
-          (entry_place plan climb.from
-          (rung_past plan climb.from (rung_of climb) i)) ≡ 0)
-          c.sub.ensures (c.count_ahead-count.ensures.empty i short));
+          ahead-word climb walk.sub i sees.goes (subst (λ sub. word_beside c.args.cells.now sub
+          (entry_place plan climb.from (rung_past plan climb.from (rung_of climb) i)) ≡ 0) c.sub.ensures
+          (c.count_ahead-count.ensures.empty i short));
     } in
     subst (HasPassed (seen_input c.args.input.now) plan c.args.cells.now history c.args.actor count)
-    (behind-some walk c.resume.new.self c.args.self.now c.args.ticket c.climb_past.result count
-    c.unwrap_or.result c.if-count-gt0.true c.resume.ensures.exact c.unwrap_or.ensures)
+    (behind-some walk c.args.self.now c.args.ticket c.climb_past.result count c.if-count-gt0.true c.resume.ensures.exact
+    c.unwrap_or.ensures)
     (subst (λ k. HasPassed (seen_input c.args.input.now) plan c.args.cells.now history c.args.actor count
     (behind walk c.args.self.now c.args.ticket k count)) (sym c.climb_past.ensures.exact)
     (passed-ahead c.own_after.ensures.tickets c.lines_grow.ensures.read c.lines_grow.ensures.finds
-    c.lines_grow.ensures.count c.each_visit_is_next.ensures.more (seen_input c.args.input.now) plan
-    c.args.cells.now history c.args.actor c.args.ticket c.args.self.now walk climb
-    count place ahead
+    c.lines_grow.ensures.count c.each_visit_is_next.ensures.more c.args.self.now place ahead
     (subst (HasPassed (seen_input c.args.input.now) plan c.args.cells.now history c.args.actor 0)
-    (sym (behind-none walk c.args.self.now c.args.ticket climb c.in-Some.is at))
-    (passed-none (seen_input c.args.input.now) plan c.args.cells.now history c.args.actor c.args.self.now sees its))
-    count (omega arith)))
+    (sym (behind-none c.args.self.now c.args.ticket c.in-Some.is at)) (passed-none sees its)) count (omega arith)))
 
 pub returns-else-count-gt0-clause-passed : goal.returns-else-count-gt0-clause-passed
 returns-else-count-gt0-clause-passed g c = λ history sees place its.
@@ -83,5 +71,4 @@ returns-else-count-gt0-clause-passed g c = λ history sees place its.
     (record c.args.self.now { walk = Some c.in-Some.walk })) none
     (subst (λ w. HasPassed (seen_input c.args.input.now) c.args.plan.now c.args.cells.now history c.args.actor 0
     (record c.args.self.now { walk = w })) c.in-Some.is
-    (passed-none (seen_input c.args.input.now) c.args.plan.now c.args.cells.now history c.args.actor c.args.self.now
-    sees its))
+    (passed-none sees its))

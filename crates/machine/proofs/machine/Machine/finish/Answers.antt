@@ -15,17 +15,17 @@ actors-preserved c = record {
   stands = λ history is. subst (λ n. HasHistory c.finish_actor.new.self (after_turns (setting_at c.args.self.now)
       (scripts_at c.args.self.now) history (turns_of (setting_at c.args.self.now) (scripts_at c.args.self.now) n)))
       (let e : suc c.actors.actor ≡ c.actors.actor + 1 = omega arith in e)
-      (turns-following c.args.self.now c.actors.self c.finish_actor.new.self history c.actors.actor
-      c.actors.invariant.same
+      (turns-following c.args.self.now c.actors.self history c.actors.actor c.actors.invariant.same
       (c.finish_actor.ensures.stands (after_turns (setting_at c.args.self.now) (scripts_at c.args.self.now) history
       (turns_of (setting_at c.args.self.now) (scripts_at c.args.self.now) c.actors.actor))
       (c.actors.invariant.stands history is)));
 }
 
 -- all actors have had their turns
-count-had : (actor end count : ℕ) (scripts : Vec (Vec Call Global) Global) → end ≤ actor → actor ≤ end → end ≡ count
-    → count ≡ length scripts.items → actor ≡ length (map (λ (script : Vec Call Global). script.items) scripts.items)
-count-had actor end count scripts low high one two =
+count-had : (actor : ℕ) {end count : ℕ} (scripts : Vec (Vec Call Global) Global) → end ≤ actor → actor ≤ end
+    → end ≡ count → count ≡ length scripts.items → actor ≡ length
+    (map (λ (script : Vec Call Global). script.items) scripts.items)
+count-had actor scripts low high one two =
     omega (arith, low, high, one, two, length-map scripts.items (λ (script : Vec Call Global). script.items))
 
 pub returns-clause-stands : goal.returns-clause-stands
@@ -34,9 +34,8 @@ returns-clause-stands c history is =
     (after_turns (setting_at c.args.self.now) (scripts_at c.args.self.now)
     history order))
     (ap (turns_of (setting_at c.args.self.now) (scripts_at c.args.self.now))
-    (count-had c.actors.actor c.len-actor-end.result c.args.self.now.input.now.scripts.len
-    c.args.self.now.input.now.scripts c.actors-test.false c.actors.auto.actor-end c.len-actor-end.ensures
-    c.args.self.now.input.now.scripts.ok.0) ∙ turns-all c.args.self.now is.together.valid)
+    (count-had c.actors.actor c.args.self.now.input.now.scripts c.actors-test.false c.actors.auto.actor-end
+    c.len-actor-end.ensures c.args.self.now.input.now.scripts.ok.0) ∙ turns-all c.args.self.now is.together.valid)
     (c.actors.invariant.stands history is)
 
 pub returns-clause-order : goal.returns-clause-order
@@ -49,7 +48,6 @@ returns-clause-order c order is =
     (after_turns (setting_at c.args.self.now) (scripts_at c.args.self.now)
     reached later))
     (ap (turns_of (setting_at c.args.self.now) (scripts_at c.args.self.now))
-    (count-had c.actors.actor c.len-actor-end.result c.args.self.now.input.now.scripts.len
-    c.args.self.now.input.now.scripts c.actors-test.false c.actors.auto.actor-end c.len-actor-end.ensures
-    c.args.self.now.input.now.scripts.ok.0) ∙ turns-all c.args.self.now is.together.valid)
+    (count-had c.actors.actor c.args.self.now.input.now.scripts c.actors-test.false c.actors.auto.actor-end
+    c.len-actor-end.ensures c.args.self.now.input.now.scripts.ok.0) ∙ turns-all c.args.self.now is.together.valid)
     (c.actors.invariant.stands reached is))

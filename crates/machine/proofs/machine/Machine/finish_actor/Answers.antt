@@ -11,9 +11,8 @@ turns-smaller c =
     let far = c.turns.invariant.stands c.requires.stands.0 c.requires.stands.1 in
     let reached : History = after_turns (setting_at c.args.self.now) (scripts_at c.args.self.now) c.requires.stands.0
     (replicate far.0 c.args.actor) in
-    visits-fewer c.visits_are_few.ensures c.turns.self c.stride.new.self reached c.args.actor c.stride.result
-    c.stride.ensures.same far.1.stands (c.stride.ensures.stands reached far.1.stands).0
-    (omega (arith, c.turns-test.true))
+    visits-fewer c.visits_are_few.ensures c.stride.ensures.same far.1.stands
+    (c.stride.ensures.stands reached far.1.stands).0 (omega (arith, c.turns-test.true))
 
 pub turns-preserved : goal.turns-preserved
 turns-preserved c = record {
@@ -23,8 +22,7 @@ turns-preserved c = record {
       let reached : History = after_turns (setting_at c.args.self.now) (scripts_at c.args.self.now) history
       (replicate far.0 c.args.actor) in (
         far.0 + c.stride.result,
-        made-joined c.args.self.now c.turns.self c.stride.new.self history c.args.actor far.0 c.stride.result
-            c.turns.invariant.same far.1 (c.stride.ensures.stands reached far.1.stands).0,
+        made-joined c.turns.invariant.same far.1 (c.stride.ensures.stands reached far.1.stands).0,
       );
 }
 

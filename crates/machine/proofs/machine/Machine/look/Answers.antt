@@ -3,7 +3,6 @@ use Rattle.std.specs.Prelude.{None}
 use Rattle.std.proofs.lemmas.List.{append-nil}
 use Rattle.directory.specs.Orders.{next}
 use Rattle.machine.specs.Machines.{HasHistory, input_at, scripts_at, setting_at}
-use Rattle.machine.specs.Callers.{IsCaller}
 use Rattle.machine.proofs.Looking.{scripts-low}
 use Rattle.machine.proofs.Making.{made-count, no-visits}
 use Rattle.machine.proofs.Turning.{at-caller, caller-turned, none-left, rooms-left, ticket-is}
@@ -18,9 +17,8 @@ look-count-requires-clause-stands g c =
     omega (arith, c.requires.high, c.len.ensures, stands.subscribers_count) in (
       history,
       stands.sees,
-      ticket-is c.args.self.now history c.len-ticket.result stands (omega (arith, c.len-ticket.ensures)),
-      at-caller c.args.self.now history c.args.actor (c.args.actor - c.len.result) c.index_mut.result.now stands at low
-          c.index_mut.ensures.value,
+      ticket-is c.len-ticket.result stands (omega (arith, c.len-ticket.ensures)),
+      at-caller (c.args.actor - c.len.result) stands at low c.index_mut.ensures.value,
     )
 
 pub look-count-requires-clause-routes : goal.look-count-requires-clause-routes
@@ -33,14 +31,13 @@ log_run-requires g c =
     let low = scripts-low c.args.self.now.input.now.scripts.items c.args.actor c.requires.known in
     let at : c.args.actor ≡ length (input_at c.args.self.now).homes + (c.args.actor - c.len.result) =
     omega (arith, c.requires.high, c.len.ensures, stands.subscribers_count) in
-    let tick = ticket-is c.args.self.now history c.len-ticket.result stands (omega (arith, c.len-ticket.ensures)) in
-    let done = (c.look-count.ensures.taken history stands.sees tick (at-caller c.args.self.now history c.args.actor
-    (c.args.actor - c.len.result) c.index_mut.result.now stands at low c.index_mut.ensures.value)).0 in
+    let tick = ticket-is c.len-ticket.result stands (omega (arith, c.len-ticket.ensures)) in
+    let done = (c.look-count.ensures.taken history stands.sees tick
+    (at-caller (c.args.actor - c.len.result) stands at low c.index_mut.ensures.value)).0 in
     record {
       room = omega (
         arith,
-        rooms-left c.visits_are_few.ensures c.args.self.now c.args.self.now.cells history c.args.actor
-            c.look-count.result done.visits stands done.actors done.sees,
+        rooms-left c.visits_are_few.ensures c.args.actor c.look-count.result done.visits stands done.actors done.sees,
         tick,
         c.len-ticket.ensures,
       );
@@ -51,33 +48,23 @@ returns-clause-stands g c = λ history stands.
     let low = scripts-low c.args.self.now.input.now.scripts.items c.args.actor c.requires.known in
     let at : c.args.actor ≡ length (input_at c.args.self.now).homes + (c.args.actor - c.len.result) =
     omega (arith, c.requires.high, c.len.ensures, stands.subscribers_count) in
-    let tick = ticket-is c.args.self.now history c.len-ticket.result stands (omega (arith, c.len-ticket.ensures)) in
-    let taken = c.look-count.ensures.taken history stands.sees tick (at-caller c.args.self.now history c.args.actor
-    (c.args.actor - c.len.result) c.index_mut.result.now stands at low c.index_mut.ensures.value) in
+    let tick = ticket-is c.len-ticket.result stands (omega (arith, c.len-ticket.ensures)) in
+    let taken = c.look-count.ensures.taken history stands.sees tick
+    (at-caller (c.args.actor - c.len.result) stands at low c.index_mut.ensures.value) in
     let done = taken.0 in (
       record {
         stands = subst (HasHistory _) (sym done.turns)
             (caller-turned c.own_after.ensures.visits c.own_after.ensures.tickets c.lines_grow.ensures.kept
-            c.args.self.now history c.args.actor (c.args.actor - c.len.result) c.look-count.result done.visits
-            c.look-count.new.self _ _ stands at low done.actors done.sees done.its refl
-            c.log_run.ensures.items c.log_run.ensures.capacity);
-        made = ap length done.turns ∙ made-count (input_at c.args.self.now) c.args.self.now.plan.now
-            c.args.self.now.cells history c.args.actor c.look-count.result
-            (λ later. IsCaller (input_at c.args.self.now) c.args.self.now.plan.now later c.args.actor
-            c.look-count.new.self) done;
+            (c.args.actor - c.len.result) c.look-count.result done.visits _ _ stands at low done.actors done.sees
+            done.its refl c.log_run.ensures.items c.log_run.ensures.capacity);
+        made = ap length done.turns ∙ made-count done;
       },
       λ none. (
-        none-left c.visits_are_few.ensures c.each_visit_is_next.ensures.more c.args.self.now history c.args.actor
-            c.room_for-reach.result
+        none-left c.visits_are_few.ensures c.each_visit_is_next.ensures.more c.args.actor c.room_for-reach.result
             (next (setting_at c.args.self.now) (scripts_at c.args.self.now) history c.args.actor) stands
             (λ empty. omega (arith, c.room_for-reach.ensures.full empty c.requires.some, tick, c.len-ticket.ensures))
-            refl
-            (λ some.
-            subst (λ h. next (setting_at c.args.self.now) (scripts_at c.args.self.now) h c.args.actor ≡ None)
-            (ap (λ visits. history ++ visits) (no-visits (input_at c.args.self.now) c.args.self.now.plan.now
-            c.args.self.now.cells history c.args.actor c.look-count.result
-            (λ later. IsCaller (input_at c.args.self.now) c.args.self.now.plan.now later c.args.actor
-            c.look-count.new.self) done none) ∙ append-nil history)
+            refl (λ some. subst (λ h. next (setting_at c.args.self.now) (scripts_at c.args.self.now) h
+            c.args.actor ≡ None) (ap (λ visits. history ++ visits) (no-visits done none) ∙ append-nil history)
             (taken.1 (omega (arith, some, none)))),
         (refl, c.log_run.ensures.still none),
       ),

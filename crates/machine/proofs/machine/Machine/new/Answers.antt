@@ -1,6 +1,5 @@
 use Rattle.std.proofs.Common.{arith, sym, ◌∙◌, refl}
 use Rattle.net_reader.specs.Seen.{seen_input}
-use Rattle.region_plan.specs.Plan.{nodes_of}
 use Rattle.scripts.specs.Scripts.{scripts_of}
 use Rattle.machine.specs.Stands.{setting_over}
 use Rattle.machine.proofs.Opening.{scripts-inside}
@@ -9,8 +8,7 @@ use Rattle.directory.specs.HistoryLaws.{none-played}
 
 pub rooms_for-requires-clause-inside : goal.rooms_for-requires-clause-inside
 rooms_for-requires-clause-inside c =
-    scripts-inside (seen_input c.args.input.now) c.args.input.now.scripts.items
-    (nodes_of c.args.plan.now) c.requires.together.valid refl c.requires.together.nodes
+    scripts-inside c.args.input.now.scripts.items c.requires.together.valid refl c.requires.together.nodes
 
 pub returns-clause-stands : goal.returns-clause-stands
 returns-clause-stands c = record {

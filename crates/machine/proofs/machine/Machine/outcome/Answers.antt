@@ -28,7 +28,7 @@ push_steps-requires c =
         arith,
         ap length is.calls,
         ap (λ xs. length (of_steps xs)) c.deref.ensures.value,
-        room-for_both c.args.self c.requires.stands.0 is,
+        room-for_both is,
       );
     }
 
@@ -44,7 +44,7 @@ push_finds-requires c =
         ap length c.push_steps.ensures.items,
         length-append c.args.self.calls.items (of_steps c.deref.result.now),
         c.push_steps.ensures.capacity,
-        room-for_both c.args.self c.requires.stands.0 is,
+        room-for_both is,
       );
     }
 
@@ -62,20 +62,20 @@ returns-clause-result c history is done =
     ap2 (λ (calls : List Done) (order : List ℕ). record { calls = calls; order = order }) c.push_finds.new.calls.items
     (outcome_in (setting_at c.args.self) (scripts_at c.args.self) history).calls c.args.self.order.items
     (outcome_in (setting_at c.args.self) (scripts_at c.args.self) history).order
-    (finds ∙ lines-all c.args.self history is done) is.order
+    (finds ∙ lines-all is done) is.order
 
 pub returns-clause-right : goal.returns-clause-right
 returns-clause-right c history is done =
     subst (λ lines. All (IsRightLine (setting_at c.args.self) history) lines)
     (sym (ap (λ (o : Outcome). o.calls) (returns-clause-result c history is done)))
     (right-outcome c.outcomes_are_right.ensures.lines c.order_of_history.ensures.done c.scripts_are_valid.ensures
-    c.args.self history c.plan_is_sound.ensures.matched is done)
+    c.plan_is_sound.ensures.matched is done)
 
 pub returns-clause-numbers : goal.returns-clause-numbers
 returns-clause-numbers c history is done =
     subst TellRisingNumbers (sym (ap (λ (o : Outcome). o.calls) (returns-clause-result c history is done)))
-    (rising-outcome c.outcomes_are_right.ensures.numbers c.order_of_history.ensures.done c.scripts_are_valid.ensures
-    c.args.self history is done)
+    (rising-outcome c.outcomes_are_right.ensures.numbers c.order_of_history.ensures.done c.scripts_are_valid.ensures is
+    done)
 
 pub returns-clause-in_turn : goal.returns-clause-in_turn
 returns-clause-in_turn c history is done =

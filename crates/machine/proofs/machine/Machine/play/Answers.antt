@@ -16,12 +16,11 @@ runs-preserved c = record {
   within = c.run_end-end.ensures.within;
   stands = λ history is.
       let now = c.runs.invariant.stands history is in
-      played-run c.args.self.now c.runs.self c.turns.new.self now.0 _ c.args.order.now c.runs.start
-      c.run_end-end.result c.runs.invariant.same c.run_end-end.ensures.run now.2 (c.turns.ensures.stands now.0 now.1);
+      played-run c.args.self.now c.runs.self now.0 c.args.order.now c.runs.start c.run_end-end.result
+      c.runs.invariant.same c.run_end-end.ensures.run now.2 (c.turns.ensures.stands now.0 now.1);
 }
 
 pub returns-clause-stands : goal.returns-clause-stands
 returns-clause-stands c = λ history is.
     let now = c.runs.invariant.stands history is in
-    played-whole c.args.self.now c.runs.self now.0 _ c.args.order.now c.runs.start (omega (arith, c.runs-test.false))
-    now.1 now.2
+    played-whole c.args.self.now c.args.order.now c.runs.start (omega (arith, c.runs-test.false)) now.1 now.2

@@ -8,7 +8,7 @@ use Rattle.machine.proofs.machine.Machine.stride.Goals as goal
 
 pub returns-then-len-actor-clause-stands : goal.returns-then-len-actor-clause-stands
 returns-then-len-actor-clause-stands g c = λ history stands. (
-  made-none c.args.self.now history c.args.actor stands,
+  made-none c.args.actor stands,
   λ none. (
     stranger-done (input_at c.args.self.now) (setting_at c.args.self.now) history c.args.actor stands.together.valid
         refl

@@ -9,15 +9,13 @@ pub returns-then-count-eq1-clause-stands : goal.returns-then-count-eq1-clause-st
 returns-then-count-eq1-clause-stands c = λ history is.
     subst (λ n. HasHistory c.stride.new.self (after_turns (setting_at c.args.self.now) (scripts_at c.args.self.now)
     history (replicate n c.args.actor))) (sym c.if-count-eq1.true)
-    (turned-once c.args.self.now c.stride.new.self history c.args.actor c.stride.result c.stride.ensures.few
-    (c.stride.ensures.stands history is)).0
+    (turned-once c.stride.result c.stride.ensures.few (c.stride.ensures.stands history is)).0
 
 pub returns-then-count-eq1-clause-made : goal.returns-then-count-eq1-clause-made
 returns-then-count-eq1-clause-made c = λ history is.
     subst (λ n. length (after_turns (setting_at c.args.self.now) (scripts_at c.args.self.now) history
     (replicate n c.args.actor)) ≡ length history + c.stride.result) (sym c.if-count-eq1.true)
-    (counted-once c.args.self.now c.stride.new.self history c.args.actor c.stride.result c.stride.ensures.few
-    (c.stride.ensures.stands history is))
+    (counted-once c.stride.result c.stride.ensures.few (c.stride.ensures.stands history is))
 
 pub turns-init : goal.turns-init
 turns-init c = record {
@@ -26,22 +24,20 @@ turns-init c = record {
   stands = λ history is.
       let none : 0 ≡ c.args.count - c.args.count = omega arith in
       subst (HasMade c.args.self.now c.args.self.now history c.args.actor) none
-      (made-none c.args.self.now history c.args.actor is);
+      (made-none c.args.actor is);
 }
 
 pub returns-then-made-eq0-clause-stands : goal.returns-then-made-eq0-clause-stands
 returns-then-made-eq0-clause-stands c = λ history is.
     let made = c.turns.invariant.stands history is in
-    (made-idle c.args.self.now c.turns.self c.stride-made.new.self history c.args.actor (c.args.count - c.turns.left)
-    c.args.count c.stride-made.result c.turns.invariant.same made (c.stride-made.ensures.stands _ made.stands)
-    c.if-made-eq0.true (omega arith)).0
+    (made-idle c.args.count c.turns.invariant.same made (c.stride-made.ensures.stands _ made.stands) c.if-made-eq0.true
+    (omega arith)).0
 
 pub returns-then-made-eq0-clause-made : goal.returns-then-made-eq0-clause-made
 returns-then-made-eq0-clause-made c = λ history is.
     let made = c.turns.invariant.stands history is in
-    (made-idle c.args.self.now c.turns.self c.stride-made.new.self history c.args.actor (c.args.count - c.turns.left)
-    c.args.count c.stride-made.result c.turns.invariant.same made (c.stride-made.ensures.stands _ made.stands)
-    c.if-made-eq0.true (omega arith)).1
+    (made-idle c.args.count c.turns.invariant.same made (c.stride-made.ensures.stands _ made.stands) c.if-made-eq0.true
+    (omega arith)).1
 
 pub turns-preserved : goal.turns-preserved
 turns-preserved c = record {
@@ -54,9 +50,7 @@ turns-preserved c = record {
       ≡ c.args.count - (c.turns.left - c.stride-made.result) =
       omega (arith, c.turns.invariant.few, c.stride-made.ensures.few) in
       subst (HasMade c.args.self.now c.stride-made.new.self history c.args.actor) all
-      (made-joined c.args.self.now c.turns.self c.stride-made.new.self history c.args.actor
-      (c.args.count - c.turns.left) c.stride-made.result c.turns.invariant.same made
-      (c.stride-made.ensures.stands _ made.stands).0);
+      (made-joined c.turns.invariant.same made (c.stride-made.ensures.stands _ made.stands).0);
 }
 
 pub returns-clause-stands : goal.returns-clause-stands

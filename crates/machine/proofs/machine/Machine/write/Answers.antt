@@ -2,8 +2,7 @@ use Rattle.std.proofs.Common.{◌≡◌, ◌++◌, ap, arith, length, refl, subs
 use Rattle.std.specs.Prelude.{None}
 use Rattle.std.proofs.lemmas.List.{append-nil}
 use Rattle.directory.specs.Orders.{next}
-use Rattle.machine.specs.Machines.{HasHistory, input_at, scripts_at, setting_at}
-use Rattle.machine.specs.Subscribers.{IsSubscriber}
+use Rattle.machine.specs.Machines.{HasHistory, scripts_at, setting_at}
 use Rattle.machine.proofs.Making.{made-count, no-visits}
 use Rattle.machine.proofs.Turning.{at-sub, none-left, rooms-left, sub-turned, ticket-is}
 use Rattle.machine.proofs.machine.Machine.write.Goals as goal
@@ -14,23 +13,21 @@ write-count-requires-clause-stands g c =
     let stands = c.requires.stands.1 in (
       history,
       stands.sees,
-      ticket-is c.args.self.now history c.len-ticket.result stands (omega (arith, c.len-ticket.ensures)),
-      at-sub c.args.self.now history c.args.actor c.index_mut.result.now stands c.requires.known
-          c.index_mut.ensures.value,
+      ticket-is c.len-ticket.result stands (omega (arith, c.len-ticket.ensures)),
+      at-sub c.args.actor stands c.requires.known c.index_mut.ensures.value,
     )
 
 pub log_run-requires : goal.log_run-requires
 log_run-requires g c =
     let history = c.requires.stands.0 in
     let stands = c.requires.stands.1 in
-    let tick = ticket-is c.args.self.now history c.len-ticket.result stands (omega (arith, c.len-ticket.ensures)) in
-    let done = (c.write-count.ensures.taken history stands.sees tick (at-sub c.args.self.now history c.args.actor
-    c.index_mut.result.now stands c.requires.known c.index_mut.ensures.value)).0 in
+    let tick = ticket-is c.len-ticket.result stands (omega (arith, c.len-ticket.ensures)) in
+    let done = (c.write-count.ensures.taken history stands.sees tick
+    (at-sub c.args.actor stands c.requires.known c.index_mut.ensures.value)).0 in
     record {
       room = omega (
         arith,
-        rooms-left c.visits_are_few.ensures c.args.self.now c.write-count.new.cells history c.args.actor
-            c.write-count.result done.visits stands done.actors done.sees,
+        rooms-left c.visits_are_few.ensures c.args.actor c.write-count.result done.visits stands done.actors done.sees,
         tick,
         c.len-ticket.ensures,
       );
@@ -38,34 +35,23 @@ log_run-requires g c =
 
 pub returns-clause-stands : goal.returns-clause-stands
 returns-clause-stands g c = λ history stands.
-    let tick = ticket-is c.args.self.now history c.len-ticket.result stands (omega (arith, c.len-ticket.ensures)) in
-    let taken = c.write-count.ensures.taken history stands.sees tick (at-sub c.args.self.now history c.args.actor
-    c.index_mut.result.now stands c.requires.known c.index_mut.ensures.value) in
+    let tick = ticket-is c.len-ticket.result stands (omega (arith, c.len-ticket.ensures)) in
+    let taken = c.write-count.ensures.taken history stands.sees tick
+    (at-sub c.args.actor stands c.requires.known c.index_mut.ensures.value) in
     let done = taken.0 in (
       record {
         stands = subst (HasHistory _) (sym done.turns)
             (sub-turned c.own_after.ensures.visits c.own_after.ensures.tickets c.lines_grow.ensures.kept
-            c.args.self.now history c.args.actor c.write-count.result done.visits
-            c.write-count.new.self c.write-count.new.cells _ _ stands c.requires.known done.actors done.sees done.its
-            refl
+            c.write-count.result done.visits _ _ stands c.requires.known done.actors done.sees done.its refl
             c.log_run.ensures.items c.log_run.ensures.capacity);
-        made = ap length done.turns ∙ made-count (input_at c.args.self.now) c.args.self.now.plan.now
-            c.write-count.new.cells history c.args.actor c.write-count.result
-            (λ later. IsSubscriber (input_at c.args.self.now) c.args.self.now.plan.now later c.args.actor
-            c.write-count.new.self) done;
+        made = ap length done.turns ∙ made-count done;
       },
       λ none. (
-        none-left c.visits_are_few.ensures c.each_visit_is_next.ensures.more c.args.self.now history c.args.actor
-            c.room_for-reach.result
+        none-left c.visits_are_few.ensures c.each_visit_is_next.ensures.more c.args.actor c.room_for-reach.result
             (next (setting_at c.args.self.now) (scripts_at c.args.self.now) history c.args.actor) stands
             (λ empty. omega (arith, c.room_for-reach.ensures.full empty c.requires.some, tick, c.len-ticket.ensures))
-            refl
-            (λ some.
-            subst (λ h. next (setting_at c.args.self.now) (scripts_at c.args.self.now) h c.args.actor ≡ None)
-            (ap (λ visits. history ++ visits) (no-visits (input_at c.args.self.now) c.args.self.now.plan.now
-            c.write-count.new.cells history c.args.actor c.write-count.result
-            (λ later. IsSubscriber (input_at c.args.self.now) c.args.self.now.plan.now later c.args.actor
-            c.write-count.new.self) done none) ∙ append-nil history)
+            refl (λ some. subst (λ h. next (setting_at c.args.self.now) (scripts_at c.args.self.now) h
+            c.args.actor ≡ None) (ap (λ visits. history ++ visits) (no-visits done none) ∙ append-nil history)
             (taken.1 (omega (arith, some, none)))),
         (c.write-count.ensures.still none, c.log_run.ensures.still none),
       ),

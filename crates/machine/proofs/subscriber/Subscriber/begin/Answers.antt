@@ -1,9 +1,7 @@
 use Rattle.std.proofs.Common.{◌≡◌, ◌++◌, ◌∷◌, [], sym, ap, ◌∙◌, refl, arith, length, subst}
 use Rattle.std.specs.Prelude.{if◌then◌else◌}
 use Rattle.net_reader.specs.declared.said.Call.TheVariants as calls
-use Rattle.net_reader.specs.Seen.{seen_input}
 use Rattle.machine.specs.Owed.{Owes}
-use Rattle.machine.specs.Subscribers.{shown_at}
 use Rattle.machine.proofs.Looking.{ok-of}
 use Rattle.machine.proofs.Rests.{all-written}
 use Rattle.machine.proofs.Beginning.{first-ahead, on-err, ready, script-of}
@@ -12,106 +10,85 @@ use Rattle.machine.proofs.subscriber.Subscriber.begin.Goals as goal
 
 pub returns-then-place-script : goal.returns-then-place-script
 returns-then-place-script c = λ history sees place its. (
-  all-written (seen_input c.args.input.now) c.args.plan.now history c.args.sub
-      (shown_at c.args.self.now.handset c.args.self.now) c.requires.together.valid c.requires.low
-      (shown-now (seen_input c.args.input.now) c.args.plan.now history c.args.sub c.args.self.now c.requires.none its)
-      c.requires.rests
-      (omega (
-        arith,
-        c.if-place-script.true,
-        c.len-place.ensures,
-        ap length (script-of c.args.input.now c.args.plan.now c.args.distances.now c.args.sub
-            c.index.result.now c.as_slice-script.result.now c.requires.together c.requires.low c.index.ensures
-            c.as_slice-script.ensures.value),
-      )),
+  all-written c.requires.together.valid c.requires.low (shown-now c.requires.none its) c.requires.rests (omega (
+    arith,
+    c.if-place-script.true,
+    c.len-place.ensures,
+    ap length (script-of c.args.input.now c.args.sub c.requires.together c.requires.low c.index.ensures
+        c.as_slice-script.ensures.value),
+  )),
   its,
   refl,
 )
 
 pub offset_bounds-script-place : goal.offset_bounds-script-place
 offset_bounds-script-place c =
-    let at = ready c.scripts_are_valid.ensures c.args.input.now c.args.plan.now c.args.distances.now c.requires.stands.0
-    c.args.sub c.args.self.now c.index.result.now c.as_slice-script.result.now c.len-place.result (calls.Move 0)
-    c.requires.together c.requires.low c.requires.none c.requires.stands.3 c.requires.rests c.index.ensures
-    c.as_slice-script.ensures.value (omega (arith, c.len-place.ensures)) c.if-place-script.false in
+    let at = ready c.scripts_are_valid.ensures c.args.input.now (calls.Move 0) c.requires.together c.requires.low
+    c.requires.none c.requires.stands.3 c.requires.rests c.index.ensures c.as_slice-script.ensures.value
+    (omega (arith, c.len-place.ensures)) c.if-place-script.false in
     omega (arith, at.short, at.few)
 
 pub bounds-script-place : goal.bounds-script-place
 bounds-script-place c =
-    let at = ready c.scripts_are_valid.ensures c.args.input.now c.args.plan.now c.args.distances.now c.requires.stands.0
-    c.args.sub c.args.self.now c.index.result.now c.as_slice-script.result.now c.len-place.result (calls.Move 0)
-    c.requires.together c.requires.low c.requires.none c.requires.stands.3 c.requires.rests c.index.ensures
-    c.as_slice-script.ensures.value (omega (arith, c.len-place.ensures)) c.if-place-script.false in
+    let at = ready c.scripts_are_valid.ensures c.args.input.now (calls.Move 0) c.requires.together c.requires.low
+    c.requires.none c.requires.stands.3 c.requires.rests c.index.ensures c.as_slice-script.ensures.value
+    (omega (arith, c.len-place.ensures)) c.if-place-script.false in
     at.short
 
 pub begin_step-line-requires-clause-may : goal.begin_step-line-requires-clause-may
 begin_step-line-requires-clause-may c =
-    let at = ready c.scripts_are_valid.ensures c.args.input.now c.args.plan.now c.args.distances.now c.requires.stands.0
-    c.args.sub c.args.self.now c.index.result.now c.as_slice-script.result.now c.len-place.result (calls.Move 0)
-    c.requires.together c.requires.low c.requires.none c.requires.stands.3 c.requires.rests c.index.ensures
-    c.as_slice-script.ensures.value (omega (arith, c.len-place.ensures)) c.if-place-script.false in
+    let at = ready c.scripts_are_valid.ensures c.args.input.now (calls.Move 0) c.requires.together c.requires.low
+    c.requires.none c.requires.stands.3 c.requires.rests c.index.ensures c.as_slice-script.ensures.value
+    (omega (arith, c.len-place.ensures)) c.if-place-script.false in
     at.begin.may
 
 pub unreachable-requires : goal.unreachable-requires
 unreachable-requires c =
-    let at = ready c.scripts_are_valid.ensures c.args.input.now c.args.plan.now c.args.distances.now c.requires.stands.0
-    c.args.sub c.args.self.now c.index.result.now c.as_slice-script.result.now c.len-place.result (calls.Move 0)
-    c.requires.together c.requires.low c.requires.none c.requires.stands.3 c.requires.rests c.index.ensures
-    c.as_slice-script.ensures.value (omega (arith, c.len-place.ensures)) c.if-place-script.false in
-    let full = on-err _ c.push.result (sym c.is_err.ensures.value ∙ c.if-is_err.true) c.push.ensures.full in
+    let at = ready c.scripts_are_valid.ensures c.args.input.now (calls.Move 0) c.requires.together c.requires.low
+    c.requires.none c.requires.stands.3 c.requires.rests c.index.ensures c.as_slice-script.ensures.value
+    (omega (arith, c.len-place.ensures)) c.if-place-script.false in
+    let full = on-err c.push.result (sym c.is_err.ensures.value ∙ c.if-is_err.true) c.push.ensures.full in
     omega (arith, at.left, c.requires.stands.3.shown.room, full)
 
 pub index-write-requires : goal.index-write-requires
 index-write-requires c =
-    let at = ready c.scripts_are_valid.ensures c.args.input.now c.args.plan.now c.args.distances.now c.requires.stands.0
-    c.args.sub c.args.self.now c.index.result.now c.as_slice-script.result.now c.len-place.result (calls.Move 0)
-    c.requires.together c.requires.low c.requires.none c.requires.stands.3 c.requires.rests c.index.ensures
-    c.as_slice-script.ensures.value (omega (arith, c.len-place.ensures)) c.if-place-script.false in
-    let some = first-ahead c.args.input.now c.args.plan.now c.requires.stands.0 c.args.sub
-    (shown_at c.args.self.now.handset c.args.self.now) c.as_slice-script.result.now c.len-place.result (calls.Move 0)
-    c.begin_step-line.new.handset c.fill.new.ahead.items at c.begin_step-line.ensures.its
+    let at = ready c.scripts_are_valid.ensures c.args.input.now (calls.Move 0) c.requires.together c.requires.low
+    c.requires.none c.requires.stands.3 c.requires.rests c.index.ensures c.as_slice-script.ensures.value
+    (omega (arith, c.len-place.ensures)) c.if-place-script.false in
+    let some = first-ahead c.fill.new.ahead.items at c.begin_step-line.ensures.its
     (c.begin_step-line.ensures.stands c.args.input.now.homes.items _ _ at.shown.handset) c.fill.ensures.rests in
     omega (arith, some, c.fill.new.ahead.ok.0)
 
 pub put_at-requires : goal.put_at-requires
 put_at-requires c =
-    let at = ready c.scripts_are_valid.ensures c.args.input.now c.args.plan.now c.args.distances.now c.requires.stands.0
-    c.args.sub c.args.self.now c.index.result.now c.as_slice-script.result.now c.len-place.result (calls.Move 0)
-    c.requires.together c.requires.low c.requires.none c.requires.stands.3 c.requires.rests c.index.ensures
-    c.as_slice-script.ensures.value (omega (arith, c.len-place.ensures)) c.if-place-script.false in
-    let some = first-ahead c.args.input.now c.args.plan.now c.requires.stands.0 c.args.sub
-    (shown_at c.args.self.now.handset c.args.self.now) c.as_slice-script.result.now c.len-place.result (calls.Move 0)
-    c.begin_step-line.new.handset c.fill.new.ahead.items at c.begin_step-line.ensures.its
+    let at = ready c.scripts_are_valid.ensures c.args.input.now (calls.Move 0) c.requires.together c.requires.low
+    c.requires.none c.requires.stands.3 c.requires.rests c.index.ensures c.as_slice-script.ensures.value
+    (omega (arith, c.len-place.ensures)) c.if-place-script.false in
+    let some = first-ahead c.fill.new.ahead.items at c.begin_step-line.ensures.its
     (c.begin_step-line.ensures.stands c.args.input.now.homes.items _ _ at.shown.handset) c.fill.ensures.rests in
     let owes = c.fill.ensures.ahead.owes c.begin_step-line.new.handset
     (subst (Owes c.args.plan.now c.args.cells.now.subs c.begin_step-line.new.handset c.begin_step-line.new.handset)
     (sym c.requires.none) refl) in
-    let cell = first-cell c.args.plan.now c.args.cells.now.subs c.args.sub c.begin_step-line.new.handset
-    c.fill.new.handset c.fill.new.ahead.items c.index-write.result.now some c.index-write.ensures owes
-    (c.begin_step-line.ensures.its ∙ at.shown.its) in
+    let cell = first-cell c.args.plan.now c.args.cells.now.subs c.begin_step-line.new.handset c.fill.new.handset
+    c.fill.new.ahead.items some c.index-write.ensures owes (c.begin_step-line.ensures.its ∙ at.shown.its) in
     record { cell = (c.args.plan.now, cell.0, c.requires.stands.1.goes, cell.1) }
 
 pub returns : goal.returns
 returns c = λ history sees place its.
-    let at = ready c.scripts_are_valid.ensures c.args.input.now c.args.plan.now c.args.distances.now history
-    c.args.sub c.args.self.now c.index.result.now c.as_slice-script.result.now c.len-place.result (calls.Move 0)
-    c.requires.together c.requires.low c.requires.none its c.requires.rests c.index.ensures
-    c.as_slice-script.ensures.value (omega (arith, c.len-place.ensures)) c.if-place-script.false in
+    let at = ready c.scripts_are_valid.ensures c.args.input.now (calls.Move 0) c.requires.together c.requires.low
+    c.requires.none its c.requires.rests c.index.ensures c.as_slice-script.ensures.value
+    (omega (arith, c.len-place.ensures)) c.if-place-script.false in
     let begun = c.begin_step-line.ensures.stands c.args.input.now.homes.items _ _ at.shown.handset in
     let lines : c.push.new.self.items ≡ c.args.self.now.lines.items ++ c.begin_step-line.result ∷ [] =
     c.push.ensures.items ∙ ap (λ b. if b then c.args.self.now.lines.items ++ c.begin_step-line.result ∷ []
     else c.args.self.now.lines.items) (ok-of c.push.result (sym c.is_err.ensures.value ∙ c.if-is_err.false)) in
-    let some = first-ahead c.args.input.now c.args.plan.now history c.args.sub
-    (shown_at c.args.self.now.handset c.args.self.now) c.as_slice-script.result.now c.len-place.result (calls.Move 0)
-    c.begin_step-line.new.handset c.fill.new.ahead.items at c.begin_step-line.ensures.its
+    let some = first-ahead c.fill.new.ahead.items at c.begin_step-line.ensures.its
     (c.begin_step-line.ensures.stands c.args.input.now.homes.items _ _ at.shown.handset) c.fill.ensures.rests in
     let owes = c.fill.ensures.ahead.owes c.begin_step-line.new.handset
     (subst (Owes c.args.plan.now c.args.cells.now.subs c.begin_step-line.new.handset c.begin_step-line.new.handset)
     (sym c.requires.none) refl) in
-    first-put c.own_after.ensures.visits c.own_after.ensures.tickets c.tickets_tell.ensures.visits
-    (seen_input c.args.input.now) c.args.plan.now c.args.cells.now c.put_at.new.self history c.args.sub c.args.ticket
-    c.args.self.now c.begin_step-line.new.handset c.fill.new.handset c.fill.new.ahead c.push.new.self _
-    c.index-write.result.now c.begin_step-line.result c.requires.low place sees at.shown at.begin begun
+    first-put c.own_after.ensures.visits c.own_after.ensures.tickets c.tickets_tell.ensures.visits c.args.self.now
+    c.begin_step-line.new.handset c.fill.new.ahead c.push.new.self c.requires.low place sees at.shown at.begin begun
     c.begin_step-line.ensures.its owes c.fill.ensures.ahead.goes c.fill.ensures.ahead.its
     (omega (arith, its.space, c.fill.ensures.ahead.room)) some c.index-write.ensures lines
     (omega (arith, c.push.ensures.capacity)) c.begin_step-line.ensures.line at.left

@@ -5,9 +5,8 @@ use Rattle.machine.proofs.subscriber.Subscriber.has_ahead.Goals as goal
 
 pub returns-clause-stands : goal.returns-clause-stands
 returns-clause-stands c = λ input history sub known its.
-    refilled input c.args.plan.now history sub c.args.cells.now.subs c.args.self.now c.fill.new.handset c.clear.new.self
-    c.fill.new.ahead known (omega (arith, c.if-self-len.false, c.len.ensures, c.args.self.now.ahead.ok.0))
-    c.clear.ensures.items c.clear.ensures.capacity c.fill.ensures.ahead its
+    refilled known (omega (arith, c.if-self-len.false, c.len.ensures, c.args.self.now.ahead.ok.0)) c.clear.ensures.items
+    c.clear.ensures.capacity c.fill.ensures.ahead its
 
 pub returns-clause-none : goal.returns-clause-none
 returns-clause-none c = λ quiet.
@@ -15,8 +14,7 @@ returns-clause-none c = λ quiet.
     let subs = c.args.cells.now.subs in
     let old = c.args.self.now.handset in
     let empty : c.fill.new.ahead.items ≡ [] =
-    none-there c.fill.new.ahead.items c.fill.new.ahead.len c.is_empty.result (sym c.fill.new.ahead.ok.0)
-    c.is_empty.ensures quiet in
+    none-there c.fill.new.ahead.items (sym c.fill.new.ahead.ok.0) c.is_empty.ensures quiet in
     let same : c.fill.new.handset ≡ old =
     subst (Owes plan subs old c.fill.new.handset) empty
     (c.fill.ensures.ahead.owes old (subst (Owes plan subs old old) (sym c.clear.ensures.items) refl)) in

@@ -1,5 +1,4 @@
-use Rattle.std.proofs.Common.{◌-◌, ap, arith, refl, ◌∙◌}
-use Rattle.net_reader.specs.Seen.{seen_input}
+use Rattle.std.proofs.Common.{ap, arith, refl, ◌∙◌}
 use Rattle.machine.specs.Subscribers.{line_after}
 use Rattle.machine.proofs.Putting.{line-there, one-put}
 use Rattle.machine.proofs.subscriber.Subscriber.put_one.Goals as goal
@@ -8,35 +7,27 @@ pub overflow_sub-last : goal.overflow_sub-last
 overflow_sub-last c = omega (
   arith,
   c.len-last.ensures,
-  line-there c.mark_words.ensures.unpacked c.tickets_tell.ensures.visits c.scripts_are_valid.ensures
-      (seen_input c.args.input.now) c.args.plan.now c.args.distances.now c.requires.stands.0 c.args.sub c.args.self.now
-      c.requires.together c.requires.low c.requires.stands.3 c.requires.left,
+  line-there c.mark_words.ensures.unpacked c.tickets_tell.ensures.visits c.scripts_are_valid.ensures c.requires.together
+      c.requires.low c.requires.stands.3 c.requires.left,
 )
 
 pub index_mut-requires : goal.index_mut-requires
 index_mut-requires c = omega (
   arith,
   c.len-last.ensures,
-  line-there c.mark_words.ensures.unpacked c.tickets_tell.ensures.visits c.scripts_are_valid.ensures
-      (seen_input c.args.input.now) c.args.plan.now c.args.distances.now c.requires.stands.0 c.args.sub c.args.self.now
-      c.requires.together c.requires.low c.requires.stands.3 c.requires.left,
+  line-there c.mark_words.ensures.unpacked c.tickets_tell.ensures.visits c.scripts_are_valid.ensures c.requires.together
+      c.requires.low c.requires.stands.3 c.requires.left,
 )
 
 pub returns : goal.returns
 returns c = λ history sees place its.
     one-put c.mark_words.ensures.unpacked c.own_after.ensures.visits c.own_after.ensures.tickets
-    c.tickets_tell.ensures.visits c.scripts_are_valid.ensures (seen_input c.args.input.now) c.args.plan.now
-    c.args.distances.now c.args.cells.now c.put_at.new.self history c.args.sub c.args.ticket (c.len-last.result - 1)
-    c.args.self.now _ c.index-write.result.now c.go_on.new.line c.index_mut.result.now c.requires.together
-    c.requires.low place sees its c.requires.left c.index-write.ensures refl (omega arith)
-    (omega (
+    c.tickets_tell.ensures.visits c.scripts_are_valid.ensures _ c.index_mut.result.now c.requires.together
+    c.requires.low place sees its c.requires.left c.index-write.ensures refl (omega arith) (omega (
       arith,
       c.len-last.ensures,
       line-there c.mark_words.ensures.unpacked c.tickets_tell.ensures.visits c.scripts_are_valid.ensures
-          (seen_input c.args.input.now) c.args.plan.now c.args.distances.now history c.args.sub c.args.self.now
           c.requires.together c.requires.low its c.requires.left,
-    ))
-    (c.go_on.ensures
-    ∙ ap (λ l. line_after l c.index-write.result.now.commits c.args.ticket) c.index_mut.ensures.value)
-    (λ key cell. c.put_at.ensures.history c.args.plan.now key sees.goes cell)
+    )) (c.go_on.ensures ∙ ap (λ l. line_after l c.index-write.result.now.commits c.args.ticket)
+    c.index_mut.ensures.value) (λ key cell. c.put_at.ensures.history c.args.plan.now key sees.goes cell)
     (c.put_at.ensures.goes c.args.plan.now sees.goes)

@@ -11,30 +11,21 @@ writes-init g c = record {
   few = omega arith;
   still = λ none. refl;
   written = λ history sees place its.
-      made-none (seen_input c.args.input.now) c.args.plan.now c.args.cells.now history c.args.sub
-      (λ later. IsSubscriber (seen_input c.args.input.now) c.args.plan.now later c.args.sub c.args.self.now) sees its;
+      made-none c.args.sub (λ later. IsSubscriber (seen_input c.args.input.now) c.args.plan.now later c.args.sub
+      c.args.self.now) sees its;
 }
 
 pub write_plain-made-requires-clause-stands : goal.write_plain-made-requires-clause-stands
 write_plain-made-requires-clause-stands g c =
-    may-turn (seen_input c.args.input.now) c.args.plan.now c.args.cells.now c.writes.cells c.args.ticket c.args.sub
-    c.writes.made c.args.self.now c.writes.self c.requires.stands c.writes.invariant.written
+    may-turn c.requires.stands c.writes.invariant.written
 
 pub write_one-requires-clause-stands : goal.write_one-requires-clause-stands
 write_one-requires-clause-stands g c =
-    may-turn (seen_input c.args.input.now) c.args.plan.now c.args.cells.now c.write_plain-made.new.cells c.args.ticket
-    c.args.sub (c.writes.made + c.write_plain-made.result) c.args.self.now c.write_plain-made.new.self
-    c.requires.stands
-    (makes-more (seen_input c.args.input.now) c.args.plan.now c.args.cells.now c.writes.cells
-    c.write_plain-made.new.cells c.args.ticket c.args.sub c.writes.made c.write_plain-made.result c.args.self.now
-    c.writes.self c.write_plain-made.new.self c.writes.invariant.written c.write_plain-made.ensures.made)
+    may-turn c.requires.stands (makes-more c.writes.invariant.written c.write_plain-made.ensures.made)
 
 pub returns-then-made-most-clause-taken : goal.returns-then-made-most-clause-taken
 returns-then-made-most-clause-taken g c = λ history sees place its. (
-  makes-more (seen_input c.args.input.now) c.args.plan.now c.args.cells.now c.writes.cells
-      c.write_plain-made.new.cells c.args.ticket c.args.sub c.writes.made c.write_plain-made.result c.args.self.now
-      c.writes.self c.write_plain-made.new.self c.writes.invariant.written c.write_plain-made.ensures.made
-      history sees place its,
+  makes-more c.writes.invariant.written c.write_plain-made.ensures.made history sees place its,
   λ fewer. absurd (omega (arith, fewer, c.if-made-most.true)),
 )
 
@@ -47,39 +38,24 @@ writes-preserved g c = record {
   few = omega (arith, c.writes-test.true, c.write_plain-made.ensures.few, c.if-made-most.false);
   still = λ none. absurd (omega (arith, none));
   written = λ history sees place its.
-      written-more c.each_visit_is_next.ensures.more c.next_is_own.ensures (seen_input c.args.input.now)
-      c.args.plan.now c.write_plain-made.new.cells c.write_one.new.cells history c.args.ticket c.args.sub
-      (c.writes.made + c.write_plain-made.result)
-      (λ later. IsSubscriber (seen_input c.args.input.now) c.args.plan.now later c.args.sub c.write_plain-made.new.self)
+      written-more c.each_visit_is_next.ensures.more c.next_is_own.ensures
       (λ later. IsSubscriber (seen_input c.args.input.now) c.args.plan.now later c.args.sub c.write_one.new.self) place
-      (makes-more (seen_input c.args.input.now) c.args.plan.now c.args.cells.now c.writes.cells
-      c.write_plain-made.new.cells c.args.ticket c.args.sub c.writes.made c.write_plain-made.result c.args.self.now
-      c.writes.self c.write_plain-made.new.self c.writes.invariant.written c.write_plain-made.ensures.made
-      history sees place its) c.in-Visited.ensures;
+      (makes-more c.writes.invariant.written c.write_plain-made.ensures.made history sees place its)
+      c.in-Visited.ensures;
 }
 
 pub returns-in-Finished-clause-taken : goal.returns-in-Finished-clause-taken
 returns-in-Finished-clause-taken g c = λ history sees place its.
-    ended (seen_input c.args.input.now) c.args.plan.now c.write_plain-made.new.cells c.write_one.new.cells history
-    c.args.ticket c.args.sub (c.writes.made + c.write_plain-made.result) c.args.most c.write_plain-made.new.self
-    c.write_one.new.self place
-    (makes-more (seen_input c.args.input.now) c.args.plan.now c.args.cells.now c.writes.cells
-    c.write_plain-made.new.cells c.args.ticket c.args.sub c.writes.made c.write_plain-made.result c.args.self.now
-    c.writes.self c.write_plain-made.new.self c.writes.invariant.written c.write_plain-made.ensures.made
-    history sees place its) c.in-Finished.ensures
+    ended c.args.most place (makes-more c.writes.invariant.written c.write_plain-made.ensures.made history sees place
+    its) c.in-Finished.ensures
 
 pub returns-in-Finished-clause-still : goal.returns-in-Finished-clause-still
 returns-in-Finished-clause-still g c = λ none.
     let stands = c.requires.stands in
-    let made = makes-more (seen_input c.args.input.now) c.args.plan.now c.args.cells.now c.writes.cells
-    c.write_plain-made.new.cells c.args.ticket c.args.sub c.writes.made c.write_plain-made.result c.args.self.now
-    c.writes.self c.write_plain-made.new.self c.writes.invariant.written c.write_plain-made.ensures.made
-    stands.0 stands.1 stands.2 stands.3 in
+    let made = makes-more c.writes.invariant.written c.write_plain-made.ensures.made stands.0 stands.1 stands.2
+    stands.3 in
     (c.in-Finished.ensures (stands.0 ++ made.visits) made.sees
-    (made-count (seen_input c.args.input.now) c.args.plan.now c.write_plain-made.new.cells stands.0 c.args.sub
-    (c.writes.made + c.write_plain-made.result)
-    (λ later. IsSubscriber (seen_input c.args.input.now) c.args.plan.now later c.args.sub
-    c.write_plain-made.new.self) made
+    (made-count made
     ∙ ap (λ n. n + (c.writes.made + c.write_plain-made.result)) stands.2) made.its).2
     ∙ c.write_plain-made.ensures.still (omega (arith, none)) ∙ c.writes.invariant.still (omega (arith, none))
 

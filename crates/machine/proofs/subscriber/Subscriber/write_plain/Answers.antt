@@ -14,28 +14,35 @@ put_plain-behind-requires-clause-stands c =
       c.args.plan.now,
       its.handset,
       c.args.self.now.handset,
-      may-put (seen_input c.args.input.now) c.args.plan.now c.args.cells.now c.requires.stands.0 c.args.sub
-          c.args.self.now c.as_slice.result.now c.requires.stands.1 its c.as_slice.ensures.value,
+      may-put c.requires.stands.1 its c.as_slice.ensures.value,
     )
 
 pub overflow_sub-last : goal.overflow_sub-last
 overflow_sub-last c = omega (
   arith,
   c.len-last.ensures,
-  line-there c.mark_words.ensures.unpacked c.tickets_tell.ensures.visits c.scripts_are_valid.ensures
-      (seen_input c.args.input.now) c.args.plan.now c.args.distances.now c.requires.stands.0 c.args.sub c.args.self.now
-      c.requires.together c.requires.low c.requires.stands.3
-      (omega (arith, c.if-made-gt0.true, c.put_plain-behind.ensures.within, ap length c.as_slice.ensures.value)),
+  line-there c.mark_words.ensures.unpacked c.tickets_tell.ensures.visits c.scripts_are_valid.ensures c.requires.together
+      c.requires.low c.requires.stands.3 (omega (
+        arith,
+        c.if-made-gt0.true,
+        c.put_plain-behind.ensures.within,
+        ap length
+            c.as_slice.ensures.value,
+      )),
 )
 
 pub index_mut-requires : goal.index_mut-requires
 index_mut-requires c = omega (
   arith,
   c.len-last.ensures,
-  line-there c.mark_words.ensures.unpacked c.tickets_tell.ensures.visits c.scripts_are_valid.ensures
-      (seen_input c.args.input.now) c.args.plan.now c.args.distances.now c.requires.stands.0 c.args.sub c.args.self.now
-      c.requires.together c.requires.low c.requires.stands.3
-      (omega (arith, c.if-made-gt0.true, c.put_plain-behind.ensures.within, ap length c.as_slice.ensures.value)),
+  line-there c.mark_words.ensures.unpacked c.tickets_tell.ensures.visits c.scripts_are_valid.ensures c.requires.together
+      c.requires.low c.requires.stands.3 (omega (
+        arith,
+        c.if-made-gt0.true,
+        c.put_plain-behind.ensures.within,
+        ap length
+            c.as_slice.ensures.value,
+      )),
 )
 
 pub returns-then-made-gt0-clause-made : goal.returns-then-made-gt0-clause-made
@@ -45,19 +52,15 @@ returns-then-made-gt0-clause-made c = λ history sees place its.
     let count : ℕ = c.put_plain-behind.result - c.args.self.now.made in
     let size : c.len-last.result ≡ length old.lines.items = omega (arith, c.len-last.ensures) in
     let come = c.put_plain-behind.ensures.puts c.args.plan.now its.handset c.args.self.now.handset
-    (may-put (seen_input c.args.input.now) c.args.plan.now c.args.cells.now history c.args.sub c.args.self.now
-    c.as_slice.result.now sees its c.as_slice.ensures.value) in
+    (may-put sees its c.as_slice.ensures.value) in
     plain-put c.mark_words.ensures.unpacked c.own_after.ensures.visits c.own_after.ensures.tickets
     c.tickets_tell.ensures.visits c.scripts_are_valid.ensures c.each_visit_is_next.ensures.more c.next_is_own.ensures
-    (seen_input c.args.input.now) c.args.plan.now c.args.distances.now c.args.cells.now c.put_plain-behind.new.cells
-    history c.args.sub c.args.ticket count c.put_plain-behind.result old _ c.as_slice.result.now line
-    c.requires.together c.requires.low place sees its c.as_slice.ensures.value come c.if-made-gt0.true
-    c.put_plain-behind.ensures.within
-    (ap (set old.lines.items (c.len-last.result - 1))
-    (c.go_on.ensures ∙ ap (λ l. line_after l false (c.args.ticket + count - 1)) c.index_mut.ensures.value)
+    c.put_plain-behind.result _ line c.requires.together c.requires.low place sees its c.as_slice.ensures.value come
+    c.if-made-gt0.true c.put_plain-behind.ensures.within
+    (ap (set old.lines.items (c.len-last.result - 1)) (c.go_on.ensures
+    ∙ ap (λ l. line_after l false (c.args.ticket + count - 1)) c.index_mut.ensures.value)
     ∙ ap (λ n. set old.lines.items (n - 1) (line_after (get_or old.lines.items (n - 1) line) false
-    (c.args.ticket + count - 1))) size)
-    (omega arith)
+    (c.args.ticket + count - 1))) size) (omega arith)
 
 pub returns-else-made-gt0-clause-made : goal.returns-else-made-gt0-clause-made
 returns-else-made-gt0-clause-made c = λ history sees place its.
@@ -66,8 +69,7 @@ returns-else-made-gt0-clause-made c = λ history sees place its.
     let count : ℕ = c.put_plain-behind.result - c.args.self.now.made in
     let none : count ≡ 0 = omega (arith, c.if-made-gt0.false) in
     let come = c.put_plain-behind.ensures.puts c.args.plan.now its.handset c.args.self.now.handset
-    (may-put (seen_input c.args.input.now) c.args.plan.now c.args.cells.now history c.args.sub c.args.self.now
-    c.as_slice.result.now sees its c.as_slice.ensures.value) in
+    (may-put sees its c.as_slice.ensures.value) in
     let same : c.put_plain-behind.new.cells ≡ c.args.cells.now =
     (subst (λ n. HavePut plan its.handset c.args.cells.now n come.handset c.put_plain-behind.new.cells) none come.put).1
     in
@@ -75,5 +77,4 @@ returns-else-made-gt0-clause-made c = λ history sees place its.
     (λ later. IsSubscriber input plan later c.args.sub c.args.self.now)) (sym none)
     (subst (λ (k : CellData). AreMade input plan k history c.args.sub 0
     (λ later. IsSubscriber input plan later c.args.sub c.args.self.now)) (sym same)
-    (made-none input plan c.args.cells.now history c.args.sub
-    (λ later. IsSubscriber input plan later c.args.sub c.args.self.now) sees its))
+    (made-none c.args.sub (λ later. IsSubscriber input plan later c.args.sub c.args.self.now) sees its))
