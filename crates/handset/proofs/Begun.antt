@@ -33,11 +33,11 @@ switch-is : (setting : Setting) (course : Course) (off : Bool) → step_writes s
 switch-is setting course true = refl
 switch-is setting course false = refl
 
-switch-writes : (setting : Setting) (handset : HandsetData) (steps : List Step) (made : ℕ) (off : Bool)
-    → StandsAt setting handset Resting steps made
-    → map (visit_of handset.sub) (step_writes setting (course_of setting handset.sub steps) (switch_to off))
-    ≡ map (visit_of handset.sub) (left_at setting handset (Switching off))
-switch-writes setting handset steps made off f =
+switch-writes : {setting : Setting} {handset : HandsetData} {steps : List Step} {made : ℕ} (off : Bool)
+    → StandsAt setting handset Resting steps made → map (visit_of handset.sub)
+    (step_writes setting (course_of setting handset.sub steps) (switch_to off)) ≡ map (visit_of handset.sub)
+    (left_at setting handset (Switching off))
+switch-writes {setting} {handset} {steps} off f =
     let over : course_of setting handset.sub steps ≡ course_of setting handset.sub f.over =
     ap (course_of setting handset.sub) (f.begun ∙ append-nil f.over) in
     ap (map (visit_of handset.sub)) (switch-is setting (course_of setting handset.sub steps) off)
@@ -56,12 +56,12 @@ switch-gathered setting sub steps false level =
     ap (λ c. gathered_weight c level) (course-more setting sub steps switch_on)
 
 -- a step that begins changes nothing that is shown
-begun-shows : (setting : Setting) (handset after : HandsetData) (steps : List Step) (made : ℕ) (step : Step)
-    → after.sub ≡ handset.sub → after.place ≡ handset.place → after.number ≡ handset.number
+begun-shows : {setting : Setting} {handset : HandsetData} (after : HandsetData) (steps : List Step) (made : ℕ)
+    (step : Step) → after.sub ≡ handset.sub → after.place ≡ handset.place → after.number ≡ handset.number
     → after.is_off ≡ handset.is_off → made ≤ length (visits setting handset.sub steps)
     → Shows setting handset (take made (visits setting handset.sub steps))
     → Shows setting after (take made (visits setting handset.sub (steps ++ step ∷ [])))
-begun-shows setting handset after steps made step sub place number off few shows =
+begun-shows {setting} {handset} after steps made step sub place number off few shows =
     let same : take made (visits setting handset.sub (steps ++ step ∷ []))
     ≡ take made (visits setting handset.sub steps) =
     ap (take made) (visits-more setting handset.sub steps step)
@@ -95,8 +95,8 @@ switch-stands setting handset steps made off rests stands = begins (at_rest sett
           addresses = f.addresses;
           gathered = λ level h. f.gathered level h ∙ sym (switch-gathered setting handset.sub steps off level);
           trail = f.trail;
-          shows = begun-shows setting handset (record handset { stage = Switching off }) steps made
-              (switch_to off) refl refl refl refl f.few f.shows;
+          shows = begun-shows (record handset { stage = Switching off }) steps made (switch_to off) refl refl refl refl
+              f.few f.shows;
           few = subst (λ vs. made ≤ length vs) (sym (visits-more setting handset.sub steps (switch_to off)))
               (omega (
                 arith,
@@ -107,19 +107,19 @@ switch-stands setting handset steps made off rests stands = begins (at_rest sett
           left = ap (drop made) (visits-more setting handset.sub steps (switch_to off))
               ∙ (drop-spent made (visits setting handset.sub steps) (map (visit_of handset.sub)
               (step_writes setting (course_of setting handset.sub steps) (switch_to off))) f.few f.left
-              ∙ switch-writes setting handset steps made off f);
+              ∙ switch-writes off f);
         }
 
 -- a move
-same-move : (a b c d e f g h : ℕ) (to : ℕ) → a ≡ b → c ≡ d → e ≡ f → g ≡ h
+same-move : {a b c d e f g h : ℕ} (to : ℕ) → a ≡ b → c ≡ d → e ≡ f → g ≡ h
     → (let move : Move = record { number = a; from = c; to = to; weight = e; renewed = g } in move)
     ≡ record { number = b; from = d; to = to; weight = f; renewed = h }
-same-move a b c d e f g h to p q r s = cc
+same-move to p q r s = cc
 
-same-renewal : (setting : Setting) (course : Course) (xs : List ℕ) (weight other : ℕ) → weight ≡ other
+same-renewal : (setting : Setting) (course : Course) (xs : List ℕ) {weight other : ℕ} → weight ≡ other
     → ((level : ℕ) → level < levels setting → get_or xs level 0 ≡ gathered_weight course level)
     → renewal_in setting xs weight ≡ renewal setting course other
-same-renewal setting course xs weight other same kept =
+same-renewal setting course xs {weight} {other} same kept =
     highest-same (λ level. nat_le (setting.threshold level) (get_or xs level 0 + weight)) (λ level. nat_le
     (setting.threshold level) (gathered_weight course level + other)) (levels setting)
     (λ level h. ap (λ w. nat_le (setting.threshold level) (w + weight)) (kept level h)
@@ -150,8 +150,8 @@ begin-stands setting handset steps made to address_law gathered_law count rests 
         λ level h. f.gathered level h ∙ ap (λ xs. gathered_weight (course_of setting handset.sub xs) level) over in
         let far : setting.distance handset.place to ≡ setting.distance (last_stop before) to =
         ap (λ n. setting.distance n to) f.place in
-        let is_move : move ≡ next_move setting before to = same-move _ _ _ _ _ _ _ _ to
-        (ap suc f.number) f.place far (same-renewal setting before handset.gathered _ _ far kept) in
+        let is_move : move ≡ next_move setting before to = same-move to (ap suc f.number) f.place far
+        (same-renewal setting before handset.gathered far kept) in
         let all : map (visit_of handset.sub) (move_writes setting (course_of setting handset.sub steps)
         (next_move setting (course_of setting handset.sub steps) to)) ≡ map (visit_of handset.sub)
         (left_at setting (begin_move setting handset to) Coming) =
@@ -178,8 +178,7 @@ begin-stands setting handset steps made to address_law gathered_law count rests 
               ∙ (ap (λ c. gathered_weight c level) (course-more setting handset.sub f.over (move_to to))
               ∙ gathered_law (start setting handset.sub) f.over to level))));
           trail = f.trail;
-          shows = begun-shows setting handset (begin_move setting handset to) steps made
-              (move_to to) refl refl refl refl f.few f.shows;
+          shows = begun-shows (begin_move setting handset to) steps made (move_to to) refl refl refl refl f.few f.shows;
           few = subst (λ vs. made ≤ length vs) (sym (visits-more setting handset.sub steps (move_to to)))
               (omega (
                 arith,
@@ -194,11 +193,11 @@ begin-stands setting handset steps made to address_law gathered_law count rests 
         }
 
 -- a handset at rest at its home
-pub new-stands : (setting : Setting) (plan : PlanData) (sub home : ℕ) → setting.nodes ≡ nodes_of plan
+pub new-stands : (setting : Setting) (plan : PlanData) (sub : ℕ) {home : ℕ} → setting.nodes ≡ nodes_of plan
     → levels setting ≡ levels_of plan → start setting sub ≡ home → home < nodes_of plan
     → StandsForSteps setting (handset_at plan sub home) [] 0
 unfolding writes
-new-stands setting plan sub home nodes count starts inside = record {
+new-stands setting plan sub {home} nodes count starts inside = record {
   over = [];
   begun = refl;
   move = tt;
@@ -234,9 +233,9 @@ new-stands setting plan sub home nodes count starts inside = record {
     at_start node h = at_test node h (node == home) refl ∙ ap (λ n. node == n || false) (sym starts)
 
 -- it goes with its plan
-pub new-goes : (plan : PlanData) (sub home : ℕ) → IsKept plan → home < nodes_of plan
+pub new-goes : {plan : PlanData} (sub home : ℕ) → IsKept plan → home < nodes_of plan
     → GoesWith plan (handset_at plan sub home)
-new-goes plan sub home kept inside = record {
+new-goes {plan} sub home kept inside = record {
   addresses = length-replicate (levels_of plan) home;
   gathered = length-replicate (levels_of plan) 0;
   trail = length-set (replicate (nodes_of plan) false) home true ∙ length-replicate (nodes_of plan) false;

@@ -18,10 +18,10 @@ use Rattle.handset.specs.Condition.{GoesWith, HandsetData, begun_at}
 use Rattle.handset.specs.StepWrites.{due, due_at, erasure}
 use Rattle.handset.specs.Stands.{is_commit}
 
-pub commits-is : MarksUnpack → (plan : PlanData) (handset : HandsetData) (visit : Visit) → GoesWith plan handset
+pub commits-is : MarksUnpack → {plan : PlanData} {handset : HandsetData} {visit : Visit} → GoesWith plan handset
     → nodes_of plan ≤ 2 ^ 16 → due (setting_of plan []) handset ≡ Some visit
     → is_committing handset.stage ≡ is_commit visit.act
-commits-is unpack plan handset visit goes small wants = at_stage handset.stage goes.counted wants
+commits-is unpack {plan} {handset} {visit} goes small wants = at_stage handset.stage goes.counted wants
   where
     same : (x y : Visit) → Some x ≡ Some y → x ≡ y
     same x y h = cc

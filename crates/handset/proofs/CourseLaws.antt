@@ -73,13 +73,13 @@ has-last (z ∷ xs) x y = ap (λ b. x == z || b) (has-last xs x y) ∙ at_test (
     at_test false = refl
 
 -- the trail after a move
-pub trail-after : (setting : Setting) (sub : ℕ) (steps : List Step) (to after node : ℕ) (renews : Bool)
+pub trail-after : (setting : Setting) (sub : ℕ) (steps : List Step) (to after node : ℕ) {renews : Bool}
     → nat_le setting.top (next_move setting (course_of setting sub steps) to).renewed ≡ renews
-    → has node (trail setting (after_step setting (course_of setting sub steps) (move_to to)) (next_move setting
-    (after_step setting (course_of setting sub steps) (move_to to)) after))
-    ≡ (cond renews false (has node (trail setting (course_of setting sub steps) (next_move setting
-    (course_of setting sub steps) to))) || node == to)
-trail-after setting sub steps to after node renews same =
+    → has node (trail setting (after_step setting (course_of setting sub steps) (move_to to))
+    (next_move setting (after_step setting (course_of setting sub steps) (move_to to)) after))
+    ≡ (cond renews false (has node (trail setting (course_of setting sub steps)
+    (next_move setting (course_of setting sub steps) to))) || node == to)
+trail-after setting sub steps to after node {renews} same =
     ap (λ b. has node (map (λ (m : Move). m.from) (drop b ((course.moves ++ move ∷ []) ++ later ∷ []))))
     (base-more setting.top course.moves move)
     ∙ (ap (λ b. has node (map (λ (m : Move). m.from) (drop (cond b move.number (base setting.top course.moves))

@@ -64,10 +64,10 @@ entry-after setting handset (entries.Erasing level) = at_next (first_with (is_ol
     at_next (Some next) = refl
 
 -- and goes with its plan
-pub entry-goes : (plan : PlanData) (handset : HandsetData) (at : EntryStage) → GoesWith plan (at_entry handset at)
-    → IfSome (entry_write (setting_of plan []) handset at) (λ (write : EntryWrite). GoesWith plan
-    (at_entry handset write.next))
-entry-goes plan handset (entries.Renewing level) goes = at_test (nat_lt level handset.last.renewed) refl
+pub entry-goes : {plan : PlanData} (handset : HandsetData) (at : EntryStage) → GoesWith plan (at_entry handset at)
+    → IfSome (entry_write (setting_of plan []) handset at)
+    (λ (write : EntryWrite). GoesWith plan (at_entry handset write.next))
+entry-goes {plan} handset (entries.Renewing level) goes = at_test (nat_lt level handset.last.renewed) refl
   where
     at_test : (b : Bool) → nat_lt level handset.last.renewed ≡ b → IfSome (cond b (Some (record {
       level = level;
@@ -78,10 +78,9 @@ entry-goes plan handset (entries.Renewing level) goes = at_test (nat_lt level ha
     })) None) (λ (write : EntryWrite). GoesWith plan (at_entry handset write.next))
     at_test true test =
         let low : level < handset.last.renewed = grind (arith, nat_tests) in
-        goes-late plan (at_entry handset (entries.Renewing level)) (Renewing (suc level)) goes goes.counted
-        (omega (arith, low))
+        goes-late (Renewing (suc level)) goes goes.counted (omega (arith, low))
     at_test false test = tt
-entry-goes plan handset (entries.Erasing level) goes = at_next (first_with (is_old (setting_of plan []) handset)
+entry-goes {plan} handset (entries.Erasing level) goes = at_next (first_with (is_old (setting_of plan []) handset)
     (suc level) (suc handset.last.renewed - suc level)) refl
   where
     at_next : (o : Option ℕ) → first_with (is_old (setting_of plan []) handset) (suc level)
@@ -91,7 +90,5 @@ entry-goes plan handset (entries.Erasing level) goes = at_next (first_with (is_o
     at_next None found = tt
     at_next (Some next) found =
         let inside : (suc level ≤ next) × (next < suc level + (suc handset.last.renewed - suc level)) =
-        first-inside (is_old (setting_of plan []) handset) (suc level) (suc handset.last.renewed - suc level) next
-        found in
-        goes-late plan (at_entry handset (entries.Erasing level)) (Erasing next) goes goes.counted
-        (omega (arith, inside.0, inside.1))
+        first-inside (is_old (setting_of plan []) handset) (suc level) (suc handset.last.renewed - suc level) found in
+        goes-late (Erasing next) goes goes.counted (omega (arith, inside.0, inside.1))

@@ -32,7 +32,7 @@ late-purging : (nodes : ℕ) (handset : HandsetData) (node : ℕ) (o : Option �
     → first_with (is_behind handset) node (nodes - node) ≡ o → IsLate nodes handset.last (purging_at o)
 late-purging nodes handset node None h = tt
 late-purging nodes handset node (Some x) h = let inside : (node ≤ x) × (x < node + (nodes - node)) =
-    first-inside _ _ _ _ h in omega (arith, inside.0, inside.1)
+    first-inside _ _ _ h in omega (arith, inside.0, inside.1)
 
 pub purging-is-late : (plan : PlanData) (handset : HandsetData) (node : ℕ) → IsLate (nodes_of plan) handset.last
     (purging_from (setting_of plan []) handset node)
@@ -48,7 +48,7 @@ late-erasing : (plan : PlanData) (handset : HandsetData) (level : ℕ) (o : Opti
     → IsLate (nodes_of plan) handset.last (erasing_at (setting_of plan []) handset o)
 late-erasing plan handset level None h = late-ending plan handset _
 late-erasing plan handset level (Some x) h = let inside : (level ≤ x)
-    × (x < level + (suc handset.last.renewed - level)) = first-inside _ _ _ _ h in omega (arith, inside.0, inside.1)
+    × (x < level + (suc handset.last.renewed - level)) = first-inside _ _ _ h in omega (arith, inside.0, inside.1)
 
 pub erasing-is-late : (plan : PlanData) (handset : HandsetData) (level : ℕ) → IsLate (nodes_of plan) handset.last
     (erasing_from (setting_of plan []) handset level)
@@ -80,9 +80,9 @@ trail-length true trail to = length-set (replicate (length trail) false) to true
     ∙ length-replicate (length trail) false
 trail-length false trail to = length-set trail to true
 
-pub goes-settled : (plan : PlanData) (handset : HandsetData) → GoesWith plan handset → handset.last.number
-    ≡ handset.number → GoesWith plan (settle (setting_of plan []) handset)
-goes-settled plan handset goes done = record {
+pub goes-settled : {plan : PlanData} {handset : HandsetData} → GoesWith plan handset
+    → handset.last.number ≡ handset.number → GoesWith plan (settle (setting_of plan []) handset)
+goes-settled {plan} {handset} goes done = record {
   addresses = omega (
     arith,
     length-append (replicate (suc handset.last.renewed) handset.last.to) (drop
@@ -112,10 +112,10 @@ goes-settled plan handset goes done = record {
     at_test level h true = goes.inside level h
     at_test level h false = goes.to
 
-pub goes-late : (plan : PlanData) (handset : HandsetData) (next : Stage) → GoesWith plan handset
+pub goes-late : {plan : PlanData} {handset : HandsetData} (next : Stage) → GoesWith plan handset
     → handset.last.number ≡ begun_at next handset.number → IsMoveStage (nodes_of plan) handset.last next
     → GoesWith plan (record handset { stage = next })
-goes-late plan handset next goes counted within = record {
+goes-late next goes counted within = record {
   addresses = goes.addresses;
   gathered = goes.gathered;
   trail = goes.trail;
@@ -130,17 +130,17 @@ goes-late plan handset next goes counted within = record {
   stage = within;
 }
 
-pub goes-on : (plan : PlanData) (handset : HandsetData) (next : Stage) → GoesWith plan handset
+pub goes-on : {plan : PlanData} {handset : HandsetData} (next : Stage) → GoesWith plan handset
     → handset.last.number ≡ handset.number → IsLate (nodes_of plan) handset.last next
     → GoesWith plan (go_on (setting_of plan []) handset next)
-goes-on plan handset Resting goes done late = goes-settled plan handset goes done
-goes-on plan handset Coming goes done late = absurd late
-goes-on plan handset (Renewing level) goes done late = absurd late
-goes-on plan handset Committing goes done late = absurd late
-goes-on plan handset Confirming goes done late = absurd late
-goes-on plan handset (Erasing level) goes done late = goes-late plan handset (Erasing level) goes done late
-goes-on plan handset (Purging node) goes done late = goes-late plan handset (Purging node) goes done late
-goes-on plan handset (Switching off) goes done late = absurd late
+goes-on Resting goes done late = goes-settled goes done
+goes-on Coming goes done late = absurd late
+goes-on (Renewing level) goes done late = absurd late
+goes-on Committing goes done late = absurd late
+goes-on Confirming goes done late = absurd late
+goes-on (Erasing level) goes done late = goes-late (Erasing level) goes done late
+goes-on (Purging node) goes done late = goes-late (Purging node) goes done late
+goes-on (Switching off) goes done late = absurd late
 
 -- a handset that goes on from a stage behind the commit
 abbrev pub IsCommitted : Stage → Type 0
@@ -153,37 +153,35 @@ IsCommitted (Erasing level) = Unit {0}
 IsCommitted (Purging node) = Unit {0}
 IsCommitted (Switching off) = ⊥
 
-counted-at : (stage : Stage) (last number : ℕ) → IsCommitted stage → last ≡ begun_at stage number → last ≡ number
-counted-at Resting last number committed same = absurd committed
-counted-at Coming last number committed same = absurd committed
-counted-at (Renewing level) last number committed same = absurd committed
-counted-at Committing last number committed same = absurd committed
-counted-at Confirming last number committed same = same
-counted-at (Erasing level) last number committed same = same
-counted-at (Purging node) last number committed same = same
-counted-at (Switching off) last number committed same = absurd committed
+counted-at : (stage : Stage) {last : ℕ} (number : ℕ) → IsCommitted stage → last ≡ begun_at stage number → last ≡ number
+counted-at Resting number committed same = absurd committed
+counted-at Coming number committed same = absurd committed
+counted-at (Renewing level) number committed same = absurd committed
+counted-at Committing number committed same = absurd committed
+counted-at Confirming number committed same = same
+counted-at (Erasing level) number committed same = same
+counted-at (Purging node) number committed same = same
+counted-at (Switching off) number committed same = absurd committed
 
-pub goes-next : (plan : PlanData) (handset after : HandsetData) (stage next : Stage) → GoesWith plan handset
-    → handset.stage ≡ stage → IsCommitted stage
-    → IsLate (nodes_of plan) handset.last next → after ≡ go_on (setting_of plan []) handset next
-    → GoesWith plan after
-goes-next plan handset after stage next goes at committed late same =
+pub goes-next : {plan : PlanData} {handset after : HandsetData} {stage : Stage} (next : Stage) → GoesWith plan handset
+    → handset.stage ≡ stage → IsCommitted stage → IsLate (nodes_of plan) handset.last next
+    → after ≡ go_on (setting_of plan []) handset next → GoesWith plan after
+goes-next {plan} {handset} {stage} next goes at committed late same =
     subst (GoesWith plan) (sym same)
-    (goes-on plan handset next goes (counted-at stage handset.last.number handset.number committed (goes.counted
-    ∙ ap (λ s. begun_at s handset.number) at)) late)
+    (goes-on next goes (counted-at stage handset.number committed
+    (goes.counted ∙ ap (λ s. begun_at s handset.number) at)) late)
 
-pub purging-by-count : (plan : PlanData) (handset : HandsetData) (node count : ℕ) → count ≡ nodes_of plan
+pub purging-by-count : (plan : PlanData) (handset : HandsetData) (node : ℕ) {count : ℕ} → count ≡ nodes_of plan
     → IsLate (nodes_of plan) handset.last (purging_at (first_with (is_behind handset) node (count - node)))
-purging-by-count plan handset node count same =
+purging-by-count plan handset node same =
     subst (λ n. IsLate (nodes_of plan) handset.last (purging_at (first_with (is_behind handset) node
     (n - node)))) (sym same) (purging-is-late plan handset node)
 
 -- what the levels have gathered stays light
-pub light-after : (xs ys : List ℕ) (levels n more renewed weight : ℕ) → length xs ≡ levels → ((level : ℕ)
-    → level < levels → get_or xs level 0 ≤ n * 2 ^ 30)
-    → weight ≤ 2 ^ 30 → more ≡ n + 1 → ys ≡ gathered_after xs renewed weight → (level : ℕ) → level < levels
-    → get_or ys level 0 ≤ more * 2 ^ 30
-light-after xs ys levels n more renewed weight count light small next same level h =
+pub light-after : (xs : List ℕ) {ys : List ℕ} {levels : ℕ} (n : ℕ) {more : ℕ} (renewed weight : ℕ) → length xs ≡ levels
+    → ((level : ℕ) → level < levels → get_or xs level 0 ≤ n * 2 ^ 30) → weight ≤ 2 ^ 30 → more ≡ n + 1
+    → ys ≡ gathered_after xs renewed weight → (level : ℕ) → level < levels → get_or ys level 0 ≤ more * 2 ^ 30
+light-after xs {ys} n {more} renewed weight count light small next same level h =
     let one : get_or ys level 0 ≡ gathered_then (get_or xs level 0) renewed weight level =
     ap (λ zs. get_or zs level 0) same ∙ numbers-from-zero (λ k. gathered_then (get_or xs k 0) renewed weight k)
     (length xs) level (omega (arith, h, count)) in
@@ -194,8 +192,8 @@ light-after xs ys levels n more renewed weight count light small next same level
     at_test false = omega (arith, light level h, small, next)
 
 -- a handset that begins a move goes with its plan
-light-weight : (plan : PlanData) (u v : ℕ) → IsKept plan → (setting_of plan []).distance u v ≤ 2 ^ 30
-light-weight plan u v kept = at_tests (nat_lt u (nodes_of plan)) (nat_lt v (nodes_of plan)) refl refl
+light-weight : {plan : PlanData} (u v : ℕ) → IsKept plan → (setting_of plan []).distance u v ≤ 2 ^ 30
+light-weight {plan} u v kept = at_tests (nat_lt u (nodes_of plan)) (nat_lt v (nodes_of plan)) refl refl
   where
     at_tests : (a b : Bool) → nat_lt u (nodes_of plan) ≡ a → nat_lt v (nodes_of plan) ≡ b
         → cond (a && b) (distance plan u v) 0 ≤ 2 ^ 30
@@ -207,10 +205,10 @@ light-weight plan u v kept = at_tests (nat_lt u (nodes_of plan)) (nat_lt v (node
     at_tests false true h l = omega arith
     at_tests false false h l = omega arith
 
-pub goes-begun : (plan : PlanData) (handset : HandsetData) (to : ℕ) → IsKept plan → GoesWith plan handset
-    → to < nodes_of plan → handset.stage ≡ Resting
-    → suc handset.number < 2 ^ 32 → GoesWith plan (begin_move (setting_of plan []) handset to)
-goes-begun plan handset to kept goes inside rests few =
+pub goes-begun : {plan : PlanData} {handset : HandsetData} (to : ℕ) → IsKept plan → GoesWith plan handset
+    → to < nodes_of plan → handset.stage ≡ Resting → suc handset.number < 2 ^ 32
+    → GoesWith plan (begin_move (setting_of plan []) handset to)
+goes-begun {plan} {handset} to kept goes inside rests few =
     let done : handset.last.number ≡ handset.number = goes.counted ∙ ap (λ s. begun_at s handset.number) rests in
     record {
       addresses = goes.addresses;
@@ -228,10 +226,9 @@ goes-begun plan handset to kept goes inside rests few =
             (get_or handset.gathered level 0 + move.weight)) (levels_of plan - 1),
       );
       inside = goes.inside;
-      light = light-after handset.gathered _ (levels_of plan) handset.number
-          (suc handset.number) move.renewed move.weight goes.gathered
+      light = light-after handset.gathered handset.number move.renewed move.weight goes.gathered
           (λ level h. subst (λ n. get_or handset.gathered level 0 ≤ n * 2 ^ 30) done (goes.light level h))
-          (light-weight plan handset.place to kept) (omega arith) refl;
+          (light-weight handset.place to kept) (omega arith) refl;
       counted = refl;
       numbered = few;
       stage = tt;

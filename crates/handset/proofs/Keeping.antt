@@ -40,9 +40,9 @@ pub record Keeps (setting : Setting) (handset : HandsetData) (stage : Stage) (st
       ≡ has node (trail setting (course_of setting handset.sub over) (next_move setting
       (course_of setting handset.sub over) to))
 
-pub keeps-of : (setting : Setting) (handset : HandsetData) (stage : Stage) (steps : List Step) (made : ℕ)
+pub keeps-of : {setting : Setting} {handset : HandsetData} {stage : Stage} {steps : List Step} {made : ℕ}
     → StandsAt setting handset stage steps made → Keeps setting handset stage steps
-keeps-of setting handset stage steps made f = record {
+keeps-of f = record {
   over = f.over;
   begun = f.begun;
   move = f.move;
@@ -54,13 +54,12 @@ keeps-of setting handset stage steps made f = record {
   trail = f.trail;
 }
 
-pub stands-of : (setting : Setting) (handset : HandsetData) (stage : Stage) (steps : List Step) (made : ℕ)
+pub stands-of : {setting : Setting} {handset : HandsetData} {stage : Stage} {steps : List Step} (made : ℕ)
     → Keeps setting handset stage steps → Shows setting handset (take made (visits setting handset.sub steps))
-    → made ≤ length (visits setting handset.sub steps)
-    → drop made (visits setting handset.sub steps)
+    → made ≤ length (visits setting handset.sub steps) → drop made (visits setting handset.sub steps)
     ≡ map (visit_of handset.sub) (left_at setting (record handset { stage = stage }) stage)
     → StandsForSteps setting (record handset { stage = stage }) steps made
-stands-of setting handset stage steps made f shows few left = record {
+stands-of made f shows few left = record {
   over = f.over;
   begun = f.begun;
   move = f.move;
@@ -83,9 +82,9 @@ AreAlike setting move stage next =
     × ((course : Course) → place_at course move stage ≡ place_at course move next)
     × ((course : Course) → number_at course move stage ≡ number_at course move next)
 
-pub keeps-on : (setting : Setting) (handset : HandsetData) (stage next : Stage) (steps : List Step)
+pub keeps-on : {setting : Setting} {handset : HandsetData} {stage : Stage} (next : Stage) {steps : List Step}
     → AreAlike setting handset.last stage next → Keeps setting handset stage steps → Keeps setting handset next steps
-keeps-on setting handset stage next steps alike f = record {
+keeps-on {setting} {handset} next alike f = record {
   over = f.over;
   begun = f.begun ∙ ap (λ under. f.over ++ under) alike.0;
   move = alike.1 (course_of setting handset.sub f.over) f.move;

@@ -30,8 +30,8 @@ first-next test x limit h fails = let e : x + 1 ≡ suc x = omega arith in ap (�
 pub differ : (a b : ℕ) → a ≢ b → not (a == b) ≡ true
 differ a b h = grind (arith, nat_tests)
 
-pub agree : (a b : ℕ) → a ≡ b → not (a == b) ≡ false
-agree a b h = grind (arith, nat_tests)
+pub agree : {a b : ℕ} → a ≡ b → not (a == b) ≡ false
+agree h = grind (arith, nat_tests)
 
 pub numbers-at : (f : ℕ → ℕ) (first count k : ℕ) → k < count → get_or (map f (numbers_from first count)) k 0
     ≡ f (first + k)
@@ -69,9 +69,9 @@ pub numbers-from-zero : (f : ℕ → ℕ) (count k : ℕ) → k < count → get_
 numbers-from-zero f count k h = numbers-at f 0 count k h ∙ (let e : 0 + k ≡ k = omega arith in ap f e)
 
 -- the first number that passes, and all that do
-pub first-inside : (test : ℕ → Bool) (x k y : ℕ) → first_with test x k ≡ Some y → (x ≤ y) × (y < x + k)
-first-inside test x zero y h = cc
-first-inside test x (suc k) y h = at_test (first-inside test (suc x) k y) (test x) h
+pub first-inside : (test : ℕ → Bool) (x k : ℕ) {y : ℕ} → first_with test x k ≡ Some y → (x ≤ y) × (y < x + k)
+first-inside test x zero h = cc
+first-inside test x (suc k) {y} h = at_test (first-inside test (suc x) k) (test x) h
   where
     at_test : (first_with test (suc x) k ≡ Some y → (suc x ≤ y) × (y < suc x + k)) → (b : Bool)
         → cond b (Some x) (first_with test (suc x) k) ≡ Some y → (x ≤ y) × (y < x + suc k)
@@ -91,10 +91,10 @@ passing-none test x (suc k) h = at_test (passing-none test (suc x) k) (test x) h
     at_test later true same = cc
     at_test later false same = later same
 
-pub passing-some : (test : ℕ → Bool) (x k y : ℕ) → first_with test x k ≡ Some y → sift test x k
-    ≡ y ∷ sift test (suc y) (x + k - suc y)
-passing-some test x zero y h = cc
-passing-some test x (suc k) y h = at_test (passing-some test (suc x) k y) (test x) h
+pub passing-some : (test : ℕ → Bool) (x k : ℕ) {y : ℕ} → first_with test x k ≡ Some y
+    → sift test x k ≡ y ∷ sift test (suc y) (x + k - suc y)
+passing-some test x zero h = cc
+passing-some test x (suc k) {y} h = at_test (passing-some test (suc x) k) (test x) h
   where
     at_test : (first_with test (suc x) k ≡ Some y → sift test (suc x) k ≡ y ∷ sift test (suc y)
         (suc x + k - suc y)) → (b : Bool) → cond b (Some x) (first_with test (suc x) k) ≡ Some y
@@ -131,24 +131,23 @@ highest-same p q (suc limit) same =
     ∙ ap (λ n. cond (q limit) limit n) (highest-same p q limit (λ y h. same y (omega (arith, h))))
 
 -- what is left of a list: its head, and the rest
-pub drop-head : {A : Type 0} (n : ℕ) (xs : List A) (y : A) (ys : List A) → drop n xs ≡ y ∷ ys → slice_get xs n
-    ≡ Some y
-drop-head zero [] y ys h = cc
-drop-head zero (x ∷ xs) y ys h = cc
-drop-head (suc n) [] y ys h = cc
-drop-head (suc n) (x ∷ xs) y ys h = drop-head n xs y ys h
+pub drop-head : {A : Type 0} (n : ℕ) (xs : List A) {y : A} {ys : List A} → drop n xs ≡ y ∷ ys → slice_get xs n ≡ Some y
+drop-head zero [] h = cc
+drop-head zero (x ∷ xs) h = cc
+drop-head (suc n) [] h = cc
+drop-head (suc n) (x ∷ xs) h = drop-head n xs h
 
-pub drop-tail : {A : Type 0} (n : ℕ) (xs : List A) (y : A) (ys : List A) → drop n xs ≡ y ∷ ys → drop (suc n) xs ≡ ys
-drop-tail zero [] y ys h = cc
-drop-tail zero (x ∷ xs) y ys h = cc
-drop-tail (suc n) [] y ys h = cc
-drop-tail (suc n) (x ∷ xs) y ys h = drop-tail n xs y ys h
+pub drop-tail : {A : Type 0} (n : ℕ) (xs : List A) {y : A} {ys : List A} → drop n xs ≡ y ∷ ys → drop (suc n) xs ≡ ys
+drop-tail zero [] h = cc
+drop-tail zero (x ∷ xs) h = cc
+drop-tail (suc n) [] h = cc
+drop-tail (suc n) (x ∷ xs) h = drop-tail n xs h
 
-pub drop-inside : {A : Type 0} (n : ℕ) (xs : List A) (y : A) (ys : List A) → drop n xs ≡ y ∷ ys → suc n ≤ length xs
-drop-inside zero [] y ys h = cc
-drop-inside zero (x ∷ xs) y ys h = omega arith
-drop-inside (suc n) [] y ys h = cc
-drop-inside (suc n) (x ∷ xs) y ys h = omega (arith, drop-inside n xs y ys h)
+pub drop-inside : {A : Type 0} (n : ℕ) (xs : List A) {y : A} {ys : List A} → drop n xs ≡ y ∷ ys → suc n ≤ length xs
+drop-inside zero [] h = cc
+drop-inside zero (x ∷ xs) h = omega arith
+drop-inside (suc n) [] h = cc
+drop-inside (suc n) (x ∷ xs) h = omega (arith, drop-inside n xs h)
 
 pub drop-none : {A : Type 0} (n : ℕ) (xs : List A) → drop n xs ≡ [] → slice_get xs n ≡ None
 drop-none zero [] h = refl
@@ -162,9 +161,9 @@ drop-spent zero (x ∷ xs) ys few h = cc
 drop-spent (suc n) [] ys few h = absurd (omega arith)
 drop-spent (suc n) (x ∷ xs) ys few h = drop-spent n xs ys (omega arith) h
 
-pub take-next : {A : Type 0} (n : ℕ) (xs : List A) (y : A) (ys : List A) → drop n xs ≡ y ∷ ys → take (suc n) xs
-    ≡ take n xs ++ y ∷ []
-take-next zero [] y ys h = cc
-take-next zero (x ∷ xs) y ys h = let e : x ≡ y = cc in ap (λ z. z ∷ []) e
-take-next (suc n) [] y ys h = cc
-take-next (suc n) (x ∷ xs) y ys h = ap (λ zs. x ∷ zs) (take-next n xs y ys h)
+pub take-next : {A : Type 0} (n : ℕ) (xs : List A) {y : A} {ys : List A} → drop n xs ≡ y ∷ ys
+    → take (suc n) xs ≡ take n xs ++ y ∷ []
+take-next zero [] h = cc
+take-next zero (x ∷ xs) {y} h = let e : x ≡ y = cc in ap (λ z. z ∷ []) e
+take-next (suc n) [] h = cc
+take-next (suc n) (x ∷ xs) h = ap (λ zs. x ∷ zs) (take-next n xs h)

@@ -14,7 +14,7 @@ use Rattle.handset.specs.declared.stage.Stage.TheVariants.{Resting, Coming, Rene
 use Rattle.region_plan.specs.Kept.{IsKept}
 use Rattle.region_plan.specs.Settings.{setting_of}
 use Rattle.handset.specs.Condition.{HandsetData, GoesWith, begun_at}
-use Rattle.handset.specs.StepWrites.{renew_from, erase_from, due_at, due, left_at, go_on, after_write, erasing_from, purging_from}
+use Rattle.handset.specs.StepWrites.{renew_from, due_at, due, left_at, go_on, after_write, erasing_from, purging_from}
 use Rattle.directory.specs.Amid.{course_of}
 use Rattle.handset.specs.Stands.{switch_to, Shows, StandsAt, StandsForSteps}
 use Rattle.handset.proofs.Lists.{drop-head, drop-tail, drop-inside, drop-none}
@@ -31,13 +31,13 @@ head-due : (setting : Setting) (handset : HandsetData) (stage : Stage) (n : ℕ)
     → drop n vs ≡ map (visit_of handset.sub) (left_at setting handset stage) → slice_get vs n
     ≡ option_map (visit_of handset.sub) (due_at setting handset stage)
 head-due setting handset Resting n vs h = drop-none n vs h
-head-due setting handset Coming n vs h = drop-head n vs _ _ h
-head-due setting handset (Renewing level) n vs h = drop-head n vs _ _ h
-head-due setting handset Committing n vs h = drop-head n vs _ _ h
-head-due setting handset Confirming n vs h = drop-head n vs _ _ h
-head-due setting handset (Erasing level) n vs h = drop-head n vs _ _ h
-head-due setting handset (Purging node) n vs h = drop-head n vs _ _ h
-head-due setting handset (Switching off) n vs h = drop-head n vs _ _ h
+head-due setting handset Coming n vs h = drop-head n vs h
+head-due setting handset (Renewing level) n vs h = drop-head n vs h
+head-due setting handset Committing n vs h = drop-head n vs h
+head-due setting handset Confirming n vs h = drop-head n vs h
+head-due setting handset (Erasing level) n vs h = drop-head n vs h
+head-due setting handset (Purging node) n vs h = drop-head n vs h
+head-due setting handset (Switching off) n vs h = drop-head n vs h
 
 pub next-stands : (setting : Setting) (handset : HandsetData) (steps : List Step) (made : ℕ)
     → StandsForSteps setting handset steps made
@@ -46,34 +46,32 @@ next-stands setting handset steps made stands = sym (head-due setting handset ha
     (visits setting handset.sub steps) stands.left)
 
 -- a handset that goes on behind the confirm
-gone-on-stands : (setting : Setting) (handset : HandsetData) (next : Stage) (nodes : ℕ) (steps : List Step)
-    (made : ℕ) → AddressLaw setting → Fits setting handset
-    → Keeps setting handset Confirming steps → Shows setting handset (take made (visits setting handset.sub steps))
-    → IsLate nodes handset.last next → made ≤ length (visits setting handset.sub steps)
-    → drop made (visits setting handset.sub steps) ≡ map (visit_of handset.sub) (left_at setting handset next)
-    → StandsForSteps setting (go_on setting handset next) steps made
-gone-on-stands setting handset Resting nodes steps made law fits f shows late few left =
-    settled-stands setting handset steps made law fits f shows few left
-gone-on-stands setting handset Coming nodes steps made law fits f shows late few left = absurd late
-gone-on-stands setting handset (Renewing level) nodes steps made law fits f shows late few left = absurd late
-gone-on-stands setting handset Committing nodes steps made law fits f shows late few left = absurd late
-gone-on-stands setting handset Confirming nodes steps made law fits f shows late few left = absurd late
-gone-on-stands setting handset (Erasing level) nodes steps made law fits f shows late few left =
-    stands-of setting handset (Erasing level) steps made
-    (keeps-on setting handset Confirming (Erasing level) steps (refl, λ c m. m, λ c. refl, λ c. refl) f) shows few left
-gone-on-stands setting handset (Purging node) nodes steps made law fits f shows late few left =
-    stands-of setting handset (Purging node) steps made
-    (keeps-on setting handset Confirming (Purging node) steps (refl, λ c m. m, λ c. refl, λ c. refl) f) shows few left
-gone-on-stands setting handset (Switching off) nodes steps made law fits f shows late few left = absurd late
+gone-on-stands : {setting : Setting} {handset : HandsetData} (next : Stage) (nodes : ℕ) {steps : List Step} (made : ℕ)
+    → AddressLaw setting → Fits setting handset → Keeps setting handset Confirming steps
+    → Shows setting handset (take made (visits setting handset.sub steps)) → IsLate nodes handset.last next
+    → made ≤ length (visits setting handset.sub steps) → drop made (visits setting handset.sub steps) ≡ map
+    (visit_of handset.sub) (left_at setting handset next) → StandsForSteps setting (go_on setting handset next) steps
+    made
+gone-on-stands Resting nodes made law fits f shows late few left =
+    settled-stands made law fits f shows few left
+gone-on-stands Coming nodes made law fits f shows late few left = absurd late
+gone-on-stands (Renewing level) nodes made law fits f shows late few left = absurd late
+gone-on-stands Committing nodes made law fits f shows late few left = absurd late
+gone-on-stands Confirming nodes made law fits f shows late few left = absurd late
+gone-on-stands (Erasing level) nodes made law fits f shows late few left =
+    stands-of made (keeps-on (Erasing level) (refl, λ c m. m, λ c. refl, λ c. refl) f) shows few left
+gone-on-stands (Purging node) nodes made law fits f shows late few left =
+    stands-of made (keeps-on (Purging node) (refl, λ c m. m, λ c. refl, λ c. refl) f) shows few left
+gone-on-stands (Switching off) nodes made law fits f shows late few left = absurd late
 
 -- a handset goes on before the commit
-renewing-stands : (setting : Setting) (handset : HandsetData) (level : ℕ) (steps : List Step) (made : ℕ)
+renewing-stands : {setting : Setting} {handset : HandsetData} (level : ℕ) {steps : List Step} (made : ℕ)
     → Keeps setting handset Coming steps → Shows setting handset (take made (visits setting handset.sub steps))
-    → made ≤ length (visits setting handset.sub steps)
-    → drop made (visits setting handset.sub steps)
-    ≡ map (visit_of handset.sub) (renew_from setting handset (suc level))
+    → made ≤ length (visits setting handset.sub steps) → drop made (visits setting handset.sub steps) ≡ map
+    (visit_of handset.sub) (renew_from setting handset (suc level))
     → StandsForSteps setting (after_write setting handset (Renewing level)) steps made
-renewing-stands setting handset level steps made f shows few left = at_test (nat_lt level handset.last.renewed) refl
+renewing-stands {setting} {handset} level {steps} made f shows few left = at_test (nat_lt level handset.last.renewed)
+    refl
   where
     left_then : (b : Bool) → nat_lt level handset.last.renewed ≡ b → drop made (visits setting handset.sub steps)
         ≡ map (visit_of handset.sub) (left_at setting handset (cond b (Renewing (suc level)) Committing))
@@ -83,12 +81,9 @@ renewing-stands setting handset level steps made f shows few left = at_test (nat
     at_test : (b : Bool) → nat_lt level handset.last.renewed ≡ b → StandsForSteps setting (record handset {
       stage = cond b (Renewing (suc level)) Committing;
     }) steps made
-    at_test true same = stands-of setting handset (Renewing (suc level)) steps made
-        (keeps-on setting handset Coming (Renewing (suc level)) steps (refl, λ c m. m, λ c. refl, λ c. refl) f) shows
-        few
-        (left_then true same)
-    at_test false same = stands-of setting handset Committing steps made
-        (keeps-on setting handset Coming Committing steps (refl, λ c m. m, λ c. refl, λ c. refl) f) shows few
+    at_test true same = stands-of made (keeps-on (Renewing (suc level)) (refl, λ c m. m, λ c. refl, λ c. refl) f) shows
+        few (left_then true same)
+    at_test false same = stands-of made (keeps-on Committing (refl, λ c m. m, λ c. refl, λ c. refl) f) shows few
         (left_then false same)
 
 -- a switch leaves the course but for whether it is off
@@ -97,12 +92,12 @@ switched-is : (setting : Setting) (course : Course) (off : Bool)
 switched-is setting course true = refl
 switched-is setting course false = refl
 
-switched-stands : (setting : Setting) (handset : HandsetData) (off : Bool) (steps : List Step) (made : ℕ)
+switched-stands : {setting : Setting} {handset : HandsetData} {off : Bool} {steps : List Step} {made : ℕ}
     → StandsAt setting handset (Switching off) steps made
     → Shows setting (record handset { is_off = off; stage = Resting })
     (take (suc made) (visits setting handset.sub steps))
     → StandsForSteps setting (record handset { is_off = off; stage = Resting }) steps (suc made)
-switched-stands setting handset off steps made f shows = record {
+switched-stands {setting} {handset} {off} {steps} {made} f shows = record {
   over = steps;
   begun = sym (append-nil steps);
   move = tt;
@@ -114,8 +109,8 @@ switched-stands setting handset off steps made f shows = record {
   trail = λ to node h.
       f.trail to node h ∙ sym (ap (λ c. has node (trail setting c (next_move setting c to))) course_is);
   shows = shows;
-  few = drop-inside made _ _ _ f.left;
-  left = drop-tail made _ _ _ f.left;
+  few = drop-inside made _ f.left;
+  left = drop-tail made _ f.left;
 }
   where
     before : Course
@@ -126,31 +121,25 @@ switched-stands setting handset off steps made f shows = record {
         ∙ (course-more setting handset.sub f.over (switch_to off) ∙ switched-is setting before off)
 
 -- a handset after the write that came next
-after-stands : (setting : Setting) (handset : HandsetData) (stage : Stage) (nodes : ℕ) (steps : List Step)
-    (made : ℕ) → MarksUnpack → AddressLaw setting → Fits setting handset
-    → ((level : ℕ) → IsLate nodes handset.last (erasing_from setting handset level)) → ((node : ℕ)
-    → IsLate nodes handset.last (purging_from setting handset node))
-    → (stage ≡ Resting → ⊥) → StandsAt setting handset stage steps made
-    → StandsForSteps setting (after_write setting handset stage) steps (suc made)
-after-stands setting handset Resting nodes steps made unpacks law fits erasing purging going f = absurd (going refl)
-after-stands setting handset Coming nodes steps made unpacks law fits erasing purging going f =
-    stands-of setting handset (Renewing 0) steps (suc made)
-    (keeps-on setting handset Coming (Renewing 0) steps (refl, λ c m. m, λ c. refl, λ c. refl)
-    (keeps-of setting handset Coming steps made f))
-    (mark-shown unpacks setting handset (visits setting handset.sub steps) made handset.last.to
-    (ComingMark handset.last.number handset.last.from) _ f.left
-    (fits.numbered, omega (arith, fits.low, fits.from)) refl (f.is_off ∙ f.move.1) f.shows)
-    (drop-inside made _ _ _ f.left)
-    (drop-tail made _ _ _ f.left ∙ ap (map (visit_of handset.sub)) (renewing-first setting handset))
-after-stands setting handset (Renewing level) nodes steps made unpacks law fits erasing purging going f =
-    renewing-stands setting handset level steps (suc made)
-    (keeps-on setting handset (Renewing level) Coming steps (refl, λ c m. m, λ c. refl, λ c. refl)
-    (keeps-of setting handset (Renewing level) steps made f))
-    (entry-shown setting handset (visits setting handset.sub steps) made level _
-    (Some (record { number = handset.last.number; node = handset.last.to }))
-    (map (visit_of handset.sub) (renew_from setting handset (suc level))) f.left (f.is_off ∙ f.move.1) f.shows)
-    (drop-inside made _ _ _ f.left) (drop-tail made _ _ _ f.left)
-after-stands setting handset Committing nodes steps made unpacks law fits erasing purging going f =
+after-stands : {setting : Setting} {handset : HandsetData} (stage : Stage) (nodes : ℕ) {steps : List Step} {made : ℕ}
+    → MarksUnpack → AddressLaw setting → Fits setting handset
+    → ((level : ℕ) → IsLate nodes handset.last (erasing_from setting handset level))
+    → ((node : ℕ) → IsLate nodes handset.last (purging_from setting handset node)) → (stage ≡ Resting → ⊥)
+    → StandsAt setting handset stage steps made → StandsForSteps setting (after_write setting handset stage) steps
+    (suc made)
+after-stands Resting nodes unpacks law fits erasing purging going f = absurd (going refl)
+after-stands {setting} {handset} Coming nodes {steps} {made} unpacks law fits erasing purging going f =
+    stands-of (suc made) (keeps-on (Renewing 0) (refl, λ c m. m, λ c. refl, λ c. refl) (keeps-of f))
+    (mark-shown unpacks (visits setting handset.sub steps) made handset.last.to
+    (ComingMark handset.last.number handset.last.from) f.left (fits.numbered, omega (arith, fits.low, fits.from)) refl
+    (f.is_off ∙ f.move.1) f.shows) (drop-inside made _ f.left)
+    (drop-tail made _ f.left ∙ ap (map (visit_of handset.sub)) (renewing-first setting handset))
+after-stands {setting} {handset} (Renewing level) nodes {steps} {made} unpacks law fits erasing purging going f =
+    renewing-stands level (suc made) (keeps-on Coming (refl, λ c m. m, λ c. refl, λ c. refl) (keeps-of f))
+    (entry-shown (visits setting handset.sub steps) made level _
+    (Some (record { number = handset.last.number; node = handset.last.to })) f.left (f.is_off ∙ f.move.1) f.shows)
+    (drop-inside made _ f.left) (drop-tail made _ f.left)
+after-stands {setting} {handset} Committing nodes {steps} {made} unpacks law fits erasing purging going f =
     record {
       over = f.over;
       begun = f.begun;
@@ -165,69 +154,60 @@ after-stands setting handset Committing nodes steps made unpacks law fits erasin
           let first : handset.last.number ≡ suc (length (course_of setting handset.sub f.over).moves) =
           ap (λ m. m.number) f.move.0 in
           let more : handset.last.number ≡ handset.number + 1 = omega (arith, first, f.number) in
-          commit-shown unpacks setting handset _ (visits setting handset.sub steps) made handset.last.from
-          (Gone handset.last.number handset.last.to) _ f.left
-          (fits.numbered, omega (arith, fits.low, fits.to)) refl refl more (f.is_off ∙ f.move.1) f.shows;
-      few = drop-inside made _ _ _ f.left;
-      left = drop-tail made _ _ _ f.left;
+          commit-shown unpacks _ (visits setting handset.sub steps) made handset.last.from
+          (Gone handset.last.number handset.last.to) f.left (fits.numbered, omega (arith, fits.low, fits.to)) refl refl
+          more (f.is_off ∙ f.move.1) f.shows;
+      few = drop-inside made _ f.left;
+      left = drop-tail made _ f.left;
     }
-after-stands setting handset Confirming nodes steps made unpacks law fits erasing purging going f =
-    gone-on-stands setting handset (erasing_from setting handset 0) nodes steps (suc made) law fits
-    (keeps-of setting handset Confirming steps made f)
-    (mark-shown unpacks setting handset (visits setting handset.sub steps) made handset.last.to
-    (Here handset.last.number) _ f.left fits.numbered refl (f.is_off ∙ f.move.1) f.shows)
-    (erasing 0) (drop-inside made _ _ _ f.left) (drop-tail made _ _ _ f.left ∙ ap (map (visit_of handset.sub))
-    (erasing-left setting handset 0))
-after-stands setting handset (Erasing level) nodes steps made unpacks law fits erasing purging going f =
-    gone-on-stands setting handset (erasing_from setting handset (suc level)) nodes steps (suc made) law fits
-    (keeps-on setting handset (Erasing level) Confirming steps (refl, λ c m. m, λ c. refl, λ c. refl)
-    (keeps-of setting handset (Erasing level) steps made f))
-    (entry-shown setting handset (visits setting handset.sub steps) made level _ None (map (visit_of handset.sub)
-    (erase_from setting handset (suc level))) f.left (f.is_off ∙ f.move.1) f.shows)
-    (erasing (suc level)) (drop-inside made _ _ _ f.left) (drop-tail made _ _ _ f.left
+after-stands {setting} {handset} Confirming nodes {steps} {made} unpacks law fits erasing purging going f =
+    gone-on-stands (erasing_from setting handset 0) nodes (suc made) law fits (keeps-of f)
+    (mark-shown unpacks (visits setting handset.sub steps) made handset.last.to (Here handset.last.number) f.left
+    fits.numbered refl (f.is_off ∙ f.move.1) f.shows) (erasing 0) (drop-inside made _ f.left)
+    (drop-tail made _ f.left ∙ ap (map (visit_of handset.sub)) (erasing-left setting handset 0))
+after-stands {setting} {handset} (Erasing level) nodes {steps} {made} unpacks law fits erasing purging going f =
+    gone-on-stands (erasing_from setting handset (suc level)) nodes (suc made) law fits
+    (keeps-on Confirming (refl, λ c m. m, λ c. refl, λ c. refl) (keeps-of f))
+    (entry-shown (visits setting handset.sub steps) made level _ None f.left (f.is_off ∙ f.move.1) f.shows)
+    (erasing (suc level)) (drop-inside made _ f.left) (drop-tail made _ f.left
     ∙ ap (map (visit_of handset.sub)) (erasing-left setting handset (suc level)))
-after-stands setting handset (Purging node) nodes steps made unpacks law fits erasing purging going f =
-    gone-on-stands setting handset (purging_from setting handset (suc node)) nodes steps (suc made) law fits
-    (keeps-on setting handset (Purging node) Confirming steps (refl, λ c m. m, λ c. refl, λ c. refl)
-    (keeps-of setting handset (Purging node) steps made f))
-    (mark-shown unpacks setting handset (visits setting handset.sub steps) made node Empty _ f.left tt refl
-    (f.is_off ∙ f.move.1) f.shows)
-    (purging (suc node)) (drop-inside made _ _ _ f.left) (drop-tail made _ _ _ f.left
+after-stands {setting} {handset} (Purging node) nodes {steps} {made} unpacks law fits erasing purging going f =
+    gone-on-stands (purging_from setting handset (suc node)) nodes (suc made) law fits
+    (keeps-on Confirming (refl, λ c m. m, λ c. refl, λ c. refl) (keeps-of f))
+    (mark-shown unpacks (visits setting handset.sub steps) made node Empty f.left tt refl (f.is_off ∙ f.move.1) f.shows)
+    (purging (suc node)) (drop-inside made _ f.left) (drop-tail made _ f.left
     ∙ ap (map (visit_of handset.sub)) (purging-left setting handset (suc node)))
-after-stands setting handset (Switching true) nodes steps made unpacks law fits erasing purging going f =
+after-stands {setting} {handset} (Switching true) nodes {steps} {made} unpacks law fits erasing purging going f =
     let same : handset.number ≡ handset.number + 0 = omega arith in
-    switched-stands setting handset true steps made f
-    (commit-shown unpacks setting handset _ (visits setting handset.sub steps) made handset.place (Off handset.number) _
+    switched-stands f (commit-shown unpacks _ (visits setting handset.sub steps) made handset.place (Off handset.number)
     f.left fits.number refl refl same refl f.shows)
-after-stands setting handset (Switching false) nodes steps made unpacks law fits erasing purging going f =
+after-stands {setting} {handset} (Switching false) nodes {steps} {made} unpacks law fits erasing purging going f =
     let same : handset.number ≡ handset.number + 0 = omega arith in
-    switched-stands setting handset false steps made f
-    (commit-shown unpacks setting handset _ (visits setting handset.sub steps) made handset.place
-    (Here handset.number) _
-    f.left fits.number refl refl same refl f.shows)
+    switched-stands f (commit-shown unpacks _ (visits setting handset.sub steps) made handset.place
+    (Here handset.number) f.left fits.number refl refl same refl f.shows)
 
-pub made-stands : (setting : Setting) (handset : HandsetData) (nodes : ℕ) (steps : List Step) (made : ℕ) → MarksUnpack
-    → AddressLaw setting → Fits setting handset
-    → ((level : ℕ) → IsLate nodes handset.last (erasing_from setting handset level)) → ((node : ℕ)
-    → IsLate nodes handset.last (purging_from setting handset node))
-    → (handset.stage ≡ Resting → ⊥) → StandsForSteps setting handset steps made
-    → StandsForSteps setting (after_write setting handset handset.stage) steps (suc made)
-made-stands setting handset nodes steps made unpacks law fits erasing purging going f =
-    after-stands setting handset handset.stage nodes steps made unpacks law fits erasing purging going f
+pub made-stands : {setting : Setting} {handset : HandsetData} (nodes : ℕ) (steps : List Step) (made : ℕ) → MarksUnpack
+    → AddressLaw setting → Fits setting handset → ((level : ℕ)
+    → IsLate nodes handset.last (erasing_from setting handset level))
+    → ((node : ℕ) → IsLate nodes handset.last (purging_from setting handset node)) → (handset.stage ≡ Resting → ⊥)
+    → StandsForSteps setting handset steps made → StandsForSteps setting (after_write setting handset handset.stage)
+    steps (suc made)
+made-stands {handset} nodes steps made unpacks law fits erasing purging going f =
+    after-stands handset.stage nodes unpacks law fits erasing purging going f
 
-few-commits : (stage : Stage) (last number : ℕ) → last ≡ begun_at stage number → last < 2 ^ 32 → number < 2 ^ 32
-few-commits Resting last number same few = omega (arith, same, few)
-few-commits Coming last number same few = omega (arith, same, few)
-few-commits (Renewing level) last number same few = omega (arith, same, few)
-few-commits Committing last number same few = omega (arith, same, few)
-few-commits Confirming last number same few = omega (arith, same, few)
-few-commits (Erasing level) last number same few = omega (arith, same, few)
-few-commits (Purging node) last number same few = omega (arith, same, few)
-few-commits (Switching off) last number same few = omega (arith, same, few)
+few-commits : (stage : Stage) {last : ℕ} (number : ℕ) → last ≡ begun_at stage number → last < 2 ^ 32 → number < 2 ^ 32
+few-commits Resting number same few = omega (arith, same, few)
+few-commits Coming number same few = omega (arith, same, few)
+few-commits (Renewing level) number same few = omega (arith, same, few)
+few-commits Committing number same few = omega (arith, same, few)
+few-commits Confirming number same few = omega (arith, same, few)
+few-commits (Erasing level) number same few = omega (arith, same, few)
+few-commits (Purging node) number same few = omega (arith, same, few)
+few-commits (Switching off) number same few = omega (arith, same, few)
 
-pub fits-plan : (plan : PlanData) (starts : List ℕ) (handset : HandsetData) → IsKept plan → GoesWith plan handset
+pub fits-plan : {plan : PlanData} (starts : List ℕ) {handset : HandsetData} → IsKept plan → GoesWith plan handset
     → Fits (setting_of plan starts) handset
-fits-plan plan starts handset kept goes = record {
+fits-plan starts {handset} kept goes = record {
   addresses = omega (arith, goes.addresses, kept.some);
   gathered = omega (arith, goes.gathered, kept.some);
   trail = goes.trail;
@@ -236,7 +216,7 @@ fits-plan plan starts handset kept goes = record {
   low = omega (arith, kept.metric.few);
   from = goes.from;
   numbered = goes.numbered;
-  number = few-commits handset.stage handset.last.number handset.number goes.counted goes.numbered;
+  number = few-commits handset.stage handset.number goes.counted goes.numbered;
 }
 
 -- a handset that has a write left isn't at rest

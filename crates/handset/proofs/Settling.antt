@@ -95,12 +95,12 @@ marked trail renews to node h l = at_test (node == to) refl
         ∙ (kept ∙ with_false (cond renews false (get_or trail node false)))
 
 -- a move that is over
-pub settled-stands : (setting : Setting) (handset : HandsetData) (steps : List Step) (made : ℕ) → AddressLaw setting
+pub settled-stands : {setting : Setting} {handset : HandsetData} {steps : List Step} (made : ℕ) → AddressLaw setting
     → Fits setting handset → Keeps setting handset Confirming steps
     → Shows setting handset (take made (visits setting handset.sub steps))
     → made ≤ length (visits setting handset.sub steps) → drop made (visits setting handset.sub steps) ≡ []
     → StandsForSteps setting (settle setting handset) steps made
-settled-stands setting handset steps made law fits f shows few left = record {
+settled-stands {setting} {handset} {steps} made law fits f shows few left = record {
   over = steps;
   begun = sym (append-nil steps);
   move = tt;
@@ -130,8 +130,7 @@ settled-stands setting handset steps made law fits f shows few left = record {
       ∙ (ap (λ b. cond (nat_le setting.top (next_move setting before handset.last.to).renewed) false b || node ==
       handset.last.to) (f.trail handset.last.to node h)
       ∙ sym (ap (λ c. has node (trail setting c (next_move setting c to))) course_is
-      ∙ trail-after setting handset.sub f.over handset.last.to to node (nat_le setting.top
-      (next_move setting before handset.last.to).renewed) refl)));
+      ∙ trail-after setting handset.sub f.over handset.last.to to node refl)));
   shows = record { place = shows.place; number = shows.number; is_off = shows.is_off };
   few = few;
   left = left;

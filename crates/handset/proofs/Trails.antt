@@ -87,8 +87,8 @@ not-there : (trail : Nodes) (to x : ℕ) → x < trail.room → has x trail.memb
 not-there trail to x below none = ap (λ b. b && not (x == to)) (flag-at trail x below ∙ none)
 
 -- the new node
-new-node : (trail : Nodes) (to x : ℕ) → x ≡ to → is_left trail to x ≡ false
-new-node trail to x same = hidden (get_or (flags trail) x false) (not (x == to)) (agree x to same)
+new-node : (trail : Nodes) {to x : ℕ} → x ≡ to → is_left trail to x ≡ false
+new-node trail {to} {x} same = hidden (get_or (flags trail) x false) (not (x == to)) (agree same)
   where
     hidden : (a b : Bool) → b ≡ false → (a && b) ≡ false
     hidden true b e = e
@@ -108,39 +108,37 @@ none-behind trail to from none =
     (λ x low high. not-there trail to x (omega (arith, low, high, flag-count trail)) (none x low)))
 
 -- where the next node isn't the new one
-pub next-behind : (trail : Nodes) (to from node : ℕ) → IsNext trail.members from node → node < trail.room → node ≢ to
-    → Some node ≡ first_with (is_left trail to) from (length (flags trail) - from)
-next-behind trail to from node next below other =
+pub next-behind : (trail : Nodes) (to : ℕ) {from node : ℕ} → IsNext trail.members from node → node < trail.room
+    → node ≢ to → Some node ≡ first_with (is_left trail to) from (length (flags trail) - from)
+next-behind trail to {from} {node} next below other =
     let count = flag-count trail in
     sym (first-found (is_left trail to) from (length (flags trail) - from) node next.reached
     (omega (arith, next.reached, below, count)) (still-there trail to node below next.member other)
     (λ x low high. not-there trail to x (omega (arith, high, below)) (next.first x low high)))
 
 -- between a number and the next node behind the new one no node is left
-between : (trail : Nodes) (to from node : ℕ) → IsNext trail.members from node → node < trail.room → node ≡ to
-    → (x : ℕ) → from ≤ x → x < trail.room → (node + 1 ≤ x → has x trail.members ≡ false)
-    → is_left trail to x ≡ false
-between trail to from node next inside same x low below later = elim (cases_lt x node) [
+between : (trail : Nodes) {to from node : ℕ} → IsNext trail.members from node → node < trail.room → node ≡ to → (x : ℕ)
+    → from ≤ x → x < trail.room → (node + 1 ≤ x → has x trail.members ≡ false) → is_left trail to x ≡ false
+between trail {to} {node} next inside same x low below later = elim (cases_lt x node) [
   | inl before ↦ not-there trail to x below (next.first x low before)
   | inr past ↦ elim (cases_eq x to) [
-    | inl is ↦ new-node trail to x is
+    | inl is ↦ new-node trail is
     | inr other ↦ not-there trail to x below (later (omega (arith, past, other, same)))
   ]
 ]
 
 -- where the next node is the new one, the one behind it is the first
-pub behind-next : (trail : Nodes) (to from node : ℕ) (rest : Option ℕ) → IsNext trail.members from node
+pub behind-next : (trail : Nodes) {to from node : ℕ} (rest : Option ℕ) → IsNext trail.members from node
     → node < trail.room → node ≡ to → IfSome rest (IsNext trail.members (node + 1)) → IfSome rest (λ v. v < trail.room)
     → IfNone rest (IsNoneFrom trail.members (node + 1))
     → rest ≡ first_with (is_left trail to) from (length (flags trail) - from)
-behind-next trail to from node None next inside same some below none =
+behind-next trail {to} {from} None next inside same some below none =
     sym (first-missing (is_left trail to) from (length (flags trail) - from)
-    (λ x low high. between trail to from node next inside same x low (omega (arith, low, high, flag-count trail))
+    (λ x low high. between trail next inside same x low (omega (arith, low, high, flag-count trail))
     (λ past. none x past)))
-behind-next trail to from node (Some v) next inside same some below none =
+behind-next trail {to} {from} (Some v) next inside same some below none =
     let count = flag-count trail in
     sym (first-found (is_left trail to) from (length (flags trail) - from) v (omega (arith, next.reached, some.reached))
     (omega (arith, next.reached, some.reached, below, count))
     (still-there trail to v below some.member (λ e. absurd (omega (arith, e, same, some.reached))))
-    (λ x low high. between trail to from node next inside same x low (omega (arith, high, below))
-    (λ past. some.first x past high)))
+    (λ x low high. between trail next inside same x low (omega (arith, high, below)) (λ past. some.first x past high)))

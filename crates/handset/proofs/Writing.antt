@@ -21,9 +21,9 @@ purge-left setting handset node None h = ap (map (λ x. mark_at x Empty)) (passi
     (setting.nodes - node) h)
 purge-left setting handset node (Some x) h =
     let inside : (node ≤ x) × (x < node + (setting.nodes - node)) = first-inside (is_behind handset) node
-    (setting.nodes - node) x h in
+    (setting.nodes - node) h in
     let e : node + (setting.nodes - node) - suc x ≡ setting.nodes - suc x = omega (arith, inside.0, inside.1) in
-    ap (map (λ y. mark_at y Empty)) (passing-some (is_behind handset) node (setting.nodes - node) x h
+    ap (map (λ y. mark_at y Empty)) (passing-some (is_behind handset) node (setting.nodes - node) h
     ∙ ap (λ n. x ∷ sift (is_behind handset) (suc x) n) e)
 
 pub purging-left : (setting : Setting) (handset : HandsetData) (node : ℕ)
@@ -47,14 +47,14 @@ erase-left setting handset level None h =
     ∙ ending-left setting handset (handset.last.renewed == setting.top)
 erase-left setting handset level (Some x) h =
     let inside : (level ≤ x) × (x < level + (suc handset.last.renewed - level)) =
-    first-inside (is_old setting handset) level (suc handset.last.renewed - level) x h in
+    first-inside (is_old setting handset) level (suc handset.last.renewed - level) h in
     let e : level + (suc handset.last.renewed - level) - suc x ≡ suc handset.last.renewed - suc x = omega (
       arith,
       inside.0,
       inside.1,
     ) in
     ap (λ xs. map (erasure setting handset) xs ++ purge_from setting handset 0)
-    (passing-some (is_old setting handset) level (suc handset.last.renewed - level) x h
+    (passing-some (is_old setting handset) level (suc handset.last.renewed - level) h
     ∙ ap (λ n. x ∷ sift (is_old setting handset) (suc x) n) e)
 
 pub erasing-left : (setting : Setting) (handset : HandsetData) (level : ℕ) → erase_from setting handset level

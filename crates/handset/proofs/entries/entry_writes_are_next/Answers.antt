@@ -28,13 +28,12 @@ returns c = λ plan handset at write kept goes is.
           sym (next-stands (setting_of plan starts) (at_entry handset at) steps made stands) ∙ its;
       stands = λ starts steps made stands.
           subst (λ h. StandsForSteps (setting_of plan starts) h steps (suc made)) (sym after)
-          (made-stands (setting_of plan starts) (at_entry handset at) (nodes_of plan) steps made
-          c.mark_words.ensures.unpacked (c.levels_after_move.ensures.address (setting_of plan starts))
-          (fits-plan plan starts (at_entry handset at) kept goes) (erasing-is-late plan (at_entry handset at))
-          (purging-is-late plan (at_entry handset at))
+          (made-stands (nodes_of plan) steps made c.mark_words.ensures.unpacked
+          (c.levels_after_move.ensures.address (setting_of plan starts)) (fits-plan starts kept goes)
+          (erasing-is-late plan (at_entry handset at)) (purging-is-late plan (at_entry handset at))
           (going-on plan (at_entry handset at) (is-some _ _ its)) stands);
       goes = subst (λ o. IfSome o (λ (w : EntryWrite). GoesWith plan (at_entry handset w.next))) is
-          (entry-goes plan handset at goes);
+          (entry-goes handset at goes);
     }
   where
     is-some : {A : Type 0} (o : Option A) (x : A) → o ≡ Some x → IsSome o

@@ -20,5 +20,5 @@ loop-level-preserved c =
     let below : c.loop-level.level < suc c.args.last.renewed = omega arith in
     first-next (moved c.args.plan.now c.args.addresses.now c.args.last.to) c.loop-level.level
     (suc c.args.last.renewed) below
-    (agree _ _ (sym c.home.ensures ∙ (c.if-home.false ∙ c.home-in-loop-level.ensures)))
+    (agree (sym c.home.ensures ∙ (c.if-home.false ∙ c.home-in-loop-level.ensures)))
     ∙ c.loop-level.invariant

@@ -10,15 +10,15 @@ use Rattle.std.proofs.lemmas.Bool.{lt-leb}
 abbrev reaches : PlanData → List ℕ → ℕ → ℕ → Bool
 reaches plan gathered weight level = nat_le (threshold plan level) (get_or gathered level 0 + weight)
 
-from_top : (plan : PlanData) (gathered : List ℕ) (weight limit : ℕ) → limit ≡ levels_of plan → 1 ≤ levels_of plan
+from_top : (plan : PlanData) (gathered : List ℕ) (weight : ℕ) {limit : ℕ} → limit ≡ levels_of plan → 1 ≤ levels_of plan
     → highest (reaches plan gathered weight) limit ≡ highest (reaches plan gathered weight) (suc (levels_of plan - 1))
-from_top plan gathered weight limit same some = let e : limit ≡ suc (levels_of plan - 1) = omega arith in ap
+from_top plan gathered weight {limit} same some = let e : limit ≡ suc (levels_of plan - 1) = omega arith in ap
     (highest (reaches plan gathered weight)) e
 
 pub loop-limit-init : goal.loop-limit-init
 loop-limit-init c = record {
   within = omega arith;
-  same = from_top c.args.plan.now c.args.gathered.now c.args.weight c.levels-limit.result c.levels-limit.ensures
+  same = from_top c.args.plan.now c.args.gathered.now c.args.weight c.levels-limit.ensures
       c.plan_is_sound.ensures.sound.some;
 }
 

@@ -8,8 +8,7 @@ returns-in_err-node c =
 
 pub returns-then-node-to : goal.returns-then-node-to
 returns-then-node-to c =
-    next-behind c.args.trail.now c.args.to c.args.from c.in_ok-node.node c.in_ok-node.ensures.some
-    c.in_ok-node.ensures.below c.if-node-to.true
+    next-behind c.args.trail.now c.args.to c.in_ok-node.ensures.some c.in_ok-node.ensures.below c.if-node-to.true
 
 pub overflow_add-node : goal.overflow_add-node
 overflow_add-node c = record {
@@ -18,6 +17,5 @@ overflow_add-node c = record {
 
 pub returns : goal.returns
 returns c =
-    behind-next c.args.trail.now c.args.to c.args.from c.in_ok-node.node c.next_from-2.result c.in_ok-node.ensures.some
-    c.in_ok-node.ensures.below c.if-node-to.false c.next_from-2.ensures.some c.next_from-2.ensures.below
-    c.next_from-2.ensures.none
+    behind-next c.args.trail.now c.next_from-2.result c.in_ok-node.ensures.some c.in_ok-node.ensures.below
+    c.if-node-to.false c.next_from-2.ensures.some c.next_from-2.ensures.below c.next_from-2.ensures.none

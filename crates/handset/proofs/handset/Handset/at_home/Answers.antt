@@ -9,4 +9,4 @@ returns-clause-exact c = search rules
 pub returns-clause-goes : goal.returns-clause-goes
 returns-clause-goes c =
     subst (GoesWith c.args.plan.now) (sym (returns-clause-exact c))
-    (new-goes c.args.plan.now c.args.sub c.args.home c.nodes.ensures.sound c.requires.node)
+    (new-goes c.args.sub c.args.home c.nodes.ensures.sound c.requires.node)

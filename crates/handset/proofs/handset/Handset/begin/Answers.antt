@@ -14,7 +14,7 @@ returns-clause-goes c =
     (sym c.self.view_is) in
     let stage = ap (λ (h : HandsetData). h.stage) (sym c.self.view_is) in
     subst (GoesWith c.args.plan.now) (sym c.start.ensures)
-    (goes-begun c.args.plan.now c.args.self.now c.args.to c.nodes.ensures.sound c.requires.goes (omega arith)
+    (goes-begun c.args.to c.nodes.ensures.sound c.requires.goes (omega arith)
     (stage ∙ rest-means c.self.inside.stage (sym c.is_rest.ensures ∙ c.if-not-is_rest.false)) (omega arith))
 
 pub returns-clause-stands : goal.returns-clause-stands

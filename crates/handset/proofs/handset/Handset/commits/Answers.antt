@@ -6,4 +6,4 @@ use Rattle.handset.proofs.handset.Handset.commits.Goals as goal
 pub returns-clause-commit : goal.returns-clause-commit
 returns-clause-commit c = λ plan visit small goes wants.
     let stage : c.is_committing.result ≡ is_committing c.args.self.now.stage = search rules in
-    stage ∙ commits-is c.mark_words.ensures.unpacked plan c.args.self.now visit goes small wants
+    stage ∙ commits-is c.mark_words.ensures.unpacked goes small wants

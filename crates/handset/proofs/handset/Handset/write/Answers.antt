@@ -14,12 +14,11 @@ returns-clause-visit c = λ starts steps made stands. c.step.ensures.exact
 pub returns-clause-stands : goal.returns-clause-stands
 returns-clause-stands c = where-some c.step.result (λ some starts steps made stands.
     subst (λ h. StandsForSteps (setting_of c.args.plan.now starts) h steps (suc made)) (sym c.step.ensures.after)
-    (made-stands (setting_of c.args.plan.now starts) c.args.self.now
-    (nodes_of c.args.plan.now) steps made c.mark_words.ensures.unpacked (c.levels_after_move.ensures.address
-    (setting_of c.args.plan.now starts))
-    (fits-plan c.args.plan.now starts c.args.self.now c.step.ensures.kept c.requires.goes)
-    (erasing-is-late c.args.plan.now c.args.self.now) (purging-is-late c.args.plan.now c.args.self.now)
-    (going-on c.args.plan.now c.args.self.now (subst IsSome c.step.ensures.exact some)) stands))
+    (made-stands (nodes_of c.args.plan.now) steps made c.mark_words.ensures.unpacked
+    (c.levels_after_move.ensures.address (setting_of c.args.plan.now starts))
+    (fits-plan starts c.step.ensures.kept c.requires.goes) (erasing-is-late c.args.plan.now c.args.self.now)
+    (purging-is-late c.args.plan.now c.args.self.now) (going-on c.args.plan.now c.args.self.now
+    (subst IsSome c.step.ensures.exact some)) stands))
   where
     where-some : {A : Type 0} {P : Type 0} (o : Option A) → (IsSome o → P) → OnSome o P
     where-some None law = tt
