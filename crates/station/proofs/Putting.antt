@@ -103,12 +103,9 @@ pub due_is : (plan : PlanData) (handset : HandsetData) (visit : Visit) → GoesW
 due_is plan handset visit g homes e = due_by plan handset visit g homes handset.stage g.stage e
 
 put-alone : (sub : ℕ) (history : History) (key : Key) (word actor : ℕ) → key_sub key ≡ sub
-    → puts_to sub (history ++ record { actor = actor; act = Put key word } ∷ []) ≡ puts_to sub history ++ record {
-      actor = actor;
-      act = Put key word;
-    } ∷ []
+    → puts_to sub (history ++ put_of actor key word ∷ []) ≡ puts_to sub history ++ put_of actor key word ∷ []
 put-alone sub history key word actor e =
-    let visit : Visit = record { actor = actor; act = Put key word } in
+    let visit : Visit = put_of actor key word in
     puts-append sub history (visit ∷ []) ∙ ap (λ b. puts_to sub history ++ cond b (visit ∷ []) []) (eq-eqb
     (key_sub key) sub e)
 
@@ -116,17 +113,17 @@ put-alone sub history key word actor e =
 pub due_legal : ScriptsAreLegal → (setup : Setup) (view : View) (handset : HandsetData) (key : Key) (word : ℕ)
     → (setting_in setup).nodes ≤ 2 ^ 16
     → (h : IsHandsetOf setup view handset)
-    → slice_get (visits (setting_in setup) handset.sub h.steps) (length (puts_to view.low view.seen)) ≡ Some
-    (record { actor = view.low; act = Put key word })
+    → slice_get (visits (setting_in setup) handset.sub h.steps) (length (puts_to view.low view.seen))
+    ≡ Some (put_of view.low key word)
     → key_sub key ≡ view.low
-    → IsLegal (setting_in setup) view.low (view.seen ++ record { actor = view.low; act = Put key word } ∷ [])
+    → IsLegal (setting_in setup) view.low (view.seen ++ put_of view.low key word ∷ [])
 due_legal law setup view handset key word low h next mine =
     let setting = setting_in setup in
-    let visit : Visit = record { actor = view.low; act = Put key word } in
+    let visit : Visit = put_of view.low key word in
     let made = length (puts_to view.low view.seen) in
     let vs = visits setting view.low h.steps in
-    let next' : slice_get vs made ≡ Some visit = subst (λ (s : ℕ). slice_get
-    (visits setting s h.steps) made ≡ Some visit) h.sub next in
+    let next' : slice_get vs made ≡ Some visit =
+    subst (λ (s : ℕ). slice_get (visits setting s h.steps) made ≡ Some visit) h.sub next in
     let puts : puts_to view.low (view.seen ++ visit ∷ []) ≡ take (suc made) vs =
     put-alone view.low view.seen key word view.low mine ∙ (ap (λ l. l ++ visit ∷ []) h.made
     ∙ sym (take-more vs made visit next')) in
@@ -137,20 +134,20 @@ due_legal law setup view handset key word low h next mine =
 pub handset_after : (setup : Setup) (view after : View) (handset new : HandsetData) (key : Key) (word : ℕ)
     (earlier : History)
     → (h : IsHandsetOf setup view handset)
-    → slice_get (visits (setting_in setup) handset.sub h.steps) (length (puts_to view.low view.seen)) ≡ Some
-    (record { actor = view.low; act = Put key word })
+    → slice_get (visits (setting_in setup) handset.sub h.steps) (length (puts_to view.low view.seen))
+    ≡ Some (put_of view.low key word)
     → key_sub key ≡ view.low → after.low ≡ view.low
-    → after.seen ≡ earlier ++ record { actor = view.low; act = Put key word } ∷ []
+    → after.seen ≡ earlier ++ put_of view.low key word ∷ []
     → puts_to view.low earlier ≡ puts_to view.low view.seen → GoesWith setup.plan new → new.sub ≡ handset.sub
     → StandsForSteps (setting_in setup) new h.steps (suc (length (puts_to view.low view.seen)))
     → HandsetGoesOn setup view after new h.steps (put_of view.low key word)
 handset_after setup view after handset new key word earlier h next mine low seen puts goes sub stands =
     let setting = setting_in setup in
-    let visit : Visit = record { actor = view.low; act = Put key word } in
+    let visit : Visit = put_of view.low key word in
     let made = length (puts_to view.low view.seen) in
     let vs = visits setting view.low h.steps in
-    let next' : slice_get vs made ≡ Some visit = subst (λ (s : ℕ). slice_get
-    (visits setting s h.steps) made ≡ Some visit) h.sub next in
+    let next' : slice_get vs made ≡ Some visit =
+    subst (λ (s : ℕ). slice_get (visits setting s h.steps) made ≡ Some visit) h.sub next in
     let now : puts_to after.low after.seen ≡ puts_to view.low view.seen ++ visit ∷ [] =
     (λ i. puts_to (low i) (seen i)) ∙ (put-alone view.low earlier key word view.low mine
     ∙ ap (λ l. l ++ visit ∷ []) puts) in
@@ -183,107 +180,66 @@ passing-gains f g v zero k low high same off on = absurd (omega arith)
 passing-gains f g v (suc n) k low high same off on =
     dite (ℕ_discrete v k)
     (λ e. here (f v) (g v) (ap f e ∙ off) (ap g e ∙ on) (alike (suc v) n (λ s h. same s (λ q. omega (arith, e, q, h)))))
-    (λ ne. later (f v) (g v) (same v ne) (passing-gains f g (suc v) n k (omega arith) (omega arith) same off on))
+    (λ ne. subst (λ b. length (cond b (v ∷ sift g (suc v) n) (sift g (suc v) n)) ≡ length (sift f v (suc n)) + 1)
+    (same v ne) (later (f v) (passing-gains f g (suc v) n k (omega arith) (omega arith) same off on)))
   where
     alike : (w m : ℕ) → ((s : ℕ) → w ≤ s → f s ≡ g s) → length (sift f w m) ≡ length (sift g w m)
     alike w zero all = refl
-    alike w (suc m) all = one (f w) (g w) (all w (omega arith)) (alike (suc w) m (λ s h. all s (omega arith)))
+    alike w (suc m) all = subst (λ b. length (sift f w (suc m)) ≡ length (cond b (w ∷ sift g (suc w) m)
+        (sift g (suc w) m))) (all w (omega arith)) (one (f w) (alike (suc w) m (λ s h. all s (omega arith))))
       where
-        one : (a b : Bool) → a ≡ b → length (sift f (suc w) m) ≡ length (sift g (suc w) m)
-            → length (cond a (w ∷ sift f (suc w) m) (sift f (suc w) m)) ≡ length (cond b (w ∷ sift g
-            (suc w) m) (sift g (suc w) m))
-        one true true e h = ap suc h
-        one false false e h = h
-        one true false e h = absurd (true≢false e)
-        one false true e h = absurd (true≢false (sym e))
+        one : (b : Bool) → length (sift f (suc w) m) ≡ length (sift g (suc w) m)
+            → length (cond b (w ∷ sift f (suc w) m) (sift f (suc w) m))
+            ≡ length (cond b (w ∷ sift g (suc w) m) (sift g (suc w) m))
+        one true h = ap suc h
+        one false h = h
 
     here : (a b : Bool) → a ≡ false → b ≡ true → length (sift f (suc v) n) ≡ length (sift g (suc v) n)
-        → length (cond b (v ∷ sift g (suc v) n) (sift g (suc v) n)) ≡ length (cond a (v ∷ sift f
-        (suc v) n) (sift f (suc v) n)) + 1
+        → length (cond b (v ∷ sift g (suc v) n) (sift g (suc v) n))
+        ≡ length (cond a (v ∷ sift f (suc v) n) (sift f (suc v) n)) + 1
     here false true x y h = omega (arith, h)
     here true b x y h = absurd (true≢false x)
     here false false x y h = absurd (true≢false (sym y))
 
-    later : (a b : Bool) → a ≡ b → length (sift g (suc v) n) ≡ length (sift f (suc v) n) + 1
-        → length (cond b (v ∷ sift g (suc v) n) (sift g (suc v) n)) ≡ length (cond a (v ∷ sift f
-        (suc v) n) (sift f (suc v) n)) + 1
-    later true true e h = omega (arith, h)
-    later false false e h = h
-    later true false e h = absurd (true≢false e)
-    later false true e h = absurd (true≢false (sym e))
+    later : (b : Bool) → length (sift g (suc v) n) ≡ length (sift f (suc v) n) + 1
+        → length (cond b (v ∷ sift g (suc v) n) (sift g (suc v) n))
+        ≡ length (cond b (v ∷ sift f (suc v) n) (sift f (suc v) n)) + 1
+    later true h = omega (arith, h)
+    later false h = h
+
+-- whether a subscriber is at a node
+abbrev was_here : Setting → History → ℕ → ℕ → Bool
+was_here setting history node sub = says_here (mark_in (cell setting history (Presence node sub)))
 
 put-here : (setting : Setting) (earlier : History) (node sub word actor : ℕ)
-    → says_here (mark_in (cell setting (earlier ++ record {
-      actor = actor;
-      act = Put
-          (Presence node sub) word;
-    } ∷ []) (Presence node sub))) ≡ says_here (mark_in word)
+    → was_here setting (earlier ++ put_of actor (Presence node sub) word ∷ []) node sub ≡ says_here (mark_in word)
 put-here setting earlier node sub word actor =
-    ap (λ w. says_here (mark_in w)) (cell-push setting (Presence node sub) earlier
-    (record { actor = actor; act = Put (Presence node sub) word })
+    ap (λ w. says_here (mark_in w)) (cell-push setting (Presence node sub) earlier (put_of actor (Presence node sub) word)
     ∙ hit (node == node) (sub == sub) (eq-eqb node node refl) (eq-eqb sub sub refl))
   where
-    hit : (a b : Bool) → a ≡ true → b ≡ true → (if a && b then word else cell setting earlier
-        (Presence node sub)) ≡ word
+    hit : (a b : Bool) → a ≡ true → b ≡ true
+        → (if a && b then word else cell setting earlier (Presence node sub)) ≡ word
     hit true true x y = refl
     hit true false x y = absurd (true≢false (sym y))
     hit false b x y = absurd (true≢false (sym x))
 
 put-else : (setting : Setting) (earlier : History) (node sub word actor s : ℕ) → s ≢ sub
-    → says_here (mark_in (cell setting (earlier ++ record {
-      actor = actor;
-      act = Put
-          (Presence node sub) word;
-    } ∷ []) (Presence node s)))
-    ≡ says_here (mark_in (cell setting earlier (Presence node s)))
+    → was_here setting (earlier ++ put_of actor (Presence node sub) word ∷ []) node s ≡ was_here setting earlier node s
 put-else setting earlier node sub word actor s ne =
-    ap (λ w. says_here (mark_in w)) (cell-push setting (Presence node s) earlier
-    (record { actor = actor; act = Put (Presence node sub) word })
+    ap (λ w. says_here (mark_in w)) (cell-push setting (Presence node s) earlier (put_of actor (Presence node sub) word)
     ∙ miss (node == node) (s == sub) (ne_eqb s sub ne))
   where
-    miss : (a b : Bool) → b ≡ false → (if a && b then word else cell setting earlier
-        (Presence node s)) ≡ cell setting earlier (Presence node s)
+    miss : (a b : Bool) → b ≡ false
+        → (if a && b then word else cell setting earlier (Presence node s)) ≡ cell setting earlier (Presence node s)
     miss true false x = refl
     miss true true x = absurd (true≢false x)
     miss false b x = refl
-
-abbrev was_here : Setting → History → ℕ → ℕ → Bool
-was_here setting earlier node sub = says_here (mark_in (cell setting earlier (Presence node sub)))
-
-census-gains : (setting : Setting) (earlier : History) (node sub word actor : ℕ) → sub < subs setting
-    → was_here setting earlier node sub ≡ false
-    → says_here (mark_in word) ≡ true
-    → length (census setting (earlier ++ record {
-      actor = actor;
-      act = Put
-          (Presence node sub) word;
-    } ∷ []) node) ≡ length (census setting earlier node) + 1
-census-gains setting earlier node sub word actor known off on =
-    let later : History = earlier ++ record { actor = actor; act = Put (Presence node sub) word } ∷ [] in
-    passing-gains (was_here setting earlier node) (was_here setting later node) 0 (subs setting) sub (omega arith)
-    (omega arith)
-    (λ s ne. sym (put-else setting earlier node sub word actor s ne)) off
-    (put-here setting earlier node sub word actor ∙ on)
-
-census-loses : (setting : Setting) (earlier : History) (node sub word actor : ℕ) → sub < subs setting
-    → was_here setting earlier node sub ≡ true
-    → says_here (mark_in word) ≡ false
-    → length (census setting (earlier ++ record {
-      actor = actor;
-      act = Put
-          (Presence node sub) word;
-    } ∷ []) node) + 1 ≡ length (census setting earlier node)
-census-loses setting earlier node sub word actor known on off =
-    let later : History = earlier ++ record { actor = actor; act = Put (Presence node sub) word } ∷ [] in
-    sym (passing-gains (was_here setting later node) (was_here setting earlier node) 0 (subs setting) sub
-    (omega arith) (omega arith)
-    (λ s ne. put-else setting earlier node sub word actor s ne) (put-here setting earlier node sub word actor ∙ off) on)
 
 -- the tally that a put owes
 pub moves : (setup : Setup) (view : View) (earlier : History) (node old new actor : ℕ) (key : Key)
     → key_sub key < subs_in setup
     → key_node (setting_in setup) key ≡ node
-    → view.seen ≡ earlier ++ record { actor = actor; act = Put key new } ∷ []
+    → view.seen ≡ earlier ++ put_of actor key new ∷ []
     → view.owes ≡ changes_here (setting_in setup) earlier (Put key new)
     → view.tally ≡ length (census (setting_in setup) earlier node)
     → old ≡ cell (setting_in setup) earlier key → Moves setup view node key old new
@@ -296,31 +252,23 @@ moves setup view earlier node old new actor (Entry level cluster sub) known at s
     }
 moves setup view earlier node old new actor (Presence place sub) known at seen owes tally is =
     let setting = setting_in setup in
-    let word : view.owes ≡ moves_here (Presence place sub) old new = owes
-    ∙ ap (λ w. moves_here (Presence place sub) w new) (sym is) in
+    let later : History = earlier ++ put_of actor (Presence place sub) new ∷ [] in
+    let was : Bool = was_here setting earlier place sub in
+    let is_now : was_here setting later place sub ≡ says_here (mark_in new) =
+    put-here setting earlier place sub new actor in
     record {
-      owes = word;
-      more = λ due on.
-          let off : was_here setting earlier place sub ≡ false = gained (was_here setting earlier place sub)
-          (says_here (mark_in new)) (sym owes ∙ due) on in
-          ap (λ (h : History). length (census setting h node)) seen
-          ∙ (subst (λ (n : ℕ). length (census setting (earlier ++ record {
-            actor = actor;
-            act = Put
-                (Presence place sub) new;
-          } ∷ []) n) ≡ length (census setting earlier n) + 1) at
-          (census-gains setting earlier place sub new actor known off on)
+      owes = owes ∙ ap (λ w. moves_here (Presence place sub) w new) (sym is);
+      more = λ due on. ap (λ (h : History). length (census setting h node)) seen
+          ∙ (subst (λ (n : ℕ). length (census setting later n) ≡ length (census setting earlier n) + 1) at
+          (passing-gains (was_here setting earlier place) (was_here setting later place) 0 (subs setting) sub
+          (omega arith) (omega arith) (λ s ne. sym (put-else setting earlier place sub new actor s ne))
+          (gained was (says_here (mark_in new)) (sym owes ∙ due) on) (is_now ∙ on))
           ∙ ap (λ (k : ℕ). k + 1) (sym tally));
-      less = λ due off.
-          let on : was_here setting earlier place sub ≡ true = lost (was_here setting earlier place sub)
-          (says_here (mark_in new)) (sym owes ∙ due) off in
-          ap (λ (h : History). length (census setting h node) + 1) seen
-          ∙ (subst (λ (n : ℕ). length (census setting (earlier ++ record {
-            actor = actor;
-            act = Put
-                (Presence place sub) new;
-          } ∷ []) n) + 1 ≡ length (census setting earlier n)) at
-          (census-loses setting earlier place sub new actor known on off)
+      less = λ due off. ap (λ (h : History). length (census setting h node) + 1) seen
+          ∙ (subst (λ (n : ℕ). length (census setting later n) + 1 ≡ length (census setting earlier n)) at
+          (sym (passing-gains (was_here setting later place) (was_here setting earlier place) 0 (subs setting) sub
+          (omega arith) (omega arith) (λ s ne. put-else setting earlier place sub new actor s ne) (is_now ∙ off)
+          (lost was (says_here (mark_in new)) (sym owes ∙ due) off)))
           ∙ sym tally);
     }
   where
