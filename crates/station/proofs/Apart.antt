@@ -27,39 +27,38 @@ behind_tally n x c h e = omega arith
 pub same_number : (n c d : ℕ) → suc (2 * n + c) ≡ suc (2 * n + d) → c ≡ d
 same_number n c d e = omega arith
 
-pub apart : NumbersApart → (setup : Setup) (x y i k : ℕ) → x < nodes_in setup → y < nodes_in setup → x ≢ y
+pub apart : NumbersApart → {setup : Setup} {x y i k : ℕ} → x < nodes_in setup → y < nodes_in setup → x ≢ y
     → IsWordAt setup x i → IsWordAt setup y k → i ≢ k
-apart law setup x y i k inx iny ne (is_lock a) (is_lock b) e = ne (omega arith)
-apart law setup x y i k inx iny ne (is_lock a) (is_tally b) e = omega arith
-apart law setup x y i k inx iny ne (is_lock a) (is_cell key cell at b) e =
+apart law inx iny ne (is_lock a) (is_lock b) e = ne (omega arith)
+apart law inx iny ne (is_lock a) (is_tally b) e = omega arith
+apart law {setup} {x} inx iny ne (is_lock a) (is_cell key cell at b) e =
     behind (nodes_in setup) x (cell_number setup.plan (subs_in setup) key) inx (sym b ∙ (sym e ∙ a))
-apart law setup x y i k inx iny ne (is_tally a) (is_lock b) e = omega arith
-apart law setup x y i k inx iny ne (is_tally a) (is_tally b) e = ne (omega arith)
-apart law setup x y i k inx iny ne (is_tally a) (is_cell key cell at b) e =
+apart law inx iny ne (is_tally a) (is_lock b) e = omega arith
+apart law inx iny ne (is_tally a) (is_tally b) e = ne (omega arith)
+apart law {setup} {x} inx iny ne (is_tally a) (is_cell key cell at b) e =
     behind_tally (nodes_in setup) x (cell_number setup.plan (subs_in setup) key) inx (sym b ∙ (sym e ∙ a))
-apart law setup x y i k inx iny ne (is_cell key cell at a) (is_lock b) e =
+apart law {setup} {y} inx iny ne (is_cell key cell at a) (is_lock b) e =
     behind (nodes_in setup) y (cell_number setup.plan (subs_in setup) key) iny (sym a ∙ (e ∙ b))
-apart law setup x y i k inx iny ne (is_cell key cell at a) (is_tally b) e =
+apart law {setup} {y} inx iny ne (is_cell key cell at a) (is_tally b) e =
     behind_tally (nodes_in setup) y (cell_number setup.plan (subs_in setup) key) iny (sym a ∙ (e ∙ b))
-apart law setup x y i k inx iny ne (is_cell key cell at a) (is_cell other cell' at' b) e =
+apart law {setup} inx iny ne (is_cell key cell at a) (is_cell other cell' at' b) e =
     let same = law setup.plan (subs_in setup) key other cell cell'
     (same_number (nodes_in setup) (cell_number setup.plan (subs_in setup) key) (cell_number setup.plan
     (subs_in setup) other) (sym a ∙ (e ∙ b))) in
     ne (sym at ∙ (ap (key_node (setting_in setup)) same ∙ at'))
 
 -- a write of a word of one node leaves the words of others
-pub else_where : NumbersApart → (setup : Setup) (ws : List ℕ) (x y i k new : ℕ) → x < nodes_in setup
-    → y < nodes_in setup → x ≢ y
-    → IsWordAt setup x i → IsWordAt setup y k → slice_index (set ws i new) k ≡ slice_index ws k
-else_where law setup ws x y i k new inx iny ne a b =
-    get_or-set_other ws i k new 0 (λ e. apart law setup x y i k inx iny ne a b (sym e))
+pub else_where : NumbersApart → {setup : Setup} (ws : List ℕ) {x y i k : ℕ} (new : ℕ) → x < nodes_in setup
+    → y < nodes_in setup → x ≢ y → IsWordAt setup x i → IsWordAt setup y k
+    → slice_index (set ws i new) k ≡ slice_index ws k
+else_where law ws {i} {k} new inx iny ne a b =
+    get_or-set_other ws i k new 0 (λ e. apart law inx iny ne a b (sym e))
 
 -- two views are never inside one node
-pub one_inside : (setup : Setup) (s : Rattle.atomic_table.specs.Table.State
-    Rattle.entry_word.specs.declared.visit.Act.Act View) (o : KeepsRule setup s)
-    (j k node : ℕ) (v u : View) → IsViewOf s.views j v → IsViewOf s.views k u → v.inside ≡ Some node
-    → u.inside ≡ Some node → k ≡ j
-one_inside setup s o j k node v u at at' inv inu =
+pub one_inside : {setup : Setup} {s : Rattle.atomic_table.specs.Table.State
+    Rattle.entry_word.specs.declared.visit.Act.Act View} (o : KeepsRule setup s) (j k : ℕ) {node : ℕ} (v u : View)
+    → IsViewOf s.views j v → IsViewOf s.views k u → v.inside ≡ Some node → u.inside ≡ Some node → k ≡ j
+one_inside o j k {node} v u at at' inv inu =
     let one = o.views j v at in let other = o.views k u at' in
     let a = one.inside node inv in let b = other.inside node inu in
     let same : v.low ≡ u.low = omega (arith, a.lock, b.lock) in
@@ -68,11 +67,10 @@ one_inside setup s o j k node v u at at' inv inu =
     sym theirs ∙ (ap o.owner (sym same) ∙ mine)
 
 -- what the rule says of a view stays while the words of its node stay
-pub resound : (setup : Setup) (ws new : List ℕ) (history : History) (owner : ℕ → ℕ) (k : ℕ) (u : View)
-    → IsSoundView setup ws history owner k u
-    → ((node i : ℕ) → u.inside ≡ Some node → IsWordAt setup node i → slice_index new i ≡ slice_index ws i)
-    → IsSoundView setup new history owner k u
-resound setup ws new history owner k u o same =
+pub resound : {setup : Setup} {ws : List ℕ} (new : List ℕ) {history : History} {owner : ℕ → ℕ} {k : ℕ} {u : View}
+    → IsSoundView setup ws history owner k u → ((node i : ℕ) → u.inside ≡ Some node → IsWordAt setup node i
+    → slice_index new i ≡ slice_index ws i) → IsSoundView setup new history owner k u
+resound {setup} new o same =
     record {
       setup_is = o.setup_is;
       has = o.has;

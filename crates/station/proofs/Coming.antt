@@ -105,21 +105,21 @@ all-or-other actor (event ∷ later) = dite (ℕ_discrete (event_actor event) ac
     (λ ne. inr (record { front = []; event = event; back = later; is = refl; other = ne }))
 
 -- a front with no event of an actor behind it has each that the log has
-front-has : (actor : ℕ) (front rest earlier : List TurnEvent) (event : TurnEvent) (later : List TurnEvent)
+front-has : {actor : ℕ} (front rest earlier : List TurnEvent) (event : TurnEvent) (later : List TurnEvent)
     → event_actor event ≡ actor → events_of actor rest ≡ [] → front ++ rest ≡ earlier ++ event ∷ later
     → IsLoggedAt earlier event front
-front-has actor [] rest earlier event later mine none is = absurd (omega (
+front-has {actor} [] rest earlier event later mine none is = absurd (omega (
   arith,
-  some-mine actor earlier event later mine,
+  some-mine earlier event later mine,
   ap (λ l. length (events_of actor l)) is,
   ap length none,
 ))
-front-has actor (x ∷ front) rest [] event later mine none is =
+front-has (x ∷ front) rest [] event later mine none is =
     let first : x ≡ event = ap (λ (l : List TurnEvent). get_or l 0 x) is in
     (front, λ i. first i ∷ front)
-front-has actor (x ∷ front) rest (e ∷ earlier) event later mine none is =
+front-has (x ∷ front) rest (e ∷ earlier) event later mine none is =
     let first : x ≡ e = ap (λ (l : List TurnEvent). get_or l 0 x) is in
-    let t = front-has actor front rest earlier event later mine none (ap (drop 1) is) in
+    let t = front-has front rest earlier event later mine none (ap (drop 1) is) in
     (t.0, λ i. first i ∷ t.1 i)
 
 -- a lock word names another actor
@@ -127,27 +127,25 @@ abbrev IsForeign : ℕ → ℕ → Type 0
 IsForeign actor word = (word ≢ 0) × (word ≢ suc actor)
 
 -- an actor's event leaves the turn that is another's, and brings about none that is
-event-keeps : (actor node : ℕ) (log : List TurnEvent) (event : TurnEvent) → event_actor event ≡ actor
-    → IsInTurn log event → IsForeign actor (lock_in log node)
-    → lock_in (log ++ event ∷ []) node ≡ lock_in log node
-event-keeps actor node log (Won a at) mine may foreign = dite (ℕ_discrete at node)
+event-keeps : {actor : ℕ} (node : ℕ) (log : List TurnEvent) (event : TurnEvent) → event_actor event ≡ actor
+    → IsInTurn log event → IsForeign actor (lock_in log node) → lock_in (log ++ event ∷ []) node ≡ lock_in log node
+event-keeps node log (Won a at) mine may foreign = dite (ℕ_discrete at node)
     (λ e. absurd (foreign.0 (ap (lock_in log) (sym e) ∙ may)))
     (λ ne. lock-won_else log a at node ne)
-event-keeps actor node log (GivenBack a at) mine may foreign = dite (ℕ_discrete at node)
+event-keeps node log (GivenBack a at) mine may foreign = dite (ℕ_discrete at node)
     (λ e. absurd (foreign.1 (ap (lock_in log) (sym e) ∙ (may ∙ ap suc mine))))
     (λ ne. lock-back_else log a at node ne)
-event-keeps actor node log (Lost a at word) mine may foreign = lock-push log (Lost a at word) node
+event-keeps node log (Lost a at word) mine may foreign = lock-push log (Lost a at word) node
 
-event-kept : (actor node : ℕ) (log : List TurnEvent) (event : TurnEvent) → event_actor event ≡ actor
-    → IsForeign actor (lock_in (log ++ event ∷ []) node)
-    → lock_in (log ++ event ∷ []) node ≡ lock_in log node
-event-kept actor node log (Won a at) mine foreign = dite (ℕ_discrete at node)
+event-kept : {actor : ℕ} (node : ℕ) (log : List TurnEvent) (event : TurnEvent) → event_actor event ≡ actor
+    → IsForeign actor (lock_in (log ++ event ∷ []) node) → lock_in (log ++ event ∷ []) node ≡ lock_in log node
+event-kept node log (Won a at) mine foreign = dite (ℕ_discrete at node)
     (λ e. absurd (foreign.1 (ap (lock_in (log ++ Won a at ∷ [])) (sym e) ∙ (lock-won log a at ∙ ap suc mine))))
     (λ ne. lock-won_else log a at node ne)
-event-kept actor node log (GivenBack a at) mine foreign = dite (ℕ_discrete at node)
+event-kept node log (GivenBack a at) mine foreign = dite (ℕ_discrete at node)
     (λ e. absurd (foreign.0 (ap (lock_in (log ++ GivenBack a at ∷ [])) (sym e) ∙ lock-back log a at)))
     (λ ne. lock-back_else log a at node ne)
-event-kept actor node log (Lost a at word) mine foreign = lock-push log (Lost a at word) node
+event-kept node log (Lost a at word) mine foreign = lock-push log (Lost a at word) node
 
 -- so do all its events
 events-keep : (actor node : ℕ) (log more : List TurnEvent) → AreOf actor more → IsLog (log ++ more)
@@ -155,7 +153,7 @@ events-keep : (actor node : ℕ) (log more : List TurnEvent) → AreOf actor mor
 events-keep actor node log [] of valid foreign = ap (λ l. lock_in l node) (append-nil log)
 events-keep actor node log (event ∷ later) of valid foreign =
     let split : (log ++ event ∷ []) ++ later ≡ log ++ event ∷ later = append_assoc log (event ∷ []) later in
-    let one = event-keeps actor node log event of.0 (valid log event later refl) foreign in
+    let one = event-keeps node log event of.0 (valid log event later refl) foreign in
     ap (λ l. lock_in l node) (sym split)
     ∙ (events-keep actor node (log ++ event ∷ []) later of.1 (subst IsLog (sym split) valid)
     (subst (IsForeign actor) (sym one) foreign) ∙ one)
@@ -168,7 +166,7 @@ events-kept actor node log (event ∷ later) of foreign =
     let rest = events-kept actor node (log ++ event ∷ []) later of.1
     (subst (λ (l : List TurnEvent). IsForeign actor (lock_in l node)) (sym split) foreign) in
     ap (λ l. lock_in l node) (sym split)
-    ∙ (rest ∙ event-kept actor node log event of.0 (subst (λ (w : ℕ). IsForeign actor w)
+    ∙ (rest ∙ event-kept node log event of.0 (subst (λ (w : ℕ). IsForeign actor w)
     (ap (λ l. lock_in l node) (sym split) ∙ rest) foreign))
 
 module _ (setup : Setup) (old new : State Act View) (seat : ℕ) (was : KeepsRule setup old) (is : KeepsRule setup new)
@@ -202,7 +200,7 @@ module _ (setup : Setup) (old new : State Act View) (seat : ℕ) (was : KeepsRul
       dite (dec_le setup.actors b)
       (λ h. absurd (omega (
         arith,
-        some-mine b front o.event o.back refl,
+        some-mine front o.event o.back refl,
         ap (λ l. length (events_of b l)) whole,
         ap length (is.strangers b h),
       )))
@@ -212,14 +210,13 @@ module _ (setup : Setup) (old new : State Act View) (seat : ℕ) (was : KeepsRul
       let has = is.logged k its.0 its.1 in
       let had = was.logged k its.0 before in
       let me = was.logged seat s.before s.was in
-      let there = front-has b its.0.turns has.later front o.event o.back refl (has.by_others b its.2)
+      let there = front-has its.0.turns has.later front o.event o.back refl (has.by_others b its.2)
       (sym has.goes_on ∙ whole) in
       let then : was.turns ≡ earlier ++ event ∷ (o.front ++ ((o.event ∷ there.0) ++ had.later)) = had.goes_on
       ∙ (ap (λ (l : List TurnEvent). l ++ had.later) there.1
       ∙ (append_assoc front (o.event ∷ there.0) had.later
       ∙ append_assoc earlier (event ∷ o.front) ((o.event ∷ there.0) ++ had.later))) in
-      front-has s.before.low s.before.turns me.later earlier event
-      (o.front ++ ((o.event ∷ there.0) ++ had.later)) mine
+      front-has s.before.turns me.later earlier event (o.front ++ ((o.event ∷ there.0) ++ had.later)) mine
       (me.by_others s.before.low (omega arith, omega (arith, s.alone))) (sym me.goes_on ∙ then))
 
   -- the word of a lock names the actor inside the node, and did so behind these, if all since are its own
@@ -312,11 +309,11 @@ abbrev Came : Setup → ℕ → ℕ → (ℕ → State Act View) → List TurnEv
 Came setup seat count states earlier event = (step : ℕ) × (step < count)
     × ComesAt setup seat earlier event (states step) (states (suc step))
 
-come_on : (setup : Setup) (seat : ℕ) (states : ℕ → State Act View) (before : View) (earlier : List TurnEvent)
+come_on : {setup : Setup} {seat : ℕ} {states : ℕ → State Act View} (before : View) (earlier : List TurnEvent)
     (event : TurnEvent) → IsViewOf (states 0).views seat before → length before.turns ≤ length earlier
     → (count : ℕ) (after : View) → GoesThrough setup seat count states → IsViewOf (states count).views seat after
     → event_actor event ≡ after.low → IsLoggedAt earlier event after.turns → Came setup seat count states earlier event
-come_on setup seat states before earlier event first short zero after through there mine logged =
+come_on before earlier event first short zero after through there mine logged =
     let same : before ≡ after = some-injective before after (sym first ∙ there) in
     absurd (omega (
       arith,
@@ -325,7 +322,7 @@ come_on setup seat states before earlier event first short zero after through th
       ap length logged.1,
       length-append earlier (event ∷ logged.0),
     ))
-come_on setup seat states before earlier event first short (suc count) after through there mine logged = ⊎_elim
+come_on {setup} {seat} {states} before earlier event first short (suc count) after through there mine logged = ⊎_elim
     (λ (s : IsStepOf seat (states count) (states (suc count))).
     let was = through.keeps count (omega arith) in
     let is = through.keeps (suc count) (omega arith) in
@@ -335,12 +332,11 @@ come_on setup seat states before earlier event first short (suc count) after thr
     ⊎_elim
     (λ (comes : ComesAt setup seat earlier event (states count) (states (suc count))). (count, omega arith, comes))
     (λ (t : IsLoggedAt earlier event s.before.turns).
-    further (come_on setup seat states before earlier event first short count s.before less s.was low t))
+    further (come_on before earlier event first short count s.before less s.was low t))
     (came_or_was setup (states count) (states (suc count)) seat was is s earlier event low
     (subst (λ (u : View). IsLoggedAt earlier event u.turns) same logged)))
     (λ (beside : IsStepBeside seat (states count) (states (suc count))).
-    further (come_on setup seat states before earlier event first short count after less (beside after there) mine
-    logged))
+    further (come_on before earlier event first short count after less (beside after there) mine logged))
     (through.steps count (omega arith))
   where
     less : GoesThrough setup seat count states
@@ -354,4 +350,4 @@ come_on setup seat states before earlier event first short (suc count) after thr
 
 pub come_within : EventsComeWithinCalls
 come_within setup seat count states before after earlier event through first last mine short logged =
-    come_on setup seat states before earlier event first short count after through last mine logged
+    come_on before earlier event first short count after through last mine logged

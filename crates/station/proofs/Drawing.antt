@@ -36,33 +36,32 @@ drop_all : (history : History) (visit : Visit) → drop (suc (length history)) (
 drop_all [] visit = refl
 drop_all (x ∷ xs) visit = drop_all xs visit
 
-put_node : (setting : Setting) (act : Act) (key : Key) → key_put act ≡ Some key
+put_node : (setting : Setting) (act : Act) {key : Key} → key_put act ≡ Some key
     → key_node setting key ≡ act_node setting act
-put_node setting (Look other) key e = absurd (no_key key e)
-put_node setting (Put other word) key e = sym (ap (λ (o : Option Key). key_node setting
+put_node setting (Look other) e = absurd (no_key e)
+put_node setting (Put other word) {key} e = sym (ap (λ (o : Option Key). key_node setting
     (Rattle.std.specs.Prelude.unwrap_or o key)) e)
-put_node setting (Census node) key e = absurd (no_key key e)
+put_node setting (Census node) e = absurd (no_key e)
 
 put_word : (act : Act) (key : Key) → key_put act ≡ Some key → (word : ℕ) × (act ≡ Put key word)
-put_word (Look other) key e = absurd (no_key key e)
-put_word (Put other word) key e = (word, ap (λ (k : Key). Put k word) (same_some other key e))
-put_word (Census node) key e = absurd (no_key key e)
+put_word (Look other) key e = absurd (no_key e)
+put_word (Put other word) key e = (word, ap (λ (k : Key). Put k word) (same_some e))
+put_word (Census node) key e = absurd (no_key e)
 
-put_before : (setup : Setup) (history : History) (act : Act) (key : Key) → key_put act ≡ Some key
+put_before : (setup : Setup) (history : History) (act : Act) {key : Key} → key_put act ≡ Some key
     → cell (setting_in setup) history key ≡ word_before setup history act
-put_before setup history (Look other) key e = absurd (no_key key e)
-put_before setup history (Put other word) key e = sym (ap (λ (o : Option Key). cell (setting_in setup) history
+put_before setup history (Look other) e = absurd (no_key e)
+put_before setup history (Put other word) {key} e = sym (ap (λ (o : Option Key). cell (setting_in setup) history
     (Rattle.std.specs.Prelude.unwrap_or o key)) e)
-put_before setup history (Census node) key e = absurd (no_key key e)
+put_before setup history (Census node) e = absurd (no_key e)
 
-same_act : (act other : Act) → Some act ≡ Some other → act ≡ other
-same_act act other e = ap (λ (o : Option Act). Rattle.std.specs.Prelude.unwrap_or o act) e
+same_act : {act other : Act} → Some act ≡ Some other → act ≡ other
+same_act {act} e = ap (λ (o : Option Act). Rattle.std.specs.Prelude.unwrap_or o act) e
 
-pub grows : SameKey → (s : St) (id x new : ℕ) (v : View) (act : Act) (o : KeepsRule v.setup s)
-    → IsViewOf s.views id v → MayDraw v x act
-    → new ≡ suc (length o.history)
+pub grows : SameKey → {s : St} (id : ℕ) {x new : ℕ} {v : View} {act : Act} (o : KeepsRule v.setup s)
+    → IsViewOf s.views id v → MayDraw v x act → new ≡ suc (length o.history)
     → KeepsRule v.setup (with (set s.words 0 new) s id (view_with_ticket v x act o.history))
-grows law s id x new v act o me may is =
+grows law {s} id {x} {new} {v} {act} o me may is =
     let setup = v.setup in
     let setting = setting_in setup in
     let ws = set s.words 0 new in
@@ -74,7 +73,7 @@ grows law s id x new v act o me may is =
     let here = was.inside x may.inside in
     let near = seat_below s.views id v me in
     let wide : 0 < length s.words = omega (arith, o.size) in
-    let others = alone setup s o id x v me may.inside in
+    let others = alone o id v me may.inside in
     let stands : StandsForActor v v.low = (omega arith, omega (arith, here.alone)) in
     let mine = was.owner_is v.low stands in
     let words : (k : ℕ) → slice_index ws (suc k) ≡ slice_index s.words (suc k) = λ k. get_or-set_other s.words 0
@@ -99,7 +98,7 @@ grows law s id x new v act o me may is =
               kept = λ _ _. refl;
             };
             owner_is = was.owner_is;
-            inside = λ node at. let e : x ≡ node = same_some x node (sym may.inside ∙ at) in
+            inside = λ node at. let e : x ≡ node = same_some (sym may.inside ∙ at) in
                 subst (λ (y : ℕ). IsInsideNode setup ws longer w y) e record {
                   known = here.known;
                   alone = here.alone;
@@ -114,23 +113,23 @@ grows law s id x new v act o me may is =
                     count = refl;
                     last = ap (λ l. visits_at setting x l) (drop_all history visit);
                     put = put_word act;
-                    word = λ key put. sym (put_before setup history act key put);
+                    word = λ key put. sym (put_before setup history act put);
                     moves = λ due. due;
                     tally = λ _. refl;
                   };
                   owed = λ _. refl;
-                  tally = λ _. words _ ∙ o.tallies x here.known (tallied_here setup s o id x v me others
-                      (λ due _. true≢false (sym due ∙ may.clear)));
+                  tally = λ _. words _ ∙ o.tallies x here.known
+                      (tallied_here o id x v me others (λ due _. true≢false (sym due ∙ may.clear)));
                 };
-            unwritten = λ key put. let node = put_node setting act key put ∙ may.at in record {
+            unwritten = λ key put. let node = put_node setting act put ∙ may.at in record {
               cell = may.cell key put;
               inside = may.inside ∙ ap (λ (n : ℕ). Some n) (sym node);
               drawn = refl;
-              word = words _ ∙ (o.cells key (may.cell key put) (written_here setup s o id x v key me others node
-                  (λ had. no_key key (sym may.unwritten ∙ had)))
-                  ∙ put_before setup history act key put);
+              word = words _ ∙ (o.cells key (may.cell key put)
+                  (written_here o id v key me others node (λ had. no_key (sym may.unwritten ∙ had)))
+                  ∙ put_before setup history act put);
             };
-            outside = λ out. absurd (some_not_none x (sym may.inside ∙ out));
+            outside = λ out. absurd (some_not_none (sym may.inside ∙ out));
             others = was.others;
           }))
           (λ (t : (k ≢ id) × (get_elem? s.views k ≡ some u)). let old = o.views k u t.1 in record {
@@ -182,19 +181,19 @@ grows law s id x new v act o me may is =
           (a : ℕ). own a history ≡ own a v.seen) e (was.has.visits v.low stands) in
           let little : length (own actor v.seen) < 2 ^ 56 = subst (λ (a : ℕ). length
           (own a v.seen) < 2 ^ 56) e may.few in
-          few_more (own actor history) visit (own actor longer) (own-mine actor history visit e) (subst (λ
+          few_more (own actor history) visit (own actor longer) (own-mine history visit e) (subst (λ
           (l : History). length l < 2 ^ 56) (sym same) little))
           (λ ne. subst (λ (l : History). length l ≤ 2 ^ 56) (sym (own-other actor history visit ne)) (o.few actor));
       turns = o.turns;
       in_turn = o.in_turn;
       strangers = o.strangers;
       lock_words = λ node known. words node ∙ o.lock_words node known;
-      logged = all-logged setup s o id w o.turns (log-stays setup s o id v w me refl refl refl refl);
-      locks = λ node actor known names. still_held s o.owner id node actor v w me refl refl
+      logged = all-logged (log-stays o id v w me refl refl refl refl);
+      locks = λ node actor known names. still_held s o.owner id v w me refl refl
           (o.locks node actor known (sym (words node) ∙ names));
       cells = λ key known quiet. words _ ∙ (o.cells key known (λ k u there put. dite (ℕ_discrete k id)
           (λ e. let same : u ≡ v = some-injective u v (sym there ∙ (ap (get_elem? s.views) e ∙ me)) in
-          no_key key (sym may.unwritten ∙ (ap (λ (y : View). y.unwritten) (sym same) ∙ put)))
+          no_key (sym may.unwritten ∙ (ap (λ (y : View). y.unwritten) (sym same) ∙ put)))
           (λ ne. quiet k u (set_else s.views id k w ne ∙ there) put))
           ∙ sym (cell-push setting key history visit
           ∙ word-unput law key (cell setting history key) act (quiet id w (set_here s.views id w near))));
@@ -221,9 +220,9 @@ grows law s id x new v act o me may is =
     calm true h = absurd (h refl)
     calm false h = refl
 
-pub draws : SameKey → (n id x : ℕ) (m : Seat) (act : Act) → MayDraw m.0 x act
+pub draws : SameKey → (n id : ℕ) {x : ℕ} (m : Seat) {act : Act} → MayDraw m.0 x act
     → Allows (KeepsRule m.0.setup) n id m 0 (λ y. (y + 1) % 2 ^ 64) (DrawsTicket (step n 0 1 0 none) m)
-draws law n id x m act may s o wide me small =
+draws law n id {x} m {act} may s o wide me small =
     let v = m.0 in
     let found = slice_index s.words 0 in
     let was = o.views id v me in
@@ -235,10 +234,10 @@ draws law n id x m act may s o wide me small =
       view_with_ticket v x act o.history,
       keeps,
       tt,
-      grows law s id x ((found + 1) % 2 ^ 64) v act o me may new,
+      grows law id o me may new,
       λ node other at meant.
-          let a : x ≡ node = same_some x node (sym may.inside ∙ at) in
-          let b : act ≡ other = same_act act other (sym may.intended ∙ meant) in (
+          let a : x ≡ node = same_some (sym may.inside ∙ at) in
+          let b : act ≡ other = same_act (sym may.intended ∙ meant) in (
             record {
               earlier = o.history;
               count = sym o.tickets;

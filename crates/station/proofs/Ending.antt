@@ -34,8 +34,8 @@ last_left (y ∷ all) (x ∷ left) pass e =
     let first : x ≡ y = ap (λ (l : List PassData). get_or l 0 x) e in
     ((λ i. first i ∷ t.0 i), t.1)
 
-pub same_pass : (p q : PassData) → Some p ≡ Some q → p ≡ q
-same_pass p q e = ap (λ (o : Option PassData). unwrap_or o p) e
+pub same_pass : {p q : PassData} → Some p ≡ Some q → p ≡ q
+same_pass {p} e = ap (λ (o : Option PassData). unwrap_or o p) e
 
 -- an actor that isn't missing has a pass
 pub find_pass : (passes : List PassData) (actor : ℕ) → ¬ HasNoPass passes actor
@@ -60,13 +60,13 @@ find_pass (x ∷ passes) actor there = go (λ h. find_pass passes actor h) (ℕ_
         shift missing (suc k) pass e is = missing k pass e is
 
 -- who has a visit has a visit of its own
-pub own_there : (history : History) (i : ℕ) (visit : Visit) → slice_get history i ≡ Some visit
+pub own_there : (history : History) (i : ℕ) {visit : Visit} → slice_get history i ≡ Some visit
     → own visit.actor history ≢ []
-own_there [] zero visit e none-own = cc
-own_there [] (suc i) visit e none-own = cc
-own_there (x ∷ later) zero visit e none-own =
+own_there [] zero e none-own = cc
+own_there [] (suc i) e none-own = cc
+own_there (x ∷ later) zero {visit} e none-own =
     (own-nil visit.actor x later none-own).0 (ap (λ (o : Option Visit). (unwrap_or o x).actor) e)
-own_there (x ∷ later) (suc i) visit e none-own = own_there later i visit e (own-nil visit.actor x later none-own).1
+own_there (x ∷ later) (suc i) {visit} e none-own = own_there later i e (own-nil visit.actor x later none-own).1
 
 pub order_is : (order : List ℕ) (history : History) → length order ≡ length history
     → ((i : ℕ) (visit : Visit) → slice_get history i ≡ Some visit → slice_index order i ≡ visit.actor)
@@ -89,16 +89,16 @@ stamp_more old new i visit actor history told is other = dite (ℕ_discrete visi
     (λ ne. is ∙ (ap (λ b. if b then actor else slice_index old i) (told ∙ ne_eqb visit.actor actor ne) ∙ other ne))
 
 -- the pass that is taken from the end of those that are left
-pub taken : (all before left : List PassData) (o : Option PassData) (pass : PassData)
-    → before ≡ left ++ option_to_list o → o ≡ Some pass → before ≡ take (length before) all
+pub taken : (all : List PassData) {before : List PassData} (left : List PassData) (o : Option PassData)
+    {pass : PassData} → before ≡ left ++ option_to_list o → o ≡ Some pass → before ≡ take (length before) all
     → (left ≡ take (length left) all) × (slice_get all (length left) ≡ Some pass) × (length before ≡ length left + 1)
-taken all before left o pass items is rest =
+taken all {before} left o {pass} items is rest =
     let popped : before ≡ left ++ pass ∷ [] = items ∙ ap (λ x. left ++ option_to_list x) is in
     let t = last_left all left pass (sym popped ∙ (rest ∙ ap (λ (l : List PassData). take (length l) all) popped)) in
     (t.0, t.1, ap length popped ∙ length-append left (pass ∷ []))
 
 -- a pass that hears of a history that goes on from its own has seen that
-pub heard_whole : (whole : History) (pass new : PassData) (note : NoteData) → HasHeard pass note new
+pub heard_whole : {whole : History} {pass new : PassData} {note : NoteData} → HasHeard pass note new
     → note.view.seen ≡ whole → IsFront pass.view.seen whole → new.view.seen ≡ whole
-heard_whole whole pass new note heard told front =
+heard_whole {whole} {pass} heard told front =
     heard.seen ∙ (ap (longer pass.view.seen) told ∙ longer-whole pass.view.seen whole front)

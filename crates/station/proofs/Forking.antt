@@ -42,10 +42,10 @@ one_view : (v u : View) (k : ℕ) → IsViewOf (v ∷ []) k u → (k ≡ 0) × (
 one_view v u zero e = (refl, some-injective v u e)
 one_view v u (suc k) e = absurd (some-ne-none u (sym e))
 
-pub opens : NumbersBelow → (setup : Setup) (words : List ℕ) → CellsLie setup → setup.actors ≤ 128
-    → ((sub : ℕ) → sub < subs_in setup → start (setting_in setup) sub < nodes_in setup)
-    → AreOpening setup words → KeepsRule setup (opening words [] (first_view setup))
-opens below setup words lies few inside all =
+pub opens : NumbersBelow → {setup : Setup} {words : List ℕ} → CellsLie setup → setup.actors ≤ 128
+    → ((sub : ℕ) → sub < subs_in setup → start (setting_in setup) sub < nodes_in setup) → AreOpening setup words
+    → KeepsRule setup (opening words [] (first_view setup))
+opens below {setup} {words} lies few inside all =
     let v = first_view setup in
     let o = all.laid in
     record {
@@ -60,8 +60,8 @@ opens below setup words lies few inside all =
             setup_is = λ _. refl;
             has = record { seen = refl; told = refl; visits = λ _ _. refl; had = refl; kept = λ _ _. refl };
             owner_is = λ actor stands. (sym t.0, stands.1);
-            inside = λ node is. absurd (no_some node is);
-            unwritten = λ key is. absurd (no_key key is);
+            inside = λ node is. absurd (no_some is);
+            unwritten = λ key is. absurd (no_key is);
             outside = λ _. (refl, refl);
             others = λ _ _ turn had. absurd (none_lost turn had);
           };
@@ -76,7 +76,7 @@ opens below setup words lies few inside all =
           record { later = []; goes_on = refl; by_others = λ _ _. refl; lost = λ _ _. refl };
       locks = λ node actor known is. absurd (omega (arith, o.locks node known (omega (arith, all.size, known)), is));
       cells = λ key known _. o.cells key known (subst (λ (k : ℕ). cell_word setup key < k) (sym all.size)
-          (cell_below below setup key known));
+          (cell_below below setup known));
       tallies = λ node known _. o.tallies node known (omega (arith, all.size, known));
       legal = λ sub known. nothing_legal (setting_in setup) sub known (inside sub known);
     }
@@ -109,10 +109,10 @@ pub record Forks (setup : Setup) (s : St) (o : KeepsRule setup s) (j : ℕ) (v l
   pub sound : IsSoundView setup s.words o.history owner j l
   pub new : IsSoundView setup s.words o.history owner (length s.views) r
 
-pub forked : (setup : Setup) (s : St) (o : KeepsRule setup s) (j : ℕ) (v l r : View) (owner : ℕ → ℕ)
+pub forked : {setup : Setup} {s : St} (o : KeepsRule setup s) {j : ℕ} {v l r : View} {owner : ℕ → ℕ}
     → Forks setup s o j v l r owner
     → KeepsRule setup (record { words = s.words; homes = s.homes; views = set s.views j l ++ r ∷ [] })
-forked setup s o j v l r owner f =
+forked {setup} {s} o {j} {v} {l} {r} {owner} f =
     let near = seat_below s.views j v f.me in
     let vs : List View = set s.views j l in
     let count : length vs ≡ length s.views = length-set s.views j l in
@@ -225,20 +225,19 @@ deals setup id v more out clear s o me =
     let later : (actor : ℕ) → actor ≢ v.low → owner actor ≡ o.owner actor =
     λ actor ne. ap (λ b. cond b (length s.views) (o.owner actor)) (ne_eqb actor v.low ne) in
     let calm = was.outside out in
-    forked setup s o id v (view_of_rest v) (view_of_first v) owner record {
+    forked o record {
       me = me;
       left = λ actor st. ((omega arith, omega arith), later actor (λ e. omega arith));
       right = λ actor st. ((omega arith, omega arith), first actor (omega arith));
       either = λ actor st. dite (ℕ_discrete actor v.low) (λ e. inr (omega arith, omega arith)) (λ ne. inl
           (omega arith, omega arith));
       others = λ actor not. later actor (λ e. not (omega arith, omega arith));
-      kept = λ node is. absurd (no_some node (sym out ∙ is));
+      kept = λ node is. absurd (no_some (sym out ∙ is));
       inside = refl;
       unwritten = refl;
       owes = refl;
-      logged_left = logged-same o.turns v (view_of_rest v) refl refl (λ actor st. (omega arith, omega arith))
-          (o.logged id v me);
-      logged_right = logged-same o.turns v (view_of_first v) refl refl (λ actor st. (omega arith, omega arith))
+      logged_left = logged-same (view_of_rest v) refl refl (λ actor st. (omega arith, omega arith)) (o.logged id v me);
+      logged_right = logged-same (view_of_first v) refl refl (λ actor st. (omega arith, omega arith))
           (o.logged id v me);
       sound = record {
         setup_is = was.setup_is;
@@ -253,8 +252,8 @@ deals setup id v more out clear s o me =
         };
         owner_is = λ actor st. let w = was.owner_is actor (omega arith, omega arith) in
             (later actor (λ e. omega arith) ∙ w.0, w.1);
-        inside = λ node is. absurd (no_some node (sym out ∙ is));
-        unwritten = λ key is. absurd (no_key key (sym clear ∙ is));
+        inside = λ node is. absurd (no_some (sym out ∙ is));
+        unwritten = λ key is. absurd (no_key (sym clear ∙ is));
         outside = λ _. calm;
         others = λ actor st. was.others actor (omega arith, omega arith);
       };
@@ -270,8 +269,8 @@ deals setup id v more out clear s o me =
               (omega arith, omega arith);
         };
         owner_is = λ actor st. (first actor (omega arith), (was.owner_is actor (omega arith, omega arith)).1);
-        inside = λ node is. absurd (no_some node (sym out ∙ is));
-        unwritten = λ key is. absurd (no_key key (sym clear ∙ is));
+        inside = λ node is. absurd (no_some (sym out ∙ is));
+        unwritten = λ key is. absurd (no_key (sym clear ∙ is));
         outside = λ _. calm;
         others = λ actor st. was.others actor (omega arith, omega arith);
       };

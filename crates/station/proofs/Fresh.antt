@@ -15,10 +15,10 @@ use Rattle.station.specs.Plays.{first_view, view_of_first}
 use Rattle.station.specs.declared.view.View.{View}
 
 -- in a matched plan each cell lies at a node
-pub matched_lies : (plan : PlanData) (homes : List ℕ) (actors : ℕ) → IsMatched plan
+pub matched_lies : {plan : PlanData} (homes : List ℕ) (actors : ℕ) → IsMatched plan
     → CellsLie (record { plan = plan; homes = homes; actors = actors })
-matched_lies plan homes actors m (Presence node sub) known = known.place
-matched_lies plan homes actors m (Entry level cluster sub) known =
+matched_lies homes actors m (Presence node sub) known = known.place
+matched_lies {plan} homes actors m (Entry level cluster sub) known =
     m.within level cluster (leader plan level cluster) known.place.0 known.place.1
     (m.led level cluster known.place.0 known.place.1)
 
@@ -32,38 +32,39 @@ abbrev pub rest_view : Setup → ℕ → View
 rest_view setup actor = record (first_view setup) { low = actor }
 
 -- the seat that is dealt from such a view knows what a fresh pass does
-pub dealt_fresh : (setup : Setup) (actor : ℕ) (rest dealt : Me Act View) → rest ≡ (rest_view setup actor, [])
+pub dealt_fresh : (setup : Setup) (actor : ℕ) {rest dealt : Me Act View} → rest ≡ (rest_view setup actor, [])
     → dealt ≡ (view_of_first rest.0, []) → dealt ≡ (fresh_view setup actor, [])
-dealt_fresh setup actor rest dealt is told =
+dealt_fresh setup actor is told =
     told ∙ ap {B = Me Act View} (λ (m : Me Act View). (view_of_first m.0, [])) is
 
 -- the view that is left in the end is that of the last actor
-pub last_fresh : (setup : Setup) (actor last : ℕ) (rest : Me Act View) → rest ≡ (rest_view setup actor, [])
+pub last_fresh : (setup : Setup) {actor last : ℕ} {rest : Me Act View} → rest ≡ (rest_view setup actor, [])
     → actor ≡ last → setup.actors ≡ suc last → rest ≡ (fresh_view setup last, [])
-last_fresh setup actor last rest is at high =
+last_fresh setup {last} is at high =
     is ∙ (ap {B = Me Act View} (λ (a : ℕ). (rest_view setup a, [])) at
     ∙ ap {B = Me Act View} (λ (h : ℕ). (record (rest_view setup last) { high = h }, [])) high)
 
-pub fresh_own : (setup : Setup) (actor : ℕ) (me : Me Act View) → me ≡ (fresh_view setup actor, [])
+pub fresh_own : (setup : Setup) (actor : ℕ) {me : Me Act View} → me ≡ (fresh_view setup actor, [])
     → me ≡ (fresh_view me.0.setup actor, [])
-fresh_own setup actor me is =
+fresh_own setup actor is =
     is ∙ ap {B = Me Act View} (λ (s : Setup). (fresh_view s actor, [])) (sym (ap (λ (m : Me Act View). m.0.setup) is))
 
-pushed_at : (passes : List PassData) (pass found : PassData) (i : ℕ) → slice_get (passes ++ pass ∷ []) i ≡ Some found
-    → (slice_get passes i ≡ Some found) ⊎ ((i ≡ length passes) × (pass ≡ found))
-pushed_at [] pass found zero e = inr (refl, cc)
-pushed_at [] pass found (suc i) e = cc
-pushed_at (first ∷ passes) pass found zero e = inl e
-pushed_at (first ∷ passes) pass found (suc i) e = ⊎_elim (λ t. inl t) (λ t. inr (ap suc t.0, t.1))
-    (pushed_at passes pass found i e)
+pushed_at : (passes : List PassData) (pass : PassData) {found : PassData} (i : ℕ)
+    → slice_get (passes ++ pass ∷ []) i ≡ Some found → (slice_get passes i ≡ Some found) ⊎
+    ((i ≡ length passes) × (pass ≡ found))
+pushed_at [] pass zero e = inr (refl, cc)
+pushed_at [] pass (suc i) e = cc
+pushed_at (first ∷ passes) pass zero e = inl e
+pushed_at (first ∷ passes) pass (suc i) e = ⊎_elim (λ t. inl t) (λ t. inr (ap suc t.0, t.1))
+    (pushed_at passes pass i e)
 
 -- the pass of the next actor, behind fresh ones
-pub fresh_push : (tracker : TrackerData) (passes made : List PassData) (pass : PassData) (actor seat : ℕ)
-    (table : TableId) (me : Me Act View) → AreFresh tracker passes → length passes ≡ actor → table ≡ tracker.table
-    → me ≡ (fresh_view tracker.setup actor, [])
+pub fresh_push : {tracker : TrackerData} (passes : List PassData) {made : List PassData} {pass : PassData} {actor : ℕ}
+    (seat : ℕ) {table : TableId} {me : Me Act View} → AreFresh tracker passes → length passes ≡ actor
+    → table ≡ tracker.table → me ≡ (fresh_view tracker.setup actor, [])
     → pass ≡ record { table = table; seat = seat; view = me.0; spare = 0 } → made ≡ passes ++ pass ∷ []
     → AreFresh tracker made
-fresh_push tracker passes made pass actor seat table me fresh count of is e grown i found there =
+fresh_push {tracker} passes {pass} {actor} seat {table} fresh count of is e grown i found there =
     ⊎_elim (fresh i found)
     (λ t. subst (λ (k : ℕ). IsFreshPass tracker k found) (sym (t.0 ∙ count))
     (subst (IsFreshPass tracker actor) t.1 (record {
@@ -71,4 +72,4 @@ fresh_push tracker passes made pass actor seat table me fresh count of is e grow
       view = ap (λ (p : PassData). p.view) e ∙ ap (λ (m : Me Act View). m.0) is;
       spare = ap (λ (p : PassData). p.spare) e;
     })))
-    (pushed_at passes pass found i (ap (λ (l : List PassData). slice_get l i) (sym grown) ∙ there))
+    (pushed_at passes pass i (ap (λ (l : List PassData). slice_get l i) (sym grown) ∙ there))

@@ -38,9 +38,9 @@ own-other actor history visit other = own-append actor history (visit ∷ [])
     ∙ (ap (λ b. own actor history ++ cond b (visit ∷ []) []) (ne_eqb visit.actor actor other)
     ∙ append-nil (own actor history))
 
-pub own-mine : (actor : ℕ) (history : List Visit) (visit : Visit) → visit.actor ≡ actor
+pub own-mine : {actor : ℕ} (history : List Visit) (visit : Visit) → visit.actor ≡ actor
     → own actor (history ++ visit ∷ []) ≡ own actor history ++ visit ∷ []
-own-mine actor history visit mine = own-append actor history (visit ∷ [])
+own-mine {actor} history visit mine = own-append actor history (visit ∷ [])
     ∙ ap (λ b. own actor history ++ cond b (visit ∷ []) []) (eq-eqb visit.actor actor mine)
 
 -- a front of a front keeps all own visits of the longer, where it has all

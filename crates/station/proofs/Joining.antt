@@ -29,7 +29,7 @@ use Rattle.station.specs.TicketLaws.{tickets-same}
 pub notes : (setup : Setup) (id : ℕ) (v : View) → Splits (KeepsRule setup) id v v (note_of v)
 notes setup id v s o me =
     let was = o.views id v me in
-    forked setup s o id v v (note_of v) o.owner record {
+    forked o record {
       me = me;
       left = λ actor st. (st, refl);
       right = λ actor st. absurd (omega (arith, st.1));
@@ -57,8 +57,8 @@ notes setup id v s o me =
           kept = λ actor st. absurd (omega (arith, st.1));
         };
         owner_is = λ actor st. absurd (omega (arith, st.1));
-        inside = λ node is. absurd (no_some node is);
-        unwritten = λ key is. absurd (no_key key is);
+        inside = λ node is. absurd (no_some is);
+        unwritten = λ key is. absurd (no_key is);
         outside = λ _. (refl, refl);
         others = λ actor st. absurd (omega (arith, st.1));
       };
@@ -94,16 +94,16 @@ spent_sound setup words history owner seat = record {
     kept = λ actor st. absurd (omega (arith, st.1));
   };
   owner_is = λ actor st. absurd (omega (arith, st.1));
-  inside = λ node is. absurd (no_some node is);
-  unwritten = λ key is. absurd (no_key key is);
+  inside = λ node is. absurd (no_some is);
+  unwritten = λ key is. absurd (no_key is);
   outside = λ _. (refl, refl);
   others = λ actor st. absurd (omega (arith, st.1));
 }
 
-pub taken : (setup : Setup) (s : St) (o : KeepsRule setup s) (id other : ℕ) (v w b : View) (owner : ℕ → ℕ)
+pub taken : {setup : Setup} {s : St} (o : KeepsRule setup s) {id other : ℕ} {v w b : View} {owner : ℕ → ℕ}
     → Takes setup s o id other v w b owner
     → KeepsRule setup (record { words = s.words; homes = s.homes; views = set (set s.views id b) other spent_view })
-taken setup s o id other v w b owner t =
+taken {setup} {s} o {id} {other} {v} {w} {b} {owner} t =
     let near = seat_below s.views id v t.me in
     let far = seat_below s.views other w t.them in
     let vs : List View = set s.views id b in
@@ -197,8 +197,8 @@ taken setup s o id other v w b owner t =
             t.kept node in_node ∙ low,
           ))
           (λ ne. dite (ℕ_discrete (o.owner actor) other)
-          (λ e. absurd (no_some node (sym t.out ∙ (ap (λ (y : View). y.inside) (sym (theirs
-          (o.owner actor) x.0 e x.1)) ∙ x.2))))
+          (λ e. absurd (no_some (sym t.out ∙ (ap (λ (y : View). y.inside) (sym (theirs (o.owner actor) x.0 e x.1))
+          ∙ x.2))))
           (λ no_other. (
             x.0,
             subst (λ k. IsViewOf (set vs other spent_view) k x.0) (sym (t.others actor (λ sv. ne
@@ -210,7 +210,7 @@ taken setup s o id other v w b owner t =
       cells = λ key known quiet. o.cells key known (λ k u at is. dite (ℕ_discrete k id)
           (λ e. quiet id b here (t.unwritten ∙ (ap (λ (y : View). y.unwritten) (sym (mine k u e at)) ∙ is)))
           (λ ne. dite (ℕ_discrete k other)
-          (λ e. no_some _ (sym t.out ∙ (ap (λ (y : View). y.inside) (sym (theirs k u e at))
+          (λ e. no_some (sym t.out ∙ (ap (λ (y : View). y.inside) (sym (theirs k u e at))
           ∙ ((o.views k u at).unwritten key is).inside)))
           (λ no_other. quiet k u (there k u ne no_other at) is)));
       tallies = λ node known quiet. o.tallies node known (λ k u at due is. dite (ℕ_discrete k id)
@@ -218,14 +218,14 @@ taken setup s o id other v w b owner t =
           quiet id b here (t.owes ∙ (ap (λ (y : View). y.owes) (sym same) ∙ due)) (t.inside
           ∙ (ap (λ (y : View). y.inside) (sym same) ∙ is)))
           (λ ne. dite (ℕ_discrete k other)
-          (λ e. no_some node (sym t.out ∙ (ap (λ (y : View). y.inside) (sym (theirs k u e at)) ∙ is)))
+          (λ e. no_some (sym t.out ∙ (ap (λ (y : View). y.inside) (sym (theirs k u e at)) ∙ is)))
           (λ no_other. quiet k u (there k u ne no_other at) due is)));
       legal = o.legal;
     }
 
 -- the longer of two
-pub longer_is : (P : History → Type 0) (one other : History) → P one → P other → P (longer one other)
-longer_is P one other a b = go (nat_lt (length one) (length other))
+pub longer_is : (P : History → Type 0) {one other : History} → P one → P other → P (longer one other)
+longer_is P {one} {other} a b = go (nat_lt (length one) (length other))
   where
     go : (c : Bool) → P (if c then other else one)
     go true = b
@@ -258,7 +258,7 @@ hears setup id other v w low high out s o me ne at =
     let was = o.views id v me in
     let note = o.views other w them in
     let b = view_with_note v w in
-    taken setup s o id other v w b o.owner record {
+    taken o record {
       me = me;
       them = them;
       apart = ne;
@@ -270,12 +270,12 @@ hears setup id other v w low high out s o me ne at =
       inside = refl;
       unwritten = refl;
       owes = refl;
-      logged = logged-same o.turns v b refl refl (λ actor st. st) (o.logged id v me);
+      logged = logged-same b refl refl (λ actor st. st) (o.logged id v me);
       kept = λ node _. refl;
       sound = record {
         setup_is = was.setup_is;
         has = record {
-          seen = longer_is (λ (l : History). IsFront l o.history) v.seen w.seen was.has.seen note.has.seen;
+          seen = longer_is (λ (l : History). IsFront l o.history) was.has.seen note.has.seen;
           told = note.has.seen;
           had = was.has.seen;
           visits = λ actor st. longer-own actor v.seen w.seen o.history was.has.seen note.has.seen
@@ -323,7 +323,7 @@ learns law n id i m low short had s o wide me small =
       v,
       keeps,
       tt,
-      unmoved v.setup s i id v o me,
+      unmoved i id v o me,
       (
         refl,
         record {
@@ -338,11 +338,10 @@ learns law n id i m low short had s o wide me small =
     )
 
 -- a pass that has heard a note
-pub pass_heard : (me new : Me Act View) (w : View) (actor seen seen' spare : ℕ) (kept : List ℕ) (room : ℕ)
-    → IsPass me actor seen spare kept room
-    → new ≡ (view_with_note me.0 w, me.1) → IsLearned new.0 → seen' ≡ length (longer me.0.seen w.seen)
-    → IsPass new actor seen' spare kept room
-pass_heard me new w actor seen seen' spare kept room p e l count =
+pub pass_heard : {me new : Me Act View} (w : View) {actor seen seen' spare : ℕ} {kept : List ℕ} {room : ℕ}
+    → IsPass me actor seen spare kept room → new ≡ (view_with_note me.0 w, me.1) → IsLearned new.0
+    → seen' ≡ length (longer me.0.seen w.seen) → IsPass new actor seen' spare kept room
+pass_heard {me} {new} w {actor} p e l count =
     let low : new.0.low ≡ actor = ap (λ (m : Me Act View). m.0.low) e ∙ p.low in
     let high : new.0.high ≡ suc actor = ap (λ (m : Me Act View). m.0.high) e ∙ p.high in
     let had : new.0.had ≡ me.0.seen = ap (λ (m : Me Act View). m.0.had) e in

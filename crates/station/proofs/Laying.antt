@@ -27,14 +27,12 @@ at_push (w ∷ ws) x zero h = inl (omega arith, refl)
 at_push (w ∷ ws) x (suc i) h = ⊎_elim (λ t. inl (omega arith, t.1)) (λ t. inr (ap suc t.0, t.1)) (at_push ws x i
     (omega arith))
 
-laid_push : (setup : Setup) (ws : List ℕ) (x : ℕ) → AreLaid setup ws
-    → (length ws ≡ 0 → x ≡ 0)
+laid_push : {setup : Setup} {ws : List ℕ} {x : ℕ} → AreLaid setup ws → (length ws ≡ 0 → x ≡ 0)
     → ((node : ℕ) → node < nodes_in setup → length ws ≡ lock_word node → x ≡ 0)
     → ((node : ℕ) → node < nodes_in setup → length ws ≡ tally_word setup node
-    → x ≡ length (census (setting_in setup) [] node))
-    → ((key : Key) → IsCellOf setup key → length ws ≡ cell_word setup key → x ≡ cell (setting_in setup) [] key)
-    → AreLaid setup (ws ++ x ∷ [])
-laid_push setup ws x o first lock tally cell_is =
+    → x ≡ length (census (setting_in setup) [] node)) → ((key : Key) → IsCellOf setup key
+    → length ws ≡ cell_word setup key → x ≡ cell (setting_in setup) [] key) → AreLaid setup (ws ++ x ∷ [])
+laid_push {setup} {ws} {x} o first lock tally cell_is =
     record {
       ticket = λ h. ⊎_elim (λ t. t.1 ∙ o.ticket t.0) (λ t. t.1 ∙ first t.0) (at_push ws x 0 h);
       locks = λ node known h. ⊎_elim (λ t. t.1 ∙ o.locks node known t.0) (λ t. t.1
@@ -45,41 +43,40 @@ laid_push setup ws x o first lock tally cell_is =
           ∙ cell_is key known t.0) (at_push ws x (cell_word setup key) h);
     }
 
-before_tally : (n k node : ℕ) → k < n → suc k ≡ suc (n + node) → ⊥
-before_tally n k node h e = omega arith
+before_tally : (n : ℕ) {k : ℕ} (node : ℕ) → k < n → suc k ≡ suc (n + node) → ⊥
+before_tally n node h e = omega arith
 
-before_cell : (n k c : ℕ) → k < n → suc k ≡ suc (2 * n + c) → ⊥
-before_cell n k c h e = omega arith
+before_cell : (n : ℕ) {k : ℕ} (c : ℕ) → k < n → suc k ≡ suc (2 * n + c) → ⊥
+before_cell n c h e = omega arith
 
-pub laid_lock : (setup : Setup) (ws : List ℕ) (k : ℕ) → k < nodes_in setup → length ws ≡ suc k → AreLaid setup ws
+pub laid_lock : {setup : Setup} {ws : List ℕ} (k : ℕ) → k < nodes_in setup → length ws ≡ suc k → AreLaid setup ws
     → AreLaid setup (ws ++ 0 ∷ [])
-laid_lock setup ws k known at o = laid_push setup ws 0 o (λ e. refl) (λ node inside e. refl)
-    (λ node inside e. absurd (before_tally (nodes_in setup) k node known (sym at ∙ e)))
-    (λ key _ e. absurd (before_cell (nodes_in setup) k (cell_number setup.plan (subs_in setup) key) known (sym at ∙ e)))
+laid_lock {setup} k known at o = laid_push o (λ e. refl) (λ node inside e. refl)
+    (λ node inside e. absurd (before_tally (nodes_in setup) node known (sym at ∙ e)))
+    (λ key _ e. absurd (before_cell (nodes_in setup) (cell_number setup.plan (subs_in setup) key) known (sym at ∙ e)))
 
 zero_cell : (n c : ℕ) → 0 ≡ suc (2 * n + c) → ⊥
 zero_cell n c e = omega arith
 
-pub laid_tally : (setup : Setup) (ws : List ℕ) (k x : ℕ) → k < nodes_in setup → length ws ≡ suc (nodes_in setup + k)
-    → x ≡ length (census (setting_in setup) [] k) → AreLaid setup ws → AreLaid setup (ws ++ x ∷ [])
-laid_tally setup ws k x known at is o = laid_push setup ws x o (λ e. absurd (omega arith))
-    (λ node inside e. absurd (omega arith))
+pub laid_tally : {setup : Setup} {ws : List ℕ} (k : ℕ) {x : ℕ} → k < nodes_in setup
+    → length ws ≡ suc (nodes_in setup + k) → x ≡ length (census (setting_in setup) [] k) → AreLaid setup ws
+    → AreLaid setup (ws ++ x ∷ [])
+laid_tally {setup} k {x} known at is o = laid_push o (λ e. absurd (omega arith)) (λ node inside e. absurd (omega arith))
     (λ node inside e. let same : k ≡ node = omega arith in
     subst (λ (y : ℕ). x ≡ length (census (setting_in setup) [] y)) same is)
-    (λ key _ e. absurd (behind_tally (nodes_in setup) k (cell_number setup.plan (subs_in setup) key) known (sym e
-    ∙ at)))
+    (λ key _ e. absurd (behind_tally (nodes_in setup) k (cell_number setup.plan (subs_in setup) key) known
+    (sym e ∙ at)))
 
-pub laid_cell : NumbersApart → (setup : Setup) (ws : List ℕ) (x : ℕ) (key : Key) → IsCellOf setup key
-    → length ws ≡ cell_word setup key
-    → x ≡ cell (setting_in setup) [] key → AreLaid setup ws → AreLaid setup (ws ++ x ∷ [])
-laid_cell law setup ws x key known at is o = laid_push setup ws x o
+pub laid_cell : NumbersApart → {setup : Setup} {ws : List ℕ} {x : ℕ} {key : Key} → IsCellOf setup key
+    → length ws ≡ cell_word setup key → x ≡ cell (setting_in setup) [] key → AreLaid setup ws
+    → AreLaid setup (ws ++ x ∷ [])
+laid_cell law {setup} {x} {key} known at is o = laid_push o
     (λ e. absurd (zero_cell (nodes_in setup) (cell_number setup.plan (subs_in setup) key) (sym e ∙ at)))
     (λ node inside e. absurd (behind (nodes_in setup) node (cell_number setup.plan (subs_in setup) key) inside
-    (sym at ∙ e)))
-    (λ node inside e. absurd (behind_tally (nodes_in setup) node (cell_number setup.plan
-    (subs_in setup) key) inside (sym at ∙ e)))
-    (λ other inside e. let same : key ≡ other = law setup.plan (subs_in setup) key other known inside (same_number
-    (nodes_in setup) _ _ (sym at ∙ e)) in
+    (sym at ∙ e))) (λ node inside e. absurd (behind_tally (nodes_in setup) node
+    (cell_number setup.plan (subs_in setup) key) inside (sym at ∙ e)))
+    (λ other inside e. let same : key ≡ other = law setup.plan (subs_in setup) key other known inside
+    (same_number (nodes_in setup) _ _ (sym at ∙ e)) in
     subst (λ (k : Key). x ≡ cell (setting_in setup) [] k) same is)
 
 none_below : (n : ℕ) → suc n < 1 → ⊥
@@ -94,17 +91,16 @@ first_laid setup =
       cells = λ key known h. absurd (none_below _ h);
     }
 
-counted : (w n c d l : ℕ) → w ≡ 1 + 2 * n + (n + c) * l → c ≡ d → w ≡ suc (2 * n + (n + d) * l)
-counted w n c d l is e = is ∙ (ap (λ (k : ℕ). 1 + 2 * n + (n + k) * l) e ∙ omega arith)
+counted : {w : ℕ} (n : ℕ) {c d : ℕ} (l : ℕ) → w ≡ 1 + 2 * n + (n + c) * l → c ≡ d → w ≡ suc (2 * n + (n + d) * l)
+counted n l is e = is ∙ (ap (λ (k : ℕ). 1 + 2 * n + (n + k) * l) e ∙ omega arith)
 
-pub opening_of : (plan : PlanData) (homes words : List ℕ) → AreLaid (setup_of plan homes 0) words → length words
-    ≡ 1 + 2 * nodes_of plan + (nodes_of plan + clusters_below plan (levels_of plan)) * length homes
+pub opening_of : (plan : PlanData) (homes : List ℕ) {words : List ℕ} → AreLaid (setup_of plan homes 0) words
+    → length words ≡ 1 + 2 * nodes_of plan + (nodes_of plan + clusters_below plan (levels_of plan)) * length homes
     → (actors : ℕ) → AreOpening (setup_of plan homes actors) words
-opening_of plan homes words o at actors =
+opening_of plan homes o at actors =
     record {
       laid = record { ticket = o.ticket; locks = o.locks; tallies = o.tallies; cells = o.cells };
-      size = counted (length words) (nodes_of plan) _ _ (length homes) at
-          (ap (sum_by (λ l. length l.clusters)) (take-length plan.levels));
+      size = counted (nodes_of plan) (length homes) at (ap (sum_by (λ l. length l.clusters)) (take-length plan.levels));
     }
 
 -- who starts at a node
@@ -135,11 +131,11 @@ starts-at setting node sub known = go (node == start setting sub) (nat_lt sub (s
     go false true e = refl
     go b false e = absurd (Rattle.std.proofs.Common.true≢false (sym e))
 
-pub count-more : (setting : Setting) (node sub count : ℕ) → sub < subs setting
+pub count-more : (setting : Setting) (node sub : ℕ) {count : ℕ} → sub < subs setting
     → count ≡ length (sift (λ s. says_here (mark_in (cell setting [] (Presence node s)))) 0 sub)
-    → count + cond (node == start setting sub) 1 0
-    ≡ length (sift (λ s. says_here (mark_in (cell setting [] (Presence node s)))) 0 (sub + 1))
-count-more setting node sub count known is =
+    → count + cond (node == start setting sub) 1 0 ≡ length
+    (sift (λ s. says_here (mark_in (cell setting [] (Presence node s)))) 0 (sub + 1))
+count-more setting node sub {count} known is =
     let f : ℕ → Bool = λ s. says_here (mark_in (cell setting [] (Presence node s))) in
     let here : f (0 + sub) ≡ (node == start setting sub) = ap f (omega arith) ∙ starts-at setting node sub known in
     let more = passing-more f 0 sub in

@@ -20,9 +20,9 @@ miss_bit f who sub off all s =
     ∙ append-nil (sift f 0 sub))) in
     all s ∙ ap {B = ℕ} (λ l. if has s l then 1 else 0) (sym more)
 
-pub hit_bit : (f : ℕ → Bool) (who new sub : ℕ) → sub < 64 → f sub ≡ true
+pub hit_bit : (f : ℕ → Bool) (who : ℕ) {new : ℕ} (sub : ℕ) → sub < 64 → f sub ≡ true
     → new ≡ bit_or who (1 * 2 ^ sub % 2 ^ 64) → AreBits f who sub → AreBits f new (sub + 1)
-hit_bit f who new sub small on is all s =
+hit_bit f who {new} sub small on is all s =
     let more : sift f 0 (sub + 1) ≡ sift f 0 sub ++ sub ∷ [] =
     ap (sift f 0) (add-one sub) ∙ (passing_grows f 0 sub ∙ one (0 + sub) (omega arith)) in
     let both : has s (sift f 0 (sub + 1)) ≡ (has s (sift f 0 sub) || has s (sub ∷ [])) = ap (has s) more

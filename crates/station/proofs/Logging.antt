@@ -38,9 +38,8 @@ module _ {A : Type 0} where
 pub log-nil : IsLog []
 log-nil earlier event later e = absurd (omega (arith, ap length e, length-append earlier (event ∷ later)))
 
-pub log-more : (log : List TurnEvent) (event : TurnEvent) → IsLog log → IsInTurn log event
-    → IsLog (log ++ event ∷ [])
-log-more log event old new earlier other later e = ⊎_elim
+pub log-more : {log : List TurnEvent} (event : TurnEvent) → IsLog log → IsInTurn log event → IsLog (log ++ event ∷ [])
+log-more {log} event old new earlier other later e = ⊎_elim
     (λ (t : (earlier ≡ log) × (other ≡ event)). subst (λ (l : List TurnEvent). IsInTurn l other) (sym t.0)
     (subst (λ (x : TurnEvent). IsInTurn log x) (sym t.1) new))
     (λ (t : (rest : List TurnEvent) × (log ≡ earlier ++ other ∷ rest)). old earlier other t.0 t.1)
@@ -70,9 +69,9 @@ lock-back_else log actor x y ne = lock-push log (GivenBack actor x) y
     ∙ ap {B = ℕ} (λ b. if b then 0 else lock_in log y) (ne_eqb x y ne)
 
 -- the events of an actor after one more
-by-mine : (actor : ℕ) (log : List TurnEvent) (event : TurnEvent) → event_actor event ≡ actor
+by-mine : {actor : ℕ} (log : List TurnEvent) (event : TurnEvent) → event_actor event ≡ actor
     → events_of actor (log ++ event ∷ []) ≡ events_of actor log ++ event ∷ []
-by-mine actor log event mine = events-append actor log (event ∷ [])
+by-mine {actor} log event mine = events-append actor log (event ∷ [])
     ∙ ap (λ b. events_of actor log ++ cond b (event ∷ []) []) (eq-eqb (event_actor event) actor mine)
 
 by-other : (actor : ℕ) (log : List TurnEvent) (event : TurnEvent) → event_actor event ≢ actor
@@ -82,9 +81,9 @@ by-other actor log event other = events-append actor log (event ∷ [])
     ∙ append-nil (events_of actor log))
 
 -- a view that has logged the same, and lost the same, and stands for no others
-pub logged-same : (log : List TurnEvent) (v w : View) → w.turns ≡ v.turns → w.lost ≡ v.lost
+pub logged-same : {log : List TurnEvent} {v : View} (w : View) → w.turns ≡ v.turns → w.lost ≡ v.lost
     → ((actor : ℕ) → StandsForActor w actor → StandsForActor v actor) → HasLogged log v → HasLogged log w
-logged-same log v w turns lost stands has = record {
+logged-same w turns lost stands has = record {
   later = has.later;
   goes_on = has.goes_on ∙ ap (λ l. l ++ has.later) (sym turns);
   by_others = λ actor st. has.by_others actor (stands actor st);
@@ -92,10 +91,10 @@ logged-same log v w turns lost stands has = record {
 }
 
 -- after an event of another
-logged-other : (log : List TurnEvent) (event : TurnEvent) (view : View)
+logged-other : {log : List TurnEvent} (event : TurnEvent) {view : View}
     → ((actor : ℕ) → StandsForActor view actor → event_actor event ≢ actor) → HasLogged log view
     → HasLogged (log ++ event ∷ []) view
-logged-other log event view away has = record {
+logged-other event {view} away has = record {
   later = has.later ++ event ∷ [];
   goes_on = ap (λ l. l ++ event ∷ []) has.goes_on ∙ append_assoc view.turns has.later (event ∷ []);
   by_others = λ actor st. by-other actor has.later event (away actor st) ∙ has.by_others actor st;
@@ -103,17 +102,17 @@ logged-other log event view away has = record {
 }
 
 -- after an event of its own
-logged-mine : (log : List TurnEvent) (event : TurnEvent) (v w : View) → event_actor event ≡ v.low
+logged-mine : {log : List TurnEvent} (event : TurnEvent) {v : View} (w : View) → event_actor event ≡ v.low
     → v.high ≡ suc v.low → w.low ≡ v.low → w.high ≡ v.high → w.turns ≡ log ++ event ∷ []
     → w.lost ≡ v.lost ++ lost_in (event ∷ []) → HasLogged log v → HasLogged (log ++ event ∷ []) w
-logged-mine log event v w mine alone low high turns lost has =
+logged-mine {log} event {v} w mine alone low high turns lost has =
     let actor = v.low in
     let stands : StandsForActor v actor = (omega arith, omega (arith, alone)) in
     let before : events_of actor log ≡ events_of actor v.turns = ap (events_of actor) has.goes_on
     ∙ (events-append actor v.turns has.later
     ∙ (ap (λ l. events_of actor v.turns ++ l) (has.by_others actor stands) ∙ append-nil (events_of actor v.turns))) in
     let whole : lost_in (events_of actor w.turns) ≡ lost_in (events_of actor v.turns) ++ lost_in (event ∷ []) =
-    ap (λ l. lost_in (events_of actor l)) turns ∙ (ap lost_in (by-mine actor log event mine)
+    ap (λ l. lost_in (events_of actor l)) turns ∙ (ap lost_in (by-mine log event mine)
     ∙ (lost-append (events_of actor log) (event ∷ []) ∙ ap (λ l. lost_in l ++ lost_in (event ∷ [])) before)) in
     let all : w.lost ≡ lost_in (events_of actor w.turns) = lost
     ∙ (ap (λ l. l ++ lost_in (event ∷ [])) (has.lost actor stands) ∙ sym whole) in
@@ -134,52 +133,49 @@ pub record LogGoes (setup : Setup) (s : State Act View) (o : KeepsRule setup s) 
   pub others : (k : ℕ) (u : View) → k ≢ j → IsViewOf s.views k u → HasLogged log u
 
 -- a step that does nothing at a lock
-pub log-stays : (setup : Setup) (s : State Act View) (o : KeepsRule setup s) (j : ℕ) (v w : View)
-    → IsViewOf s.views j v → w.turns ≡ v.turns → w.lost ≡ v.lost → w.low ≡ v.low → w.high ≡ v.high
-    → LogGoes setup s o j w o.turns
-log-stays setup s o j v w me turns lost low high = record {
+pub log-stays : {setup : Setup} {s : State Act View} (o : KeepsRule setup s) (j : ℕ) (v w : View) → IsViewOf s.views j v
+    → w.turns ≡ v.turns → w.lost ≡ v.lost → w.low ≡ v.low → w.high ≡ v.high → LogGoes setup s o j w o.turns
+log-stays o j v w me turns lost low high = record {
   in_turn = o.in_turn;
   strangers = o.strangers;
-  mine = logged-same o.turns v w turns lost (λ actor st. (omega (arith, st.0, low), omega (arith, st.1, high)))
-      (o.logged j v me);
+  mine = logged-same w turns lost (λ actor st. (omega (arith, st.0, low), omega (arith, st.1, high))) (o.logged j v me);
   others = λ k u ne at. o.logged k u at;
 }
 
 -- a step at a lock
-pub log-goes : (setup : Setup) (s : State Act View) (o : KeepsRule setup s) (j : ℕ) (v w : View) (event : TurnEvent)
-    → IsViewOf s.views j v → v.high ≡ suc v.low → event_actor event ≡ v.low → IsInTurn o.turns event
-    → w.low ≡ v.low → w.high ≡ v.high → w.turns ≡ o.turns ++ event ∷ []
-    → w.lost ≡ v.lost ++ lost_in (event ∷ []) → LogGoes setup s o j w (o.turns ++ event ∷ [])
-log-goes setup s o j v w event me alone mine may low high turns lost =
+pub log-goes : {setup : Setup} {s : State Act View} (o : KeepsRule setup s) (j : ℕ) (v w : View) (event : TurnEvent)
+    → IsViewOf s.views j v → v.high ≡ suc v.low → event_actor event ≡ v.low → IsInTurn o.turns event → w.low ≡ v.low
+    → w.high ≡ v.high → w.turns ≡ o.turns ++ event ∷ [] → w.lost ≡ v.lost ++ lost_in (event ∷ [])
+    → LogGoes setup s o j w (o.turns ++ event ∷ [])
+log-goes o j v w event me alone mine may low high turns lost =
     let its = (o.views j v me).owner_is v.low (omega arith, omega (arith, alone)) in
     record {
-      in_turn = log-more o.turns event o.in_turn may;
+      in_turn = log-more event o.in_turn may;
       strangers = λ actor above. by-other actor o.turns event (λ e. omega (arith, mine, its.1, above, e))
           ∙ o.strangers actor above;
-      mine = logged-mine o.turns event v w mine alone low high turns lost (o.logged j v me);
-      others = λ k u ne at. logged-other o.turns event u (λ actor st e.
-          ne (sym ((o.views k u at).owner_is actor st).0 ∙ (ap o.owner (sym e ∙ mine) ∙ its.0))) (o.logged k u at);
+      mine = logged-mine event w mine alone low high turns lost (o.logged j v me);
+      others = λ k u ne at. logged-other event (λ actor st e. ne
+          (sym ((o.views k u at).owner_is actor st).0 ∙ (ap o.owner (sym e ∙ mine) ∙ its.0))) (o.logged k u at);
     }
 
 -- what such a step tells
-pub logs : (setup : Setup) (s : State Act View) (o : KeepsRule setup s) (j : ℕ) (v : View) (event : TurnEvent)
+pub logs : {setup : Setup} {s : State Act View} (o : KeepsRule setup s) (j : ℕ) (v : View) (event : TurnEvent)
     → IsViewOf s.views j v → v.high ≡ suc v.low → event_actor event ≡ v.low → IsInTurn o.turns event
     → Logs v.turns event (o.turns ++ event ∷ [])
-logs setup s o j v event me alone mine may =
+logs o j v event me alone mine may =
     let has = o.logged j v me in
     record {
       later = has.later;
       by_others = subst (λ (a : ℕ). events_of a has.later ≡ []) (sym mine)
           (has.by_others v.low (omega arith, omega (arith, alone)));
       goes_on = ap (λ l. l ++ event ∷ []) has.goes_on;
-      in_turn = log-more o.turns event o.in_turn may;
+      in_turn = log-more event o.in_turn may;
     }
 
 -- so have all views
-pub all-logged : (setup : Setup) (s : State Act View) (o : KeepsRule setup s) (j : ℕ) (w : View)
-    (log : List TurnEvent) → LogGoes setup s o j w log → (seat : ℕ) (view : View)
-    → IsViewOf (set s.views j w) seat view → HasLogged log view
-all-logged setup s o j w log g seat view there = ⊎_elim
+pub all-logged : {setup : Setup} {s : State Act View} {o : KeepsRule setup s} {j : ℕ} {w : View} {log : List TurnEvent}
+    → LogGoes setup s o j w log → (seat : ℕ) (view : View) → IsViewOf (set s.views j w) seat view → HasLogged log view
+all-logged {s} {j} {w} {log} g seat view there = ⊎_elim
     (λ (t : (seat ≡ j) × (w ≡ view)). subst (λ (u : View). HasLogged log u) t.1 g.mine)
     (λ (t : (seat ≢ j) × (get_elem? s.views seat ≡ some view)). g.others seat view t.0 t.1)
     (at_set s.views j seat w view there)

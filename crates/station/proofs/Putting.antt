@@ -51,10 +51,9 @@ key-of_write : (sub : ℕ) (w : Write) → key_sub (write_key sub w) ≡ sub
 key-of_write sub (mark_at node mark) = refl
 key-of_write sub (entry_at level cluster address) = refl
 
-from_write : (plan : PlanData) (sub : ℕ) (w : Write) (visit : Visit) → Some (visit_of sub w) ≡ Some visit
-    → IsPlace plan (write_key sub w)
-    → IsDue plan sub visit
-from_write plan sub w visit e place =
+from_write : {plan : PlanData} (sub : ℕ) (w : Write) {visit : Visit} → Some (visit_of sub w) ≡ Some visit
+    → IsPlace plan (write_key sub w) → IsDue plan sub visit
+from_write {plan} sub w {visit} e place =
     let same : visit_of sub w ≡ visit = ap (λ o. unwrap_or o (visit_of sub w)) e in
     subst (λ (v : Visit). IsDue plan sub v) same
     record {
@@ -66,58 +65,51 @@ from_write plan sub w visit e place =
       place = place;
     }
 
-due_by : (plan : PlanData) (handset : HandsetData) (visit : Visit) → GoesWith plan handset → HasHomes plan
-    → (stage : Stage)
-    → IsMoveStage (nodes_of plan) handset.last stage
+due_by : {plan : PlanData} {handset : HandsetData} {visit : Visit} → GoesWith plan handset → HasHomes plan
+    → (stage : Stage) → IsMoveStage (nodes_of plan) handset.last stage
     → option_map (visit_of handset.sub) (due_at (setting_of plan []) handset stage) ≡ Some visit
     → IsDue plan handset.sub visit
-due_by plan handset visit g homes Resting within e = absurd (nothing visit e)
+due_by {visit} g homes Resting within e = absurd (nothing visit e)
   where
     nothing : (v : Visit) → None ≡ Some v → ⊥
     nothing v e = cc
-due_by plan handset visit g homes Coming within e =
-    from_write plan handset.sub (mark_at handset.last.to
-    (ComingMark handset.last.number handset.last.from)) visit e g.to
-due_by plan handset visit g homes (Renewing level) within e =
+due_by {handset} g homes Coming within e =
+    from_write handset.sub (mark_at handset.last.to (ComingMark handset.last.number handset.last.from)) e g.to
+due_by {plan} {handset} g homes (Renewing level) within e =
     let low : level < levels_of plan = omega (arith, within, g.renewed) in
-    from_write plan handset.sub (new_address (setting_of plan []) handset.last level) visit e
+    from_write handset.sub (new_address (setting_of plan []) handset.last level) e
     (low, homes level handset.last.to low g.to)
-due_by plan handset visit g homes Committing within e =
-    from_write plan handset.sub (mark_at handset.last.from (Gone handset.last.number handset.last.to)) visit e g.from
-due_by plan handset visit g homes Confirming within e =
-    from_write plan handset.sub (mark_at handset.last.to (Here handset.last.number)) visit e g.to
-due_by plan handset visit g homes (Erasing level) within e =
+due_by {handset} g homes Committing within e =
+    from_write handset.sub (mark_at handset.last.from (Gone handset.last.number handset.last.to)) e g.from
+due_by {handset} g homes Confirming within e =
+    from_write handset.sub (mark_at handset.last.to (Here handset.last.number)) e g.to
+due_by {plan} {handset} g homes (Erasing level) within e =
     let low : level < levels_of plan = omega (arith, within, g.renewed) in
-    from_write plan handset.sub (erasure (setting_of plan []) handset level) visit e (
+    from_write handset.sub (erasure (setting_of plan []) handset level) e (
       low,
-      homes level _ low
-          (g.inside level low),
+      homes level _ low (g.inside level low),
     )
-due_by plan handset visit g homes (Purging node) within e = from_write plan handset.sub
-    (mark_at node Empty) visit e within
-due_by plan handset visit g homes (Switching off) within e = from_write plan handset.sub
-    (switch_mark handset off) visit e g.place
+due_by {handset} g homes (Purging node) within e = from_write handset.sub (mark_at node Empty) e within
+due_by {handset} g homes (Switching off) within e = from_write handset.sub (switch_mark handset off) e g.place
 
-pub due_is : (plan : PlanData) (handset : HandsetData) (visit : Visit) → GoesWith plan handset → HasHomes plan
+pub due_is : {plan : PlanData} {handset : HandsetData} {visit : Visit} → GoesWith plan handset → HasHomes plan
     → due (setting_of plan []) handset ≡ Some visit → IsDue plan handset.sub visit
-due_is plan handset visit g homes e = due_by plan handset visit g homes handset.stage g.stage e
+due_is {handset} g homes e = due_by g homes handset.stage g.stage e
 
-put-alone : (sub : ℕ) (history : History) (key : Key) (word actor : ℕ) → key_sub key ≡ sub
+put-alone : {sub : ℕ} (history : History) (key : Key) (word actor : ℕ) → key_sub key ≡ sub
     → puts_to sub (history ++ put_of actor key word ∷ []) ≡ puts_to sub history ++ put_of actor key word ∷ []
-put-alone sub history key word actor e =
+put-alone {sub} history key word actor e =
     let visit : Visit = put_of actor key word in
     puts-append sub history (visit ∷ []) ∙ ap (λ b. puts_to sub history ++ cond b (visit ∷ []) []) (eq-eqb
     (key_sub key) sub e)
 
 -- the next put of a handset keeps what its pass has seen legal
-pub due_legal : ScriptsAreLegal → (setup : Setup) (view : View) (handset : HandsetData) (key : Key) (word : ℕ)
-    → (setting_in setup).nodes ≤ 2 ^ 16
-    → (h : IsHandsetOf setup view handset)
-    → slice_get (visits (setting_in setup) handset.sub h.steps) (length (puts_to view.low view.seen))
-    ≡ Some (put_of view.low key word)
-    → key_sub key ≡ view.low
+pub due_legal : ScriptsAreLegal → {setup : Setup} {view : View} {handset : HandsetData} (key : Key) (word : ℕ)
+    → (setting_in setup).nodes ≤ 2 ^ 16 → (h : IsHandsetOf setup view handset)
+    → slice_get (visits (setting_in setup) handset.sub h.steps) (length (puts_to view.low view.seen)) ≡ Some
+    (put_of view.low key word) → key_sub key ≡ view.low
     → IsLegal (setting_in setup) view.low (view.seen ++ put_of view.low key word ∷ [])
-due_legal law setup view handset key word low h next mine =
+due_legal law {setup} {view} key word low h next mine =
     let setting = setting_in setup in
     let visit : Visit = put_of view.low key word in
     let made = length (puts_to view.low view.seen) in
@@ -125,23 +117,20 @@ due_legal law setup view handset key word low h next mine =
     let next' : slice_get vs made ≡ Some visit =
     subst (λ (s : ℕ). slice_get (visits setting s h.steps) made ≡ Some visit) h.sub next in
     let puts : puts_to view.low (view.seen ++ visit ∷ []) ≡ take (suc made) vs =
-    put-alone view.low view.seen key word view.low mine ∙ (ap (λ l. l ++ visit ∷ []) h.made
+    put-alone view.seen key word view.low mine ∙ (ap (λ l. l ++ visit ∷ []) h.made
     ∙ sym (take-more vs made visit next')) in
     subst (λ (l : List Visit). ArePuts setting view.low l) (sym puts) (law setting view.low h.steps
     (suc made) low h.script)
 
 -- the handset after its put is the handset of the pass after its visit
-pub handset_after : (setup : Setup) (view after : View) (handset new : HandsetData) (key : Key) (word : ℕ)
-    (earlier : History)
-    → (h : IsHandsetOf setup view handset)
-    → slice_get (visits (setting_in setup) handset.sub h.steps) (length (puts_to view.low view.seen))
-    ≡ Some (put_of view.low key word)
-    → key_sub key ≡ view.low → after.low ≡ view.low
-    → after.seen ≡ earlier ++ put_of view.low key word ∷ []
-    → puts_to view.low earlier ≡ puts_to view.low view.seen → GoesWith setup.plan new → new.sub ≡ handset.sub
-    → StandsForSteps (setting_in setup) new h.steps (suc (length (puts_to view.low view.seen)))
-    → HandsetGoesOn setup view after new h.steps (put_of view.low key word)
-handset_after setup view after handset new key word earlier h next mine low seen puts goes sub stands =
+pub handset_after : {setup : Setup} {view : View} (after : View) {handset new : HandsetData} (key : Key) (word : ℕ)
+    (earlier : History) → (h : IsHandsetOf setup view handset)
+    → slice_get (visits (setting_in setup) handset.sub h.steps) (length (puts_to view.low view.seen)) ≡ Some
+    (put_of view.low key word) → key_sub key ≡ view.low → after.low ≡ view.low
+    → after.seen ≡ earlier ++ put_of view.low key word ∷ [] → puts_to view.low earlier ≡ puts_to view.low view.seen
+    → GoesWith setup.plan new → new.sub ≡ handset.sub → StandsForSteps (setting_in setup) new h.steps
+    (suc (length (puts_to view.low view.seen))) → HandsetGoesOn setup view after new h.steps (put_of view.low key word)
+handset_after {setup} {view} after {new} key word earlier h next mine low seen puts goes sub stands =
     let setting = setting_in setup in
     let visit : Visit = put_of view.low key word in
     let made = length (puts_to view.low view.seen) in
@@ -149,7 +138,7 @@ handset_after setup view after handset new key word earlier h next mine low seen
     let next' : slice_get vs made ≡ Some visit =
     subst (λ (s : ℕ). slice_get (visits setting s h.steps) made ≡ Some visit) h.sub next in
     let now : puts_to after.low after.seen ≡ puts_to view.low view.seen ++ visit ∷ [] =
-    (λ i. puts_to (low i) (seen i)) ∙ (put-alone view.low earlier key word view.low mine
+    (λ i. puts_to (low i) (seen i)) ∙ (put-alone earlier key word view.low mine
     ∙ ap (λ l. l ++ visit ∷ []) puts) in
     let count : length (puts_to after.low after.seen) ≡ suc made = ap length now
     ∙ omega (arith, length-append (puts_to view.low view.seen) (visit ∷ [])) in
@@ -214,7 +203,8 @@ was_here setting history node sub = says_here (mark_in (cell setting history (Pr
 put-here : (setting : Setting) (earlier : History) (node sub word actor : ℕ)
     → was_here setting (earlier ++ put_of actor (Presence node sub) word ∷ []) node sub ≡ says_here (mark_in word)
 put-here setting earlier node sub word actor =
-    ap (λ w. says_here (mark_in w)) (cell-push setting (Presence node sub) earlier (put_of actor (Presence node sub) word)
+    ap (λ w. says_here (mark_in w)) (cell-push setting (Presence node sub) earlier
+    (put_of actor (Presence node sub) word)
     ∙ hit (node == node) (sub == sub) (eq-eqb node node refl) (eq-eqb sub sub refl))
   where
     hit : (a b : Bool) → a ≡ true → b ≡ true
@@ -226,8 +216,8 @@ put-here setting earlier node sub word actor =
 put-else : (setting : Setting) (earlier : History) (node sub word actor s : ℕ) → s ≢ sub
     → was_here setting (earlier ++ put_of actor (Presence node sub) word ∷ []) node s ≡ was_here setting earlier node s
 put-else setting earlier node sub word actor s ne =
-    ap (λ w. says_here (mark_in w)) (cell-push setting (Presence node s) earlier (put_of actor (Presence node sub) word)
-    ∙ miss (node == node) (s == sub) (ne_eqb s sub ne))
+    ap (λ w. says_here (mark_in w)) (cell-push setting (Presence node s) earlier
+    (put_of actor (Presence node sub) word) ∙ miss (node == node) (s == sub) (ne_eqb s sub ne))
   where
     miss : (a b : Bool) → b ≡ false
         → (if a && b then word else cell setting earlier (Presence node s)) ≡ cell setting earlier (Presence node s)
@@ -236,21 +226,19 @@ put-else setting earlier node sub word actor s ne =
     miss false b x = refl
 
 -- the tally that a put owes
-pub moves : (setup : Setup) (view : View) (earlier : History) (node old new actor : ℕ) (key : Key)
-    → key_sub key < subs_in setup
-    → key_node (setting_in setup) key ≡ node
-    → view.seen ≡ earlier ++ put_of actor key new ∷ []
-    → view.owes ≡ changes_here (setting_in setup) earlier (Put key new)
-    → view.tally ≡ length (census (setting_in setup) earlier node)
+pub moves : (setup : Setup) (view : View) (earlier : History) {node old : ℕ} (new actor : ℕ) (key : Key)
+    → key_sub key < subs_in setup → key_node (setting_in setup) key ≡ node
+    → view.seen ≡ earlier ++ put_of actor key new ∷ [] → view.owes ≡ changes_here (setting_in setup) earlier
+    (Put key new) → view.tally ≡ length (census (setting_in setup) earlier node)
     → old ≡ cell (setting_in setup) earlier key → Moves setup view node key old new
-moves setup view earlier node old new actor (Entry level cluster sub) known at seen owes tally is =
+moves setup view earlier new actor (Entry level cluster sub) known at seen owes tally is =
     record {
       owes = owes;
       more = λ due _. absurd (true≢false (sym due
           ∙ owes));
       less = λ due _. absurd (true≢false (sym due ∙ owes));
     }
-moves setup view earlier node old new actor (Presence place sub) known at seen owes tally is =
+moves setup view earlier {node} new actor (Presence place sub) known at seen owes tally is =
     let setting = setting_in setup in
     let later : History = earlier ++ put_of actor (Presence place sub) new ∷ [] in
     let was : Bool = was_here setting earlier place sub in
@@ -287,13 +275,12 @@ pub census-short : (setting : Setting) (history : History) (node : ℕ)
 census-short setting history node = length-passing-le (λ s. says_here (mark_in (cell setting history
     (Presence node s)))) 0 (subs setting)
 
-pub may_put : (view : View) (node : ℕ) (key : Key) (word : ℕ) (log : List TurnEvent) → view.has_drawn ≡ false
-    → view.unwritten ≡ None → view.owes ≡ false
-    → node ≡ key_node (setting_in view.setup) key → length (own view.low view.seen) < 2 ^ 56
-    → IsCellOf view.setup key → key_sub key ≡ view.low
+pub may_put : (view : View) {node : ℕ} {key : Key} (word : ℕ) (log : List TurnEvent) → view.has_drawn ≡ false
+    → view.unwritten ≡ None → view.owes ≡ false → node ≡ key_node (setting_in view.setup) key
+    → length (own view.low view.seen) < 2 ^ 56 → IsCellOf view.setup key → key_sub key ≡ view.low
     → IsLegal (setting_in view.setup) view.low (view.seen ++ put_of view.low key word ∷ [])
     → MayDraw (view_inside view node (Put key word) log) node (Put key word)
-may_put view node key word log undrawn unwritten clear at few cell mine legal = record {
+may_put view word log undrawn unwritten clear at few cell mine legal = record {
   inside = refl;
   intended = refl;
   undrawn = undrawn;
@@ -301,7 +288,7 @@ may_put view node key word log undrawn unwritten clear at few cell mine legal = 
   clear = clear;
   at = sym at;
   few = few;
-  cell = λ other e. subst (λ (k : Key). IsCellOf view.setup k) (same_some key other e) cell;
+  cell = λ other e. subst (λ (k : Key). IsCellOf view.setup k) (same_some e) cell;
   may = (mine, legal);
 }
 
@@ -329,7 +316,7 @@ write-sub setting handset (Purging node) = go_on-sub setting handset (purging_fr
 write-sub setting handset (Switching off) = refl
 
 -- what holds of a put of the subscriber holds of the one that is due
-pub put_due : (o : Option Visit) (sub low : ℕ) (key : Key) (word : ℕ) (P : Visit → Type 0)
+pub put_due : {o : Option Visit} {sub low : ℕ} (key : Key) (word : ℕ) (P : Visit → Type 0)
     → o ≡ Some (put_of sub key word) → sub ≡ low → P (put_of low key word) → IfSome o P
-put_due o sub low key word P e same h = subst (λ (p : Option Visit). IfSome p P)
+put_due key word P e same h = subst (λ (p : Option Visit). IfSome p P)
     (sym (e ∙ ap (λ (a : ℕ). Some (put_of a key word)) same)) h

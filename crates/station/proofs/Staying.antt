@@ -28,11 +28,12 @@ word-elsewhere law setting key word (Put other new) ne = go (same_key key other)
     go false e = refl
 word-elsewhere law setting key word (Census node) ne = refl
 
-cell-rest : SameKey → (setting : Setting) (key : Key) (node word : ℕ) (rest : List Visit) → key_node setting key ≡ node
-    → visits_at setting node rest ≡ [] → fold (λ w (v : Visit). word_after key w v.act) word rest ≡ word
-cell-rest law setting key node word [] at none-there = refl
-cell-rest law setting key node word (visit ∷ rest) at none-there =
-    go (λ f. cell-rest law setting key node word rest at f) (act_node setting visit.act == node) refl none-there
+cell-rest : SameKey → (setting : Setting) (key : Key) {node : ℕ} (word : ℕ) (rest : List Visit)
+    → key_node setting key ≡ node → visits_at setting node rest ≡ [] → fold (λ w (v : Visit). word_after key w v.act)
+    word rest ≡ word
+cell-rest law setting key word [] at none-there = refl
+cell-rest law setting key {node} word (visit ∷ rest) at none-there =
+    go (λ f. cell-rest law setting key word rest at f) (act_node setting visit.act == node) refl none-there
   where
     go : (visits_at setting node rest ≡ [] → fold (λ w (v : Visit). word_after key w v.act) word rest ≡ word)
         → (b : Bool) → (act_node setting visit.act == node) ≡ b
@@ -45,19 +46,19 @@ cell-rest law setting key node word (visit ∷ rest) at none-there =
         let first = word-elsewhere law setting key word visit.act away in
         ap (λ w. fold (λ w (v : Visit). word_after key w v.act) w rest) first ∙ later f
 
-pub cell-stays : SameKey → (setting : Setting) (key : Key) (node : ℕ) (seen history : History) → IsFront seen history
+pub cell-stays : SameKey → (setting : Setting) (key : Key) {node : ℕ} (seen history : History) → IsFront seen history
     → key_node setting key ≡ node → visits_at setting node (drop (length seen) history) ≡ []
     → cell setting history key ≡ cell setting seen key
-cell-stays law setting key node seen history front at none-there =
+cell-stays law setting key seen history front at none-there =
     let rest = drop (length seen) history in
     ap (λ h. cell setting h key) (front-rest seen history front)
     ∙ (fold-append (λ w (v : Visit). word_after key w v.act) (opening setting key) seen rest
-    ∙ cell-rest law setting key node (cell setting seen key) rest at none-there)
+    ∙ cell-rest law setting key (cell setting seen key) rest at none-there)
 
 pub census-stays : SameKey → (setting : Setting) (node : ℕ) (seen history : History) → IsFront seen history
     → visits_at setting node (drop (length seen) history) ≡ []
     → census setting history node ≡ census setting seen node
 census-stays law setting node seen history front none-there =
     let same : (sub : ℕ) → cell setting history (Presence node sub) ≡ cell setting seen (Presence node sub) =
-    λ sub. cell-stays law setting (Presence node sub) node seen history front refl none-there in
+    λ sub. cell-stays law setting (Presence node sub) seen history front refl none-there in
     λ i. sift (λ sub. says_here (mark_in (same sub i))) 0 (subs setting)

@@ -45,9 +45,9 @@ seat_below (x ∷ xs) zero v e = omega arith
 seat_below (x ∷ xs) (suc j) v e = omega (arith, seat_below xs j v e)
 
 -- a view that has seen the same, and stands for the same actors
-pub has-kept : (history : History) (v w : View) → w.seen ≡ v.seen → w.told ≡ v.told → w.had ≡ v.had → w.low ≡ v.low
-    → w.high ≡ v.high → HasSeen history v → HasSeen history w
-has-kept history v w seen told had low high has =
+pub has-kept : {history : History} {v : View} (w : View) → w.seen ≡ v.seen → w.told ≡ v.told → w.had ≡ v.had
+    → w.low ≡ v.low → w.high ≡ v.high → HasSeen history v → HasSeen history w
+has-kept {history} {v} w seen told had low high has =
     let stands : (actor : ℕ) → StandsForActor w actor → StandsForActor v actor =
     λ actor its. (omega (arith, its.0, low), omega (arith, its.1, high)) in
     record {
@@ -83,17 +83,17 @@ pub record Changes (setup : Setup) (s : St) (o : KeepsRule setup s) (j x : ℕ) 
   pub tally : (w.owes ≡ true → w.inside ≢ Some x)
       → slice_index new (tally_word setup x) ≡ length (census (setting_in setup) o.history x)
 
-pub no_some : (x : ℕ) → None ≡ Some x → ⊥
-no_some x e = cc
+pub no_some : {x : ℕ} → None ≡ Some x → ⊥
+no_some e = cc
 
-other_node : (v : View) (x y : ℕ) → x ≢ y → (v.inside ≡ None) ⊎ (v.inside ≡ Some x) → v.inside ≢ Some y
-other_node v x y ne (inl out) e = no_some y (sym out ∙ e)
-other_node v x y ne (inr there) e = let same : Some x ≡ Some y = sym there ∙ e in
+other_node : (v : View) {x : ℕ} (y : ℕ) → x ≢ y → (v.inside ≡ None) ⊎ (v.inside ≡ Some x) → v.inside ≢ Some y
+other_node v y ne (inl out) e = no_some (sym out ∙ e)
+other_node v {x} y ne (inr there) e = let same : Some x ≡ Some y = sym there ∙ e in
     ne (ap (λ (o : Option ℕ). Rattle.std.specs.Prelude.unwrap_or o x) same)
 
-pub changed : (setup : Setup) (s : St) (o : KeepsRule setup s) (j x : ℕ) (v w : View) (new : List ℕ)
+pub changed : {setup : Setup} {s : St} {o : KeepsRule setup s} {j x : ℕ} {v w : View} {new : List ℕ}
     → Changes setup s o j x v w new → KeepsRule setup (with new s j w)
-changed setup s o j x v w new c =
+changed {setup} {s} {o} {j} {x} {v} {w} {new} c =
     let near = seat_below s.views j v c.me in
     record {
       history = o.history;
@@ -106,9 +106,8 @@ changed setup s o j x v w new c =
           (λ (t : (k ≡ j) × (w ≡ u)). subst (λ (y : View). IsSoundView setup new o.history o.owner k y) t.1
           (subst (λ (i : ℕ). IsSoundView setup new o.history o.owner i w) (sym t.0) c.mine))
           (λ (t : (k ≢ j) × (get_elem? s.views k ≡ some u)). let was = o.views k u t.1 in
-          resound setup s.words new o.history o.owner k u was (λ node i is word.
-          c.elsewhere node i (was.inside node is).known (λ e. c.alone k u t.0 t.1 (is
-          ∙ ap (λ (n : ℕ). Some n) (sym e))) word))
+          resound new was (λ node i is word. c.elsewhere node i (was.inside node is).known
+          (λ e. c.alone k u t.0 t.1 (is ∙ ap (λ (n : ℕ). Some n) (sym e))) word))
           (at_set s.views j k w u at);
       actors = λ actor below. owned s o.owner j actor v w c.me c.low c.high near (o.actors actor below);
       known = o.known;
@@ -120,13 +119,13 @@ changed setup s o j x v w new c =
           (λ e. subst (λ (n : ℕ). slice_index new (lock_word n) ≡ lock_in c.log n) e c.lock_here)
           (λ ne. c.elsewhere node (lock_word node) known ne (is_lock refl)
           ∙ (o.lock_words node known ∙ sym (c.lock_else node ne)));
-      logged = all-logged setup s o j w c.log c.goes;
+      logged = all-logged c.goes;
       locks = λ node actor inside is. dite (ℕ_discrete x node)
           (λ e. subst (λ (n : ℕ). IsHeld (set s.views j w) o.owner n actor) e (c.lock actor (ap (λ
           (n : ℕ). slice_index new (lock_word n)) e ∙ is)))
           (λ ne. let t = o.locks node actor inside (sym (c.elsewhere node (lock_word node) inside ne
           (is_lock refl)) ∙ is) in
-          let away : o.owner actor ≢ j = λ e. other_node v x node ne c.before
+          let away : o.owner actor ≢ j = λ e. other_node v node ne c.before
           (ap (λ (y : View). y.inside) (some-injective v t.0 (sym c.me ∙ (ap (get_elem? s.views) (sym e) ∙ t.1)))
           ∙ t.2) in
           (t.0, set_else s.views j (o.owner actor) w away ∙ t.1, t.2, t.3));
@@ -136,8 +135,8 @@ changed setup s o j x v w new c =
           (is_cell key known refl refl) ∙ o.cells key known (λ k u at is.
           dite (ℕ_discrete k j)
           (λ e. let same : u ≡ v = some-injective u v (sym at ∙ (ap (get_elem? s.views) e ∙ c.me)) in
-          other_node v x (key_node (setting_in setup) key) ne c.before (ap (λ (y : View). y.inside) (sym same)
-          ∙ ((o.views k u at).unwritten key is).inside))
+          other_node v (key_node (setting_in setup) key) ne c.before
+          (ap (λ (y : View). y.inside) (sym same) ∙ ((o.views k u at).unwritten key is).inside))
           (λ away. quiet k u (set_else s.views j k w away ∙ at) is)));
       tallies = λ node known quiet. dite (ℕ_discrete x node)
           (λ e. subst (λ (n : ℕ). slice_index new (tally_word setup n) ≡ length (census
@@ -147,7 +146,7 @@ changed setup s o j x v w new c =
           ∙ o.tallies node known (λ k u at owes is.
           dite (ℕ_discrete k j)
           (λ e. let same : u ≡ v = some-injective u v (sym at ∙ (ap (get_elem? s.views) e ∙ c.me)) in
-          other_node v x node ne c.before (ap (λ (y : View). y.inside) (sym same) ∙ is))
+          other_node v node ne c.before (ap (λ (y : View). y.inside) (sym same) ∙ is))
           (λ away. quiet k u (set_else s.views j k w away ∙ at) owes is)));
       legal = o.legal;
     }

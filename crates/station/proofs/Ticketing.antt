@@ -22,10 +22,9 @@ use Rattle.entry_word.specs.declared.visit.Key.{Key}
 use Rattle.directory.specs.Keys.{act_node}
 
 -- a pass has room for one visit more
-pub own_few : (me : Me Act View) (actor seen spare : ℕ) (kept : List ℕ) (room : ℕ)
-    → IsPass me actor seen spare kept room → 1 ≤ spare
-    → length (own me.0.low me.0.seen) < 2 ^ 56
-own_few me actor seen spare kept room p h =
+pub own_few : {me : Me Act View} {actor seen spare : ℕ} {kept : List ℕ} {room : ℕ}
+    → IsPass me actor seen spare kept room → 1 ≤ spare → length (own me.0.low me.0.seen) < 2 ^ 56
+own_few {me} {actor} {spare} {kept} p h =
     subst (λ (a : ℕ). length (own a me.0.seen) < 2 ^ 56) (sym p.low)
     (below (length (own actor me.0.seen)) (length kept) spare (2 ^ 56) (sym (tickets-count actor me.0.seen)
     ∙ sym (ap length p.tickets_are)) p.few h)
@@ -34,15 +33,14 @@ own_few me actor seen spare kept room p h =
     below a b c d e f g = omega arith
 
 -- what a pass is once it has made a visit
-pub pass_after : (me new : Me Act View) (actor seen spare left ticket : ℕ) (kept : List ℕ) (room : ℕ)
-    (earlier : History) (act : Act)
-    → IsPass me actor seen spare kept room → left + 1 ≡ spare → length earlier ≡ ticket
-    → IsFront me.0.seen earlier → own me.0.low earlier ≡ own me.0.low me.0.seen
-    → new.1 ≡ [] → new.0.low ≡ me.0.low → new.0.high ≡ me.0.high → new.0.is_spent ≡ me.0.is_spent
-    → new.0.has_drawn ≡ false → new.0.unwritten ≡ None → new.0.owes ≡ false
+pub pass_after : {me : Me Act View} (new : Me Act View) {actor seen spare : ℕ} (left : ℕ) {ticket : ℕ} {kept : List ℕ}
+    {room : ℕ} (earlier : History) (act : Act) → IsPass me actor seen spare kept room → left + 1 ≡ spare
+    → length earlier ≡ ticket → IsFront me.0.seen earlier → own me.0.low earlier ≡ own me.0.low me.0.seen → new.1 ≡ []
+    → new.0.low ≡ me.0.low → new.0.high ≡ me.0.high → new.0.is_spent ≡ me.0.is_spent → new.0.has_drawn ≡ false
+    → new.0.unwritten ≡ None → new.0.owes ≡ false
     → new.0.seen ≡ earlier ++ record { actor = me.0.low; act = act } ∷ []
     → IsPass new actor (suc ticket) left (kept ++ ticket ∷ []) room
-pass_after me new actor seen spare left ticket kept room earlier act p less count front visits slots low high real
+pass_after {me} new {actor} left {ticket} {kept} earlier act p less count front visits slots low high real
     undrawn unwritten clear seen_is =
     let visit : Visit = record { actor = me.0.low; act = act } in
     let own_same : own actor earlier ≡ own actor me.0.seen = subst (λ
@@ -66,9 +64,9 @@ pass_after me new actor seen spare left ticket kept room earlier act p less coun
       few = omega (arith, p.few, one, less);
     }
 
-pub left_by : (there new : View) → new ≡ view_outside there new.turns → there.unwritten ≡ None → there.owes ≡ false
-    → HasLeft there new
-left_by there new e unwritten clear = subst (λ (v : View). HasLeft there v) (sym e) record {
+pub left_by : (there : View) {new : View} → new ≡ view_outside there new.turns → there.unwritten ≡ None
+    → there.owes ≡ false → HasLeft there new
+left_by there e unwritten clear = subst (λ (v : View). HasLeft there v) (sym e) record {
   low = refl;
   high = refl;
   real = refl;
@@ -81,9 +79,9 @@ left_by there new e unwritten clear = subst (λ (v : View). HasLeft there v) (sy
   clear = clear;
 }
 
-pub left_put : (there new : View) → new ≡ view_outside (view_after_tally (view_after_put there)) new.turns
+pub left_put : (there : View) {new : View} → new ≡ view_outside (view_after_tally (view_after_put there)) new.turns
     → HasLeft there new
-left_put there new e = subst (λ (v : View). HasLeft there v) (sym e) record {
+left_put there e = subst (λ (v : View). HasLeft there v) (sym e) record {
   low = refl;
   high = refl;
   real = refl;
@@ -97,10 +95,10 @@ left_put there new e = subst (λ (v : View). HasLeft there v) (sym e) record {
 }
 
 -- a lost turn leaves a pass a pass
-pub lost_pass : (me new : Me Act View) (actor seen spare node word : ℕ) (kept : List ℕ) (room : ℕ)
+pub lost_pass : {me new : Me Act View} {actor seen spare : ℕ} (node word : ℕ) {kept : List ℕ} {room : ℕ}
     → IsPass me actor seen spare kept room → new ≡ (view_held me.0 node word new.0.turns, me.1)
     → IsPass new actor seen spare kept room
-lost_pass me new actor seen spare node word kept room p e =
+lost_pass {actor} {seen} {spare} node word {kept} {room} p e =
     subst (λ (m : Me Act View). IsPass m actor seen spare kept room) (sym e) record {
       slots = p.slots;
       low = p.low;
@@ -116,67 +114,57 @@ lost_pass me new actor seen spare node word kept room p e =
     }
 
 -- from the pass before to the pass after a whole visit
-pub pass_done : (me two new : Me Act View) (actor seen spare left node ticket : ℕ) (kept : List ℕ) (room : ℕ)
-    (act : Act)
-    → IsPass me actor seen spare kept room → left + 1 ≡ spare
+pub pass_done : {me : Me Act View} (two new : Me Act View) {actor seen spare : ℕ} (left : ℕ) {node ticket : ℕ}
+    {kept : List ℕ} {room : ℕ} {act : Act} → IsPass me actor seen spare kept room → left + 1 ≡ spare
     → Draws (view_inside me.0 node act two.0.turns) node act ticket two.0 → HasLeft two.0 new.0 → new.1 ≡ me.1
     → IsPass new actor (suc ticket) left (kept ++ ticket ∷ []) room
-pass_done me two new actor seen spare left node ticket kept room act p less d gone_by slots =
-    pass_after me new actor seen spare left ticket kept room d.earlier act p less d.count d.seen d.visits
-    (slots ∙ p.slots)
-    (gone_by.low ∙ ap (λ (x : View). x.low) d.view)
-    (gone_by.high ∙ ap (λ (x : View). x.high) d.view)
-    (gone_by.real ∙ ap (λ (x : View). x.is_spent) d.view)
-    gone_by.undrawn gone_by.unwritten gone_by.clear
+pass_done two new left {act} p less d gone_by slots =
+    pass_after new left d.earlier act p less d.count d.seen d.visits (slots ∙ p.slots)
+    (gone_by.low ∙ ap (λ (x : View). x.low) d.view) (gone_by.high ∙ ap (λ (x : View). x.high) d.view)
+    (gone_by.real ∙ ap (λ (x : View). x.is_spent) d.view) gone_by.undrawn gone_by.unwritten gone_by.clear
     (gone_by.seen ∙ ap (λ (x : View). x.seen) d.view)
 
 -- a pass that takes its turn at a node may then draw the ticket of an act that puts nothing
-pub may_draw : (me : Me Act View) (actor seen spare : ℕ) (kept : List ℕ) (room node : ℕ) (act : Act)
-    (log : List TurnEvent)
-    → IsPass me actor seen spare kept room → 1 ≤ spare → act_node (setting_in me.0.setup) act ≡ node
-    → ((key : Key) → key_put act ≡ Some key → ⊥) → MayDo (view_inside me.0 node act log) act
-    → MayDraw (view_inside me.0 node act log) node act
-may_draw me actor seen spare kept room node act log p some at none may = record {
+pub may_draw : {me : Me Act View} {actor seen spare : ℕ} {kept : List ℕ} {room node : ℕ} (act : Act)
+    (log : List TurnEvent) → IsPass me actor seen spare kept room → 1 ≤ spare
+    → act_node (setting_in me.0.setup) act ≡ node → ((key : Key) → key_put act ≡ Some key → ⊥)
+    → MayDo (view_inside me.0 node act log) act → MayDraw (view_inside me.0 node act log) node act
+may_draw act log p some at none may = record {
   inside = refl;
   intended = refl;
   undrawn = p.undrawn;
   unwritten = p.unwritten;
   clear = p.clear;
   at = at;
-  few = own_few me actor seen spare kept room p some;
+  few = own_few p some;
   cell = λ key e. absurd (none key e);
   may = may;
 }
 
 -- a pass that has drawn the ticket of a look, and has looked, leaves the node with its visit made
-pub look_done : (me two there new : Me Act View) (actor seen spare left node ticket : ℕ) (kept : List ℕ)
-    (room : ℕ) (act : Act)
-    → IsPass me actor seen spare kept room → left + 1 ≡ spare
+pub look_done : {me two there new : Me Act View} {actor seen spare : ℕ} (left : ℕ) {node ticket : ℕ} {kept : List ℕ}
+    {room : ℕ} {act : Act} → IsPass me actor seen spare kept room → left + 1 ≡ spare
     → Draws (view_inside me.0 node act two.0.turns) node act ticket two.0 → two.1 ≡ me.1 → there ≡ two
-    → new ≡ (view_outside there.0 new.0.turns, there.1)
-    → two.0.unwritten ≡ None → two.0.owes ≡ false
+    → new ≡ (view_outside there.0 new.0.turns, there.1) → two.0.unwritten ≡ None → two.0.owes ≡ false
     → IsPass new actor (suc ticket) left (kept ++ ticket ∷ []) room
-look_done me two there new actor seen spare left node ticket kept room act p less d slots same gone unwritten clear =
-    pass_done me two new actor seen spare left node ticket kept room act p less d
-    (left_by two.0 new.0 (ap (λ (m : Me Act View). m.0) gone
-    ∙ ap (λ (m : Me Act View). view_outside m.0 new.0.turns) same)
-    unwritten clear)
+look_done {two} {new} left p less d slots same gone unwritten clear =
+    pass_done two new left p less d (left_by two.0 (ap (λ (m : Me Act View). m.0) gone
+    ∙ ap (λ (m : Me Act View). view_outside m.0 new.0.turns) same) unwritten clear)
     (ap (λ (m : Me Act View). m.1) gone ∙ (ap (λ (m : Me Act View). m.1) same ∙ slots))
 
 -- that a seat has won its turn, told of its pass
-pub pass_wins : (old pass : PassData) (actor node : ℕ) (log : List TurnEvent) → old ≡ pass → old.view.low ≡ actor
+pub pass_wins : {old pass : PassData} {actor node : ℕ} {log : List TurnEvent} → old ≡ pass → old.view.low ≡ actor
     → Logs old.view.turns (Won actor node) log → Logs pass.view.turns (Won (actor_of pass) node) log
-pass_wins old pass actor node log told low wins =
+pass_wins {old} {node} {log} told low wins =
     subst (λ (q : PassData). Logs q.view.turns (Won (actor_of q) node) log) told
     (subst (λ (a : ℕ). Logs old.view.turns (Won a node) log) (sym low) wins)
 
-pub visit_done : (old new : PassData) (two : View) (node ticket : ℕ) (act : Act)
+pub visit_done : (old new : PassData) {two : View} {node ticket : ℕ} {act : Act}
     → Draws (view_inside old.view node act two.turns) node act ticket two → HasLeft two new.view
-    → act_node (setting_in old.view.setup) act ≡ node
-    → Logs old.view.turns (Won (actor_of old) node) two.turns
-    → Logs two.turns (GivenBack two.low node) new.view.turns
-    → new.table ≡ old.table → new.seat ≡ old.seat → new.spare + 1 ≡ old.spare → HasVisited old act ticket new
-visit_done old new two node ticket act d gone_by at wins back table seat less =
+    → act_node (setting_in old.view.setup) act ≡ node → Logs old.view.turns (Won (actor_of old) node) two.turns
+    → Logs two.turns (GivenBack two.low node) new.view.turns → new.table ≡ old.table → new.seat ≡ old.seat
+    → new.spare + 1 ≡ old.spare → HasVisited old act ticket new
+visit_done old new {two} {node} d gone_by at wins back table seat less =
     let v = old.view in
     record {
       earlier = d.earlier;
@@ -203,24 +191,24 @@ visit_done old new two node ticket act d gone_by at wins back table seat less =
       };
     }
 
-pub pass_is : (me : Me Act View) (actor seen seen' spare : ℕ) (kept kept' : List ℕ) (room room' : ℕ)
-    → IsPass me actor seen spare kept room
-    → seen' ≡ seen → kept' ≡ kept → room' ≡ room → IsPass me actor seen' spare kept' room'
-pass_is me actor seen seen' spare kept kept' room room' p a b c =
+pub pass_is : {me : Me Act View} {actor seen seen' spare : ℕ} {kept kept' : List ℕ} {room room' : ℕ}
+    → IsPass me actor seen spare kept room → seen' ≡ seen → kept' ≡ kept → room' ≡ room
+    → IsPass me actor seen' spare kept' room'
+pass_is {me} {actor} {seen} {spare} {kept} {kept'} {room'} p a b c =
     subst (λ (x : ℕ). IsPass me actor x spare kept' room') (sym a)
     (subst (λ (x : List ℕ). IsPass me actor seen spare x room') (sym b) (subst (λ
     (x : ℕ). IsPass me actor seen spare kept x) (sym c) p))
 
 -- what comes before the last visit
-pub before_last : (earlier seen : History) (visit : Visit) (ticket : ℕ) → length earlier ≡ ticket
+pub before_last : (earlier : History) {seen : History} (visit : Visit) {ticket : ℕ} → length earlier ≡ ticket
     → seen ≡ earlier ++ visit ∷ [] → before ticket seen ≡ earlier
-before_last earlier seen visit ticket count is = ap (λ (k : ℕ). take k seen) (sym count)
+before_last earlier {seen} visit count is = ap (λ (k : ℕ). take k seen) (sym count)
     ∙ (ap (take (length earlier)) is ∙ take-append_seam earlier (visit ∷ []))
 
-pub seen_done : (v two new : View) (node ticket : ℕ) (act : Act)
-    → (d : Draws (view_inside v node act two.turns) node act ticket two)
-    → HasLeft two new → new.seen ≡ d.earlier ++ visit_by v act ∷ []
-seen_done v two new node ticket act d left = left.seen ∙ ap (λ (x : View). x.seen) d.view
+pub seen_done : (v : View) {two new : View} {node ticket : ℕ} {act : Act}
+    → (d : Draws (view_inside v node act two.turns) node act ticket two) → HasLeft two new
+    → new.seen ≡ d.earlier ++ visit_by v act ∷ []
+seen_done v d left = left.seen ∙ ap (λ (x : View). x.seen) d.view
 
 -- tickets are those of visits
 from-below : (actor t : ℕ) (xs : History) (k d : ℕ) → k < length (tickets_from actor t xs)
@@ -243,15 +231,15 @@ pub tickets-below : (actor : ℕ) (history : History) (k d : ℕ) → k < length
 tickets-below actor history k d h = omega (arith, from-below actor 0 history k d h)
 
 -- whose ticket it is
-from-has : (actor t i : ℕ) (xs : History) (visit : Visit) → slice_get xs i ≡ Some visit
+from-has : (actor t i : ℕ) (xs : History) {visit : Visit} → slice_get xs i ≡ Some visit
     → has (t + i) (tickets_from actor t xs) ≡ (visit.actor == actor)
 unfolding tickets_from
-from-has actor t i [] visit e = absurd (nothing i e)
+from-has actor t i [] {visit} e = absurd (nothing i e)
   where
     nothing : (k : ℕ) → slice_get [] k ≡ Some visit → ⊥
     nothing zero f = cc
     nothing (suc k) f = cc
-from-has actor t zero (x ∷ xs) visit e =
+from-has actor t zero (x ∷ xs) e =
     go (x.actor == actor) (first-above actor (suc t) xs (t + 0) (omega arith))
     ∙ ap (λ (o : Option Visit). (unwrap_or o x).actor == actor) e
   where
@@ -268,9 +256,9 @@ from-has actor t zero (x ∷ xs) visit e =
             → has y (cond b (s ∷ tickets_from a (suc s) ys) (tickets_from a (suc s) ys)) ≡ false
         step true g = ap (λ c. c || has y (tickets_from a (suc s) ys)) (ne_eqb y s (λ q. omega (arith, q, h))) ∙ g
         step false g = g
-from-has actor t (suc i) (x ∷ xs) visit e =
+from-has actor t (suc i) (x ∷ xs) {visit} e =
     go (x.actor == actor) (ap (λ (k : ℕ). has k (tickets_from actor (suc t) xs)) (omega arith)
-    ∙ from-has actor (suc t) i xs visit e)
+    ∙ from-has actor (suc t) i xs e)
   where
     go : (b : Bool) → has (t + suc i) (tickets_from actor (suc t) xs) ≡ (visit.actor == actor)
         → has (t + suc i) (cond b (t ∷ tickets_from actor (suc t) xs) (tickets_from actor (suc t) xs)) ≡
@@ -279,10 +267,10 @@ from-has actor t (suc i) (x ∷ xs) visit e =
         (arith, q))) ∙ h
     go false h = h
 
-pub tickets-has : (actor i : ℕ) (history : History) (visit : Visit) → slice_get history i ≡ Some visit
+pub tickets-has : (actor i : ℕ) (history : History) {visit : Visit} → slice_get history i ≡ Some visit
     → has i (tickets actor history) ≡ (visit.actor == actor)
-tickets-has actor i history visit e = ap (λ (k : ℕ). has k (tickets actor history)) (omega arith)
-    ∙ from-has actor 0 i history visit e
+tickets-has actor i history e = ap (λ (k : ℕ). has k (tickets actor history)) (omega arith)
+    ∙ from-has actor 0 i history e
 
 -- one ticket more
 pub has-taken : (x k : ℕ) (xs : List ℕ) (d : ℕ) → k < length xs

@@ -60,10 +60,9 @@ none-first actor event later e = go (event_actor event == actor) refl e
     )
 
 -- there is its own event in a log that has it
-pub some-mine : (actor : ℕ) (earlier : List TurnEvent) (event : TurnEvent) (later : List TurnEvent)
-    → event_actor event ≡ actor
-    → length (events_of actor earlier) < length (events_of actor (earlier ++ event ∷ later))
-some-mine actor earlier event later mine = omega (
+pub some-mine : {actor : ℕ} (earlier : List TurnEvent) (event : TurnEvent) (later : List TurnEvent)
+    → event_actor event ≡ actor → length (events_of actor earlier) < length (events_of actor (earlier ++ event ∷ later))
+some-mine {actor} earlier event later mine = omega (
   arith,
   ap length (events-append actor earlier (event ∷ later)),
   length-append (events_of actor earlier) (events_of actor (event ∷ later)),
@@ -76,11 +75,10 @@ nobodys [] all = refl
 nobodys (event ∷ later) all = absurd ((none-first (event_actor event) event later (all (event_actor event))).0 refl)
 
 -- a log with one event of one actor
-just-one : (actor : ℕ) (log : List TurnEvent) (event : TurnEvent)
-    → ((other : ℕ) → other ≢ actor → events_of other log ≡ []) → events_of actor log ≡ event ∷ []
-    → log ≡ event ∷ []
-just-one actor [] event others mine = absurd (omega (arith, ap length mine))
-just-one actor (first ∷ later) event others mine = dite (ℕ_discrete (event_actor first) actor)
+just-one : (actor : ℕ) (log : List TurnEvent) {event : TurnEvent}
+    → ((other : ℕ) → other ≢ actor → events_of other log ≡ []) → events_of actor log ≡ event ∷ [] → log ≡ event ∷ []
+just-one actor [] others mine = absurd (omega (arith, ap length mine))
+just-one actor (first ∷ later) {event} others mine = dite (ℕ_discrete (event_actor first) actor)
     (λ e. let is : first ∷ events_of actor later ≡ event ∷ [] = sym (events-mine actor first later e) ∙ mine in
     let same : first ≡ event = ap (λ (l : List TurnEvent). get_or l 0 first) is in
     let rest : later ≡ [] = nobodys later (λ a. dite (ℕ_discrete a actor)
@@ -90,9 +88,9 @@ just-one actor (first ∷ later) event others mine = dite (ℕ_discrete (event_a
     (λ ne. absurd ((none-first (event_actor first) first later (others (event_actor first) ne)).0 refl))
 
 -- what a view has logged is all of a log that ends with an event of its actor
-whole : (log : List TurnEvent) (view : View) (front : List TurnEvent) (last : TurnEvent) → HasLogged log view
+whole : {log : List TurnEvent} {view : View} (front : List TurnEvent) (last : TurnEvent) → HasLogged log view
     → StandsForActor view (event_actor last) → log ≡ front ++ last ∷ [] → log ≡ view.turns
-whole log view front last has stands is = ⊎_elim
+whole {view} front last has stands is = ⊎_elim
     (λ (e : has.later ≡ []). has.goes_on ∙ (ap (λ l. view.turns ++ l) e ∙ append-nil view.turns))
     (λ (t : (rest : List TurnEvent) × (event : TurnEvent) × (has.later ≡ rest ++ event ∷ [])).
     let both : front ++ last ∷ [] ≡ (view.turns ++ t.0) ++ t.1 ∷ [] = sym is ∙ (has.goes_on
@@ -100,16 +98,16 @@ whole log view front last has stands is = ⊎_elim
     let same : t.1 ≡ last = same_last front last (view.turns ++ t.0) t.1 both in
     absurd (omega (
       arith,
-      some-mine (event_actor last) t.0 t.1 [] (ap event_actor same),
+      some-mine t.0 t.1 [] (ap event_actor same),
       ap (λ l. length (events_of (event_actor last) l)) t.2,
       ap length (has.by_others (event_actor last) stands),
     )))
     (ends has.later)
 
 -- all events of its actors are among those that a view has logged
-own-all : (log : List TurnEvent) (view : View) (actor : ℕ) → HasLogged log view → StandsForActor view actor
+own-all : {log : List TurnEvent} {view : View} (actor : ℕ) → HasLogged log view → StandsForActor view actor
     → events_of actor log ≡ events_of actor view.turns
-own-all log view actor has st = ap (events_of actor) has.goes_on ∙ (events-append actor view.turns has.later
+own-all {view} actor has st = ap (events_of actor) has.goes_on ∙ (events-append actor view.turns has.later
     ∙ (ap (λ l. events_of actor view.turns ++ l) (has.by_others actor st) ∙ append-nil (events_of actor view.turns)))
 
 -- a step that brings an event into the log
@@ -156,13 +154,12 @@ module _ (setup : Setup) (old new : State Act View) (seat : ℕ) (before after :
       dite (dec_le setup.actors actor)
       (λ h. absurd (omega (
         arith,
-        some-mine actor t.0 t.1 [] refl,
+        some-mine t.0 t.1 [] refl,
         ap (λ l. length (events_of actor l)) t.2,
         ap length (s.was.strangers actor h),
       )))
       (λ h. let its = s.was.actors actor (omega arith) in
-      let all : s.was.turns ≡ its.0.turns = whole s.was.turns its.0 t.0 t.1
-      (s.was.logged (s.was.owner actor) its.0 its.1) its.2 t.2 in
+      let all : s.was.turns ≡ its.0.turns = whole t.0 t.1 (s.was.logged (s.was.owner actor) its.0 its.1) its.2 t.2 in
       dite (ℕ_discrete (s.was.owner actor) seat)
       (λ e. let same : its.0 ≡ before = some-injective its.0 before (sym its.1 ∙ (ap (get_elem? old.views) e
       ∙ s.me)) in
@@ -184,9 +181,8 @@ module _ (setup : Setup) (old new : State Act View) (seat : ℕ) (before after :
       let same : its.0 ≡ before = some-injective its.0 before (sym its.1 ∙ (ap (get_elem? old.views) e ∙ s.me)) in
       let st : StandsForActor before actor = subst (λ (u : View). StandsForActor u actor) same its.2 in
       ne (omega (arith, st.0, st.1, s.alone)) in
-      own-all s.is.turns its.0 actor
-      (s.is.logged (s.was.owner actor) its.0 (other_seat (s.was.owner actor) its.0 away its.1)) its.2
-      ∙ sym (own-all s.was.turns its.0 actor (s.was.logged (s.was.owner actor) its.0 its.1) its.2))
+      own-all actor (s.is.logged (s.was.owner actor) its.0 (other_seat (s.was.owner actor) its.0 away its.1)) its.2
+      ∙ sym (own-all actor (s.was.logged (s.was.owner actor) its.0 its.1) its.2))
 
   -- what the event comes behind has all own events that there were
   own_first : events_of before.low (before.turns ++ s.logs.later) ≡ events_of before.low s.was.turns
@@ -194,11 +190,11 @@ module _ (setup : Setup) (old new : State Act View) (seat : ℕ) (before after :
       ∙ (ap (λ l. events_of before.low before.turns ++ l)
       (subst (λ (a : ℕ). events_of a s.logs.later ≡ []) s.mine s.logs.by_others)
       ∙ (append-nil (events_of before.low before.turns)
-      ∙ sym (own-all s.was.turns before before.low (s.was.logged seat before s.me) stands_first)))
+      ∙ sym (own-all before.low (s.was.logged seat before s.me) stands_first)))
 
   -- and there is the one more
   own_then : events_of before.low s.is.turns ≡ events_of before.low s.was.turns ++ event ∷ []
-  own_then = own-all s.is.turns after before.low (s.is.logged seat after its_seat) stands_then
+  own_then = own-all before.low (s.is.logged seat after its_seat) stands_then
       ∙ (ap (events_of before.low) s.logs.goes_on ∙ (events-append before.low (before.turns ++ s.logs.later)
       (event ∷ [])
       ∙ (λ i. own_first i ++ events-mine before.low event [] s.mine i)))
@@ -210,9 +206,9 @@ module _ (setup : Setup) (old new : State Act View) (seat : ℕ) (before after :
       let rest = log_first.0 in
       let split : (actor : ℕ) → events_of actor was ++ events_of actor rest ≡ events_of actor s.is.turns =
       λ actor. sym (events-append actor was rest) ∙ ap (events_of actor) (sym log_first.1) in
-      log_first.1 ∙ ap (λ l. was ++ l) (just-one before.low rest event
-      (λ actor ne. cancel (events_of actor was) (events_of actor rest) [] (split actor
-      ∙ (others_same actor ne ∙ sym (append-nil (events_of actor was)))))
+      log_first.1 ∙ ap (λ l. was ++ l) (just-one before.low rest
+      (λ actor ne. cancel (events_of actor was) (events_of actor rest) []
+      (split actor ∙ (others_same actor ne ∙ sym (append-nil (events_of actor was)))))
       (cancel (events_of before.low was) (events_of before.low rest) (event ∷ []) (split before.low ∙ own_then)))
 
   -- and comes behind all that was there
@@ -222,7 +218,7 @@ module _ (setup : Setup) (old new : State Act View) (seat : ℕ) (before after :
       (λ (t : (rest : List TurnEvent) × (s.was.turns ≡ (before.turns ++ s.logs.later) ++ event ∷ rest)).
       absurd (omega (
         arith,
-        some-mine before.low (before.turns ++ s.logs.later) event t.0 s.mine,
+        some-mine (before.turns ++ s.logs.later) event t.0 s.mine,
         ap (λ l. length (events_of before.low l)) t.1,
         ap length own_first,
       )))

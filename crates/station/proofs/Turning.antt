@@ -30,8 +30,8 @@ use Rattle.station.proofs.Steps.{St, with, owned, seat_below, changed, has-kept,
 use Rattle.visit_log.specs.Numbers.{NumbersApart}
 
 -- what is given is the same
-pub same_some : {A : Type 0} (x y : A) → Some x ≡ Some y → x ≡ y
-same_some x y e = cc
+pub same_some : {A : Type 0} {x y : A} → Some x ≡ Some y → x ≡ y
+same_some e = cc
 
 -- a view is in no node and has no duty
 pub record IsIdle (view : View) : Type 0 where
@@ -39,29 +39,28 @@ pub record IsIdle (view : View) : Type 0 where
   pub unwritten : view.unwritten ≡ None
 
 -- what is unwritten, or owed, at a node where nobody else is
-pub written_here : (setup : Setup) (s : St) (o : KeepsRule setup s) (j x : ℕ) (v : View) (key : Key)
-    → IsViewOf s.views j v
-    → ((k : ℕ) (u : View) → k ≢ j → IsViewOf s.views k u → u.inside ≢ Some x)
+pub written_here : {setup : Setup} {s : St} (o : KeepsRule setup s) (j : ℕ) {x : ℕ} (v : View) (key : Key)
+    → IsViewOf s.views j v → ((k : ℕ) (u : View) → k ≢ j → IsViewOf s.views k u → u.inside ≢ Some x)
     → key_node (setting_in setup) key ≡ x → v.unwritten ≢ Some key → IsCellWritten s.views key
-written_here setup s o j x v key me alone at mine k u there is = dite (ℕ_discrete k j)
+written_here {s} o j v key me alone at mine k u there is = dite (ℕ_discrete k j)
     (λ e. let same : u ≡ v = some-injective u v (sym there ∙ (ap (get_elem? s.views) e ∙ me)) in
     mine (ap (λ (y : View). y.unwritten) (sym same) ∙ is))
     (λ ne. alone k u ne there (((o.views k u there).unwritten key is).inside ∙ ap (λ (n : ℕ). Some n) at))
 
-pub tallied_here : (setup : Setup) (s : St) (o : KeepsRule setup s) (j x : ℕ) (v : View) → IsViewOf s.views j v
-    → ((k : ℕ) (u : View) → k ≢ j → IsViewOf s.views k u → u.inside ≢ Some x)
-    → (v.owes ≡ true → v.inside ≢ Some x) → IsTallied s.views x
-tallied_here setup s o j x v me alone mine k u there owes is = dite (ℕ_discrete k j)
+pub tallied_here : {setup : Setup} {s : St} (o : KeepsRule setup s) (j x : ℕ) (v : View) → IsViewOf s.views j v
+    → ((k : ℕ) (u : View) → k ≢ j → IsViewOf s.views k u → u.inside ≢ Some x) → (v.owes ≡ true → v.inside ≢ Some x)
+    → IsTallied s.views x
+tallied_here {s} o j x v me alone mine k u there owes is = dite (ℕ_discrete k j)
     (λ e. let same : u ≡ v = some-injective u v (sym there ∙ (ap (get_elem? s.views) e ∙ me)) in
     mine (ap (λ (y : View). y.owes) (sym same) ∙ owes) (ap (λ (y : View). y.inside) (sym same) ∙ is))
     (λ ne. alone k u ne there is)
 
 -- the view of a seat changes in what the rule doesn't speak of
-pub restated : (setup : Setup) (s : St) (o : KeepsRule setup s) (j : ℕ) (v w : View) → IsViewOf s.views j v
+pub restated : {setup : Setup} {s : St} {o : KeepsRule setup s} {j : ℕ} (v : View) {w : View} → IsViewOf s.views j v
     → w.low ≡ v.low → w.high ≡ v.high → w.inside ≡ v.inside → w.unwritten ≡ v.unwritten → w.owes ≡ v.owes
-    → (log : List TurnEvent) → LogGoes setup s o j w log → ((node : ℕ) → lock_in log node ≡ lock_in o.turns node)
+    → {log : List TurnEvent} → LogGoes setup s o j w log → ((node : ℕ) → lock_in log node ≡ lock_in o.turns node)
     → IsSoundView setup s.words o.history o.owner j w → KeepsRule setup (with s.words s j w)
-restated setup s o j v w me low high inside unwritten owes log goes locked mine =
+restated {setup} {s} {o} {j} v {w} me low high inside unwritten owes {log} goes locked mine =
     let near = seat_below s.views j v me in
     record {
       history = o.history;
@@ -82,7 +81,7 @@ restated setup s o j v w me low high inside unwritten owes log goes locked mine 
       in_turn = goes.in_turn;
       strangers = goes.strangers;
       lock_words = λ node known. o.lock_words node known ∙ sym (locked node);
-      logged = all-logged setup s o j w log goes;
+      logged = all-logged goes;
       locks = λ node actor known is. let t = o.locks node actor known is in dite (ℕ_discrete (o.owner actor) j)
           (λ e. let same : t.0 ≡ v = some-injective t.0 v (sym t.1 ∙ (ap (get_elem? s.views) e ∙ me)) in (
             w,
@@ -105,18 +104,17 @@ restated setup s o j v w me low high inside unwritten owes log goes locked mine 
 
 -- the turn
 
-pub some_not_none : (x : ℕ) → Some x ≡ None → ⊥
-some_not_none x e = cc
+pub some_not_none : {x : ℕ} → Some x ≡ None → ⊥
+some_not_none e = cc
 
-pub no_key : (key : Key) → None ≡ Some key → ⊥
-no_key key e = cc
+pub no_key : {key : Key} → None ≡ Some key → ⊥
+no_key e = cc
 
-entering : NumbersApart → (setup : Setup) (s : St) (o : KeepsRule setup s) (j x : ℕ) (v : View) (act : Act)
-    → IsViewOf s.views j v
-    → x < nodes_in setup → v.high ≡ suc v.low → IsIdle v → slice_index s.words (lock_word x) ≡ 0
+entering : NumbersApart → {setup : Setup} {s : St} (o : KeepsRule setup s) (j x : ℕ) {v : View} (act : Act)
+    → IsViewOf s.views j v → x < nodes_in setup → v.high ≡ suc v.low → IsIdle v → slice_index s.words (lock_word x) ≡ 0
     → KeepsRule setup (with (set s.words (lock_word x) (suc v.low)) s j
     (view_inside v x act (o.turns ++ Won v.low x ∷ [])))
-entering law setup s o j x v act me known alone idle free =
+entering law {setup} {s} o j x {v} act me known alone idle free =
     let new = set s.words (lock_word x) (suc v.low) in
     let log : List TurnEvent = o.turns ++ Won v.low x ∷ [] in
     let w = view_inside v x act log in
@@ -126,26 +124,25 @@ entering law setup s o j x v act me known alone idle free =
     let nobody : (k : ℕ) (u : View) → IsViewOf s.views k u → u.inside ≢ Some x =
     λ k u at is. let h = (o.views k u at).inside x is in omega (arith, h.lock, free) in
     let others : (k : ℕ) (u : View) → k ≢ j → IsViewOf s.views k u → u.inside ≢ Some x = λ k u ne at. nobody k u at in
-    changed setup s o j x v w new record {
+    changed record {
       me = me;
       known = known;
       before = inl idle.out;
       low = refl;
       high = refl;
       log = log;
-      goes = log-goes setup s o j v w (Won v.low x) me alone refl (sym (o.lock_words x known) ∙ free) refl refl refl
+      goes = log-goes o j v w (Won v.low x) me alone refl (sym (o.lock_words x known) ∙ free) refl refl refl
           (sym (append-nil v.lost));
       lock_else = λ y ne. lock-won_else o.turns v.low x y ne;
       lock_here = get_or-set_same s.words (lock_word x) (suc v.low) 0 wide ∙ sym (lock-won o.turns v.low x);
       size = length-set s.words (lock_word x) (suc v.low);
       first = get_or-set_other s.words (lock_word x) 0 (suc v.low) 0 (λ e. omega arith);
-      elsewhere = λ y k iny ne word. else_where law setup s.words x y (lock_word x) k (suc v.low) known iny ne
-          (is_lock refl) word;
+      elsewhere = λ y k iny ne word. else_where law s.words (suc v.low) known iny ne (is_lock refl) word;
       mine = record {
         setup_is = was.setup_is;
-        has = has-kept o.history v w refl refl refl refl refl was.has;
+        has = has-kept w refl refl refl refl refl was.has;
         owner_is = was.owner_is;
-        inside = λ node is. let e : x ≡ node = same_some x node is in
+        inside = λ node is. let e : x ≡ node = same_some is in
             subst (λ (n : ℕ). IsInsideNode setup new o.history w n) e record {
               known = known;
               alone = alone;
@@ -154,8 +151,8 @@ entering law setup s o j x v act me known alone idle free =
               owed = λ owes. absurd (true≢false (sym owes ∙ (was.outside idle.out).1));
               tally = λ owes. absurd (true≢false (sym owes ∙ (was.outside idle.out).1));
             };
-        unwritten = λ key is. absurd (no_key key (sym idle.unwritten ∙ is));
-        outside = λ is. absurd (some_not_none x is);
+        unwritten = λ key is. absurd (no_key (sym idle.unwritten ∙ is));
+        outside = λ is. absurd (some_not_none is);
         others = was.others;
       };
       alone = others;
@@ -166,10 +163,10 @@ entering law setup s o j x v act me known alone idle free =
           (w, subst (λ k. IsViewOf (set s.views j w) k w) (sym mine) (set_here s.views j w near), refl, low);
       cells = λ key cell at quiet.
           get_or-set_other s.words (lock_word x) (cell_word setup key) (suc v.low) 0 (behind (nodes_in setup) x _ known)
-          ∙ o.cells key cell (written_here setup s o j x v key me others at quiet);
+          ∙ o.cells key cell (written_here o j v key me others at quiet);
       tally = λ quiet.
           get_or-set_other s.words (lock_word x) (tally_word setup x) (suc v.low) 0 (λ e. omega arith)
-          ∙ o.tallies x known (tallied_here setup s o j x v me others (λ owes is. nobody j v me is));
+          ∙ o.tallies x known (tallied_here o j x v me others (λ owes is. nobody j v me is));
     }
 
 pub turns : NumbersApart → (setup : Setup) (n id x : ℕ) (m : Seat) (act : Act) → x < nodes_in setup
@@ -186,13 +183,13 @@ turns law setup n id x m act known alone idle s o wide me small =
       view_inside m.0 x act log,
       keeps,
       tt,
-      entering law setup s o id x m.0 act me known alone idle free,
+      entering law o id x act me known alone idle free,
       λ node other at said.
           let a : x ≡ node = omega arith in let b : act ≡ other = some-injective act other said in (
             (λ _. (
               (λ i. (view_inside m.0 (a i) (b i) log, m.1)),
               subst (λ (n : ℕ). Logs m.0.turns (Won m.0.low n) log) a
-                  (logs setup s o id m.0 (Won m.0.low x) me alone refl (sym (o.lock_words x known) ∙ free)),
+                  (logs o id m.0 (Won m.0.low x) me alone refl (sym (o.lock_words x known) ∙ free)),
             )),
             (λ not. absurd (not free)),
           ),
@@ -210,20 +207,19 @@ turns law setup n id x m act known alone idle s o wide me small =
     let other : word ≢ suc m.0.low = λ e.
     let mine : o.owner b ≡ id = ap o.owner (omega arith) ∙ (was.owner_is m.0.low (omega arith, omega arith)).0 in
     let same : held.0 ≡ m.0 = some-injective held.0 m.0 (sym held.1 ∙ (ap (get_elem? s.views) mine ∙ me)) in
-    some_not_none x (sym held.2 ∙ (ap (λ (y : View). y.inside) same ∙ idle.out)) in
+    some_not_none (sym held.2 ∙ (ap (λ (y : View). y.inside) same ∙ idle.out)) in
     let may : IsInTurn o.turns (Lost m.0.low x word) = (sym (o.lock_words x known), taken, other) in (
       w,
       keeps,
       tt,
       subst (λ (ws : List ℕ). KeepsRule setup (with ws s id w)) (sym (set-get_or s.words (lock_word x) 0))
-          (restated setup s o id m.0 w me refl refl refl refl refl log
-          (log-goes setup s o id m.0 w (Lost m.0.low x word) me alone refl may refl refl refl refl)
-          (λ node. lock-push o.turns (Lost m.0.low x word) node) record {
+          (restated m.0 me refl refl refl refl refl (log-goes o id m.0 w (Lost m.0.low x word) me alone refl may refl
+          refl refl refl) (λ node. lock-push o.turns (Lost m.0.low x word) node) record {
             setup_is = was.setup_is;
-            has = has-kept o.history m.0 w refl refl refl refl refl was.has;
+            has = has-kept w refl refl refl refl refl was.has;
             owner_is = was.owner_is;
-            inside = λ node is. absurd (no_some node (sym idle.out ∙ is));
-            unwritten = λ key is. absurd (no_key key (sym idle.unwritten ∙ is));
+            inside = λ node is. absurd (no_some (sym idle.out ∙ is));
+            unwritten = λ key is. absurd (no_key (sym idle.unwritten ∙ is));
             outside = was.outside;
             others = λ actor st turn had. ⊎_elim
                 (λ (old : Contains m.0.lost turn). was.others actor st turn old)
@@ -239,17 +235,17 @@ turns law setup n id x m act known alone idle s o wide me small =
           other,
           few,
           subst (λ (n : ℕ). Logs m.0.turns (Lost m.0.low n word) log) a
-              (logs setup s o id m.0 (Lost m.0.low x word) me alone refl may),
+              (logs o id m.0 (Lost m.0.low x word) me alone refl may),
         ),
       ),
     ))
 
 -- the node is left
 
-pub leaves : NumbersApart → (setup : Setup) (n id x : ℕ) (m : Seat) → m.0.inside ≡ Some x → m.0.unwritten ≡ None
-    → m.0.owes ≡ false
-    → Allows (KeepsRule setup) n id m (lock_word x) (λ _. 0) (λ _. Leaves (step n (lock_word x) 0 0 none) m 0)
-leaves law setup n id x m there unwritten owes s o wide me small =
+pub leaves : NumbersApart → (setup : Setup) (n id : ℕ) {x : ℕ} (m : Seat) → m.0.inside ≡ Some x → m.0.unwritten ≡ None
+    → m.0.owes ≡ false → Allows (KeepsRule setup) n id m (lock_word x) (λ _. 0)
+    (λ _. Leaves (step n (lock_word x) 0 0 none) m 0)
+leaves law setup n id {x} m there unwritten owes s o wide me small =
     let v = m.0 in
     let new = set s.words (lock_word x) 0 in
     let log : List TurnEvent = o.turns ++ GivenBack v.low x ∷ [] in
@@ -259,32 +255,30 @@ leaves law setup n id x m there unwritten owes s o wide me small =
     let known = here.known in
     let near : lock_word x < length s.words = omega (arith, o.size, known) in
     let others : (k : ℕ) (u : View) → k ≢ id → IsViewOf s.views k u → u.inside ≢ Some x =
-    λ k u ne at is. ne (one_inside setup s o id k x v u me at there is) in
+    λ k u ne at is. ne (one_inside o id k v u me at there is) in
     let may : IsInTurn o.turns (GivenBack v.low x) = sym (o.lock_words x known) ∙ here.lock in (
       w,
       keeps,
       tt,
-      changed setup s o id x v w new record {
+      changed record {
         me = me;
         known = known;
         before = inr there;
         low = refl;
         high = refl;
         log = log;
-        goes = log-goes setup s o id v w (GivenBack v.low x) me here.alone refl may refl refl refl
-            (sym (append-nil v.lost));
+        goes = log-goes o id v w (GivenBack v.low x) me here.alone refl may refl refl refl (sym (append-nil v.lost));
         lock_else = λ y ne. lock-back_else o.turns v.low x y ne;
         lock_here = get_or-set_same s.words (lock_word x) 0 0 near ∙ sym (lock-back o.turns v.low x);
         size = length-set s.words (lock_word x) 0;
         first = get_or-set_other s.words (lock_word x) 0 0 0 (λ e. omega arith);
-        elsewhere = λ y k iny ne word. else_where law setup s.words x y (lock_word x) k 0 known iny ne
-            (is_lock refl) word;
+        elsewhere = λ y k iny ne word. else_where law s.words 0 known iny ne (is_lock refl) word;
         mine = record {
           setup_is = was.setup_is;
-          has = has-kept o.history v w refl refl refl refl refl was.has;
+          has = has-kept w refl refl refl refl refl was.has;
           owner_is = was.owner_is;
-          inside = λ node is. absurd (no_some node is);
-          unwritten = λ key is. absurd (no_key key (sym unwritten ∙ is));
+          inside = λ node is. absurd (no_some is);
+          unwritten = λ key is. absurd (no_key (sym unwritten ∙ is));
           outside = λ is. (refl, owes);
           others = was.others;
         };
@@ -293,33 +287,31 @@ leaves law setup n id x m there unwritten owes s o wide me small =
             absurd (omega arith);
         cells = λ key cell at quiet.
             get_or-set_other s.words (lock_word x) (cell_word setup key) 0 0 (behind (nodes_in setup) x _ known)
-            ∙ o.cells key cell (written_here setup s o id x v key me others at quiet);
+            ∙ o.cells key cell (written_here o id v key me others at quiet);
         tally = λ quiet.
             get_or-set_other s.words (lock_word x) (tally_word setup x) 0 0 (λ e. omega arith)
-            ∙ o.tallies x known (tallied_here setup s o id x v me others (λ due is. true≢false (sym due ∙ owes)));
+            ∙ o.tallies x known (tallied_here o id x v me others (λ due is. true≢false (sym due ∙ owes)));
       },
       (
         refl,
-        λ node at. let a : x ≡ node = same_some x node (sym there ∙ at) in
+        λ node at. let a : x ≡ node = same_some (sym there ∙ at) in
             subst (λ (n : ℕ). Logs v.turns (GivenBack v.low n) log) a
-            (logs setup s o id v (GivenBack v.low x) me here.alone refl may),
+            (logs o id v (GivenBack v.low x) me here.alone refl may),
       ),
     )
 
-pub turns_at : NumbersApart → (setup : Setup) (n id x i new : ℕ) (m : Seat) (act : Act) → x < nodes_in setup
-    → m.0.high ≡ suc m.0.low → IsIdle m.0
-    → i ≡ lock_word x → new ≡ suc m.0.low
+pub turns_at : NumbersApart → (setup : Setup) (n id : ℕ) {x i new : ℕ} (m : Seat) (act : Act) → x < nodes_in setup
+    → m.0.high ≡ suc m.0.low → IsIdle m.0 → i ≡ lock_word x → new ≡ suc m.0.low
     → Allows (KeepsRule setup) n id m i (λ y. either (y == 0) new y) (Turns (step n i 0 new (some act)) m)
-turns_at law setup n id x i new m act known alone idle at is =
+turns_at law setup n id {x} {new} m act known alone idle at is =
     let P : ℕ → ℕ → Type 0 = λ k w. Allows (KeepsRule setup) n id m k (λ y. either (y == 0) w y) (Turns (step n k 0 w
     (some act)) m) in
     subst (λ (k : ℕ). P k new) (sym at) (subst (λ (w : ℕ). P (lock_word x) w) (sym is)
     (turns law setup n id x m act known alone idle))
 
-pub leaves_at : NumbersApart → (setup : Setup) (n id x i : ℕ) (m : Seat) → m.0.inside ≡ Some x
-    → m.0.unwritten ≡ None → m.0.owes ≡ false
-    → i ≡ lock_word x
-    → Allows (KeepsRule setup) n id m i (λ _. 0) (λ _. Leaves (step n i 0 0 none) m 0)
-leaves_at law setup n id x i m there unwritten owes at =
+pub leaves_at : NumbersApart → (setup : Setup) (n id : ℕ) {x i : ℕ} (m : Seat) → m.0.inside ≡ Some x
+    → m.0.unwritten ≡ None → m.0.owes ≡ false → i ≡ lock_word x → Allows (KeepsRule setup) n id m i (λ _. 0)
+    (λ _. Leaves (step n i 0 0 none) m 0)
+leaves_at law setup n id m there unwritten owes at =
     subst (λ (k : ℕ). Allows (KeepsRule setup) n id m k (λ _. 0) (λ _. Leaves (step n k 0 0 none) m 0)) (sym at)
-    (leaves law setup n id x m there unwritten owes)
+    (leaves law setup n id m there unwritten owes)

@@ -19,13 +19,14 @@ use Rattle.walk.specs.LookLaws.{word-wanted}
 use Rattle.station.specs.TicketLaws.{legal-seen}
 
 -- the word of a look names nodes of the plan
-pub word-seen : MarksTell → EntriesTell → HistoryFrontsAreLegal → (setup : Setup) (plan : PlanData)
-    (old new : PassData) (act : Act) (ticket word : ℕ) (walk : WalkData) (key : Key) → plan ≡ setup.plan
-    → IsMatched plan → old.view.setup ≡ setup → HasVisited old act ticket new
+pub word-seen : MarksTell → EntriesTell → HistoryFrontsAreLegal → {setup : Setup} {plan : PlanData} {old new : PassData}
+    {act : Act} {ticket word : ℕ} {walk : WalkData} {key : Key} → plan ≡ setup.plan → IsMatched plan
+    → old.view.setup ≡ setup → HasVisited old act ticket new
     → word ≡ cell (setting_in setup) (before ticket new.view.seen) key → walk.sub < subs_in setup
     → IsWalkOver setup.plan walk → key_of (call_of walk) (pursuit_of setup.plan walk) ≡ Some key
     → IsWordBelow (nodes_of plan) walk.progress word
-word-seen marks entries fronts setup plan old new act ticket word walk key same matched told visited reads known goes
+word-seen marks entries fronts {setup} {plan} {old} {new} {act} {ticket} {walk} {key} same matched told visited reads
+    known goes
     wanted =
     let matched_there : IsMatched setup.plan = subst IsMatched same matched in
     let small : nodes_of setup.plan ≤ 2 ^ 16 = omega (arith, matched_there.metric.few) in

@@ -15,8 +15,8 @@ loop-sub-preserved c =
     let was = c.loop-sub.invariant in
     let is_cell : IsCellOf setup key = record { place = search rules; known = search rules } in
     let at : length c.loop-sub.words.items ≡ cell_word setup key = omega (arith, was.1) in (
-      subst (AreLaid setup) (sym items) (laid_cell c.cell_numbers.ensures.apart setup c.loop-sub.words.items
-          c.look-word.result key is_cell at (c.look-word.ensures.history c.args.homes.now [] c.requires.hold) was.0),
+      subst (AreLaid setup) (sym items) (laid_cell c.cell_numbers.ensures.apart is_cell at
+          (c.look-word.ensures.history c.args.homes.now [] c.requires.hold) was.0),
       ap length items
           ∙ omega (arith, was.1, length-append c.loop-sub.words.items (c.look-word.result ∷ [])),
     )

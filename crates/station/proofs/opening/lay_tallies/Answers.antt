@@ -10,7 +10,7 @@ loop-node-preserved c =
     let was = c.loop-node.invariant in
     let known : c.loop-node.node < nodes_of c.args.plan.now = search rules in (
       subst (λ (ws : List ℕ). AreLaid (setup_of c.args.plan.now c.args.homes.now 0) ws) (sym items)
-          (laid_tally (setup_of c.args.plan.now c.args.homes.now 0) c.loop-node.words.items c.loop-node.node
-          c.starting_at.result known (omega (arith, was.1)) (c.starting_at.ensures.count c.args.plan.now) was.0),
+          (laid_tally c.loop-node.node known (omega (arith, was.1)) (c.starting_at.ensures.count c.args.plan.now)
+          was.0),
       ap length items ∙ omega (arith, was.1, length-append c.loop-node.words.items (c.starting_at.result ∷ [])),
     )

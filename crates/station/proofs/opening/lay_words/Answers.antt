@@ -16,6 +16,5 @@ lay_locks-requires-clause-at c =
 
 pub returns : goal.returns
 returns c = record {
-  opening = opening_of c.args.plan.now c.args.homes.now c.lay_entries.new.words.items c.in_ok-lay_entries.ensures.laid
-      c.in_ok-lay_entries.ensures.at;
+  opening = opening_of c.args.plan.now c.args.homes.now c.in_ok-lay_entries.ensures.laid c.in_ok-lay_entries.ensures.at;
 }

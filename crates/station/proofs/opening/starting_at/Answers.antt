@@ -9,22 +9,22 @@ use Rattle.station.proofs.Laying.{count-more}
 use Rattle.station.proofs.opening.starting_at.Goals as goal
 use Rattle.station.proofs.opening.starting_at.Goals.{then-node-homes, else-node-homes}
 
-hit : (count new node home : ℕ) → new ≡ count + 1 → node ≡ home → new ≡ count + cond (node == home) 1 0
-hit count new node home is same = is ∙ ap {B = ℕ} (λ b. count + cond b 1 0) (sym (eq-eqb node home same))
+hit : (count : ℕ) {new node home : ℕ} → new ≡ count + 1 → node ≡ home → new ≡ count + cond (node == home) 1 0
+hit count {node} {home} is same = is ∙ ap {B = ℕ} (λ b. count + cond b 1 0) (sym (eq-eqb node home same))
 
-miss : (count new node home : ℕ) → new ≡ count → node ≢ home → new ≡ count + cond (node == home) 1 0
-miss count new node home is other = let e : cond (node == home) 1 0 ≡ 0 = ap {B = ℕ} (λ b. cond b 1 0)
+miss : {count new : ℕ} (node home : ℕ) → new ≡ count → node ≢ home → new ≡ count + cond (node == home) 1 0
+miss node home is other = let e : cond (node == home) 1 0 ≡ 0 = ap {B = ℕ} (λ b. cond b 1 0)
     (ne_eqb node home other) in omega (arith, is, e)
 
 pub loop-sub-preserved : goal.loop-sub-preserved
 loop-sub-preserved c =
     let home = slice_index c.args.homes.now c.loop-sub.sub in
     let e : c.if-node-homes.count ≡ c.loop-sub.count + cond (c.args.node == home) 1 0 = elim c.if-node-homes.branch [
-      | then-node-homes w ↦ hit _ _ _ home w.count-is w.if-node-homes.true
-      | else-node-homes w ↦ miss _ _ _ home w.count-is w.if-node-homes.false
+      | then-node-homes w ↦ hit _ w.count-is w.if-node-homes.true
+      | else-node-homes w ↦ miss _ home w.count-is w.if-node-homes.false
     ] in (
-      (λ plan. e ∙ count-more (setting_of plan c.args.homes.now) c.args.node c.loop-sub.sub c.loop-sub.count
-          c.loop-sub-test.true (c.loop-sub.invariant.0 plan)),
+      (λ plan. e ∙ count-more (setting_of plan c.args.homes.now) c.args.node c.loop-sub.sub c.loop-sub-test.true
+          (c.loop-sub.invariant.0 plan)),
       bound (c.args.node == home) c.loop-sub.count c.loop-sub.sub c.if-node-homes.count e c.loop-sub.invariant.1,
     )
   where

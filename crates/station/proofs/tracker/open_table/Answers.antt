@@ -17,9 +17,8 @@ of_words-requires c =
     subst (λ (s : Setup). KeepsRule s (opening c.deref-2.result.now [] (first_view s))) e
     (subst (λ (ws : List ℕ). KeepsRule (setup_of plan homes actors) (opening ws [] (first_view
     (setup_of plan homes actors)))) words
-    (opens c.cell_numbers.ensures.below (setup_of plan homes actors) c.in_ok-words.words.items
-    (matched_lies plan homes actors c.plan_is_sound.ensures.matched) c.requires.few_actors
-    (λ sub known. start_inside plan homes actors sub c.requires.inside known)
+    (opens c.cell_numbers.ensures.below (matched_lies homes actors c.plan_is_sound.ensures.matched)
+    c.requires.few_actors (λ sub known. start_inside plan homes actors sub c.requires.inside known)
     (c.in_ok-words.ensures.opening actors)))
 
 pub returns : goal.returns

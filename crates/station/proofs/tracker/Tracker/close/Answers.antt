@@ -5,9 +5,9 @@ use Rattle.station.specs.Closing.{ArePresent, HasGathered, HasNoPass, IsOrder}
 use Rattle.station.proofs.tracker.Tracker.close.Goals as goal
 
 -- the actors that the tracker counts are those that its setup has, and the passes that were looked through are its own
-present : (counted actors : ℕ) (seen passes : List PassData) → counted ≡ actors → seen ≡ passes
+present : {counted actors : ℕ} {seen passes : List PassData} → counted ≡ actors → seen ≡ passes
     → ArePresent counted seen → ArePresent actors passes
-present counted actors seen passes e f all =
+present {counted} {passes} e f all =
     subst (λ (n : ℕ). ArePresent n passes) e (subst (ArePresent counted) f all)
 
 pub returns-in-Some-clause-fault : goal.returns-in-Some-clause-fault
@@ -26,14 +26,14 @@ returns-in-Some-clause-fault c =
 
 pub gather-longest-requires-clause-present : goal.gather-longest-requires-clause-present
 gather-longest-requires-clause-present c =
-    present _ _ _ _ (c.self.invariant.actors_are ∙ ap (λ t. t.setup.actors) c.self.view_is) c.deref.ensures.value
+    present (c.self.invariant.actors_are ∙ ap (λ t. t.setup.actors) c.self.view_is) c.deref.ensures.value
     c.in_default.ensures
 
 pub returns-in_default-vec-clause-fault : goal.returns-in_default-vec-clause-fault
 returns-in_default-vec-clause-fault c = (
   refl,
   c.gather-longest.ensures.same,
-  present _ _ _ _ (c.self.invariant.actors_are ∙ ap (λ t. t.setup.actors) c.self.view_is) c.deref.ensures.value
+  present (c.self.invariant.actors_are ∙ ap (λ t. t.setup.actors) c.self.view_is) c.deref.ensures.value
       c.in_default.ensures,
 )
 
@@ -43,7 +43,7 @@ stamp_all-requires-clause-of c =
 
 pub stamp_all-requires-clause-present : goal.stamp_all-requires-clause-present
 stamp_all-requires-clause-present c =
-    present _ _ _ _ (c.self.invariant.actors_are ∙ ap (λ t. t.setup.actors) c.self.view_is)
+    present (c.self.invariant.actors_are ∙ ap (λ t. t.setup.actors) c.self.view_is)
     (c.deref.ensures.value ∙ sym c.gather-longest.ensures.same) c.in_default.ensures
 
 pub stamp_all-requires-clause-gathered : goal.stamp_all-requires-clause-gathered
@@ -69,5 +69,5 @@ returns-clause-order c =
 
 pub returns-clause-present : goal.returns-clause-present
 returns-clause-present c =
-    present _ _ _ _ (c.self.invariant.actors_are ∙ ap (λ t. t.setup.actors) c.self.view_is) c.deref.ensures.value
+    present (c.self.invariant.actors_are ∙ ap (λ t. t.setup.actors) c.self.view_is) c.deref.ensures.value
     c.in_default.ensures

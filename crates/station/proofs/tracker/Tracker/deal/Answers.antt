@@ -24,8 +24,8 @@ split_seat-next-requires c =
 
 pub of-requires : goal.of-requires
 of-requires c =
-    fresh_own c.args.self.now.setup c.loop-actor.actor c.split_seat-next.result.me
-    (dealt_fresh _ _ c.loop-actor.seat.me _ c.loop-actor.invariant.view c.split_seat-next.ensures.4)
+    fresh_own c.args.self.now.setup c.loop-actor.actor (dealt_fresh _ _ c.loop-actor.invariant.view
+    c.split_seat-next.ensures.4)
 
 pub push_reserved-requires : goal.push_reserved-requires
 push_reserved-requires c =
@@ -43,9 +43,8 @@ loop-actor-preserved c =
       view = told.2 ∙ (ap {B = Me Act View} (λ (m : Me Act View). (view_of_rest m.0, m.1)) d.view
           ∙ ap {B = Me Act View} (λ (a : ℕ). (rest_view c.args.self.now.setup a, []))
           (sym (add-one c.loop-actor.actor)));
-      fresh = fresh_push c.args.self.now c.loop-actor.passes.items c.push_reserved.new.self.items c.of.result
-          c.loop-actor.actor c.split_seat-next.result.id c.split_seat-next.result.table_id c.split_seat-next.result.me
-          d.fresh d.count (told.3 ∙ d.table) (dealt_fresh _ _ c.loop-actor.seat.me _ d.view told.4) c.of.ensures items;
+      fresh = fresh_push c.loop-actor.passes.items c.split_seat-next.result.id d.fresh d.count (told.3 ∙ d.table)
+          (dealt_fresh _ _ d.view told.4) c.of.ensures items;
       count = ap length items ∙ (length-append c.loop-actor.passes.items (c.of.result ∷ []) ∙ ap (λ n. n + 1) d.count);
       room = omega (arith, d.room, c.push_reserved.ensures.capacity);
     }
@@ -54,8 +53,8 @@ pub of-requires-2 : goal.of-requires-2
 of-requires-2 c =
     let actors = ap (λ t. t.setup.actors) c.self.view_is in
     let end = c.loop-actor.auto.actor-end in
-    fresh_own c.args.self.now.setup (c.self.inside.actors - 1) c.loop-actor.seat.me
-    (last_fresh _ _ _ _ c.loop-actor.invariant.view (omega (arith, end, c.loop-actor-test.false))
+    fresh_own c.args.self.now.setup (c.self.inside.actors - 1)
+    (last_fresh _ c.loop-actor.invariant.view (omega (arith, end, c.loop-actor-test.false))
     (omega (arith, actors, c.self.invariant.actors_are, c.self.invariant.some_actors)))
 
 pub push_reserved-requires-2 : goal.push_reserved-requires-2
@@ -80,11 +79,9 @@ returns-clause-fresh c =
     let actors = ap (λ t. t.setup.actors) c.self.view_is in
     let end = c.loop-actor.auto.actor-end in
     let at : c.loop-actor.actor ≡ c.self.inside.actors - 1 = omega (arith, end, c.loop-actor-test.false) in
-    fresh_push c.args.self.now c.loop-actor.passes.items c.push_reserved-2.new.self.items c.of-2.result
-    (c.self.inside.actors - 1) c.loop-actor.seat.id c.loop-actor.seat.table_id c.loop-actor.seat.me
-    d.fresh (d.count ∙ at) d.table (last_fresh _ _ _ _ d.view at
-    (omega (arith, actors, c.self.invariant.actors_are, c.self.invariant.some_actors))) c.of-2.ensures
-    c.push_reserved-2.ensures.items
+    fresh_push c.loop-actor.passes.items c.loop-actor.seat.id d.fresh (d.count ∙ at) d.table
+    (last_fresh _ d.view at (omega (arith, actors, c.self.invariant.actors_are, c.self.invariant.some_actors)))
+    c.of-2.ensures c.push_reserved-2.ensures.items
 
 pub returns-clause-count : goal.returns-clause-count
 returns-clause-count c =

@@ -23,9 +23,8 @@ fetch_add-requires c =
       subst (λ k. Allows
           (KeepsRule k) c.self.inside.table.shared.table_id.slots c.turn.new.seat.id m 0 (λ y. (y + 1) % 2 ^ 64)
           (DrawsTicket (step c.self.inside.table.shared.table_id.slots 0 1 0 none) m)) e
-          (draws c.same_key_means.ensures _ _ c.args.node m c.args.act.now
-          (subst (λ (v : View). MayDraw v c.args.node c.args.act.now) (sym (ap (λ (x : Me Act View). x.0) turn))
-          (c.requires.may m.0.turns))),
+          (draws c.same_key_means.ensures _ _ m (subst (λ (v : View). MayDraw v c.args.node c.args.act.now)
+          (sym (ap (λ (x : Me Act View). x.0) turn)) (c.requires.may m.0.turns))),
     )
 
 -- what the step at the ticket tells of the act that the turn was taken for

@@ -22,8 +22,7 @@ returns c =
           known = subst (λ s. node < nodes_in s) (sym (ap (λ m. m.0.setup) t.turn ∙ (ap (λ q. q.view.setup) p
               ∙ c.requires.of.setup))) c.requires.node;
         },
-        with_view c.args.pass.now _ _ (λ v. view_inside v node (Census node) log) p t.table t.id refl (ap
-            (λ m. m.0) t.turn),
+        with_view _ (λ v. view_inside v node (Census node) log) p t.table t.id refl (ap (λ m. m.0) t.turn),
         subst (λ (q : PassData). Logs q.view.turns (Won (actor_of q) node) log) p (subst (λ (a : ℕ). Logs
             c.pass.inside.seat.me.0.turns (Won a node) log) (sym c.pass.invariant.low) t.logs),
       );

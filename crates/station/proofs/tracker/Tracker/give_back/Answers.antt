@@ -8,6 +8,6 @@ store-requires c =
     let setup = c.self.inside.table.shared.key in (
       search rules,
       search rules,
-      leaves_at c.cell_numbers.ensures.apart setup _ _ c.args.node c.lock_place-place.result m c.requires.inside
-          c.requires.unwritten c.requires.clear c.lock_place-place.ensures.place,
+      leaves_at c.cell_numbers.ensures.apart setup _ _ m c.requires.inside c.requires.unwritten c.requires.clear
+          c.lock_place-place.ensures.place,
     )

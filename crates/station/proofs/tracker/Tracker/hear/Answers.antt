@@ -8,6 +8,5 @@ invariant_of-pass c =
     let note = c.note.inside.seat.me.0 in
     let more = longer_other old.seen note.seen (omega
     (arith, c.if-pass-seen.true, c.pass.invariant.seen_is, c.note.invariant.seen_is)) in
-    pass_heard c.pass.inside.seat.me c.learn.new.seat.me note _ c.pass.inside.seen c.note.inside.seen _ _ _
-    c.pass.invariant c.learn.ensures.heard c.learn.ensures.learned
+    pass_heard note c.pass.invariant c.learn.ensures.heard c.learn.ensures.learned
     (c.note.invariant.seen_is ∙ sym (ap length more))

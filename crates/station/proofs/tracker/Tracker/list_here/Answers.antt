@@ -19,8 +19,7 @@ loop-sub-preserved c =
     ∙ ap (λ w. says_here (mark_in w)) (now.word (ap (λ m. m.0.unwritten) was.same ∙ c.requires.unwritten)
     ∙ ap (λ m. cell (setting_in c.args.self.now.setup) m.0.seen (Presence c.args.node sub)) was.same) in
     let bits : AreBits f c.if-says_here.who (sub + 1) = elim c.if-says_here.branch [
-      | then-says_here w ↦ hit_bit f c.loop-sub.who c.if-says_here.who sub small (sym told
-          ∙ w.if-says_here.true) w.who-is was.bits
+      | then-says_here w ↦ hit_bit f c.loop-sub.who sub small (sym told ∙ w.if-says_here.true) w.who-is was.bits
       | else-says_here w ↦ subst (λ (k : ℕ). AreBits f k (sub + 1)) (sym w.who-is)
           (miss_bit f c.loop-sub.who sub (sym told ∙ w.if-says_here.false) was.bits)
     ] in record {

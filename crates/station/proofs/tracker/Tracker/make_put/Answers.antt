@@ -19,11 +19,11 @@ put_there-requires-clause-moves c =
     let there : View = c.draw.new.seat.me.0 in
     let back = sym c.requires.setup in
     subst (λ (s : Setup). Moves s there c.args.node c.args.key there.before c.args.word) c.requires.setup
-    (moves m.0.setup there d.earlier c.args.node there.before c.args.word m.0.low c.args.key
+    (moves m.0.setup there d.earlier c.args.word m.0.low c.args.key
     (subst (λ (s : Setup). key_sub c.args.key < subs_in s) back c.requires.cell.known)
     (subst (λ (s : Setup). key_node (setting_in s) c.args.key ≡ c.args.node) back (sym c.requires.node))
-    (ap (λ (v : View). v.seen) d.view) (ap (λ (v : View). v.owes) d.view) (ap (λ (v : View). v.tally) d.view) (ap
-    (λ (v : View). v.before) d.view))
+    (ap (λ (v : View). v.seen) d.view) (ap (λ (v : View). v.owes) d.view) (ap (λ (v : View). v.tally) d.view)
+    (ap (λ (v : View). v.before) d.view))
 
 pub returns-clause-made : goal.returns-clause-made
 returns-clause-made c =
@@ -35,7 +35,7 @@ returns-clause-made c =
       won = subst (λ (a : ℕ). Logs c.args.seat.now.me.0.turns (Won a c.args.node) there.turns) (sym c.requires.low)
           c.in_ok-ticket.ensures.logs;
       draws = c.in_ok-ticket.ensures.drawn;
-      left = left_put there new (ap (λ m. m.0) c.give_back.ensures.left ∙ ap (λ m. view_outside m.0 new.turns) put);
+      left = left_put there (ap (λ m. m.0) c.give_back.ensures.left ∙ ap (λ m. view_outside m.0 new.turns) put);
       given_back = subst (λ (m : Me Act View). Logs m.0.turns (GivenBack m.0.low c.args.node) new.turns) put
           c.give_back.ensures.logs;
     }

@@ -23,7 +23,7 @@ returns-clause-legal c = λ view own.
     let told = ap (λ t. t.setup) c.self.view_is in
     let homes : HasHomes c.args.plan.now = subst HasHomes (sym (c.requires.plan
     ∙ sym (ap (λ s. s.plan) told))) c.self.invariant.homes in
-    let d = due_is c.args.plan.now handset visit c.requires.goes homes (sym c.next.ensures.exact ∙ c.in-Some.is) in
+    let d = due_is c.requires.goes homes (sym c.next.ensures.exact ∙ c.in-Some.is) in
     let act = sym d.act ∙ c.in-Put.is in
     let same : d.key ≡ key = cc in
     let mine : key_sub key ≡ view.low = sym (ap key_sub same) ∙ (d.key_of ∙ own.sub) in
@@ -34,5 +34,5 @@ returns-clause-legal c = λ view own.
     (c.next.ensures.stands setup.homes own.steps made) own.stands in
     let few : nodes_in setup ≤ 2 ^ 16 = omega
     (arith, c.self.invariant.nodes_are, c.self.invariant.few_nodes, ap nodes_in told) in
-    due_legal c.script_is_legal.ensures setup view handset key word few own (sym next ∙ (c.in-Some.is
-    ∙ ap (λ (v : Visit). Some v) whole)) mine
+    due_legal c.script_is_legal.ensures key word few own (sym next ∙ (c.in-Some.is ∙ ap (λ (v : Visit). Some v) whole))
+    mine

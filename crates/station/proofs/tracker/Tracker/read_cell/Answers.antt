@@ -22,8 +22,8 @@ load-requires c =
       search rules,
       subst (λ k. Allows (KeepsRule k) slots c.args.seat.now.id m place (λ y. y) (ReadsCell
           (step slots place 0 0 none) m)) e
-          (reads_cell c.cell_numbers.ensures.apart c.same_key_means.ensures _ _ place m key (subst
-          (λ s. IsCellOf s key) back c.requires.cell) (c.cell_place-place.ensures.place
-          ∙ ap (λ s. cell_word s key) back)
+          (reads_cell c.cell_numbers.ensures.apart c.same_key_means.ensures _ _ m
+          (subst (λ s. IsCellOf s key) back c.requires.cell)
+          (c.cell_place-place.ensures.place ∙ ap (λ s. cell_word s key) back)
           (subst (λ s. HasTurn m.0 (key_node (setting_in s) key)) back c.requires.turn)),
     )

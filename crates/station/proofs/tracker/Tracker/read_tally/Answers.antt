@@ -20,8 +20,8 @@ load-requires c =
       search rules,
       subst (λ k. Allows (KeepsRule k) slots c.args.seat.now.id m place (λ y. y) (ReadsTally
           (step slots place 0 0 none) m)) e
-          (reads_tally c.same_key_means.ensures _ _ place m node
-          (c.tally_place-place.ensures.place ∙ ap (λ s. tally_word s node) back) c.requires.turn),
+          (reads_tally c.same_key_means.ensures _ _ m (c.tally_place-place.ensures.place
+          ∙ ap (λ s. tally_word s node) back) c.requires.turn),
     )
 
 pub returns-clause-before : goal.returns-clause-before

@@ -27,7 +27,7 @@ invariant_of-tracker c =
       few_subs = c.requires.few;
       some_actors = c.requires.actors;
       few_actors = c.requires.few_actors;
-      lies = matched_lies plan homes actors c.plan_is_sound.ensures.matched;
+      lies = matched_lies homes actors c.plan_is_sound.ensures.matched;
       homes = c.plan_is_sound.ensures.matched.homes;
       places_are = c.in_ok-places.ensures;
     }

@@ -16,8 +16,7 @@ hear-requires-clause-of c =
     let all : List PassData = c.args.passes.items in
     let left : List PassData = c.pop.new.self.items in
     let pass : PassData = c.in-Some.pass in
-    let t = taken all c.loop-pass.passes.items left c.pop.result pass c.pop.ensures.items c.in-Some.is
-    c.loop-pass.invariant.left in
+    let t = taken all left c.pop.result c.pop.ensures.items c.in-Some.is c.loop-pass.invariant.left in
     subst (IsPassOf c.args.self.now) (get_or_from_slice_get all (length left) pass pass t.1)
     (c.requires.of (length left) pass (slice_get_within all (length left) pass t.1))
 
@@ -27,15 +26,15 @@ stamp-requires c =
     let d = c.loop-pass.invariant in
     let left : List PassData = c.pop.new.self.items in
     let pass : PassData = c.in-Some.pass in
-    let t = taken all c.loop-pass.passes.items left c.pop.result pass c.pop.ensures.items c.in-Some.is d.left in
-    let seen = ap length (heard_whole c.args.longest.now.view.seen pass c.hear.new.pass c.copy-note.result
-    c.hear.ensures.heard (c.copy-note.ensures.seen ∙ d.same) (c.requires.gathered.seen (length left) pass t.1)) in
+    let t = taken all left c.pop.result c.pop.ensures.items c.in-Some.is d.left in
+    let seen = ap length (heard_whole c.hear.ensures.heard (c.copy-note.ensures.seen ∙ d.same)
+    (c.requires.gathered.seen (length left) pass t.1)) in
     record { room = omega (arith, seen, d.size, c.requires.room) }
 
 pub loop-pass-smaller : goal.loop-pass-smaller
 loop-pass-smaller c =
-    let t = taken c.args.passes.items c.loop-pass.passes.items c.pop.new.self.items c.pop.result c.in-Some.pass
-    c.pop.ensures.items c.in-Some.is c.loop-pass.invariant.left in
+    let t = taken c.args.passes.items c.pop.new.self.items c.pop.result c.pop.ensures.items c.in-Some.is
+    c.loop-pass.invariant.left in
     omega (arith, t.2)
 
 pub loop-pass-preserved : goal.loop-pass-preserved
@@ -45,11 +44,11 @@ loop-pass-preserved c =
     let whole : History = c.args.longest.now.view.seen in
     let left : List PassData = c.pop.new.self.items in
     let pass : PassData = c.in-Some.pass in
-    let t = taken all c.loop-pass.passes.items left c.pop.result pass c.pop.ensures.items c.in-Some.is d.left in
+    let t = taken all left c.pop.result c.pop.ensures.items c.in-Some.is d.left in
     let count = t.2 in
     let heard = c.hear.ensures.heard in
-    let seen : c.hear.new.pass.view.seen ≡ whole = heard_whole whole pass c.hear.new.pass c.copy-note.result heard
-    (c.copy-note.ensures.seen ∙ d.same) (c.requires.gathered.seen (length left) pass t.1) in
+    let seen : c.hear.new.pass.view.seen ≡ whole = heard_whole heard (c.copy-note.ensures.seen ∙ d.same)
+    (c.requires.gathered.seen (length left) pass t.1) in
     let mine : own (actor_of pass) whole ≡ own (actor_of pass) pass.view.seen = ap (own (actor_of pass))
     (sym seen) ∙ heard.visits in
     record {
@@ -58,19 +57,19 @@ loop-pass-preserved c =
       same = ap (λ n. n.view.seen) c.copy-note.ensures.same ∙ d.same;
       size = c.stamp.ensures.size ∙ d.size;
       visits = λ j p h e. dite (ℕ_discrete j (length left))
-          (λ is. let same = same_pass pass p (sym t.1 ∙ (ap (slice_get all) (sym is) ∙ e)) in
+          (λ is. let same = same_pass (sym t.1 ∙ (ap (slice_get all) (sym is) ∙ e)) in
           subst (λ (q : PassData). own (actor_of q) whole ≡ own (actor_of q) q.view.seen) same mine)
           (λ ne. d.visits j p (omega arith) e);
       stamped = λ i j visit p there h e is.
-          stamp_more c.loop-pass.order c.stamp.new.order i visit (actor_of pass) whole (tickets-has
-          (actor_of pass) i whole visit there)
+          stamp_more c.loop-pass.order c.stamp.new.order i visit (actor_of pass) whole
+          (tickets-has (actor_of pass) i whole there)
           (subst (λ (a : ℕ). slice_index c.stamp.new.order i ≡ (if has i
           (tickets a whole) then a else slice_index c.loop-pass.order i)) heard.same.actor
           (subst (λ (l : History). slice_index c.stamp.new.order i ≡ (if has i (tickets
           (actor_of c.hear.new.pass) l) then actor_of c.hear.new.pass else slice_index c.loop-pass.order i)) seen
           (c.stamp.ensures.stamped i)))
           (λ ne. dite (ℕ_discrete j (length left))
-          (λ at. let same = same_pass pass p (sym t.1 ∙ (ap (slice_get all) (sym at) ∙ e)) in
+          (λ at. let same = same_pass (sym t.1 ∙ (ap (slice_get all) (sym at) ∙ e)) in
           absurd (ne (is ∙ ap actor_of (sym same))))
           (λ further. d.stamped i j visit p there (omega arith) e is));
     }
@@ -88,7 +87,7 @@ returns c =
         actors = order_is c.loop-pass.order whole (d.size ∙ c.requires.room) (λ i visit there.
             let known : visit.actor < c.args.self.now.setup.actors = dite
             (dec_le c.args.self.now.setup.actors visit.actor)
-            (λ above. absurd (own_there whole i visit there (g.known visit.actor above))) (λ h. omega arith) in
+            (λ above. absurd (own_there whole i there (g.known visit.actor above))) (λ h. omega arith) in
             let f = find_pass all visit.actor (c.requires.present visit.actor known) in
             d.stamped i f.0 visit f.1 there (omega (arith, empty)) f.2 (sym f.3));
         seen = g.seen;

@@ -14,11 +14,10 @@ compare_exchange_with-found-requires c =
     let known : c.args.node < nodes_in setup = search rules in (
       search rules,
       search rules,
-      turns_at c.cell_numbers.ensures.apart setup _ _
-          c.args.node c.lock_place-place.result _ m c.args.act.now known
+      turns_at c.cell_numbers.ensures.apart setup _ _ m c.args.act.now known
           (omega (arith, c.requires.low, c.requires.high))
-          (record { out = c.requires.outside; unwritten = c.requires.unwritten })
-          c.lock_place-place.ensures.place (omega (arith, c.requires.low)),
+          (record { out = c.requires.outside; unwritten = c.requires.unwritten }) c.lock_place-place.ensures.place
+          (omega (arith, c.requires.low)),
     )
 
 pub returns-then-found-eq0-clause-turn : goal.returns-then-found-eq0-clause-turn

@@ -32,25 +32,18 @@ make_put-requires-clause-may c =
     (λ q. q.view) told)) c.requires.handset in
     let known = c.next_put-key.ensures.cell (subst (λ (s : ℕ). s < subs_in c.args.self.now.setup)
     (sym h.sub) h.script.known) in
-    λ log. may_put v node key word log c.pass.invariant.undrawn c.pass.invariant.unwritten
-    c.pass.invariant.clear
+    λ log. may_put v word log c.pass.invariant.undrawn c.pass.invariant.unwritten c.pass.invariant.clear
     (c.node_of-node.ensures.node ∙ ap (λ (s : Setup). key_node (setting_in s) key) back)
-    (own_few c.pass.inside.seat.me _ _ _ _ _ c.pass.invariant spare)
-    (subst (λ (s : Setup). IsCellOf s key) back known)
-    (c.next_put-key.ensures.sub ∙ sub)
-    (subst (λ (s : Setup). IsLegal (setting_in s) v.low (v.seen ++ put_of v.low key word ∷ [])) back
-    (c.next_put-key.ensures.legal v h))
+    (own_few c.pass.invariant spare) (subst (λ (s : Setup). IsCellOf s key) back known)
+    (c.next_put-key.ensures.sub ∙ sub) (subst (λ (s : Setup). IsLegal (setting_in s) v.low
+    (v.seen ++ put_of v.low key word ∷ [])) back (c.next_put-key.ensures.legal v h))
 
 pub invariant_of-pass-2 : goal.invariant_of-pass-2
 invariant_of-pass-2 c =
     let made = c.in_ok-ticket.ensures.made in
     let kept = c.keep_ticket.ensures in
-    pass_is c.make_put.new.seat.me _ _ _ _ _ _ _ _
-    (pass_done c.pass.inside.seat.me (made.there, []) c.make_put.new.seat.me c.pass.inside.actor
-    c.pass.inside.seen c.pass.inside.spare c.keep_ticket.new.spare c.node_of-node.result c.in_ok-ticket.ticket
-    c.pass.inside.tickets.items _ (Put c.next_put-key.result.0 c.next_put-key.result.1) c.pass.invariant kept.spare
-    made.draws made.left c.make_put.ensures.slots)
-    kept.seen kept.tickets kept.room
+    pass_is (pass_done (made.there, []) c.make_put.new.seat.me c.keep_ticket.new.spare c.pass.invariant kept.spare
+    made.draws made.left c.make_put.ensures.slots) kept.seen kept.tickets kept.room
 
 pub returns : goal.returns
 returns c =
@@ -66,25 +59,23 @@ returns c =
     let table = c.make_put.ensures.table ∙ ap (λ q. q.table) told in
     let seat = c.make_put.ensures.id ∙ ap (λ q. q.seat) told in
     let less = c.keep_ticket.ensures.spare ∙ ap (λ q. q.spare) told in
-    let visited = visit_done old _ made.there c.node_of-node.result ticket (Put key word) made.draws made.left
-    (ap (λ (s : Setup). key_node (setting_in s) key) c.requires.of.setup ∙ sym c.node_of-node.ensures.node)
-    made.won made.given_back table seat less in
+    let visited = visit_done old _ made.draws made.left
+    (ap (λ (s : Setup). key_node (setting_in s) key) c.requires.of.setup ∙ sym c.node_of-node.ensures.node) made.won
+    made.given_back table seat less in
     let made_count = length (puts_to old.view.low old.view.seen) in
     let low = subst (λ (s : Setup). old.view.low < subs_in s) (sym c.requires.of.setup) h.script.known in
     let puts = made.draws.puts low in
     let made_by = λ (own : IsHandsetOf setup old.view c.args.handset.now).
-    handset_after setup old.view c.make_put.new.seat.me.0 c.args.handset.now c.made.new.self key word
-    made.draws.earlier own (c.next_put-key.ensures.next old.view own
-    ∙ ap (λ (a : ℕ). Some (put_of a key word)) own.sub) (c.next_put-key.ensures.sub ∙ own.sub)
-    visited.same.actor (seen_done old.view _ _ _ _ _ made.draws made.left) puts (subst
-    (λ p. GoesWith p c.made.new.self) c.requires.plan c.made.ensures.goes)
-    (ap (λ q. q.sub) c.made.ensures.exact ∙ write-sub
-    (setting_of c.args.plan.now []) c.args.handset.now c.args.handset.now.stage)
-    (subst (λ p. StandsForSteps (setting_of p setup.homes) c.made.new.self own.steps (suc made_count)) c.requires.plan
-    (c.made.ensures.stands setup.homes own.steps made_count (subst (λ p. StandsForSteps
-    (setting_of p setup.homes) c.args.handset.now own.steps made_count) (sym c.requires.plan) own.stands))) in
-    let is_due = λ (P : Visit → Type 0). put_due _ c.args.handset.now.sub old.view.low key word P
-    c.next_put-key.ensures.due h.sub in
+    handset_after c.make_put.new.seat.me.0 key word made.draws.earlier own
+    (c.next_put-key.ensures.next old.view own ∙ ap (λ (a : ℕ). Some (put_of a key word)) own.sub)
+    (c.next_put-key.ensures.sub ∙ own.sub) visited.same.actor (seen_done old.view made.draws made.left) puts
+    (subst (λ p. GoesWith p c.made.new.self) c.requires.plan c.made.ensures.goes)
+    (ap (λ q. q.sub) c.made.ensures.exact ∙ write-sub (setting_of c.args.plan.now []) c.args.handset.now
+    c.args.handset.now.stage) (subst (λ p. StandsForSteps (setting_of p setup.homes) c.made.new.self own.steps
+    (suc made_count)) c.requires.plan (c.made.ensures.stands setup.homes own.steps made_count
+    (subst (λ p. StandsForSteps (setting_of p setup.homes) c.args.handset.now own.steps made_count)
+    (sym c.requires.plan) own.stands))) in
+    let is_due = λ (P : Visit → Type 0). put_due key word P c.next_put-key.ensures.due h.sub in
     record {
       made = (
         is_due (λ (visit : Visit). HasVisited old visit.act ticket _) visited,
@@ -97,5 +88,4 @@ returns c =
 
 pub invariant_of-pass : goal.invariant_of-pass
 invariant_of-pass c =
-    lost_pass c.pass.inside.seat.me c.make_put.new.seat.me _ _ _ _ _ _ _ c.pass.invariant
-    c.in_err-ticket.ensures.made.0.2
+    lost_pass _ _ c.pass.invariant c.in_err-ticket.ensures.made.0.2

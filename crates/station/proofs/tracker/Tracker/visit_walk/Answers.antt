@@ -1,6 +1,5 @@
 use Rattle.std.proofs.Common.{◌≡◌, refl, subst, sym, ap, ◌∙◌, []}
 use Rattle.std.specs.Prelude.{Some}
-use Rattle.entry_word.specs.declared.visit.Act.TheVariants.{Look}
 use Rattle.directory.specs.Finds.{after_word, key_of}
 use Rattle.region_plan.specs.Matched.{IsMatched}
 use Rattle.region_plan.specs.Settings.{setting_of}
@@ -23,12 +22,9 @@ pub saw-requires-clause-word : goal.saw-requires-clause-word
 saw-requires-clause-word c =
     let looked = c.in_ok-looked.ensures.looked in
     word-seen c.marks_tell.ensures.marks c.entries_tell.ensures.entries c.front_of_history_is_legal.ensures
-    c.args.self.now.setup c.args.plan.now c.args.pass.now c.visit_look.new.pass (Look c.in-Some.key)
-    c.in_ok-looked.looked.ticket c.in_ok-looked.looked.word c.args.walk.now c.in-Some.key c.requires.way.plan_is
-    c.plan_is_sound.ensures.matched c.requires.way.of.setup looked.0 looked.1 c.requires.way.known c.requires.way.goes
-    (subst (λ p. key_of (call_of c.args.walk.now) (pursuit_of p c.args.walk.now) ≡ Some c.in-Some.key)
-    c.requires.way.plan_is
-    (sym c.next.ensures ∙ c.in-Some.is))
+    c.requires.way.plan_is c.plan_is_sound.ensures.matched c.requires.way.of.setup looked.0 looked.1
+    c.requires.way.known c.requires.way.goes (subst (λ p. key_of (call_of c.args.walk.now)
+    (pursuit_of p c.args.walk.now) ≡ Some c.in-Some.key) c.requires.way.plan_is (sym c.next.ensures ∙ c.in-Some.is))
 
 pub returns-in_err-looked : goal.returns-in_err-looked
 returns-in_err-looked c = record {

@@ -24,9 +24,9 @@ store-requires c =
       search rules,
       subst (λ k. Allows (KeepsRule k) slots c.args.seat.now.id m place (λ _. word) (λ _. Writes
           (step slots place word 0 none) m word)) e
-          (writes c.cell_numbers.ensures.apart c.cell_numbers.ensures.below c.same_key_means.ensures _ _ place word
-          m key c.requires.put (subst (λ s. IsCellOf s key) back c.requires.cell)
-          (c.cell_place-place.ensures.place ∙ ap (λ s. cell_word s key) back) (subst (λ s. HasTurn m.0 (key_node
-          (setting_in s) key)) back c.requires.turn)
+          (writes c.cell_numbers.ensures.apart c.cell_numbers.ensures.below c.same_key_means.ensures _ _ m
+          c.requires.put (subst (λ s. IsCellOf s key) back c.requires.cell)
+          (c.cell_place-place.ensures.place ∙ ap (λ s. cell_word s key) back)
+          (subst (λ s. HasTurn m.0 (key_node (setting_in s) key)) back c.requires.turn)
           (c.requires.word ∙ ap (λ s. cell (setting_in s) m.0.seen key) back)),
     )

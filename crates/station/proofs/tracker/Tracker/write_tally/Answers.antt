@@ -22,8 +22,7 @@ store-requires c =
       search rules,
       subst (λ k. Allows (KeepsRule k) slots c.args.seat.now.id m place (λ _. tally) (λ _. Tallies
           (step slots place tally 0 none) m tally)) e
-          (tallies c.cell_numbers.ensures.apart c.same_key_means.ensures _ _ node place tally m c.requires.turn
+          (tallies c.cell_numbers.ensures.apart c.same_key_means.ensures _ _ m c.requires.turn
           (c.tally_place-place.ensures.place ∙ ap (λ s. tally_word s node) back)
-          (c.requires.tally ∙ ap (λ s. length (census
-          (setting_in s) m.0.seen node)) back)),
+          (c.requires.tally ∙ ap (λ s. length (census (setting_in s) m.0.seen node)) back)),
     )
