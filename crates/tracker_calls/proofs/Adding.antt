@@ -26,9 +26,9 @@ use Rattle.tracker_calls.specs.Added.{HasAdded, HasTried, VisitTurns, turns_take
 use Rattle.directory.specs.Statements.{BeginsWithItself, BeginsWithFront, BeginsThrough}
 
 -- the events of turns that are lost
-logged-tried : (node : ℕ) (pass tried : PassData) → (lost : HasTried node pass tried)
+logged-tried : {node : ℕ} {pass tried : PassData} → (lost : HasTried node pass tried)
     → HasLoggedMore pass (losses (actor_of pass) (map (turn_at node) lost.words)) tried
-logged-tried node pass tried lost =
+logged-tried {node} {pass} lost =
     record {
       logs = lost.logs;
       lost = ap (λ (q : PassData). q.view.lost) lost.is
@@ -36,17 +36,17 @@ logged-tried node pass tried lost =
     }
 
 -- those of a visit, and of the turns that were lost before it
-logged-visit : (setup : Setup) (pass tried new : PassData) (act : Act) (ticket : ℕ) → pass.view.setup ≡ setup
+logged-visit : {setup : Setup} {pass tried new : PassData} {act : Act} {ticket : ℕ} → pass.view.setup ≡ setup
     → (lost : HasTried (act_node (setting_in setup) act) pass tried) → HasVisited tried act ticket new
     → HasLoggedMore pass (turns_taken (actor_of pass) (record {
       node = act_node (setting_in setup) act;
       words = lost.words;
     })) new
-logged-visit setup pass tried new act ticket told lost visited =
+logged-visit {setup} {pass} {tried} {new} {act} {ticket} told lost visited =
     let node = act_node (setting_in setup) act in
     let setups : tried.view.setup ≡ setup = ap (λ (q : PassData). q.view.setup) lost.is ∙ told in
     logged-more pass tried new (losses (actor_of pass) (map (turn_at node) lost.words))
-    (Won (actor_of pass) node ∷ GivenBack (actor_of pass) node ∷ []) (logged-tried node pass tried lost)
+    (Won (actor_of pass) node ∷ GivenBack (actor_of pass) node ∷ []) (logged-tried lost)
     (subst (λ (a : ℕ). HasLoggedMore tried (Won a node ∷ GivenBack a node ∷ []) new) (ap actor_of lost.is)
     (logged-turn setup tried new act ticket setups visited))
 
@@ -68,17 +68,16 @@ added-none itself setup pass outside =
     }
 
 -- what a pass had seen before a visit is a front of what it has seen
-pub visited-front : BeginsWithFront → BeginsThrough → (old new : PassData) (act : Act) (ticket : ℕ)
-    → HasVisited old act ticket new
-    → IsFront old.view.seen new.view.seen
-visited-front longer through old new act ticket visited =
+pub visited-front : BeginsWithFront → BeginsThrough → {old new : PassData} {act : Act} {ticket : ℕ}
+    → HasVisited old act ticket new → IsFront old.view.seen new.view.seen
+visited-front longer through {old} {new} {act} visited =
     through old.view.seen visited.earlier new.view.seen visited.begins
     (subst (IsFront visited.earlier) (sym visited.seen) (longer visited.earlier (visit_by old.view act ∷ [])))
 
 -- the visit is its pass's own
-pub own-visited : (old new : PassData) (act : Act) (ticket : ℕ) → HasVisited old act ticket new
+pub own-visited : {old new : PassData} {act : Act} {ticket : ℕ} → HasVisited old act ticket new
     → own (actor_of old) new.view.seen ≡ own (actor_of old) old.view.seen ++ visit_by old.view act ∷ []
-own-visited old new act ticket visited =
+own-visited {old} {act} visited =
     ap (own (actor_of old)) visited.seen
     ∙ (own-push (actor_of old) visited.earlier (visit_by old.view act)
     ∙ (ap (λ b. own (actor_of old) visited.earlier ++ cond b (visit_by old.view act ∷ []) [])
@@ -101,12 +100,11 @@ nodes-more setting actor begun pass new turns one visit more nodes at =
     ∙ ap (λ l. own_nodes setting actor begun ++ l) (sym (map-append (λ (t : VisitTurns). t.node) turns (one ∷ [])))))))
 
 -- one visit more, after turns that were lost at its node
-pub added-more : BeginsWithFront → BeginsThrough
-    → (setup : Setup) (begun pass tried new : PassData) (made : List ℕ) (act : Act)
-    (ticket : ℕ) → pass.view.setup ≡ setup → HasAdded setup begun made pass
+pub added-more : BeginsWithFront → BeginsThrough → {setup : Setup} {begun pass tried new : PassData} {made : List ℕ}
+    {act : Act} {ticket : ℕ} → pass.view.setup ≡ setup → HasAdded setup begun made pass
     → HasTried (act_node (setting_in setup) act) pass tried → HasVisited tried act ticket new
     → HasAdded setup begun (made ++ ticket ∷ []) new
-added-more longer through setup begun pass tried new made act ticket told added lost visited =
+added-more longer through {setup} {begun} {pass} {tried} {new} {made} {act} {ticket} told added lost visited =
     let actor : ℕ = actor_of begun in
     let setups : tried.view.setup ≡ setup = ap (λ (q : PassData). q.view.setup) lost.is ∙ told in
     let seen : tried.view.seen ≡ pass.view.seen = ap (λ (q : PassData). q.view.seen) lost.is in
@@ -117,7 +115,7 @@ added-more longer through setup begun pass tried new made act ticket told added 
     let more : own actor new.view.seen ≡ own actor pass.view.seen ++ visit_by tried.view act ∷ [] =
     subst (λ (h : History). own actor new.view.seen ≡ own actor h ++ visit_by tried.view act ∷ []) seen
     (subst (λ (a : ℕ). own a new.view.seen ≡ own a tried.view.seen ++ visit_by tried.view act ∷ []) mine
-    (own-visited tried new act ticket visited)) in
+    (own-visited visited)) in
     let next : tickets actor new.view.seen ≡ tickets actor tried.view.seen ++ ticket ∷ [] =
     subst (λ (a : ℕ). tickets a new.view.seen ≡ tickets a tried.view.seen ++ ticket ∷ []) mine
     (ap (tickets (actor_of tried)) visited.seen
@@ -127,7 +125,7 @@ added-more longer through setup begun pass tried new made act ticket told added 
     record {
       begins = through begun.view.seen pass.view.seen new.view.seen added.begins
           (subst (λ (h : History). IsFront h new.view.seen) seen
-          (visited-front longer through tried new act ticket visited));
+          (visited-front longer through visited));
       visits = next
           ∙ (ap (λ (h : History). tickets actor h ++ ticket ∷ []) seen
           ∙ (ap (λ l. l ++ ticket ∷ []) added.visits ∙ append_assoc _ made (ticket ∷ [])));
@@ -143,7 +141,7 @@ added-more longer through setup begun pass tried new made act ticket told added 
           ∙ sym (flat_map-append (turns_taken actor) added.turns (turns ∷ [])))
           (logged-more begun pass new taken (turns_taken actor turns) added.logged
           (subst (λ (a : ℕ). HasLoggedMore pass (turns_taken a turns) new) added.same.actor
-          (logged-visit setup pass tried new act ticket told lost visited)));
+          (logged-visit told lost visited)));
       same = record {
         table = visited.same.table ∙ (ap (λ (q : PassData). q.table) lost.is ∙ added.same.table);
         seat = visited.same.seat ∙ (ap (λ (q : PassData). q.seat) lost.is ∙ added.same.seat);
@@ -162,9 +160,9 @@ tried-none node pass =
           (sym (append-nil pass.view.lost));
     }
 
-pub tried-again : (node : ℕ) (begun pass new : PassData) (held : Held) → HasTried node begun pass
+pub tried-again : {node : ℕ} {begun pass new : PassData} {held : Held} → HasTried node begun pass
     → HasLost pass node held new → HasTried node begun new
-tried-again node begun pass new held tried lost =
+tried-again {node} {begun} {pass} {new} {held} tried lost =
     let word : ℕ = suc held.by in
     let one : NodeTurn = turn_at node word in
     let turns : List NodeTurn = map (turn_at node) tried.words in

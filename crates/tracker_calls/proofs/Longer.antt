@@ -9,17 +9,17 @@ use Rattle.station.specs.TicketLaws.{front-rest}
 use Rattle.directory.specs.HistoryLaws.{commits-append}
 
 -- a visit of a front is one of the whole, and what is before it is the same
-take-get : (n t : ℕ) (zs : History) (v : Visit) → slice_get (take n zs) t ≡ Some v → slice_get zs t ≡ Some v
-take-get zero t [] v h = cc
-take-get zero t (z ∷ zs) v h = cc
-take-get (suc n) t [] v h = cc
-take-get (suc n) zero (z ∷ zs) v h = h
-take-get (suc n) (suc t) (z ∷ zs) v h = take-get n t zs v h
+take-get : (n t : ℕ) (zs : History) {v : Visit} → slice_get (take n zs) t ≡ Some v → slice_get zs t ≡ Some v
+take-get zero t [] h = cc
+take-get zero t (z ∷ zs) h = cc
+take-get (suc n) t [] h = cc
+take-get (suc n) zero (z ∷ zs) h = h
+take-get (suc n) (suc t) (z ∷ zs) h = take-get n t zs h
 
-pub front-get : (t : ℕ) (xs zs : History) (v : Visit) → IsFront xs zs → slice_get xs t ≡ Some v
+pub front-get : (t : ℕ) (xs zs : History) {v : Visit} → IsFront xs zs → slice_get xs t ≡ Some v
     → slice_get zs t ≡ Some v
-front-get t xs zs v front h =
-    take-get (length xs) t zs v (subst (λ (l : History). slice_get l t ≡ Some v) front h)
+front-get t xs zs {v} front h =
+    take-get (length xs) t zs (subst (λ (l : History). slice_get l t ≡ Some v) front h)
 
 pub front-before : (t : ℕ) (xs zs : History) → IsFront xs zs → t ≤ length xs → before t xs ≡ before t zs
 front-before t xs zs front low = ap (take t) front ∙ take-take t (length xs) zs low

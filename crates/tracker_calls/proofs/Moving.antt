@@ -52,27 +52,26 @@ pub due-means : (setting : Setting) (handset : HandsetData)
 due-means setting handset =
     mapped (visit_of handset.sub) (due_at setting handset handset.stage) ∙ due-rests setting handset handset.stage
 
-flip : (b : Bool) (c : Bool) → c ≡ not b → c ≡ false → b ≡ true
-flip true c e f = refl
-flip false c e f = cc
+flip : (b : Bool) {c : Bool} → c ≡ not b → c ≡ false → b ≡ true
+flip true e f = refl
+flip false e f = cc
 
-flop : (b : Bool) (c : Bool) → c ≡ not b → c ≡ true → b ≡ false
-flop false c e f = refl
-flop true c e f = cc
+flop : (b : Bool) {c : Bool} → c ≡ not b → c ≡ true → b ≡ false
+flop false e f = refl
+flop true e f = cc
 
 pub none-rests : (setting : Setting) (handset : HandsetData) → is_some (due setting handset) ≡ false
     → is_rest handset.stage ≡ true
-none-rests setting handset none = flip (is_rest handset.stage) _ (due-means setting handset) none
+none-rests setting handset none = flip (is_rest handset.stage) (due-means setting handset) none
 
 pub some-busy : (setting : Setting) (handset : HandsetData) → is_some (due setting handset) ≡ true
     → is_rest handset.stage ≡ false
-some-busy setting handset some = flop (is_rest handset.stage) _ (due-means setting handset) some
+some-busy setting handset some = flop (is_rest handset.stage) (due-means setting handset) some
 
 -- the actor of the visit that is due
-due-actor : (sub : ℕ) (o : Option Write) (visit : Visit) → option_map (visit_of sub) o ≡ Some visit
-    → visit.actor ≡ sub
-due-actor sub None visit h = cc
-due-actor sub (Some w) visit h = let e : visit_of sub w ≡ visit = cc in sym (ap (λ v. v.actor) e)
+due-actor : (sub : ℕ) (o : Option Write) {visit : Visit} → option_map (visit_of sub) o ≡ Some visit → visit.actor ≡ sub
+due-actor sub None h = cc
+due-actor sub (Some w) {visit} h = let e : visit_of sub w ≡ visit = cc in sym (ap (λ v. v.actor) e)
 
 one-step : (setting : Setting) (course : Course) (step : Step)
     → writes setting course (step ∷ []) ≡ step_writes setting course step
@@ -114,14 +113,13 @@ unfolding after_writes
 one-written setting handset count = refl
 
 -- a move that is begun
-pub put-none : MovesAreShort
-    → (setup : Setup) (pass : PassData) (handset begun : HandsetData) (to : ℕ)
+pub put-none : MovesAreShort → {setup : Setup} {pass : PassData} {handset begun : HandsetData} {to : ℕ}
     → (its : IsHandsetOf setup pass.view handset) → MayMoveTo setup.plan pass handset to
     → begun ≡ begin_move (setting_in setup) handset to → GoesWith setup.plan begun
     → ((steps : List Step) (made : ℕ) → StandsForSteps (setting_in setup) handset steps made
     → StandsForSteps (setting_in setup) begun (steps ++ move_to to ∷ []) made)
     → HasPut setup pass handset to [] pass begun
-put-none short setup pass handset begun to its may is goes stands =
+put-none short {setup} {pass} {handset} {begun} {to} its may is goes stands =
     let setting : Setting = setting_in setup in
     let sub : ℕ = pass.view.low in
     let puts = puts_to sub pass.view.seen in
@@ -152,26 +150,25 @@ put-none short setup pass handset begun to its may is goes stands =
     }
 
 -- the same, as the code reads its plan
-pub put-begun : MovesAreShort → (setup : Setup) (plan : PlanData) (pass : PassData)
-    (handset begun : HandsetData) (to : ℕ) → plan ≡ setup.plan → (its : IsHandsetOf setup pass.view handset)
-    → MayMoveTo plan pass handset to
+pub put-begun : MovesAreShort → {setup : Setup} {plan : PlanData} {pass : PassData} {handset begun : HandsetData}
+    {to : ℕ} → plan ≡ setup.plan → (its : IsHandsetOf setup pass.view handset) → MayMoveTo plan pass handset to
     → begun ≡ begin_move (setting_of plan []) handset to → GoesWith plan begun
     → ((starts : List ℕ) (steps : List Step) (made : ℕ) → StandsForSteps (setting_of plan starts) handset steps made
     → StandsForSteps (setting_of plan starts) begun (steps ++ move_to to ∷ []) made)
     → HasPut setup pass handset to [] pass begun
-put-begun short setup plan pass handset begun to same its may is goes stands =
+put-begun short {setup} {pass} {handset} {begun} {to} same its may is goes stands =
     subst (λ p. MayMoveTo p pass handset to → begun ≡ begin_move (setting_of p []) handset to → GoesWith p begun
     → ((starts : List ℕ) (steps : List Step) (made : ℕ) → StandsForSteps (setting_of p starts) handset steps made
     → StandsForSteps (setting_of p starts) begun (steps ++ move_to to ∷ []) made)
     → HasPut setup pass handset to [] pass begun) (sym same)
-    (λ may_there is_there goes_there stands_there. put-none short setup pass handset begun to its may_there
-    is_there goes_there (stands_there setup.homes)) may is goes stands
+    (λ may_there is_there goes_there stands_there. put-none short its may_there is_there goes_there
+    (stands_there setup.homes)) may is goes stands
 
 -- turns that are lost change nothing of it
-pub put-tried : (setup : Setup) (begun : PassData) (from : HandsetData) (to : ℕ) (made : List ℕ)
-    (node : ℕ) (pass tried : PassData) (handset : HandsetData) → HasTried node pass tried
+pub put-tried : {setup : Setup} {begun : PassData} {from : HandsetData} {to : ℕ} {made : List ℕ} {node : ℕ}
+    {pass tried : PassData} {handset : HandsetData} → HasTried node pass tried
     → HasPut setup begun from to made pass handset → HasPut setup begun from to made tried handset
-put-tried setup begun from to made node pass tried handset lost at =
+put-tried {setup} {begun} {from} {to} {made} {handset} lost at =
     subst (λ (q : PassData). HasPut setup begun from to made q handset) (sym lost.is) (record {
       steps = at.steps;
       stood = at.stood;
@@ -200,11 +197,10 @@ put-tried setup begun from to made node pass tried handset lost at =
     })
 
 -- one put more
-pub put-more : (setup : Setup) (begun : PassData) (from : HandsetData) (to : ℕ) (made : List ℕ)
-    (pass new : PassData) (handset moved : HandsetData) (ticket : ℕ)
-    → HasPut setup begun from to made pass handset → HasStepped setup pass handset ticket new moved
-    → HasPut setup begun from to (made ++ ticket ∷ []) new moved
-put-more setup begun from to made pass new handset moved ticket at stepped =
+pub put-more : {setup : Setup} {begun : PassData} {from : HandsetData} {to : ℕ} {made : List ℕ} {pass new : PassData}
+    {handset moved : HandsetData} {ticket : ℕ} → HasPut setup begun from to made pass handset
+    → HasStepped setup pass handset ticket new moved → HasPut setup begun from to (made ++ ticket ∷ []) new moved
+put-more {setup} {begun} {from} {to} {made} {pass} {new} {handset} {ticket} at stepped =
     let setting : Setting = setting_in setup in
     let goes = stepped.goes_on at.its in
     let visited = stepped.visited in
@@ -212,11 +208,11 @@ put-more setup begun from to made pass new handset moved ticket at stepped =
     let still : actor_of new ≡ actor_of begun = visited.same.actor ∙ mine in
     let visit : Visit = stepped.visit in
     let by : visit.actor ≡ actor_of pass =
-    due-actor handset.sub (due_at setting handset handset.stage) visit stepped.next ∙ at.its.sub in
+    due-actor handset.sub (due_at setting handset handset.stage) stepped.next ∙ at.its.sub in
     let whole : visit_by pass.view visit.act ≡ visit =
     ap (λ (a : ℕ). the_visit a visit.act) (sym by) in
     let more : own (actor_of pass) new.view.seen ≡ own (actor_of pass) pass.view.seen ++ visit ∷ [] =
-    own-visited pass new visit.act ticket visited ∙ ap (λ v. own (actor_of pass) pass.view.seen ++ v ∷ []) whole in
+    own-visited visited ∙ ap (λ v. own (actor_of pass) pass.view.seen ++ v ∷ []) whole in
     let puts : puts_to (actor_of begun) new.view.seen ≡ puts_to (actor_of begun) pass.view.seen ++ visit ∷ [] =
     ap (λ a. puts_to a new.view.seen) (sym still)
     ∙ (goes.puts ∙ ap (λ a. puts_to a pass.view.seen ++ visit ∷ []) mine) in
@@ -254,11 +250,11 @@ put-more setup begun from to made pass new handset moved ticket at stepped =
     the_visit a act = record { actor = a; act = act }
 
 -- how many puts are made, in the steps that the handset stands for
-stands-for : (setup : Setup) (begun : PassData) (from : HandsetData) (to : ℕ) (made : List ℕ) (pass : PassData)
-    (handset : HandsetData) → (at : HasPut setup begun from to made pass handset)
+stands-for : {setup : Setup} {begun : PassData} {from : HandsetData} {to : ℕ} {made : List ℕ} {pass : PassData}
+    {handset : HandsetData} → (at : HasPut setup begun from to made pass handset)
     → (handset.sub ≡ actor_of begun) × StandsForSteps (setting_in setup) handset (at.steps ++ move_to to ∷ [])
     (length (puts_to (actor_of begun) pass.view.seen))
-stands-for setup begun from to made pass handset at = (
+stands-for {setup} {to} {pass} {handset} at = (
   at.its.sub ∙ at.same.actor,
   subst (λ a. StandsForSteps (setting_in setup) handset (at.steps ++ move_to to ∷ [])
       (length (puts_to a pass.view.seen)))
@@ -268,14 +264,14 @@ stands-for setup begun from to made pass handset at = (
 )
 
 -- once nothing is left, these are all puts of the move
-pub put-all : (setup : Setup) (begun : PassData) (from : HandsetData) (to : ℕ) (made : List ℕ) (pass : PassData)
-    (handset : HandsetData) → (at : HasPut setup begun from to made pass handset) → is_rest handset.stage ≡ true
+pub put-all : {setup : Setup} {begun : PassData} {from : HandsetData} {to : ℕ} {made : List ℕ} {pass : PassData}
+    {handset : HandsetData} → (at : HasPut setup begun from to made pass handset) → is_rest handset.stage ≡ true
     → at.put ≡ puts_of_move (setting_in setup) (actor_of begun) at.steps to
-put-all setup begun from to made pass handset at rests =
+put-all {setup} {begun} {to} {pass} {handset} at rests =
     let setting : Setting = setting_in setup in
     let sub = actor_of begun in
     let steps = at.steps ++ move_to to ∷ [] in
-    let stands = stands-for setup begun from to made pass handset at in
+    let stands = stands-for at in
     let puts = puts_to sub pass.view.seen in
     let rest = at-rest setting sub handset steps (length puts) stands.0 stands.1 rests in
     let made_are : puts ≡ take (length puts) (visits setting sub steps) =

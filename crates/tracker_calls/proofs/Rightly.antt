@@ -31,12 +31,12 @@ its-number setting history sub last q (At node p level weight) right its = sym i
 its-number setting history sub last q (Off node p level weight) right its = sym its ∙ right.1
 its-number setting history sub last q (Again why weight) right its = absurd its
 
-pub tells-rightly : AnswersAreRight → QuietFindsAnswer → PlanFindsAreNear → (setup : Setup) (old : PassData)
-    (seen : History) (actor : ℕ) (call : FindCall) (found : Found) (made : List ℕ) → IsMatched setup.plan
-    → call.from < nodes_in setup → IsLegal (setting_in setup) call.sub seen
+pub tells-rightly : AnswersAreRight → QuietFindsAnswer → PlanFindsAreNear
+    → (setup : Setup) (old : PassData) {seen : History} {actor : ℕ} {call : FindCall} {found : Found} {made : List ℕ}
+    → IsMatched setup.plan → call.from < nodes_in setup → IsLegal (setting_in setup) call.sub seen
     → IsFind (setting_in setup) seen actor call found made → IsFront old.view.seen seen
     → length old.view.seen ≤ last_of made → TellsRightly setup old call found made seen
-tells-rightly answers answer near setup old seen actor call found made matched from legal its front late =
+tells-rightly answers answer near setup old {seen} {actor} {call} {found} {made} matched from legal its front late =
     let small : nodes_in setup ≤ 2 ^ 16 = omega (arith, matched.metric.few) in
     let right : IsRight (setting_in setup) seen call.sub found (last_of made) =
     answers (setting_in setup) seen actor call found made small from legal its in

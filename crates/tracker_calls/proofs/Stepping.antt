@@ -22,20 +22,20 @@ some-left None h = cc
 some-left (Some visit) h = (visit, refl)
 
 -- the visit that is left
-pub next-visit : (setup : Setup) (plan : PlanData) (handset : HandsetData) (next : Option Visit)
-    → plan ≡ setup.plan → next ≡ due (setting_of plan []) handset → is_some next ≡ true
+pub next-visit : (setup : Setup) {plan : PlanData} (handset : HandsetData) {next : Option Visit} → plan ≡ setup.plan
+    → next ≡ due (setting_of plan []) handset → is_some next ≡ true
     → (visit : Visit) × (due (setting_in setup) handset ≡ Some visit)
-next-visit setup plan handset next same is left =
+next-visit setup handset {next} same is left =
     let there = some-left next left in (
       there.0,
       subst (λ p. due (setting_of p []) handset ≡ Some there.0) same (sym is ∙ there.1),
     )
 
 -- what holds of it
-on-due : (setup : Setup) (plan : PlanData) (handset : HandsetData) (visit : Visit) (P : Visit → Type 0)
-    → plan ≡ setup.plan → due (setting_in setup) handset ≡ Some visit
-    → IfSome (due (setting_of plan []) handset) P → P visit
-on-due setup plan handset visit P same next holds =
+on-due : (setup : Setup) {plan : PlanData} (handset : HandsetData) {visit : Visit} (P : Visit → Type 0)
+    → plan ≡ setup.plan → due (setting_in setup) handset ≡ Some visit → IfSome (due (setting_of plan []) handset) P
+    → P visit
+on-due setup handset P same next holds =
     subst (λ (o : Option Visit). IfSome o P) next (subst (λ p. IfSome (due (setting_of p []) handset) P) same holds)
 
 pub stepped : (setup : Setup) (plan : PlanData) (old new : PassData) (handset moved : HandsetData) (ticket : ℕ)
@@ -50,43 +50,42 @@ stepped setup plan old new handset moved ticket same next room visited made own 
       visit = next.0;
       next = next.1;
       room = room;
-      visited = on-due setup plan handset next.0 (λ visit. HasVisited old visit.act ticket new) same next.1 visited;
+      visited = on-due setup handset (λ visit. HasVisited old visit.act ticket new) same next.1 visited;
       made = made ∙ ap (λ p. after_write (setting_of p []) handset handset.stage) same;
       own = own;
-      goes_on = on-due setup plan handset next.0 (λ visit. (own : IsHandsetOf setup old.view handset)
+      goes_on = on-due setup handset (λ visit. (own : IsHandsetOf setup old.view handset)
           → HandsetGoesOn setup old.view new.view moved own.steps visit) same next.1 goes_on;
     }
 
 -- the same, behind turns that were lost at its node
-pub stepped-tried : (setup : Setup) (plan : PlanData) (begun old new : PassData) (handset moved : HandsetData)
-    (ticket : ℕ) → plan ≡ setup.plan
-    → ((visit : Visit) × (due (setting_in setup) handset ≡ Some visit)
-    × HasTried (act_node (setting_in setup) visit.act) begun old) → 1 ≤ old.spare
+pub stepped-tried : {setup : Setup} {plan : PlanData} {begun old : PassData} (new : PassData) (handset : HandsetData)
+    {moved : HandsetData} (ticket : ℕ) → plan ≡ setup.plan
+    → ((visit : Visit) × (due (setting_in setup) handset ≡ Some visit) × HasTried
+    (act_node (setting_in setup) visit.act) begun old) → 1 ≤ old.spare
     → IfSome (due (setting_of plan []) handset) (λ visit. HasVisited old visit.act ticket new)
     → moved ≡ after_write (setting_of plan []) handset handset.stage → IsHandsetOf setup new.view moved
     → IfSome (due (setting_of plan []) handset) (λ visit. (own : IsHandsetOf setup old.view handset)
     → HandsetGoesOn setup old.view new.view moved own.steps visit)
-    → (its : HasStepped setup old handset ticket new moved)
-    × HasTried (act_node (setting_in setup) its.visit.act) begun old
+    → (its : HasStepped setup old handset ticket new moved) × HasTried (act_node (setting_in setup) its.visit.act) begun
+    old
 unfolding stepped
-stepped-tried setup plan begun old new handset moved ticket same at room visited made own goes_on =
+stepped-tried {setup} {plan} {old} new handset {moved} ticket same at room visited made own goes_on =
     (stepped setup plan old new handset moved ticket same (at.0, at.1) room visited made own goes_on, at.2)
 
 -- the turn at the node of the next put is lost once more
-pub tried-put : (setup : Setup) (plan : PlanData) (begun pass new : PassData) (handset : HandsetData) (held : Held)
-    (visit : Visit) → plan ≡ setup.plan → due (setting_in setup) handset ≡ Some visit
+pub tried-put : (setup : Setup) {plan : PlanData} {begun pass : PassData} (new : PassData) (handset : HandsetData)
+    (held : Held) {visit : Visit} → plan ≡ setup.plan → due (setting_in setup) handset ≡ Some visit
     → HasTried (act_node (setting_in setup) visit.act) begun pass
     → IfSome (due (setting_of plan []) handset) (λ visit. HasLost pass (act_node (setting_in setup) visit.act) held new)
     → HasTried (act_node (setting_in setup) visit.act) begun new
-tried-put setup plan begun pass new handset held visit same next tried lost =
-    tried-again (act_node (setting_in setup) visit.act) begun pass new held tried
-    (on-due setup plan handset visit (λ visit. HasLost pass (act_node (setting_in setup) visit.act) held new) same
-    next lost)
+tried-put setup {pass} new handset held {visit} same next tried lost =
+    tried-again tried (on-due setup handset (λ visit. HasLost pass (act_node (setting_in setup) visit.act) held new)
+    same next lost)
 
 -- turns that are lost leave a handset with its pass
-pub own-tried : (setup : Setup) (node : ℕ) (begun tried : PassData) (handset : HandsetData)
-    → HasTried node begun tried → IsHandsetOf setup begun.view handset → IsHandsetOf setup tried.view handset
-own-tried setup node begun tried handset lost its =
+pub own-tried : {setup : Setup} {node : ℕ} {begun tried : PassData} {handset : HandsetData} → HasTried node begun tried
+    → IsHandsetOf setup begun.view handset → IsHandsetOf setup tried.view handset
+own-tried {setup} {handset} lost its =
     subst (λ (q : PassData). IsHandsetOf setup q.view handset) (sym lost.is) (record {
       goes = its.goes;
       sub = its.sub;

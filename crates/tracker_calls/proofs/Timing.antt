@@ -79,10 +79,10 @@ stays-on setting handset (Erasing level) late = (refl, refl, refl)
 stays-on setting handset (Purging node) late = (refl, refl, refl)
 stays-on setting handset (Switching off) late = (refl, refl, refl)
 
-late-timed : (move : Move) (number : ℕ) (handset after : HandsetData) (made : List ℕ) (commit ticket : ℕ)
+late-timed : {move : Move} (number : ℕ) (handset after : HandsetData) (made : List ℕ) (commit ticket : ℕ)
     → handset.last ≡ move → IsLate move number handset made commit → Stays handset after
     → IsTimed move number after (made ++ ticket ∷ []) commit
-late-timed move number handset after made commit ticket last late stays =
+late-timed {move} number handset after made commit ticket last late stays =
     record {
       last = stays.0 ∙ last;
       early = λ e. absurd (true≢false (sym e ∙ stays.2));
@@ -99,21 +99,21 @@ pub timed-first : (setting : Setting) (from : HandsetData) (to : ℕ)
 timed-first setting from to = record { last = refl; early = λ e. (refl, refl); late = λ e. cc }
 
 -- one put more
-timed-by : (setting : Setting) (nodes : ℕ) (move : Move) (number : ℕ) (handset : HandsetData) (made : List ℕ)
-    (commit ticket : ℕ) → move.number ≡ suc number → handset.last ≡ move
-    → (stage : Stage) → IsMoveStage nodes handset.last stage → is_rest stage ≡ false
+timed-by : (setting : Setting) (nodes : ℕ) {move : Move} {number : ℕ} (handset : HandsetData) (made : List ℕ)
+    (commit ticket : ℕ) → move.number ≡ suc number → handset.last ≡ move → (stage : Stage)
+    → IsMoveStage nodes handset.last stage → is_rest stage ≡ false
     → (is_early stage ≡ true → IsEarly move number handset stage made)
     → (is_early stage ≡ false → IsLate move number handset made commit)
     → IsTimed move number (after_write setting handset stage) (made ++ ticket ∷ [])
     (if is_early stage then ticket else commit)
-timed-by setting nodes move number handset made commit ticket next last Resting within busy early late = cc
-timed-by setting nodes move number handset made commit ticket next last Coming within busy early late =
+timed-by setting nodes handset made commit ticket next last Resting within busy early late = cc
+timed-by setting nodes handset made commit ticket next last Coming within busy early late =
     record {
       last = last;
       early = λ e. (omega (arith, (early refl).0, length-append made (ticket ∷ [])), (early refl).1);
       late = λ e. cc;
     }
-timed-by setting nodes move number handset made commit ticket next last (Renewing level) within busy early late =
+timed-by setting nodes {move} {number} handset made commit ticket next last (Renewing level) within busy early late =
     renewed (nat_lt level handset.last.renewed) refl
   where
     renewed : (b : Bool) → nat_lt level handset.last.renewed ≡ b
@@ -139,7 +139,7 @@ timed-by setting nodes move number handset made commit ticket next last (Renewin
       );
       late = λ f. cc;
     }
-timed-by setting nodes move number handset made commit ticket next last Committing within busy early late =
+timed-by setting nodes {move} handset made commit ticket next last Committing within busy early late =
     record {
       last = last;
       early = λ e. cc;
@@ -149,39 +149,38 @@ timed-by setting nodes move number handset made commit ticket next last Committi
         ap (λ (m : Move). m.number) last ∙ next,
       );
     }
-timed-by setting nodes move number handset made commit ticket next last Confirming within busy early late =
-    late-timed move number handset _ made commit ticket last (late refl) (stays-on setting handset _
-    (late-erasing setting handset (first_with (is_old setting handset) 0 (suc handset.last.renewed - 0))))
-timed-by setting nodes move number handset made commit ticket next last (Erasing level) within busy early late =
-    late-timed move number handset _ made commit ticket last (late refl) (stays-on setting handset _
-    (late-erasing setting handset (first_with (is_old setting handset) (suc level)
-    (suc handset.last.renewed - suc level))))
-timed-by setting nodes move number handset made commit ticket next last (Purging node) within busy early late =
-    late-timed move number handset _ made commit ticket last (late refl) (stays-on setting handset _
-    (late-purging (first_with (is_behind handset) (suc node) (setting.nodes - suc node))))
-timed-by setting nodes move number handset made commit ticket next last (Switching off) within busy early late =
-    late-timed move number handset _ made commit ticket last (late refl) (refl, refl, refl)
+timed-by setting nodes {number} handset made commit ticket next last Confirming within busy early late =
+    late-timed number handset _ made commit ticket last (late refl)
+    (stays-on setting handset _ (late-erasing setting handset
+    (first_with (is_old setting handset) 0 (suc handset.last.renewed - 0))))
+timed-by setting nodes {number} handset made commit ticket next last (Erasing level) within busy early late =
+    late-timed number handset _ made commit ticket last (late refl)
+    (stays-on setting handset _ (late-erasing setting handset
+    (first_with (is_old setting handset) (suc level) (suc handset.last.renewed - suc level))))
+timed-by setting nodes {number} handset made commit ticket next last (Purging node) within busy early late =
+    late-timed number handset _ made commit ticket last (late refl)
+    (stays-on setting handset _ (late-purging (first_with (is_behind handset) (suc node) (setting.nodes - suc node))))
+timed-by setting nodes {number} handset made commit ticket next last (Switching off) within busy early late =
+    late-timed number handset _ made commit ticket last (late refl) (refl, refl, refl)
 
-timed-as : (setting : Setting) (nodes : ℕ) (move : Move) (number : ℕ) (handset : HandsetData) (made : List ℕ)
-    (commit ticket : ℕ) → move.number ≡ suc number → IsMoveStage nodes handset.last handset.stage
-    → is_rest handset.stage ≡ false → IsTimed move number handset made commit → (b : Bool)
-    → is_early handset.stage ≡ b
+timed-as : (setting : Setting) (nodes : ℕ) {move : Move} {number : ℕ} {handset : HandsetData} {made : List ℕ}
+    {commit : ℕ} (ticket : ℕ) → move.number ≡ suc number → IsMoveStage nodes handset.last handset.stage
+    → is_rest handset.stage ≡ false → IsTimed move number handset made commit → {b : Bool} → is_early handset.stage ≡ b
     → IsTimed move number (after_write setting handset handset.stage) (made ++ ticket ∷ [])
     (if b then ticket else commit)
-timed-as setting nodes move number handset made commit ticket next within busy timed b is =
+timed-as setting nodes {move} {number} {handset} {made} {commit} ticket next within busy timed is =
     subst (λ c. IsTimed move number (after_write setting handset handset.stage) (made ++ ticket ∷ [])
     (if c then ticket else commit)) is
-    (timed-by setting nodes move number handset made commit ticket next timed.last handset.stage within busy
-    timed.early timed.late)
+    (timed-by setting nodes handset made commit ticket next timed.last handset.stage within busy timed.early timed.late)
 
 -- the put whose number is one more is the commit
-pub timed-next : (setting : Setting) (nodes : ℕ) (move : Move) (number : ℕ) (handset : HandsetData) (made : List ℕ)
-    (commit ticket : ℕ) → move.number ≡ suc number → IsMoveStage nodes handset.last handset.stage
+pub timed-next : (setting : Setting) (nodes : ℕ) {move : Move} {number : ℕ} {handset : HandsetData} {made : List ℕ}
+    {commit : ℕ} (ticket : ℕ) → move.number ≡ suc number → IsMoveStage nodes handset.last handset.stage
     → is_rest handset.stage ≡ false → IsTimed move number handset made commit → (commits : Bool)
     → (after_write setting handset handset.stage).number ≡ (if commits then suc handset.number else handset.number)
     → IsTimed move number (after_write setting handset handset.stage) (made ++ ticket ∷ [])
     (if commits then ticket else commit)
-timed-next setting nodes move number handset made commit ticket next within busy timed =
+timed-next setting nodes {move} {number} {handset} {made} {commit} ticket next within busy timed =
     go (is_early handset.stage) refl
   where
     after : HandsetData
@@ -189,7 +188,7 @@ timed-next setting nodes move number handset made commit ticket next within busy
 
     by : (b : Bool) → is_early handset.stage ≡ b
         → IsTimed move number after (made ++ ticket ∷ []) (if b then ticket else commit)
-    by b is = timed-as setting nodes move number handset made commit ticket next within busy timed b is
+    by b is = timed-as setting nodes ticket next within busy timed is
 
     low : (commit : ℕ) → IsTimed move number after (made ++ ticket ∷ []) commit → (b : Bool)
         → is_early after.stage ≡ b → after.number ≤ suc number
@@ -216,9 +215,9 @@ timed-next setting nodes move number handset made commit ticket next within busy
     ))
 
 -- the first put
-pub timed-begun : (setting : Setting) (nodes : ℕ) (move : Move) (number : ℕ) (handset : HandsetData) (made : List ℕ)
-    (commit ticket : ℕ) → move.number ≡ suc number → IsMoveStage nodes handset.last handset.stage
+pub timed-begun : (setting : Setting) (nodes : ℕ) {move : Move} {number : ℕ} {handset : HandsetData} {made : List ℕ}
+    {commit : ℕ} (ticket : ℕ) → move.number ≡ suc number → IsMoveStage nodes handset.last handset.stage
     → is_rest handset.stage ≡ false → IsTimed move number handset made commit → is_early handset.stage ≡ true
     → IsTimed move number (after_write setting handset handset.stage) (made ++ ticket ∷ []) ticket
-timed-begun setting nodes move number handset made commit ticket next within busy timed early =
-    timed-as setting nodes move number handset made commit ticket next within busy timed true early
+timed-begun setting nodes ticket next within busy timed early =
+    timed-as setting nodes ticket next within busy timed early

@@ -48,42 +48,41 @@ pub record IsWalked (setup : Setup) (begun : PassData) (call : FindCall) (pass :
   pub room : looks_left (setting_in setup) call (pursuit_of setup.plan walk) ≤ pass.spare
 
 -- a handset goes on over a look, and over lost turns
-seen-on : (setup : Setup) (pass new : PassData) (key : Key) (ticket : ℕ) → pass.view.setup ≡ setup
-    → HasVisited pass (Look key) ticket new → (handset : HandsetData) → IsHandsetOf setup pass.view handset
+seen-on : {setup : Setup} {pass new : PassData} {key : Key} {ticket : ℕ} → pass.view.setup ≡ setup
+    → HasVisited pass (Look key) ticket new → {handset : HandsetData} → IsHandsetOf setup pass.view handset
     → IsHandsetOf setup new.view handset
-seen-on setup pass new key ticket told visited handset its =
+seen-on {pass} {new} {key} {ticket} told visited {handset} its =
     subst (λ (s : Setup). IsHandsetOf s new.view handset) told
     (handset-visited pass (Look key) ticket new handset refl visited
     (subst (λ (s : Setup). IsHandsetOf s pass.view handset) (sym told) its))
 
-tried-on : (setup : Setup) (node : ℕ) (pass tried : PassData) → HasTried node pass tried → (handset : HandsetData)
+tried-on : {setup : Setup} {node : ℕ} {pass tried : PassData} → HasTried node pass tried → {handset : HandsetData}
     → IsHandsetOf setup pass.view handset → IsHandsetOf setup tried.view handset
-tried-on setup node pass tried lost handset its =
+tried-on {setup} {node} {pass} {tried} lost {handset} its =
     subst (λ (q : PassData). IsHandsetOf setup q.view handset) (sym lost.is)
     (handset-stays setup pass.view
     (record pass.view { turns = tried.view.turns; lost = pass.view.lost ++ map (turn_at node) lost.words }) handset
     refl refl its)
 
 -- turns that are lost before a look are lost at its node
-pub tried-look : (setup : Setup) (begun pass new : PassData) (first walk moved : WalkData) (held : Held) (key : Key)
+pub tried-look : {setup : Setup} {begun pass new : PassData} {first walk moved : WalkData} {held : Held} {key : Key}
     → key_of (call_of first) (pursuit_of setup.plan first) ≡ Some key → walk ≡ first
     → HasTried (key_node (setting_in setup) key) begun pass → HasLostLook setup pass walk held new moved
     → HasTried (key_node (setting_in setup) key) begun new
-tried-look setup begun pass new first walk moved held key wanted same tried on =
+tried-look {setup} {pass} {new} {first} {held} {key} wanted same tried on =
     let its : key_of (call_of first) (pursuit_of setup.plan first) ≡ Some on.key =
     subst (λ (w : WalkData). key_of (call_of w) (pursuit_of setup.plan w) ≡ Some on.key) same on.wanted in
-    tried-again (key_node (setting_in setup) key) begun pass new held tried
-    (subst (λ (k : Key). HasLost pass (key_node (setting_in setup) k) held new)
+    tried-again tried (subst (λ (k : Key). HasLost pass (key_node (setting_in setup) k) held new)
     (one-key on.key key (sym its ∙ wanted)) on.lost)
   where
     one-key : (one two : Key) → ◌≡◌ {A = Option Key} (Some one) (Some two) → one ≡ two
     one-key one two e = cc
 
 -- and the walk may still go on
-pub walk-held : (tracker : TrackerData) (plan : PlanData) (distances : DistanceTable) (pass new : PassData)
-    (walk moved : WalkData) (held : Held) → MayWalkOn tracker plan distances pass walk
+pub walk-held : {tracker : TrackerData} {plan : PlanData} {distances : DistanceTable} {pass new : PassData}
+    {walk moved : WalkData} {held : Held} → MayWalkOn tracker plan distances pass walk
     → HasLostLook tracker.setup pass walk held new moved → MayWalkOn tracker plan distances new moved
-walk-held tracker plan distances pass new walk moved held way on =
+walk-held {tracker} {plan} {distances} {new} {walk} way on =
     subst (MayWalkOn tracker plan distances new) (sym on.same)
     (subst (λ (p : PassData). MayWalkOn tracker plan distances p walk) (sym on.lost.turn)
     (record {
@@ -100,10 +99,10 @@ no-looks : (setting : Setting) (history : History) (actor : ℕ) (call : FindCal
 unfolding AreLooks
 no-looks setting history actor call = tt
 
-pub walked-first : BeginsWithItself → (setup : Setup) (pass : PassData) (walk : WalkData) → IsWalkOver setup.plan walk
+pub walked-first : BeginsWithItself → (setup : Setup) (pass : PassData) {walk : WalkData} → IsWalkOver setup.plan walk
     → pursuit_of setup.plan walk ≡ at_origin → pass.view.inside ≡ None
     → most_looks (setting_in setup) walk.from ≤ pass.spare → IsWalked setup pass (call_of walk) pass walk
-walked-first itself setup pass walk goes origin outside room =
+walked-first itself setup pass {walk} goes origin outside room =
     record {
       made = [];
       added = added-none itself setup pass outside;
@@ -120,12 +119,11 @@ front-short : (xs zs : History) → IsFront xs zs → length xs ≤ length zs
 front-short xs zs front = omega (arith, ap length front, length-take (length xs) zs)
 
 -- one look more, after turns that were lost at its node
-pub walked-on : BeginsWithFront → BeginsThrough → LooksFall → (setup : Setup) (begun : PassData) (call : FindCall)
-    (pass tried new : PassData) (walk moved : WalkData) (ticket : ℕ) → pass.view.setup ≡ setup
+pub walked-on : BeginsWithFront → BeginsThrough → LooksFall → {setup : Setup} {begun : PassData} {call : FindCall}
+    {pass tried new : PassData} {walk moved : WalkData} {ticket : ℕ} → pass.view.setup ≡ setup
     → (at : IsWalked setup begun call pass walk) → (looked : HasLookedOn setup tried walk ticket new moved)
-    → HasTried (key_node (setting_in setup) looked.key) pass tried
-    → IsWalked setup begun call new moved
-walked-on longer through fall setup begun call pass tried new walk moved ticket told at looked lost =
+    → HasTried (key_node (setting_in setup) looked.key) pass tried → IsWalked setup begun call new moved
+walked-on longer through fall {setup} {begun} {call} {pass} {tried} {new} {walk} {moved} {ticket} told at looked lost =
     let setting : Setting = setting_in setup in
     let key = looked.key in
     let visited = looked.visited in
@@ -135,7 +133,7 @@ walked-on longer through fall setup begun call pass tried new walk moved ticket 
     let visit = look_by (actor_of tried) key in
     let front : IsFront pass.view.seen new.view.seen =
     subst (λ (h : History). IsFront h new.view.seen) seen
-    (visited-front longer through tried new (Look key) ticket visited) in
+    (visited-front longer through visited) in
     let late : length pass.view.seen ≤ ticket =
     omega (arith, visited.count, front-short tried.view.seen visited.earlier visited.begins, ap length seen) in
     let last : slice_get new.view.seen ticket ≡ Some visit =
@@ -143,18 +141,16 @@ walked-on longer through fall setup begun call pass tried new walk moved ticket 
     ∙ (ap (λ (l : History). slice_get l (length visited.earlier)) visited.seen ∙ get-last visited.earlier visit) in
     let wants : key_of call (pursuit_of setup.plan walk) ≡ Some key =
     subst (λ c. key_of c (pursuit_of setup.plan walk) ≡ Some key) at.its looked.wanted in
-    let more = looks-more setting pass.view.seen new.view.seen (actor_of begun) call key ticket front late
-    (subst (λ a. slice_get new.view.seen ticket ≡ Some (look_by a key)) mine last)
-    at.made 0 at_origin (omega arith) at.looks (subst (λ s. key_of call s ≡ Some key) at.pursuit wants) in
+    let more = looks-more setting pass.view.seen new.view.seen (actor_of begun) call ticket front late
+    (subst (λ a. slice_get new.view.seen ticket ≡ Some (look_by a key)) mine last) at.made 0 at_origin (omega arith)
+    at.looks (subst (λ s. key_of call s ≡ Some key) at.pursuit wants) in
     let word = cell setting (before ticket new.view.seen) key in
     let pursuit : pursuit_of setup.plan moved ≡ after_word setting call (pursuit_of setup.plan walk) word =
     looked.pursuit ∙ ap (λ c. after_word setting c (pursuit_of setup.plan walk) word) at.its in
     record {
       made = at.made ++ ticket ∷ [];
-      added = added-more longer through setup begun pass tried new at.made (Look key) ticket told at.added lost
-          visited;
-      keeps = λ handset its. seen-on setup tried new key ticket setups visited handset
-          (tried-on setup (key_node setting key) pass tried lost handset (at.keeps handset its));
+      added = added-more longer through told at.added lost visited;
+      keeps = λ handset its. seen-on setups visited (tried-on lost (at.keeps handset its));
       looks = more.0;
       pursuit = pursuit ∙ (ap (λ s. after_word setting call s word) at.pursuit ∙ sym more.1);
       late = λ some. omega (
@@ -176,11 +172,11 @@ walked-on longer through fall setup begun call pass tried new walk moved ticket 
     }
 
 -- a walk that has its answer has made its find
-pub walked-out : AnswersAreRight → QuietFindsAnswer → PlanFindsAreNear → (setup : Setup) (begun : PassData)
-    (call : FindCall) (pass : PassData) (walk : WalkData) (found : Found) → IsMatched setup.plan
-    → call.from < nodes_in setup → call.sub < subs_in setup → IsWalked setup begun call pass walk
+pub walked-out : AnswersAreRight → QuietFindsAnswer → PlanFindsAreNear
+    → {setup : Setup} {begun : PassData} {call : FindCall} {pass : PassData} {walk : WalkData} (found : Found)
+    → IsMatched setup.plan → call.from < nodes_in setup → call.sub < subs_in setup → IsWalked setup begun call pass walk
     → pursuit_of setup.plan walk ≡ ended found → HasFound setup begun call found pass
-walked-out answers answer near setup begun call pass walk found matched from known at ends =
+walked-out answers answer near {setup} {begun} {call} {pass} found matched from known at ends =
     let all = sym at.pursuit ∙ ends in
     let some : 1 ≤ length at.made = looked-once (setting_in setup) pass.view.seen call found at.made all in
     let its : IsFind (setting_in setup) pass.view.seen (actor_of begun) call found at.made =
@@ -190,6 +186,6 @@ walked-out answers answer near setup begun call pass walk found matched from kno
       added = at.added;
       keeps = at.keeps;
       find = its;
-      tells = tells-rightly answers answer near setup begun pass.view.seen (actor_of begun) call found at.made matched
-          from (at.added.legal some call.sub known) its at.added.begins (at.late some);
+      tells = tells-rightly answers answer near setup begun matched from (at.added.legal some call.sub known) its
+          at.added.begins (at.late some);
     }

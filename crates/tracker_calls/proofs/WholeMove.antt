@@ -44,10 +44,10 @@ pub record IsMoving (setup : Setup) (begun : PassData) (from : HandsetData) (to 
   pub some : 1 ≤ length made
 
 -- the number of a handset after a put
-number-next : (setup : Setup) (old new : PassData) (handset moved : HandsetData) (ticket : ℕ)
+number-next : {setup : Setup} {old new : PassData} {handset moved : HandsetData} {ticket : ℕ}
     → (stepped : HasStepped setup old handset ticket new moved) → IsHandsetOf setup old.view handset
     → moved.number ≡ (if is_commit stepped.visit.act then suc handset.number else handset.number)
-number-next setup old new handset moved ticket stepped its =
+number-next {setup} {old} {new} {handset} {moved} stepped its =
     let goes = stepped.goes_on its in
     let visit = stepped.visit in
     let puts = puts_to (actor_of old) old.view.seen in
@@ -72,43 +72,38 @@ number-next setup old new handset moved ticket stepped its =
     counted (Some commit) e = omega (arith, e)
 
 -- a put, with the ticket of the commit
-timed-step : (setup : Setup) (begun : PassData) (from : HandsetData) (to commit : ℕ) (made : List ℕ)
-    (tried new : PassData) (handset moved : HandsetData) (ticket : ℕ)
-    → HasPut setup begun from to made tried handset → (stepped : HasStepped setup tried handset ticket new moved)
-    → IsTimed (journey_to (setting_in setup) from to) from.number handset made commit
-    → IsTimed (journey_to (setting_in setup) from to) from.number moved (made ++ ticket ∷ [])
-    (if is_commit stepped.visit.act then ticket else commit)
-timed-step setup begun from to commit made tried new handset moved ticket at stepped timed =
+timed-step : {setup : Setup} {begun : PassData} {from : HandsetData} {to commit : ℕ} {made : List ℕ}
+    {tried new : PassData} {handset moved : HandsetData} {ticket : ℕ} → HasPut setup begun from to made tried handset
+    → (stepped : HasStepped setup tried handset ticket new moved) → IsTimed (journey_to (setting_in setup) from to)
+    from.number handset made commit → IsTimed (journey_to (setting_in setup) from to) from.number moved
+    (made ++ ticket ∷ []) (if is_commit stepped.visit.act then ticket else commit)
+timed-step {setup} {from} {to} {commit} {made} {handset} {ticket} at stepped timed =
     let move = journey_to (setting_in setup) from to in
     let busy : is_rest handset.stage ≡ false = some-busy (setting_in setup) handset (ap is_some stepped.next) in
     let commits = is_commit stepped.visit.act in
     subst (λ h. IsTimed move from.number h (made ++ ticket ∷ []) (if commits then ticket else commit))
     (sym stepped.made)
-    (timed-next (setting_in setup) (nodes_in setup) move from.number handset made commit ticket refl
-    at.its.goes.stage busy timed commits (sym (ap (λ h. h.number) stepped.made)
-    ∙ number-next setup tried new handset moved ticket stepped at.its))
+    (timed-next (setting_in setup) (nodes_in setup) ticket refl at.its.goes.stage busy timed commits
+    (sym (ap (λ h. h.number) stepped.made) ∙ number-next stepped at.its))
 
 -- the first put of a move
-pub moving-first : BeginsWithFront → BeginsThrough → (setup : Setup) (begun : PassData) (from : HandsetData) (to : ℕ)
-    (tried new : PassData) (handset moved : HandsetData) (ticket : ℕ) → begun.view.setup ≡ setup
+pub moving-first : BeginsWithFront → BeginsThrough → {setup : Setup} {begun : PassData} {from : HandsetData} {to : ℕ}
+    {tried new : PassData} {handset moved : HandsetData} {ticket : ℕ} → begun.view.setup ≡ setup
     → HasAdded setup begun [] begun → HasPut setup begun from to [] begun handset
-    → handset ≡ begin_move (setting_in setup) from to
-    → (stepped : HasStepped setup tried handset ticket new moved)
-    → HasTried (act_node (setting_in setup) stepped.visit.act) begun tried
-    → IsMoving setup begun from to
+    → handset ≡ begin_move (setting_in setup) from to → (stepped : HasStepped setup tried handset ticket new moved)
+    → HasTried (act_node (setting_in setup) stepped.visit.act) begun tried → IsMoving setup begun from to
     (record { number = suc from.number; first = ticket; commit = ticket; last = ticket }) new moved
-moving-first longer through setup begun from to tried new handset moved ticket told added none is stepped lost =
+moving-first longer through {setup} {from} {to} {handset} {ticket} told added none is stepped lost =
     let node : ℕ = act_node (setting_in setup) stepped.visit.act in
-    let at = put-tried setup begun from to [] node begun tried handset lost none in
+    let at = put-tried lost none in
     let move = journey_to (setting_in setup) from to in
     record {
       made = ticket ∷ [];
-      put = put-more setup begun from to [] tried new handset moved ticket at stepped;
-      added = added-more longer through setup begun begun tried new [] stepped.visit.act ticket told added lost
-          stepped.visited;
+      put = put-more at stepped;
+      added = added-more longer through told added lost stepped.visited;
       timed = subst (λ h. IsTimed move from.number h (ticket ∷ []) ticket) (sym stepped.made)
-          (timed-begun (setting_in setup) (nodes_in setup) move from.number handset [] 0 ticket refl
-          at.its.goes.stage (some-busy (setting_in setup) handset (ap is_some stepped.next))
+          (timed-begun (setting_in setup) (nodes_in setup) ticket refl at.its.goes.stage
+          (some-busy (setting_in setup) handset (ap is_some stepped.next))
           (subst (λ h. IsTimed move from.number h [] 0) (sym is) (timed-first (setting_in setup) from to))
           (ap (λ h. is_early h.stage) is));
       number = refl;
@@ -118,27 +113,23 @@ moving-first longer through setup begun from to tried new handset moved ticket t
     }
 
 -- and one put more
-pub moving-on : BeginsWithFront → BeginsThrough
-    → (setup : Setup) (begun : PassData) (from : HandsetData) (to : ℕ) (times : Moved)
-    (pass tried new : PassData) (handset moved : HandsetData) (ticket : ℕ) → begun.view.setup ≡ setup
-    → IsMoving setup begun from to times pass handset
-    → (stepped : HasStepped setup tried handset ticket new moved)
+pub moving-on : BeginsWithFront → BeginsThrough → {setup : Setup} {begun : PassData} {from : HandsetData} {to : ℕ}
+    {times : Moved} {pass tried new : PassData} {handset moved : HandsetData} {ticket : ℕ} → begun.view.setup ≡ setup
+    → IsMoving setup begun from to times pass handset → (stepped : HasStepped setup tried handset ticket new moved)
     → HasTried (act_node (setting_in setup) stepped.visit.act) pass tried → IsMoving setup begun from to
     (record times { commit = if is_commit stepped.visit.act then ticket else times.commit; last = ticket }) new moved
-moving-on longer through setup begun from to times pass tried new handset moved ticket told moving stepped lost =
+moving-on longer through {setup} {ticket} told moving stepped lost =
     let made = moving.made in
     let node : ℕ = act_node (setting_in setup) stepped.visit.act in
-    let at = put-tried setup begun from to made node pass tried handset lost moving.put in
-    let put = put-more setup begun from to made tried new handset moved ticket at stepped in
-    let timed = timed-step setup begun from to times.commit made tried new handset moved ticket at stepped
-    moving.timed in
+    let at = put-tried lost moving.put in
+    let put = put-more at stepped in
+    let timed = timed-step at stepped moving.timed in
     let first = moving.first ∙ sym (get_or_append_left made (ticket ∷ []) 0 0 moving.some) in
     let some : 1 ≤ length (made ++ ticket ∷ []) = omega (arith, length-append made (ticket ∷ [])) in
     record {
       made = made ++ ticket ∷ [];
       put = put;
-      added = added-more longer through setup begun pass tried new made stepped.visit.act ticket
-          (moving.put.same.setup ∙ told) moving.added lost stepped.visited;
+      added = added-more longer through (moving.put.same.setup ∙ told) moving.added lost stepped.visited;
       timed = timed;
       number = moving.number;
       first = first;
@@ -147,32 +138,30 @@ moving-on longer through setup begun from to times pass tried new handset moved 
     }
 
 -- the same, by whether the code tells that the put commits
-pub moving-by : BeginsWithFront → BeginsThrough
-    → (setup : Setup) (begun : PassData) (from : HandsetData) (to : ℕ) (times : Moved)
-    (pass tried new : PassData) (handset moved : HandsetData) (ticket : ℕ) → begun.view.setup ≡ setup
+pub moving-by : BeginsWithFront → BeginsThrough → {setup : Setup} {begun : PassData} {from : HandsetData} {to : ℕ}
+    {times : Moved} {pass tried new : PassData} {handset moved : HandsetData} {ticket : ℕ} → begun.view.setup ≡ setup
     → (moving : IsMoving setup begun from to times pass handset)
     → (stepped : HasStepped setup tried handset ticket new moved)
-    → HasTried (act_node (setting_in setup) stepped.visit.act) pass tried → (commits : Bool) → nodes_in setup ≤ 2 ^ 16
+    → HasTried (act_node (setting_in setup) stepped.visit.act) pass tried → {commits : Bool} → nodes_in setup ≤ 2 ^ 16
     → ((plan : PlanData) (visit : Visit) → nodes_of plan ≤ 2 ^ 16 → GoesWith plan handset
-    → due (setting_of plan []) handset ≡ Some visit → commits ≡ is_commit visit.act)
-    → IsMoving setup begun from to
+    → due (setting_of plan []) handset ≡ Some visit → commits ≡ is_commit visit.act) → IsMoving setup begun from to
     (record times { commit = if commits then ticket else times.commit; last = ticket }) new moved
-moving-by longer through setup begun from to times pass tried new handset moved ticket told moving stepped lost
-    commits small tells =
+moving-by longer through {setup} {begun} {from} {to} {times} {new} {moved} {ticket} told moving stepped lost
+    {commits} small tells =
     let is : commits ≡ is_commit stepped.visit.act =
     tells setup.plan stepped.visit small moving.put.its.goes stepped.next in
     subst (λ (b : Bool). IsMoving setup begun from to
     (record times { commit = if b then ticket else times.commit; last = ticket }) new moved) (sym is)
-    (moving-on longer through setup begun from to times pass tried new handset moved ticket told moving stepped lost)
+    (moving-on longer through told moving stepped lost)
 
 -- a move that has nothing left is made
-pub moving-out : (setup : Setup) (begun : PassData) (from : HandsetData) (to : ℕ) (times : Moved) (pass : PassData)
-    (handset : HandsetData) → IsMoving setup begun from to times pass handset
-    → due (setting_in setup) handset ≡ None → HasMoved setup begun from to times pass handset
-moving-out setup begun from to times pass handset moving none =
+pub moving-out : {setup : Setup} {begun : PassData} {from : HandsetData} {to : ℕ} {times : Moved} {pass : PassData}
+    {handset : HandsetData} → IsMoving setup begun from to times pass handset → due (setting_in setup) handset ≡ None
+    → HasMoved setup begun from to times pass handset
+moving-out {setup} {begun} {handset} moving none =
     let put = moving.put in
     let rests = none-rests (setting_in setup) handset (ap is_some none) in
-    let all = put-all setup begun from to moving.made pass handset put rests in
+    let all = put-all put rests in
     record {
       steps = put.steps;
       stood = put.stood;
@@ -191,9 +180,9 @@ moving-out setup begun from to times pass handset moving none =
     }
 
 -- nothing is due where the code reads no next put
-pub none-due : (setup : Setup) (plan : PlanData) (handset : HandsetData) (next : Option Visit) → plan ≡ setup.plan
+pub none-due : (setup : Setup) {plan : PlanData} (handset : HandsetData) {next : Option Visit} → plan ≡ setup.plan
     → next ≡ due (setting_of plan []) handset → is_some next ≡ false → due (setting_in setup) handset ≡ None
-none-due setup plan handset next same is none =
+none-due setup handset {next} same is none =
     subst (λ p. due (setting_of p []) handset ≡ None) same (sym is ∙ nothing next none)
   where
     nothing : (o : Option Visit) → is_some o ≡ false → o ≡ None

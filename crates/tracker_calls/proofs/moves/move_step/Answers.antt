@@ -6,8 +6,7 @@ pub returns-then-spare-eq0 : goal.returns-then-spare-eq0
 returns-then-spare-eq0 c = record {
   step = (
     (
-      next-visit c.args.tracker.now.setup c.args.plan.now c.args.handset.now c.next.result c.requires.plan
-          c.next.ensures.exact c.if-is_none.ensures,
+      next-visit c.args.tracker.now.setup c.args.handset.now c.requires.plan c.next.ensures.exact c.if-is_none.ensures,
       omega (arith, c.spare.ensures, c.if-spare-eq0.true),
       refl,
       refl,
@@ -21,7 +20,7 @@ returns-in-Ok c =
     let made = c.in-Ok.ensures.made in record {
       step = stepped c.args.tracker.now.setup c.args.plan.now c.args.pass.now c.visit_put.new.pass c.args.handset.now
           c.visit_put.new.handset c.in-Ok.ticket c.requires.plan
-          (next-visit c.args.tracker.now.setup c.args.plan.now c.args.handset.now c.next.result c.requires.plan
-          c.next.ensures.exact c.if-is_none.ensures)
+          (next-visit c.args.tracker.now.setup c.args.handset.now c.requires.plan c.next.ensures.exact
+          c.if-is_none.ensures)
           (omega (arith, c.spare.ensures, c.if-spare-eq0.false)) made.0 made.1 made.2 c.in-Ok.ensures.goes_on;
     }

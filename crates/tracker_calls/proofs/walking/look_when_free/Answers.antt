@@ -19,11 +19,8 @@ tries-init g c = record {
 pub tries-preserved : goal.tries-preserved
 tries-preserved g c =
     let lost = c.in_default.ensures.looked in record {
-      tried = λ key wanted. tried-look c.args.tracker.now.setup c.args.pass.now c.tries.pass c.visit_walk.new.pass
-          c.args.walk.now c.tries.walk c.visit_walk.new.walk c.in_default.field-0 key wanted c.tries.invariant.walk
-          (c.tries.invariant.tried key wanted) lost;
-      way = walk-held c.args.tracker.now c.args.plan.now c.args.distances.now c.tries.pass c.visit_walk.new.pass
-          c.tries.walk c.visit_walk.new.walk c.in_default.field-0 c.tries.invariant.way lost;
+      tried = λ key wanted. tried-look wanted c.tries.invariant.walk (c.tries.invariant.tried key wanted) lost;
+      way = walk-held c.tries.invariant.way lost;
       spare = omega (arith, c.tries.invariant.spare, ap (λ (p : PassData). p.spare) lost.lost.turn);
       walk = lost.same ∙ c.tries.invariant.walk;
     }

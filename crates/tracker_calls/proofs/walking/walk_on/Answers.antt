@@ -2,7 +2,7 @@ use Rattle.std.proofs.Common.{refl, subst, sym, ◌∙◌}
 use Rattle.directory.specs.Keys.{key_node}
 use Rattle.region_plan.specs.Matched.{IsMatched}
 use Rattle.station.specs.Setup.{setting_in}
-use Rattle.walk.specs.Walks.{call_of, pursuit_of}
+use Rattle.walk.specs.Walks.{pursuit_of}
 use Rattle.tracker_calls.proofs.Adding.{tried-none}
 use Rattle.tracker_calls.proofs.Walked.{walked-first, walked-on, walked-out}
 use Rattle.tracker_calls.proofs.walking.walk_on.Goals as goal
@@ -10,8 +10,8 @@ use Rattle.directory.specs.LookLaws.{answer-ends}
 
 pub looks-init : goal.looks-init
 looks-init c = record {
-  walked = walked-first c.histories_begin.ensures.itself c.args.tracker.now.setup c.args.pass.now c.args.walk.now
-      c.requires.way.goes c.requires.origin c.requires.way.outside c.requires.spare;
+  walked = walked-first c.histories_begin.ensures.itself c.args.tracker.now.setup c.args.pass.now c.requires.way.goes
+      c.requires.origin c.requires.way.outside c.requires.spare;
   lost = refl;
 }
 
@@ -20,8 +20,6 @@ looks-preserved c =
     let looked = c.in_ok-visit_walk.ensures.looked in
     let at = c.looks.invariant.walked in record {
       walked = walked-on c.histories_begin.ensures.longer c.histories_begin.ensures.through c.looks_fall.ensures
-          c.args.tracker.now.setup c.args.pass.now (call_of c.args.walk.now) c.looks.pass c.looks.pass
-          c.visit_walk.new.pass c.looks.walk c.visit_walk.new.walk c.in_ok-visit_walk.field-0
           (at.added.same.setup ∙ c.requires.way.of.setup) at looked
           (tried-none (key_node (setting_in c.args.tracker.now.setup) looked.key) c.looks.pass);
       lost = looked.visited.lost ∙ c.looks.invariant.lost;
@@ -32,10 +30,10 @@ returns c =
     let setup = c.args.tracker.now.setup in
     let at = c.looks.invariant.walked in record {
       found = (
-        walked-out c.answers_are_right.ensures c.again_has_its_cause.ensures.quiet c.plan_finds_are_near.ensures setup
-            c.args.pass.now (call_of c.args.walk.now) c.looks.pass c.looks.walk c.in-Some.found
-            (subst IsMatched c.requires.way.plan_is c.plan_is_sound.ensures.matched) c.requires.way.goes.from
-            c.requires.way.known at (answer-ends (pursuit_of setup.plan c.looks.walk) c.in-Some.found
+        walked-out c.answers_are_right.ensures c.again_has_its_cause.ensures.quiet c.plan_finds_are_near.ensures
+            c.in-Some.found (subst IsMatched c.requires.way.plan_is c.plan_is_sound.ensures.matched)
+            c.requires.way.goes.from c.requires.way.known at
+            (answer-ends (pursuit_of setup.plan c.looks.walk) c.in-Some.found
             (sym (c.answer-2.ensures setup.plan at.goes) ∙ c.in-Some.is)),
         c.looks.invariant.lost,
       );

@@ -10,8 +10,7 @@ use Rattle.tracker_calls.proofs.whole_moves.move_to.Goals as goal
 
 pub put_when_free-first-requires-clause-handset : goal.put_when_free-first-requires-clause-handset
 put_when_free-first-requires-clause-handset g c =
-    (put-begun c.moves_are_short.ensures c.args.tracker.now.setup c.args.plan.now c.args.pass.now c.args.handset.now
-    c.begin.new.self c.args.to c.requires.plan c.requires.handset c.in_ok-may_move_to.ensures.may
+    (put-begun c.moves_are_short.ensures c.requires.plan c.requires.handset c.in_ok-may_move_to.ensures.may
     c.in-Ok.ensures.exact c.begin.ensures.goes c.in-Ok.ensures.stands).its
 
 pub puts-init : goal.puts-init
@@ -22,16 +21,12 @@ puts-init g c =
       moving = subst (λ (k : ℕ). IsMoving setup c.args.pass.now c.args.handset.now c.args.to
           (record { number = k; first = times; commit = times; last = times }) c.put_when_free-first.new.pass
           c.put_when_free-first.new.handset) (omega (arith, c.number-number.ensures.kept))
-          (moving-first c.histories_begin.ensures.longer c.histories_begin.ensures.through setup c.args.pass.now
-          c.args.handset.now c.args.to put.0 c.put_when_free-first.new.pass c.begin.new.self
-          c.put_when_free-first.new.handset times c.requires.of.setup
+          (moving-first c.histories_begin.ensures.longer c.histories_begin.ensures.through c.requires.of.setup
           (added-none c.histories_begin.ensures.itself setup c.args.pass.now c.requires.outside)
-          (put-begun c.moves_are_short.ensures setup c.args.plan.now c.args.pass.now c.args.handset.now
-          c.begin.new.self c.args.to c.requires.plan c.requires.handset c.in_ok-may_move_to.ensures.may
+          (put-begun c.moves_are_short.ensures c.requires.plan c.requires.handset c.in_ok-may_move_to.ensures.may
           c.in-Ok.ensures.exact c.begin.ensures.goes c.in-Ok.ensures.stands)
           (subst (λ p. c.begin.new.self ≡ begin_move (setting_of p []) c.args.handset.now c.args.to) c.requires.plan
-          c.in-Ok.ensures.exact)
-          put.1 put.2);
+          c.in-Ok.ensures.exact) put.1 put.2);
     }
 
 pub puts-preserved-then-commits : goal.puts-preserved-then-commits
@@ -43,12 +38,9 @@ puts-preserved-then-commits g c =
       moving = subst (λ (b : Bool). IsMoving setup c.args.pass.now c.args.handset.now c.args.to
           (record times { commit = if b then ticket else times.commit; last = ticket }) c.put_when_free.new.pass
           c.put_when_free.new.handset) c.if-commits.true
-          (moving-by c.histories_begin.ensures.longer c.histories_begin.ensures.through setup c.args.pass.now
-          c.args.handset.now c.args.to times c.puts.pass put.0 c.put_when_free.new.pass c.puts.handset
-          c.put_when_free.new.handset ticket c.requires.of.setup c.puts.invariant.moving put.1 put.2
-          c.commits-commits.result
-          (subst (λ p. nodes_of p ≤ 2 ^ 16) c.requires.plan (omega (arith, c.plan_is_sound.ensures.sound.metric.few)))
-          c.commits-commits.ensures.commit);
+          (moving-by c.histories_begin.ensures.longer c.histories_begin.ensures.through c.requires.of.setup
+          c.puts.invariant.moving put.1 put.2 (subst (λ p. nodes_of p ≤ 2 ^ 16) c.requires.plan
+          (omega (arith, c.plan_is_sound.ensures.sound.metric.few))) c.commits-commits.ensures.commit);
     }
 
 pub puts-preserved : goal.puts-preserved
@@ -60,21 +52,16 @@ puts-preserved g c =
       moving = subst (λ (b : Bool). IsMoving setup c.args.pass.now c.args.handset.now c.args.to
           (record times { commit = if b then ticket else times.commit; last = ticket }) c.put_when_free.new.pass
           c.put_when_free.new.handset) c.if-commits.false
-          (moving-by c.histories_begin.ensures.longer c.histories_begin.ensures.through setup c.args.pass.now
-          c.args.handset.now c.args.to times c.puts.pass put.0 c.put_when_free.new.pass c.puts.handset
-          c.put_when_free.new.handset ticket c.requires.of.setup c.puts.invariant.moving put.1 put.2
-          c.commits-commits.result
-          (subst (λ p. nodes_of p ≤ 2 ^ 16) c.requires.plan (omega (arith, c.plan_is_sound.ensures.sound.metric.few)))
-          c.commits-commits.ensures.commit);
+          (moving-by c.histories_begin.ensures.longer c.histories_begin.ensures.through c.requires.of.setup
+          c.puts.invariant.moving put.1 put.2 (subst (λ p. nodes_of p ≤ 2 ^ 16) c.requires.plan
+          (omega (arith, c.plan_is_sound.ensures.sound.metric.few))) c.commits-commits.ensures.commit);
     }
 
 pub returns : goal.returns
 returns g c = record {
   moved = (
     c.in_ok-may_move_to.ensures.may,
-    moving-out c.args.tracker.now.setup c.args.pass.now c.args.handset.now c.args.to c.puts.moved c.puts.pass
-        c.puts.handset c.puts.invariant.moving
-        (none-due c.args.tracker.now.setup c.args.plan.now c.puts.handset c.next.result c.requires.plan
+    moving-out c.puts.invariant.moving (none-due c.args.tracker.now.setup c.puts.handset c.requires.plan
         c.next.ensures.exact (sym c.is_some.ensures ∙ c.puts-test.false)),
   );
 }

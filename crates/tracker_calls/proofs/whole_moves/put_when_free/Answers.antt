@@ -1,8 +1,7 @@
-use Rattle.std.proofs.Common.{refl, subst, sym, ap, ◌∙◌, ◌≡◌, ◌≤◌, Some, arith, []}
+use Rattle.std.proofs.Common.{refl, subst, sym, ap, ◌∙◌, ◌≡◌, ◌≤◌, Some, arith}
 use Rattle.directory.specs.Keys.{act_node}
 use Rattle.handset.specs.Condition.{HandsetData}
 use Rattle.handset.specs.StepWrites.{due}
-use Rattle.region_plan.specs.Settings.{setting_of}
 use Rattle.station.specs.Handsets.{IsHandsetOf}
 use Rattle.station.specs.Setup.{setting_in}
 use Rattle.tracker_calls.specs.Added.{HasTried}
@@ -16,7 +15,7 @@ tries-init g c =
     let setup = c.args.tracker.now.setup in
     let plan = c.args.plan.now in
     let handset = c.args.handset.now in
-    let next = next-visit setup plan handset (due (setting_of plan []) handset) c.requires.plan refl c.requires.left in
+    let next = next-visit setup handset c.requires.plan refl c.requires.left in
     record {
       tried = (next.0, next.1, tried-none (act_node (setting_in setup) next.0.act) c.args.pass.now);
       handset = refl;
@@ -30,8 +29,8 @@ tries-preserved g c =
     let lost = c.in_default.ensures.made in
     let next = c.tries.invariant.tried in
     let node = act_node (setting_in setup) next.0.act in
-    let tried = tried-put setup c.args.plan.now c.args.pass.now c.tries.pass c.visit_put.new.pass c.tries.handset
-    c.in_default.field-0 next.0 c.requires.plan next.1 next.2 lost.0 in record {
+    let tried = tried-put setup c.visit_put.new.pass c.tries.handset c.in_default.field-0 c.requires.plan next.1 next.2
+    lost.0 in record {
       tried = (
         next.0,
         subst (λ (h : HandsetData). due (setting_in setup) h ≡ Some next.0) (sym lost.1) next.1,
@@ -39,7 +38,7 @@ tries-preserved g c =
       );
       handset = lost.1 ∙ same;
       own = subst (IsHandsetOf setup c.visit_put.new.pass.view) (sym (lost.1 ∙ same))
-          (own-tried setup node c.args.pass.now c.visit_put.new.pass c.args.handset.now tried c.requires.handset);
+          (own-tried tried c.requires.handset);
     }
 
 pub returns-in-Ok : goal.returns-in-Ok
@@ -54,6 +53,6 @@ returns-in-Ok g c =
     c.visit_put.new.pass c.visit_put.new.handset)
     × HasTried (act_node (setting_in setup) stepped.visit.act) c.args.pass.now c.tries.pass)
     c.tries.invariant.handset
-    (stepped-tried setup plan c.args.pass.now c.tries.pass c.visit_put.new.pass handset c.visit_put.new.handset
-    c.in-Ok.ticket c.requires.plan next room made.0 made.1 made.2 c.in-Ok.ensures.goes_on) in
+    (stepped-tried c.visit_put.new.pass handset c.in-Ok.ticket c.requires.plan next room made.0 made.1 made.2
+    c.in-Ok.ensures.goes_on) in
     record { put = (c.tries.pass, both.0, both.1) }
