@@ -22,9 +22,9 @@ row_of levels starts places level_of ways =
     }
 
 -- parts are few
-pub parts-few : (plan : PlanData) (node level : ℕ) → IsKept plan → node < nodes_of plan → level < levels_of plan
+pub parts-few : {plan : PlanData} (node level : ℕ) → IsKept plan → node < nodes_of plan → level < levels_of plan
     → node * levels_of plan + level < 31744
-parts-few plan node level kept inside low =
+parts-few {plan} node level kept inside low =
     omega (
       arith,
       mul-add-lt node (levels_of plan) level (nodes_of plan) inside low,
@@ -49,14 +49,13 @@ pub record IsAdding (plan : PlanData) (old new : RouteData) (node level count : 
   pub light : slice_index new.ways (length new.places) ≤ length new.places * 2 ^ 36
 
 -- one more of them
-pub adding-more : (plan : PlanData) (old new next : RouteData) (node level count place sum : ℕ)
+pub adding-more : {plan : PlanData} {old new : RouteData} (next : RouteData) {node level count place sum : ℕ}
     → IsAdding plan old new node level count → next.levels ≡ new.levels → next.starts ≡ new.starts
     → next.level_of ≡ new.level_of → next.places ≡ new.places ++ place ∷ [] → next.ways ≡ new.ways ++ sum ∷ []
-    → place ≡ entry_place plan node (rung_at level count)
-    → sum ≡ slice_index new.ways (length new.places) + way_at plan node (rung_at level count)
-    → sum ≤ suc (length new.places) * 2 ^ 36
-    → IsAdding plan old next node level (count + 1)
-adding-more plan old new next node level count place sum adding levels starts told places ways is way light =
+    → place ≡ entry_place plan node (rung_at level count) → sum ≡ slice_index new.ways (length new.places) + way_at plan
+    node (rung_at level count) → sum ≤ suc (length new.places) * 2 ^ 36 → IsAdding plan old next node level (count + 1)
+adding-more {plan} {old} {new} next {node} {level} {count} {place} {sum} adding levels starts told places ways is way
+    light =
     let longer : length next.places ≡ suc (length new.places) =
     omega (arith, ap length places, length_push new.places place) in
     let more : length next.ways ≡ suc (length new.ways) = omega (arith, ap length ways, length_push new.ways sum) in
@@ -130,13 +129,13 @@ pub record IsTold (old new : List ℕ) (size level : ℕ) : Type 0 where
   pub behind : (i : ℕ) → length old ≤ i → i < size → slice_index new i ≡ level
 
 -- all of them, and the start of the next part
-pub adding-done : (plan : PlanData) (old new next : RouteData) (node level count : ℕ) → level < levels_of plan
-    → HaveParts plan old (node * levels_of plan + level) → IsAdding plan old new node level count
-    → count ≡ length (readers plan level node) → 1 ≤ count → count ≤ 1024 → next.levels ≡ new.levels
-    → next.starts ≡ new.starts ++ length new.places ∷ [] → next.places ≡ new.places → next.ways ≡ new.ways
-    → IsTold new.level_of next.level_of (length new.places) level → length new.places < 2 ^ 32
+pub adding-done : {plan : PlanData} {old new : RouteData} (next : RouteData) {node level count : ℕ}
+    → level < levels_of plan → HaveParts plan old (node * levels_of plan + level)
+    → IsAdding plan old new node level count → count ≡ length (readers plan level node) → 1 ≤ count → count ≤ 1024
+    → next.levels ≡ new.levels → next.starts ≡ new.starts ++ length new.places ∷ [] → next.places ≡ new.places
+    → next.ways ≡ new.ways → IsTold new.level_of next.level_of (length new.places) level → length new.places < 2 ^ 32
     → HaveParts plan next (node * levels_of plan + level + 1)
-adding-done plan old new next node level count low have adding all some few levels starts places ways told short =
+adding-done {plan} {old} {new} next {node} {level} low have adding all some few levels starts places ways told short =
     let parts : ℕ = node * levels_of plan + level in
     let longer : length next.starts ≡ suc (length old.starts) =
     omega (arith, ap length starts, length_push new.starts (length new.places), ap length adding.starts) in

@@ -114,26 +114,26 @@ cell-apart plan subs key other h l same =
     same-key plan key other h.place l.place both.0 both.1
 
 -- slots of cells
-pub slot-within : (plan : PlanData) (cells : CellData) (key : Key) → GoWith plan cells → IsCell plan cells.subs key
+pub slot-within : {plan : PlanData} {cells : CellData} {key : Key} → GoWith plan cells → IsCell plan cells.subs key
     → slot_of plan key < length cells.words
-slot-within plan cells key goes h =
+slot-within {plan} {cells} {key} goes h =
     omega (
       arith,
       goes.words,
       number-below (key_sub key) cells.subs (width_of plan) (key_place plan key) h.known (place-below plan key h.place),
     )
 
-pub slot-apart : (plan : PlanData) (subs : ℕ) (key other : Key) → IsCell plan subs key → IsCell plan subs other
+pub slot-apart : {plan : PlanData} {subs : ℕ} {key other : Key} → IsCell plan subs key → IsCell plan subs other
     → slot_of plan key ≡ slot_of plan other → key ≡ other
-slot-apart plan subs key other h l same =
+slot-apart {plan} {key} {other} h l same =
     let both : (key_sub key ≡ key_sub other) × (key_place plan key ≡ key_place plan other) =
     number-apart (key_sub key) (key_sub other) (width_of plan) (key_place plan key) (key_place plan other)
     (place-below plan key h.place) (place-below plan other l.place) same in
     same-key plan key other h.place l.place both.1 both.0
 
 -- where the word of a cell is, by its place
-pub slot-at : (plan : PlanData) (cells : CellData) (sub at width : ℕ) (key : Key) → GoWith plan cells
+pub slot-at : {plan : PlanData} {cells : CellData} {sub at width : ℕ} {key : Key} → GoWith plan cells
     → width ≡ cells.width → IsPlaceOf plan cells.subs sub at key → sub * width + at ≡ slot_of plan key
-slot-at plan cells sub at width key goes wide its =
+slot-at {plan} {sub} {width} {key} goes wide its =
     ap (λ n. sub * width + n) its.place ∙ (ap (λ w. sub * w + key_place plan key) (wide ∙ goes.width)
     ∙ ap (λ s. s * width_of plan + key_place plan key) (sym its.owner))

@@ -53,13 +53,13 @@ chosen true false new old = refl
 chosen false true new old = refl
 chosen false false new old = refl
 
-more-opened : (plan : PlanData) (sub start level cluster : ℕ) (key : Key) (word : ℕ) → cluster ≡ home plan level start
-    → cond (same_key key (Entry level cluster sub)) (address_word (Some (record {
+more-opened : (plan : PlanData) (sub start level : ℕ) {cluster : ℕ} (key : Key) (word : ℕ)
+    → cluster ≡ home plan level start → cond (same_key key (Entry level cluster sub)) (address_word (Some (record {
       number = 0;
       node = start;
     }))) (open_word plan sub start level key word) ≡ open_word plan sub start (level + 1) key word
-more-opened plan sub start level cluster (Presence node other) word same = refl
-more-opened plan sub start level cluster (Entry l c other) word same = at_test (l == level) refl
+more-opened plan sub start level (Presence node other) word same = refl
+more-opened plan sub start level {cluster} (Entry l c other) word same = at_test (l == level) refl
   where
     new : ℕ
     new = address_word (Some (record { number = 0; node = start }))
@@ -87,40 +87,39 @@ more-opened plan sub start level cluster (Entry l c other) word same = at_test (
         ∙ sym (ap (λ b. cond (b && (c == home plan l start && other == sub)) new word) (below-more l level test))
 
 -- the cells after a put of an opening word
-pub set-first : SameKey → (plan : PlanData) (cells : CellData) (sub start word : ℕ) (key : Key)
-    → GoWith plan cells → IsCell plan cells.subs (Presence start sub) → word ≡ mark_word (Here 0)
-    → IsCell plan cells.subs key
+pub set-first : SameKey → {plan : PlanData} {cells : CellData} {sub start word : ℕ} {key : Key} → GoWith plan cells
+    → IsCell plan cells.subs (Presence start sub) → word ≡ mark_word (Here 0) → IsCell plan cells.subs key
     → word_at plan (record cells {
       words = slice_set cells.words (slot_of plan (Presence start sub)) word;
     }) key ≡ open_word plan sub start 0 key (word_at plan cells key)
-set-first law plan cells sub start word key goes mine same its =
-    word-after law plan cells (Presence start sub) key word goes mine its
+set-first law {plan} {cells} {sub} {start} {word} {key} goes mine same its =
+    word-after law word goes mine its
     ∙ (ap (λ w. cond (same_key key (Presence start sub)) w (word_at plan cells key)) same
     ∙ first-opened plan sub start key (word_at plan cells key))
 
-pub set-more : SameKey → (plan : PlanData) (cells : CellData) (sub start level cluster word old : ℕ) (key : Key)
-    → GoWith plan cells → IsCell plan cells.subs (Entry level cluster sub)
+pub set-more : SameKey → {plan : PlanData} {cells : CellData} {sub : ℕ} (start : ℕ) {level cluster word : ℕ} (old : ℕ)
+    {key : Key} → GoWith plan cells → IsCell plan cells.subs (Entry level cluster sub)
     → word ≡ address_word (Some (record { number = 0; node = start })) → cluster ≡ home plan level start
     → IsCell plan cells.subs key → word_at plan cells key ≡ open_word plan sub start level key old
     → word_at plan (record cells {
       words = slice_set cells.words (slot_of plan (Entry level cluster sub)) word;
     }) key ≡ open_word plan sub start (level + 1) key old
-set-more law plan cells sub start level cluster word old key goes mine same at its so_far =
-    word-after law plan cells (Entry level cluster sub) key word goes mine its
+set-more law {plan} {cells} {sub} start {level} {cluster} {word} old {key} goes mine same at its so_far =
+    word-after law word goes mine its
     ∙ (ap (λ w. cond (same_key key (Entry level cluster sub)) w (word_at plan cells key)) same
     ∙ (ap (cond (same_key key (Entry level cluster sub)) (address_word (Some (record {
       number = 0;
       node = start;
     })))) so_far
-    ∙ more-opened plan sub start level cluster key old at))
+    ∙ more-opened plan sub start level key old at))
 
 -- the opening words of one subscriber more
-pub opened-more : (plan : PlanData) (starts : List ℕ) (sub start : ℕ) (key : Key) → 1 ≤ levels_of plan
+pub opened-more : (plan : PlanData) (starts : List ℕ) (sub : ℕ) {start : ℕ} (key : Key) → 1 ≤ levels_of plan
     → IsPlace plan key → sub < length starts → start ≡ get_or starts sub 0
-    → open_word plan sub start (levels_of plan) key (cond (nat_lt (key_sub key) sub) (opening
-    (setting_of plan starts) key) 0)
-    ≡ cond (nat_lt (key_sub key) (sub + 1)) (opening (setting_of plan starts) key) 0
-opened-more plan starts sub start (Presence node other) some place inside begins = at_test (other == sub) refl
+    → open_word plan sub start (levels_of plan) key (cond (nat_lt (key_sub key) sub)
+    (opening (setting_of plan starts) key) 0) ≡ cond (nat_lt (key_sub key) (sub + 1))
+    (opening (setting_of plan starts) key) 0
+opened-more plan starts sub {start} (Presence node other) some place inside begins = at_test (other == sub) refl
   where
     at_node : (b : Bool) → cond (b && true) (mark_word (Here 0)) 0 ≡ mark_word (cond (true && b) (Here 0) Empty)
     at_node true = refl
@@ -154,7 +153,7 @@ opened-more plan starts sub start (Presence node other) some place inside begins
         (Presence node other)) 0)
         ∙ sym (ap (λ b. cond b (opening (setting_of plan starts) (Presence node other)) 0)
         (below-more other sub test)))
-opened-more plan starts sub start (Entry level cluster other) some place inside begins = at_test (other == sub) refl
+opened-more plan starts sub {start} (Entry level cluster other) some place inside begins = at_test (other == sub) refl
   where
     at_cluster : (b : Bool) (n : ℕ) → cond (true && (b && true)) (address_word (Some (record {
       number = 0;

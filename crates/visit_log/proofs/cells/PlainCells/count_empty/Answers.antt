@@ -5,9 +5,9 @@ use Rattle.visit_log.proofs.Apart.{number-below}
 use Rattle.visit_log.proofs.cells.PlainCells.count_empty.Goals as goal
 
 -- a place of a subscriber is one of the words
-word-within : (cells : CellData) (sub place width total : ℕ) → total ≡ cells.subs * width
-    → cells.width ≡ width → sub < cells.subs → place < cells.width → sub * cells.width + place < total
-word-within cells sub place width total words wide known low =
+word-within : (cells : CellData) (sub place : ℕ) {width total : ℕ} → total ≡ cells.subs * width → cells.width ≡ width
+    → sub < cells.subs → place < cells.width → sub * cells.width + place < total
+word-within cells sub place {width} words wide known low =
     omega (
       arith,
       words,
@@ -21,14 +21,14 @@ is_zero-requires c =
       arith,
       ap (λ (k : CellData). length k.words) c.self.view_is,
       ap (λ w. c.args.sub * w) (c.width.ensures ∙ ap (λ (k : CellData). k.width) c.self.view_is),
-      word-within c.args.self.now c.args.sub (get_or c.args.places.now c.loop-i.i 0) _ _ c.requires.goes.1.words
+      word-within c.args.self.now c.args.sub (get_or c.args.places.now c.loop-i.i 0) c.requires.goes.1.words
           c.requires.goes.1.width c.requires.known (c.requires.inside c.loop-i.i 0 c.loop-i-test.true),
     )
 
 pub returns-then-not-is_zero-clause-held : goal.returns-then-not-is_zero-clause-held
 returns-then-not-is_zero-clause-held c = λ short none.
     let place : ℕ = get_or c.args.places.now c.loop-i.i 0 in
-    let within = word-within c.args.self.now c.args.sub place _ _ c.requires.goes.1.words c.requires.goes.1.width
+    let within = word-within c.args.self.now c.args.sub place c.requires.goes.1.words c.requires.goes.1.width
     c.requires.known (c.requires.inside c.loop-i.i 0 c.loop-i-test.true) in
     let wide : c.args.sub * c.width.result + place ≡ c.args.sub * c.args.self.now.width + place =
     ap (λ w. c.args.sub * w + place) (c.width.ensures ∙ ap (λ (k : CellData). k.width) c.self.view_is) in

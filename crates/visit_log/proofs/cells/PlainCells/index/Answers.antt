@@ -8,4 +8,4 @@ returns-clause-place c = search rules
 pub returns-clause-within : goal.returns-clause-within
 returns-clause-within c =
     subst (λ n. n < length c.args.self.now.words) (sym (returns-clause-place c))
-    (slot-within c.args.plan.now c.args.self.now c.args.key c.requires.goes c.requires.cell)
+    (slot-within c.requires.goes c.requires.cell)

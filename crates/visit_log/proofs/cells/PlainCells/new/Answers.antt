@@ -17,8 +17,8 @@ loop-sub-preserved c = record {
       c.open.ensures.words key (subst (λ n. IsCell c.args.plan.now n key) (sym c.loop-sub.invariant.subs) its)
       ∙ (ap (open_word c.args.plan.now c.loop-sub.sub (get_or c.args.homes.now c.loop-sub.sub 0)
       (levels_of c.args.plan.now) key) (c.loop-sub.invariant.words key its)
-      ∙ opened-more c.args.plan.now c.args.homes.now c.loop-sub.sub (get_or c.args.homes.now c.loop-sub.sub 0) key
-      c.plan_is_sound.ensures.sound.some its.place (omega arith) refl);
+      ∙ opened-more c.args.plan.now c.args.homes.now c.loop-sub.sub key c.plan_is_sound.ensures.sound.some its.place
+      (omega arith) refl);
 }
 
 -- an empty cell holds 0

@@ -11,8 +11,7 @@ loop-level-init c = record {
   subs = ap (λ (cells : CellData). cells.subs) c.set.ensures.words;
   words = λ key its.
       ap (λ cells. word_at c.args.plan.now cells key) c.set.ensures.words
-      ∙ set-first c.same_key_means.ensures c.args.plan.now c.args.self.now c.args.sub c.args.home
-      c.pack_mark-here.result key c.requires.goes
+      ∙ set-first c.same_key_means.ensures c.requires.goes
       (record { place = c.requires.inside; known = c.requires.known }) c.pack_mark-here.ensures its;
 }
 
@@ -32,13 +31,12 @@ loop-level-preserved c =
       subs = ap (λ (cells : CellData). cells.subs) c.set-in-loop-level.ensures.words ∙ c.loop-level.invariant.subs;
       words = λ key its.
           ap (λ cells. word_at c.args.plan.now cells key) c.set-in-loop-level.ensures.words
-          ∙ set-more c.same_key_means.ensures c.args.plan.now c.loop-level.self c.args.sub c.args.home
-          c.loop-level.level c.home-cluster.result c.pack_address-address.result
-          (word_at c.args.plan.now c.args.self.now key) key c.loop-level.invariant.goes (record {
+          ∙ set-more c.same_key_means.ensures c.args.home (word_at c.args.plan.now c.args.self.now key)
+          c.loop-level.invariant.goes (record {
             place =
                 (low, held);
             known = known;
-          })
-          c.pack_address-address.ensures c.home-cluster.ensures (subst (λ n. IsCell c.args.plan.now n key)
-          (sym c.loop-level.invariant.subs) its) (c.loop-level.invariant.words key its);
+          }) c.pack_address-address.ensures c.home-cluster.ensures
+          (subst (λ n. IsCell c.args.plan.now n key) (sym c.loop-level.invariant.subs) its)
+          (c.loop-level.invariant.words key its);
     }

@@ -10,5 +10,4 @@ returns-clause-history c = λ starts history actor hold.
       actor = actor;
       act = Put c.args.key c.args.word;
     } ∷ [])) (sym c.set.ensures.words)
-    (hold-after c.same_key_means.ensures c.cell_after.ensures c.args.plan.now starts c.args.self.now history actor
-    c.args.word c.args.key c.requires.goes c.requires.cell hold)
+    (hold-after c.same_key_means.ensures c.cell_after.ensures actor c.args.word c.requires.goes c.requires.cell hold)

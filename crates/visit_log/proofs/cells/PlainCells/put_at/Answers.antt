@@ -15,8 +15,8 @@ replace-requires c =
     let wide : c.width.result ≡ c.args.self.now.width =
     c.width.ensures ∙ ap (λ (cells : CellData). cells.width) c.self.view_is in
     subst (λ n. n < length c.args.self.now.words)
-    (sym (slot-at plan c.args.self.now c.args.sub c.args.place c.width.result key goes wide its))
-    (slot-within plan c.args.self.now key goes its.cell)
+    (sym (slot-at goes wide its))
+    (slot-within goes its.cell)
 
 pub returns-clause-history : goal.returns-clause-history
 returns-clause-history c = λ plan key goes its starts history actor hold.
@@ -25,6 +25,5 @@ returns-clause-history c = λ plan key goes its starts history actor hold.
     subst (λ cells. Hold plan starts cells (history ++ record { actor = actor; act = Put key c.args.word } ∷ []))
     (sym (c.replace.ensures
     ∙ ap (λ n. record c.args.self.now { words = set c.args.self.now.words n c.args.word })
-    (slot-at plan c.args.self.now c.args.sub c.args.place c.width.result key goes wide its)))
-    (hold-after c.same_key_means.ensures c.cell_after.ensures plan starts c.args.self.now history actor c.args.word key
-    goes its.cell hold)
+    (slot-at goes wide its)))
+    (hold-after c.same_key_means.ensures c.cell_after.ensures actor c.args.word goes its.cell hold)

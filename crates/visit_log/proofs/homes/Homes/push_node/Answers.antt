@@ -10,11 +10,11 @@ use Rattle.visit_log.proofs.Apart.{place-below}
 use Rattle.visit_log.proofs.homes.Homes.push_node.Goals as goal
 
 -- one home more
-home-more : (plan : PlanData) (old new : HomeData) (node level place : ℕ) → level < levels_of plan
+home-more : {plan : PlanData} {old : HomeData} (new : HomeData) (node level : ℕ) {place : ℕ} → level < levels_of plan
     → HaveHomes plan old (node * levels_of plan + level) → new.levels ≡ old.levels
     → new.places ≡ old.places ++ place ∷ [] → place ≡ home_place plan node level
     → HaveHomes plan new (node * levels_of plan + (level + 1))
-home-more plan old new node level place low have levels places is =
+home-more {plan} {old} new node level {place} low have levels places is =
     let count : ℕ = node * levels_of plan + level in
     let more : length new.places ≡ suc count =
     omega (arith, ap length places, length_push old.places place, have.count_is)
@@ -41,11 +41,9 @@ loop-level-preserved c =
     let plan = c.args.plan.now in
     let low : c.loop-level.level < levels_of plan =
     omega (arith, c.loop-level-test.true, c.loop-level.auto.level-end, c.levels-level-end.ensures) in
-    home-more plan
-    (record { levels = c.loop-level.self-inside.levels; places = c.loop-level.self-inside.places.items })
-    (record { levels = c.loop-level.self-inside.levels; places = c.push.new.self.items })
-    c.args.node c.loop-level.level (c.first.result + c.home.result) low c.loop-level.invariant
-    refl c.in_ok-push.ensures.items
+    home-more
+    (record { levels = c.loop-level.self-inside.levels; places = c.push.new.self.items }) c.args.node c.loop-level.level
+    low c.loop-level.invariant refl c.in_ok-push.ensures.items
     (omega (arith, c.first.ensures, c.requires.places.firsts c.loop-level.level low, c.home.ensures))
 
 pub overflow_add-place : goal.overflow_add-place

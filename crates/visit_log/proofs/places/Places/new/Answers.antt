@@ -17,10 +17,10 @@ record HaveFirsts (plan : PlanData) (firsts : List ℕ) (level first : ℕ) : Ty
   next : first ≡ nodes_of plan + clusters_below plan level
   few : first ≤ 1024 * (level + 1)
 
-more-firsts : (plan : PlanData) (old new : List ℕ) (level first : ℕ) → IsKept plan → level < levels_of plan
+more-firsts : {plan : PlanData} {old new : List ℕ} {level first : ℕ} → IsKept plan → level < levels_of plan
     → HaveFirsts plan old level first → new ≡ old ++ first ∷ []
     → HaveFirsts plan new (level + 1) (first + clusters_of plan level)
-more-firsts plan old new level first kept low have items = record {
+more-firsts {plan} {old} {new} {level} {first} kept low have items = record {
   count = omega (arith, have.count, ap length items, length_push old first);
   each = λ k below. elim (cases_lt k level) [
     | inl less ↦
@@ -39,9 +39,8 @@ more-firsts plan old new level first kept low have items = record {
 pub loop-level-preserved : goal.loop-level-preserved
 loop-level-preserved c =
     let plan = c.args.plan.now in
-    let more = more-firsts plan c.loop-level.firsts.items c.push_reserved.new.self.items c.loop-level.level
-    c.loop-level.first
-    c.nodes-first.ensures.sound (omega (arith, c.loop-level-test.true, c.levels-level-end.ensures)) (record {
+    let more = more-firsts c.nodes-first.ensures.sound (omega
+    (arith, c.loop-level-test.true, c.levels-level-end.ensures)) (record {
       count = sym c.loop-level.firsts.ok.0 ∙ c.loop-level.invariant.count;
       each = c.loop-level.invariant.firsts;
       next = c.loop-level.invariant.first;

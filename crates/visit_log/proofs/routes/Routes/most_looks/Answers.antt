@@ -6,18 +6,16 @@ pub overflow_sub-readers : goal.overflow_sub-readers
 overflow_sub-readers c =
     omega (
       arith,
-      readers-between c.args.plan.now _ c.args.self.now c.args.from c.index-2.result.now c.index.result.now
-          c.self.view_is
-          c.requires.routes c.requires.node c.index-2.ensures c.index.ensures,
+      readers-between c.args.plan.now c.args.from c.self.view_is c.requires.routes c.requires.node c.index-2.ensures
+          c.index.ensures,
     )
 
 pub returns : goal.returns
 returns c = λ starts.
     omega (
       arith,
-      readers-between c.args.plan.now _ c.args.self.now c.args.from c.index-2.result.now c.index.result.now
-          c.self.view_is
-          c.requires.routes c.requires.node c.index-2.ensures c.index.ensures,
+      readers-between c.args.plan.now c.args.from c.self.view_is c.requires.routes c.requires.node c.index-2.ensures
+          c.index.ensures,
       c.plan_counts.ensures.looks c.args.plan.now starts c.args.from c.plan_is_sound.ensures.sound.some,
       c.from.ensures,
       c.from-2.ensures,

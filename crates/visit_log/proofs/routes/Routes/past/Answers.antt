@@ -15,20 +15,18 @@ record Finds (plan : PlanData) (routes : RouteData) (node level index count firs
   same : found ≡ (rung_past plan node (rung_at level index) count).level
   within : node * levels_of plan + found < length routes.starts
 
-finds : (plan : PlanData) (routes : RouteData) (node level index count found : ℕ) (span : ℕ × ℕ) (items : List ℕ)
-    → ComesTo plan routes node (rung_at level index) count → span ≡ span_of plan routes node (rung_at level index)
-    → items ≡ routes.level_of → found ≡ get_or items (span.0 + count) found
-    → Finds plan routes node level index count span.0 found
-finds plan routes node level index count found span items on both told read =
+finds : {plan : PlanData} {routes : RouteData} {node : ℕ} (level index : ℕ) {count found : ℕ} {span : ℕ × ℕ}
+    {items : List ℕ} → ComesTo plan routes node (rung_at level index) count
+    → span ≡ span_of plan routes node (rung_at level index) → items ≡ routes.level_of
+    → found ≡ get_or items (span.0 + count) found → Finds plan routes node level index count span.0 found
+finds {plan} {routes} {node} level index {count} {found} {span} on both told read =
     let its = going plan routes node (rung_at level index) on.at count on.on in
     let start : span.0 ≡ place_in routes (node * levels_of plan) (rung_at level index) = ap (λ (p : ℕ × ℕ). p.0) both in
     let there : span.0 + count
     ≡ place_in routes (node * levels_of plan) (rung_past plan node (rung_at level index) count) =
     omega (arith, start, its.there) in
     let level_is : found ≡ (rung_past plan node (rung_at level index) count).level =
-    reads items routes.level_of (span.0 + count)
-    (place_in routes (node * levels_of plan) (rung_past plan node (rung_at level index) count)) found read told there
-    (omega (arith, its.before, its.there, on.at.are.level_of))
+    reads read told there (omega (arith, its.before, its.there, on.at.are.level_of))
     ∙ level-holds plan routes node on.at.are on.at.inside (rung_past plan node (rung_at level index) count) on.on
     in
     record {
@@ -63,8 +61,7 @@ pub index-requires : goal.index-requires
 index-requires c =
     let plan = c.requires.on.0 in
     let on = c.requires.on.1 in
-    let its = finds plan c.args.self.now c.args.node c.args.level c.args.index c.args.count c.index-level.result.now
-    c.span-first.result c.self.inside.level_of.items on (c.span-first.ensures.exact plan on.at)
+    let its = finds c.args.level c.args.index on (c.span-first.ensures.exact plan on.at)
     (ap (λ (r : RouteData). r.level_of) c.self.view_is) c.index-level.ensures in
     omega (
       arith,
@@ -75,33 +72,25 @@ index-requires c =
     )
 
 -- the start of its part, as it is read
-start-read : (plan : PlanData) (routes : RouteData) (part node level index count first found v k : ℕ)
-    (items : List ℕ)
+start-read : {plan : PlanData} {routes : RouteData} {part node level index count first found v k : ℕ} {items : List ℕ}
     → Finds plan routes node level index count first found → part ≡ node * levels_of plan → items ≡ routes.starts
-    → k ≡ part + found
-    → v ≡ get_or items k v
-    → v ≡ slice_index routes.starts
+    → k ≡ part + found → v ≡ get_or items k v → v ≡ slice_index routes.starts
     (node * levels_of plan + (rung_past plan node (rung_at level index) count).level)
-start-read plan routes part node level index count first found v k items its base same there read =
-    reads items routes.starts k (node * levels_of plan + found) v read same (there ∙ ap (λ n. n + found) base)
-    its.within
+start-read {plan} {routes} {node} {found} its base same there read =
+    reads read same (there ∙ ap (λ n. n + found) base) its.within
     ∙ ap (λ l. slice_index routes.starts (node * levels_of plan + l)) its.same
 
 pub overflow_sub-result : goal.overflow_sub-result
 overflow_sub-result c =
     let plan = c.requires.on.0 in
     let on = c.requires.on.1 in
-    let its = finds plan c.args.self.now c.args.node c.args.level c.args.index c.args.count c.index-level.result.now
-    c.span-first.result c.self.inside.level_of.items on (c.span-first.ensures.exact plan on.at)
+    let its = finds c.args.level c.args.index on (c.span-first.ensures.exact plan on.at)
     (ap (λ (r : RouteData). r.level_of) c.self.view_is) c.index-level.ensures in
     omega (
       arith,
       its.start,
       its.its.there,
-      start-read plan c.args.self.now (c.args.node * c.self.inside.levels) c.args.node c.args.level c.args.index
-          c.args.count c.span-first.result.0 c.index-level.result.now c.index.result.now
-          (c.args.node * c.self.inside.levels + c.index-level.result.now) c.self.inside.starts.items its
-          (ap (λ n. c.args.node * n) (ap (λ (r : RouteData). r.levels) c.self.view_is ∙ on.at.are.levels))
+      start-read its (ap (λ n. c.args.node * n) (ap (λ (r : RouteData). r.levels) c.self.view_is ∙ on.at.are.levels))
           (ap (λ (r : RouteData). r.starts) c.self.view_is) refl c.index.ensures,
     )
 
@@ -127,28 +116,27 @@ index-requires-2 c =
     )
 
 -- a weight, as it is read
-way-read : (routes : RouteData) (v k : ℕ) (items : List ℕ) → items ≡ routes.ways
-    → k < length routes.ways → v ≡ get_or items k v → v ≡ slice_index routes.ways k
-way-read routes v k items same short read =
-    reads items routes.ways k k v read same refl short
+way-read : (routes : RouteData) {v : ℕ} (k : ℕ) {items : List ℕ} → items ≡ routes.ways → k < length routes.ways
+    → v ≡ get_or items k v → v ≡ slice_index routes.ways k
+way-read routes k same short read =
+    reads read same refl short
 
 -- both weights
 record Weighs (plan : PlanData) (routes : RouteData) (node level index count later first : ℕ) : Type 0 where
   both : later ≡ first + ways_past plan node (rung_at level index) count
 
-weighs : (plan : PlanData) (routes : RouteData) (node level index count first later early : ℕ)
-    (items : List ℕ) → ComesTo plan routes node (rung_at level index) count
+weighs : {plan : PlanData} {routes : RouteData} {node : ℕ} (level index : ℕ) {count first later early : ℕ}
+    {items : List ℕ} → ComesTo plan routes node (rung_at level index) count
     → first ≡ place_in routes (node * levels_of plan) (rung_at level index) → items ≡ routes.ways
-    → later ≡ get_or items (first + count) later
-    → early ≡ get_or items first early
+    → later ≡ get_or items (first + count) later → early ≡ get_or items first early
     → Weighs plan routes node level index count later early
-weighs plan routes node level index count first later early items on start same read_later read_early =
+weighs {plan} {routes} {node} level index {count} {first} on start same read_later read_early =
     let its = going plan routes node (rung_at level index) on.at count on.on in
     record {
       both = omega (
         arith,
-        way-read routes later (first + count) items same (omega (arith, start, its.before, on.at.are.ways)) read_later,
-        way-read routes early first items same (omega (arith, start, its.before, on.at.are.ways)) read_early,
+        way-read routes (first + count) same (omega (arith, start, its.before, on.at.are.ways)) read_later,
+        way-read routes first same (omega (arith, start, its.before, on.at.are.ways)) read_early,
         ap (λ n. slice_index routes.ways (n + count)) start,
         ap (slice_index routes.ways) start,
         its.ways,
@@ -159,38 +147,29 @@ pub overflow_sub-result-2 : goal.overflow_sub-result-2
 overflow_sub-result-2 c =
     let plan = c.requires.on.0 in
     let on = c.requires.on.1 in
-    let its = weighs plan c.args.self.now c.args.node c.args.level c.args.index c.args.count c.span-first.result.0
-    c.index-2.result.now c.index-3.result.now c.self.inside.ways.items on
-    (ap (λ (p : ℕ × ℕ). p.0) (c.span-first.ensures.exact plan on.at)) (ap (λ (r : RouteData). r.ways) c.self.view_is)
-    c.index-2.ensures c.index-3.ensures in
+    let its = weighs c.args.level c.args.index on (ap (λ (p : ℕ × ℕ). p.0) (c.span-first.ensures.exact plan on.at))
+    (ap (λ (r : RouteData). r.ways) c.self.view_is) c.index-2.ensures c.index-3.ensures in
     omega (arith, its.both)
 
 -- where a climb is, from its parts
-height-is : (level index weight there at ways : ℕ) → level ≡ there → index ≡ at → weight ≡ ways
+height-is : {level index weight there at ways : ℕ} → level ≡ there → index ≡ at → weight ≡ ways
     → ◌≡◌ {A = Height} (record { level = level; index = index; weight = weight })
     (record { level = there; index = at; weight = ways })
-height-is level index weight there at ways l i w =
+height-is {level} {index} {weight} {there} {at} l i w =
     ap (λ n. let r : Height = record { level = n; index = index; weight = weight } in r) l
     ∙ (ap (λ n. let r : Height = record { level = there; index = n; weight = weight } in r) i
     ∙ ap (λ n. let r : Height = record { level = there; index = at; weight = n } in r) w)
 
 pub returns : goal.returns
 returns c = λ plan on.
-    let its = finds plan c.args.self.now c.args.node c.args.level c.args.index c.args.count c.index-level.result.now
-    c.span-first.result c.self.inside.level_of.items on (c.span-first.ensures.exact plan on.at)
+    let its = finds c.args.level c.args.index on (c.span-first.ensures.exact plan on.at)
     (ap (λ (r : RouteData). r.level_of) c.self.view_is) c.index-level.ensures in
-    let ways = weighs plan c.args.self.now c.args.node c.args.level c.args.index c.args.count c.span-first.result.0
-    c.index-2.result.now c.index-3.result.now c.self.inside.ways.items on its.start
-    (ap (λ (r : RouteData). r.ways) c.self.view_is) c.index-2.ensures c.index-3.ensures in
-    height-is _ _ _ _ _ _ (c.from.ensures ∙ its.same)
-    (omega (
+    let ways = weighs c.args.level c.args.index on its.start (ap (λ (r : RouteData). r.ways) c.self.view_is)
+    c.index-2.ensures c.index-3.ensures in
+    height-is (c.from.ensures ∙ its.same) (omega (
       arith,
       its.start,
       its.its.there,
-      start-read plan c.args.self.now (c.args.node * c.self.inside.levels) c.args.node c.args.level c.args.index
-          c.args.count c.span-first.result.0 c.index-level.result.now c.index.result.now
-          (c.args.node * c.self.inside.levels + c.index-level.result.now) c.self.inside.starts.items its
-          (ap (λ n. c.args.node * n) (ap (λ (r : RouteData). r.levels) c.self.view_is ∙ on.at.are.levels))
+      start-read its (ap (λ n. c.args.node * n) (ap (λ (r : RouteData). r.levels) c.self.view_is ∙ on.at.are.levels))
           (ap (λ (r : RouteData). r.starts) c.self.view_is) refl c.index.ensures,
-    ))
-    (omega (arith, ways.both))
+    )) (omega (arith, ways.both))

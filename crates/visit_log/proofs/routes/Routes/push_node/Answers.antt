@@ -9,12 +9,12 @@ loop-level-preserved c =
     subst (HaveParts c.args.plan.now c.push_part.new.self)
     (add_assoc (c.args.node * levels_of c.args.plan.now) c.loop-level.level 1) c.in_ok-push_part.ensures
 
-all-levels : (node level levels : ℕ) → level ≡ levels → node * levels + level ≡ (node + 1) * levels
-all-levels node level levels all = omega (arith, all)
+all-levels : (node : ℕ) {level levels : ℕ} → level ≡ levels → node * levels + level ≡ (node + 1) * levels
+all-levels node all = omega (arith, all)
 
 pub returns : goal.returns
 returns c =
     subst (HaveParts c.args.plan.now c.loop-level.self)
-    (all-levels c.args.node c.loop-level.level (levels_of c.args.plan.now)
-    (le_antisymm c.loop-level.auto.level-end c.loop-level-test.false ∙ c.levels-level-end.ensures))
+    (all-levels c.args.node (le_antisymm c.loop-level.auto.level-end c.loop-level-test.false
+    ∙ c.levels-level-end.ensures))
     c.loop-level.invariant

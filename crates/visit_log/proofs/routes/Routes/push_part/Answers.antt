@@ -83,7 +83,7 @@ overflow_add-sum c = omega (
   c.loop-index.invariant.adding.light,
   c.loop-index.invariant.adding.size,
   c.requires.parts.few,
-  parts-few c.args.plan.now c.args.node c.args.level c.plan_is_sound.ensures.sound c.requires.node c.requires.level,
+  parts-few c.args.node c.args.level c.plan_is_sound.ensures.sound c.requires.node c.requires.level,
   readers-few c.args.plan.now c.args.level c.args.node c.plan_is_sound.ensures.matched c.plan_is_sound.ensures.sound
       c.requires.level c.requires.node,
   short-here c,
@@ -114,17 +114,13 @@ loop-index-preserved c =
     let way : c.reader_weight.result ≡ inside plan level (slice_index (readers plan level node) index) node =
     c.reader_weight.ensures in
     record {
-      adding = adding-more plan c.args.self.now now next node level index
-          (c.first-first.result + slice_index c.readers-readers.result.now index) sum c.loop-index.invariant.adding refl
-          refl refl c.push_reserved.ensures.items c.push_reserved-in-loop-index.ensures.items
-          (omega (
+      adding = adding-more next c.loop-index.invariant.adding refl refl refl c.push_reserved.ensures.items
+          c.push_reserved-in-loop-index.ensures.items (omega (
             arith,
             c.first-first.ensures,
             c.requires.places.firsts level c.requires.level,
             ap (λ rs. slice_index rs index) c.readers-readers.ensures,
-          ))
-          (omega (arith, c.loop-index.invariant.sum, way))
-          (omega (
+          )) (omega (arith, c.loop-index.invariant.sum, way)) (omega (
             arith,
             c.loop-index.invariant.sum,
             way,
@@ -161,8 +157,7 @@ overflow_cast-len c =
       c.len-2.ensures,
       c.loop-index.invariant.adding.size,
       c.requires.parts.few,
-      parts-few c.args.plan.now c.args.node c.args.level c.plan_is_sound.ensures.sound c.requires.node
-          c.requires.level,
+      parts-few c.args.node c.args.level c.plan_is_sound.ensures.sound c.requires.node c.requires.level,
       readers-few c.args.plan.now c.args.level c.args.node c.plan_is_sound.ensures.matched
           c.plan_is_sound.ensures.sound c.requires.level c.requires.node,
       c.loop-index.auto.index-end,
@@ -193,29 +188,25 @@ returns c =
     omega (arith, c.len-3.ensures, c.loop-index.self-inside.places.ok.0) in
     let filled : c.len-2.result ≡ length c.loop-index.self-inside.places.items =
     omega (arith, c.len-2.ensures, c.loop-index.self-inside.places.ok.0) in
-    adding-done plan c.args.self.now now next c.args.node c.args.level c.loop-index.index c.requires.level
-    c.requires.parts c.loop-index.invariant.adding all (omega (arith, some, all)) (omega (arith, few, all)) refl
-    (c.in_ok-push.ensures.items ∙ ap (λ n. c.loop-index.self-inside.starts.items ++ n ∷ []) size) refl refl
-    (record {
+    adding-done next c.requires.level c.requires.parts c.loop-index.invariant.adding all (omega (arith, some, all))
+    (omega (arith, few, all)) refl (c.in_ok-push.ensures.items
+    ∙ ap (λ n. c.loop-index.self-inside.starts.items ++ n ∷ []) size) refl refl (record {
       filled = omega (arith, c.in_ok-resize.ensures.len, c.resize.new.self.ok.0, filled);
-      before = λ i low. c.in_ok-resize.ensures.by_index.0 i 0
-          (omega (
-            arith,
-            low,
-            filled,
-            ap length c.loop-index.invariant.adding.level_of,
-            c.requires.parts.level_of,
-            c.loop-index.invariant.adding.size,
-          ))
-          (omega (arith, low, c.loop-index.self-inside.level_of.ok.0));
+      before = λ i low. c.in_ok-resize.ensures.by_index.0 i 0 (omega (
+        arith,
+        low,
+        filled,
+        ap length c.loop-index.invariant.adding.level_of,
+        c.requires.parts.level_of,
+        c.loop-index.invariant.adding.size,
+      )) (omega (arith, low, c.loop-index.self-inside.level_of.ok.0));
       behind = λ i high low. c.in_ok-resize.ensures.by_index.1 i 0 refl
           (omega (arith, high, c.loop-index.self-inside.level_of.ok.0)) (omega (arith, low, filled));
-    })
-    (omega (
+    }) (omega (
       arith,
       c.loop-index.invariant.adding.size,
       c.requires.parts.few,
-      parts-few plan c.args.node c.args.level c.plan_is_sound.ensures.sound c.requires.node c.requires.level,
+      parts-few c.args.node c.args.level c.plan_is_sound.ensures.sound c.requires.node c.requires.level,
       all,
       few,
     ))

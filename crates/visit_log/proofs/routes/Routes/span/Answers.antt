@@ -14,13 +14,11 @@ returns-clause-exact c = λ plan at.
     ap (λ (r : RouteData). r.starts) c.self.view_is in
     let part : c.args.node * c.self.inside.levels ≡ c.args.node * levels_of plan = ap (λ n. c.args.node * n) levels in
     let first : c.index.result.now ≡ slice_index c.args.self.now.starts (c.args.node * levels_of plan + c.args.level) =
-    reads c.self.inside.starts.items c.args.self.now.starts _ _ c.index.result.now c.index.ensures starts
-    (ap (λ n. n + c.args.level) part)
+    reads c.index.ensures starts (ap (λ n. n + c.args.level) part)
     (part-within plan c.args.self.now c.args.node c.args.level at.are at.inside (omega (arith, at.is.level))) in
     let end : c.index-2.result.now
     ≡ slice_index c.args.self.now.starts (c.args.node * levels_of plan + levels_of plan) =
-    reads c.self.inside.starts.items c.args.self.now.starts _ _ c.index-2.result.now c.index-2.ensures starts
-    (omega (arith, part, levels))
+    reads c.index-2.ensures starts (omega (arith, part, levels))
     (part-within plan c.args.self.now c.args.node (levels_of plan) at.are at.inside (omega arith)) in
     let place : c.index.result.now + c.args.index
     ≡ place_in c.args.self.now (c.args.node * levels_of plan) (rung_at c.args.level c.args.index) = omega (arith, first)
