@@ -14,10 +14,10 @@ pub record IsClosing (n width u : ℕ) (rows table : List ℕ) : Type 0 where
   pub rest : (a v : ℕ) → u ≤ a → a < n → v < n → cell_at width table a v ≡ cell_at width rows a v
 
 -- one more row
-pub closing_step : (n width u size : ℕ) (rows old new : List ℕ) → n ≤ width → u < n → size ≡ n
+pub closing_step : {n width u size : ℕ} {rows old new : List ℕ} → n ≤ width → u < n → size ≡ n
     → IsClosing n width u rows old → length new ≡ length old → CopiedTo old new (u * width) (u * n) size
     → SameBelow old new (u * n) → SameFrom old new (u * n + size) → IsClosing n width (u + 1) rows new
-closing_step n width u size rows old new wide u_below is so_far count copied below from = record {
+closing_step {n} {width} {u} {rows} {old} {new} wide u_below is so_far count copied below from = record {
   count = count ∙ so_far.count;
   done = λ a v a_below v_below. elim (cases_lt a u) [
     | inl earlier ↦
@@ -42,9 +42,9 @@ closing_step n width u size rows old new wide u_below is so_far count copied bel
 }
 
 -- what is behind the rows is left out
-pub closing_ends : (n width u : ℕ) (rows table closed : List ℕ) → n ≤ width → n ≤ u → IsClosing n width u rows table
+pub closing_ends : {n width u : ℕ} {rows table closed : List ℕ} → n ≤ width → n ≤ u → IsClosing n width u rows table
     → closed ≡ take (n * n) table → AreClosed n width rows closed
-closing_ends n width u rows table closed wide all so_far is = subst (AreClosed n width rows) (sym is) (record {
+closing_ends {n} {width} {rows} {table} wide all so_far is = subst (AreClosed n width rows) (sym is) (record {
   count = let e : length (take (n * n) table) ≡ n * n =
       omega (arith, length-take (n * n) table, so_far.count, mul-le n n n width (omega arith) wide) in e;
   each = λ a v a_below v_below.

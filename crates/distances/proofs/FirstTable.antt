@@ -19,34 +19,30 @@ use Rattle.distances.proofs.Lowered.{lowered_as, lowered_light, lowered_next, lo
 use Rattle.distances.proofs.Lengths.{begins, bounded, least_there, lengths, step_length}
 
 -- the arcs of one more node
-pub arcs_step : (n width u : ℕ) (edges : List Edge) (arcs : List Arc) (old mid new : List ℕ) → AreArcsOf n edges u arcs
-    → IsLowered (Below u (EdgeOffer edges n width)) old mid → IsLowered (Among arcs (ArcOffer width u)) mid new
-    → IsLowered (Below (u + 1) (EdgeOffer edges n width)) old new
-arcs_step n width u edges arcs old mid new are so_far lowered =
-    lowered_next (EdgeOffer edges n width) u old mid new so_far
-    (lowered_as (Among arcs (ArcOffer width u)) (EdgeOffer edges n width u) mid new
+pub arcs_step : {n : ℕ} (width : ℕ) {u : ℕ} {edges : List Edge} {arcs : List Arc} {old mid new : List ℕ}
+    → AreArcsOf n edges u arcs → IsLowered (Below u (EdgeOffer edges n width)) old mid
+    → IsLowered (Among arcs (ArcOffer width u)) mid new → IsLowered (Below (u + 1) (EdgeOffer edges n width)) old new
+arcs_step {n} width {u} {edges} {arcs} are so_far lowered =
+    lowered_next (EdgeOffer edges n width) u so_far (lowered_as (EdgeOffer edges n width u)
     (λ i w (arc, has, (at, weight)). (
       arc.target,
       (All-contains (IsArc n) arcs arc are.limits has).below,
       subst (λ x. Joins edges u arc.target x) (sym weight) (are.sound arc.target arc.weight has),
       at,
-    ))
-    (λ i w (v, below, joined, at). (make_arc v w, are.whole v w joined, (at, refl))) lowered)
+    )) (λ i w (v, below, joined, at). (make_arc v w, are.whole v w joined, (at, refl))) lowered)
 
 pub no_arcs : (n width : ℕ) (edges : List Edge) (old : List ℕ) → IsLowered (Below 0 (EdgeOffer edges n width)) old old
 no_arcs n width edges old = lowered_none (Below 0 (EdgeOffer edges n width)) old
     (λ i w (u, below, offered). omega arith)
 
-pub first_done : (network : Network) (width : ℕ) (table : List ℕ) → network.nodes ≤ width
+pub first_done : (network : Network) (width : ℕ) {table : List ℕ} → network.nodes ≤ width
     → IsLowered (Below network.nodes (EdgeOffer network.edges network.nodes width))
-    (replicate (network.nodes * width) FAR) table
-    → IsFirstTable network width table
-first_done network width table wide lowered =
+    (replicate (network.nodes * width) FAR) table → IsFirstTable network width table
+first_done network width {table} wide lowered =
     let n : ℕ = network.nodes in
     record {
       count = lowered.count ∙ length-replicate (n * width) FAR;
-      light = lowered_light (Below n (EdgeOffer network.edges n width)) (replicate (n * width) FAR) table FAR lowered
-          (All-replicate (λ w. w ≤ FAR) (n * width) FAR (omega arith));
+      light = lowered_light FAR lowered (All-replicate (λ w. w ≤ FAR) (n * width) FAR (omega arith));
       sound = λ u v u_below v_below. elim (lowered.cause (u * width + v)) [
         | inl kept ↦ inl (kept ∙ get_or-replicate (n * width) (u * width + v) FAR 0
             (omega (arith, row_fits u width n width u_below (omega arith), wide, v_below)))
@@ -91,11 +87,10 @@ module _ (network : Network) (sound : IsNetwork network) (width : ℕ) (wide : n
           };
     }
 
-pub rows_of : LeastWeightsAreFound → LeastWeightsAreBounded → (network : Network) → IsNetwork network
-    → (width : ℕ) → network.nodes ≤ width → (first rows table : List ℕ)
-    → IsFirstTable network width first → IsEliminated network.nodes width first rows
-    → AreClosed network.nodes width rows table → AreRowsOf network table
-rows_of least_of bounds network sound width wide first rows table is_first eliminated closed =
+pub rows_of : LeastWeightsAreFound → LeastWeightsAreBounded → {network : Network} → IsNetwork network → {width : ℕ}
+    → network.nodes ≤ width → {first rows table : List ℕ} → IsFirstTable network width first
+    → IsEliminated network.nodes width first rows → AreClosed network.nodes width rows table → AreRowsOf network table
+rows_of least_of bounds {network} sound {width} wide {first} {table} is_first eliminated closed =
     let d : ℕ → ℕ → ℕ = least_weight network everywhere in
     let least : AreLeast network d = least_there least_of network sound in
     let is : (a b : ℕ) → a < network.nodes → b < network.nodes → cell_at network.nodes table a b ≡ d a b =
@@ -113,19 +108,17 @@ rows_of least_of bounds network sound width wide first rows table is_first elimi
     }
 
 -- the table as the code has it
-pub rows_made : LeastWeightsAreFound → LeastWeightsAreBounded → (network : Network) → IsNetwork network
-    → (n : ℕ) → n ≡ network.nodes
-    → (width : ℕ) → n ≤ width → (first seen filled more wide closed : List ℕ) (k : ℕ)
-    → IsFirstTable network width first → seen ≡ first → length seen ≡ k
-    → IsEliminated n width seen filled → wide ≡ take k (filled ++ more) → AreClosed n width wide closed
-    → AreRowsOf network closed
-rows_made least_of bounds network sound n is_n width n_wide first seen filled more wide closed k is_first seen_is
+pub rows_made : LeastWeightsAreFound → LeastWeightsAreBounded → {network : Network} → IsNetwork network → {n : ℕ}
+    → n ≡ network.nodes → {width : ℕ} → n ≤ width → {first seen filled : List ℕ} (more : List ℕ) {wide closed : List ℕ}
+    {k : ℕ} → IsFirstTable network width first → seen ≡ first → length seen ≡ k → IsEliminated n width seen filled
+    → wide ≡ take k (filled ++ more) → AreClosed n width wide closed → AreRowsOf network closed
+rows_made least_of bounds {network} sound {n} is_n {width} n_wide {first} {filled} more {wide} {closed} {k} is_first
+    seen_is
     count eliminated wide_is is_closed =
     let here : IsEliminated network.nodes width first filled =
     subst (λ i. IsEliminated i width first filled) is_n (subst (λ xs. IsEliminated n width xs filled) seen_is
     eliminated) in
     let same : length filled ≡ k = here.count ∙ sym is_first.count ∙ sym (ap length seen_is) ∙ count in
     let rows_are : wide ≡ filled = wide_is ∙ take_at filled more k same in
-    rows_of least_of bounds network sound width (subst (λ i. i ≤ width) is_n n_wide) first filled closed is_first here
-    (subst (λ i. AreClosed i width filled closed) is_n
-    (subst (λ xs. AreClosed n width xs closed) rows_are is_closed))
+    rows_of least_of bounds sound (subst (λ i. i ≤ width) is_n n_wide) is_first here
+    (subst (λ i. AreClosed i width filled closed) is_n (subst (λ xs. AreClosed n width xs closed) rows_are is_closed))

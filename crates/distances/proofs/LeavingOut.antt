@@ -32,13 +32,13 @@ pub record IsLeavingSome (n width : ℕ) (first : List ℕ) (left : List Bool) (
   pub holds : (d : ℕ → ℕ → ℕ) → AreLengths n d → KeepsLengths (λ x. x < n) (cell_at width first) d → AreLeftOut n d
       left_out
 
-least_is_min : (x c s : ℕ) → x ≤ c → x ≤ s → (x ≡ c) ⊎ (x ≡ s) → x ≡ min c s
-least_is_min x c s le_c le_s (inl e) = omega arith
-least_is_min x c s le_c le_s (inr e) = omega arith
+least_is_min : {x c s : ℕ} → x ≤ c → x ≤ s → (x ≡ c) ⊎ (x ≡ s) → x ≡ min c s
+least_is_min le_c le_s (inl e) = omega arith
+least_is_min le_c le_s (inr e) = omega arith
 
-keeps_as : (left other : ℕ → Type 0) (c d : ℕ → ℕ → ℕ) → ((x : ℕ) → left x → other x) → ((x : ℕ) → other x → left x)
-    → KeepsLengths left c d → KeepsLengths other c d
-keeps_as left other c d there back p = record {
+keeps_as : {left : ℕ → Type 0} (other : ℕ → Type 0) {c d : ℕ → ℕ → ℕ} → ((x : ℕ) → left x → other x)
+    → ((x : ℕ) → other x → left x) → KeepsLengths left c d → KeepsLengths other c d
+keeps_as other there back p = record {
   sound = λ a b a_left b_left. p.sound a b (back a a_left) (back b b_left);
   turned = λ a b a_left b_left. p.turned a b (back a a_left) (back b b_left);
   goes_on = λ a b a_left b_left apart.
@@ -46,10 +46,9 @@ keeps_as left other c d there back p = record {
       record { next = g.next; is_left = there g.next g.is_left; other = g.other; short = g.short };
 }
 
-left_out_as : (left other : ℕ → Type 0) (d : ℕ → ℕ → ℕ) (v : ℕ) (near : List Near) → ((x : ℕ) → left x → other x)
-    → ((x : ℕ) → other x → left x)
-    → IsLeftOut left d v near → IsLeftOut other d v near
-left_out_as left other d v near there back p = record {
+left_out_as : {left : ℕ → Type 0} (other : ℕ → Type 0) {d : ℕ → ℕ → ℕ} {v : ℕ} {near : List Near}
+    → ((x : ℕ) → left x → other x) → ((x : ℕ) → other x → left x) → IsLeftOut left d v near → IsLeftOut other d v near
+left_out_as other there back p = record {
   sound = λ x w is_near. let s = p.sound x w is_near in (there x s.0, s.1, s.2);
   leads_on = λ b b_other. p.leads_on b (back b b_other);
 }
@@ -106,20 +105,20 @@ module _ (n width : ℕ) (wide : n ≤ width) (v : ℕ) (new : ℕ → Type 0) (
       let b_below = within b b_new in
       let most : cell_at width old a b ≤ FAR = light (a * width + b) 0
       (omega (arith, row_fits a width n width a_below (omega arith), wide, b_below, count)) in
-      least_is_min (cell_at width table a b) (cell_at width old a b) (cell_at width old v a + cell_at width old v b)
-      (lowered.falls (a * width + b))
-      (elim (cases_lt (cell_at width old v a) FAR) [
-        | inr far ↦ omega (arith, lowered.falls (a * width + b))
+      least_is_min (lowered.falls (a * width + b)) (elim (cases_lt (cell_at width old v a) FAR) [
+        | inr far ↦ omega
+            (arith, lowered.falls (a * width + b))
         | inl a_light ↦ elim (cases_lt (cell_at width old v b) FAR) [
-          | inr far ↦ omega (arith, lowered.falls (a * width + b))
-          | inl b_light ↦ lowered.reached (a * width + b) (cell_at width old v a + cell_at width old v b) (
-            make_near a (cell_at width old v a),
-            near_whole a a_new a_light,
-            (make_near b (cell_at width old v b), near_whole b b_new b_light, (refl, refl)),
-          )
+          | inr far ↦
+              omega (arith, lowered.falls (a * width + b))
+          | inl b_light ↦ lowered.reached (a * width + b)
+              (cell_at width old v a + cell_at width old v b) (
+                make_near a (cell_at width old v a),
+                near_whole a a_new a_light,
+                (make_near b (cell_at width old v b), near_whole b b_new b_light, (refl, refl)),
+              )
         ]
-      ])
-      (elim (lowered.cause (a * width + b)) [
+      ]) (elim (lowered.cause (a * width + b)) [
         | inl kept ↦ inl kept
         | inr (p, has_p, (q, has_q, (at, sum))) ↦
             let p_is = near_sound p.node p.weight has_p in
@@ -188,8 +187,7 @@ module _ (n width : ℕ) (wide : n ≤ width) (first : List ℕ) (left : List Bo
     leaving_step = record {
       left_count = length-set left v false ∙ so_far.left_count;
       count = lowered.count ∙ so_far.count;
-      light = lowered_light (Among s.near.items (λ a. Among s.near.items (PairOffer width a))) old table FAR lowered
-          so_far.light;
+      light = lowered_light FAR lowered so_far.light;
       within = All-push (IsLeftOutWithin n) left_out s so_far.within (record {
         node = subst (λ x. x < n) (sym s_node) (below v v_left);
         near = near_within n width wide v (λ x. among (set left v false) x ≡ true) row s.near.items old table below_now
@@ -200,8 +198,7 @@ module _ (n width : ℕ) (wide : n ≤ width) (first : List ℕ) (left : List Bo
       fresh_is_left = fresh_now;
       keeps = next_keeps;
       holds = λ d lengths begun. more left_out s (left_out ++ s ∷ []) refl (so_far.holds d lengths begun)
-          (left_out_as (λ x. among (set left v false) x ≡ true) (IsFresh n (left_out ++ s ∷ [])) d s.node s.near.items
-          now_fresh fresh_now
+          (left_out_as (IsFresh n (left_out ++ s ∷ [])) now_fresh fresh_now
           (subst (λ x. IsLeftOut (λ x. among (set left v false) x ≡ true) d x s.near.items) (sym s_node)
           (next_left_out d lengths begun)));
     }
@@ -225,9 +222,8 @@ leaving_begins n width first count light = record {
     All-nil (λ (s : LeftOut). s.node ≢ x),
   );
   fresh_is_left = λ x h. get_or-replicate n x true false h.0;
-  keeps = λ d lengths begun. keeps_as (λ x. x < n) (λ x. among (replicate n true) x ≡ true) (cell_at width first) d
-      (λ x below. get_or-replicate n x true false below)
-      (λ x h. elim (cases_lt x n) [
+  keeps = λ d lengths begun. keeps_as (λ x. among (replicate n true) x ≡ true)
+      (λ x below. get_or-replicate n x true false below) (λ x h. elim (cases_lt x n) [
         | inl below ↦ below
         | inr past ↦
             let none_there : get_or (replicate n true) x false ≡ false =
@@ -237,36 +233,36 @@ leaving_begins n width first count light = record {
   holds = λ d lengths begun. none;
 }
 
-pub leaving_ends : (n width : ℕ) (first : List ℕ) (left : List Bool) (left_out : List LeftOut) (table : List ℕ)
-    → IsLeavingSome n width first left left_out table
-    → ((x : ℕ) → among left x ≡ true → ⊥) → AreAllLeftOut n width first left_out
-leaving_ends n width first left left_out table so_far none_left = record {
+pub leaving_ends : {n width : ℕ} {first : List ℕ} {left : List Bool} {left_out : List LeftOut} {table : List ℕ}
+    → IsLeavingSome n width first left left_out table → ((x : ℕ) → among left x ≡ true → ⊥)
+    → AreAllLeftOut n width first left_out
+leaving_ends so_far none_left = record {
   within = so_far.within;
   all = λ x fresh. none_left x (so_far.fresh_is_left x fresh);
   holds = so_far.holds;
 }
 
 -- the row of a node that is left ends in the table
-pub row_ends : (n width : ℕ) → n ≤ width → (first : List ℕ) (left : List Bool) (left_out : List LeftOut)
-    (table : List ℕ) → IsLeavingSome n width first left left_out table → (v : ℕ) → among left v ≡ true
+pub row_ends : {n width : ℕ} → n ≤ width → {first : List ℕ} {left : List Bool} {left_out : List LeftOut}
+    {table : List ℕ} → IsLeavingSome n width first left left_out table → (v : ℕ) → among left v ≡ true
     → v * width + n ≤ length table
-row_ends n width wide first left left_out table so_far v v_left =
+row_ends {n} {width} wide so_far v v_left =
     let v_below : v < n = (so_far.left_is_fresh v v_left).0 in
     omega (arith, row_fits v width n width v_below (omega arith), so_far.count, wide)
 
 -- the step as the code has it
-pub leaving_next : (n width : ℕ) → n ≤ width → (first : List ℕ) (left : List Bool)
-    (left_out later : List LeftOut) (old table : List ℕ) (v : ℕ) (s : LeftOut) (near : List Near)
-    → IsLeavingSome n width first left left_out old → (v < length left) × (among left v ≡ true) → s.node ≡ v
+pub leaving_next : {n width : ℕ} → n ≤ width → {first : List ℕ} {left : List Bool} {left_out later : List LeftOut}
+    {old table : List ℕ} {v : ℕ} (s : LeftOut) {near : List Near} → IsLeavingSome n width first left left_out old
+    → (v < length left) × (among left v ≡ true) → s.node ≡ v
     → AreNearBelow (length (between (v * width) (v * width + n) old)) (between (v * width) (v * width + n) old)
-    (λ x. among (set left v false) x ≡ true) s.near.items
-    → near ≡ s.near.items → IsLowered (Among near (λ a. Among near (PairOffer width a))) old table
-    → later ≡ left_out ++ s ∷ []
+    (λ x. among (set left v false) x ≡ true) s.near.items → near ≡ s.near.items
+    → IsLowered (Among near (λ a. Among near (PairOffer width a))) old table → later ≡ left_out ++ s ∷ []
     → IsLeavingSome n width first (set left v false) later table
-leaving_next n width wide first left left_out later old table v s near so_far v_left s_node are_near near_is lowered
+leaving_next {n} {width} wide {first} {left} {left_out} {old} {table} {v} s so_far v_left s_node are_near near_is
+    lowered
     later_is =
     let end_fits : v * width + n ≤ length old =
-    row_ends n width wide first left left_out old so_far v v_left.1 in
+    row_ends wide so_far v v_left.1 in
     subst (λ xs. IsLeavingSome n width first (set left v false) xs table) (sym later_is)
     (leaving_step n width wide first left left_out old so_far v v_left.1 (between (v * width) (v * width + n) old)
     (length-between old (v * width) (v * width + n) end_fits ∙ (let e : v * width + n - v * width ≡ n = omega arith in

@@ -24,12 +24,12 @@ pub record IsFilling (n width : ℕ) (all left_out : List LeftOut) (back table :
       → (a b : ℕ) → IsFresh n left_out a → IsFresh n left_out b → cell_at width table a b ≡ d a b
 
 -- the last that was left out
-last_left_out : (n : ℕ) (d : ℕ → ℕ → ℕ) (earlier : List LeftOut) (s : LeftOut) (left_out : List LeftOut)
-    → AreLeftOut n d left_out → left_out ≡ earlier ++ s ∷ []
-    → AreLeftOut n d earlier × IsLeftOut (IsFresh n left_out) d s.node s.near.items
-last_left_out n d earlier s _ none is = absurd
+last_left_out : {n : ℕ} {d : ℕ → ℕ → ℕ} (earlier : List LeftOut) (s : LeftOut) {left_out : List LeftOut}
+    → AreLeftOut n d left_out → left_out ≡ earlier ++ s ∷ [] → AreLeftOut n d earlier × IsLeftOut (IsFresh n left_out) d
+    s.node s.near.items
+last_left_out earlier s none is = absurd
     (let e : 0 ≡ length (earlier ++ s ∷ []) = ap length is in omega (arith, length-append earlier (s ∷ [])))
-last_left_out n d earlier s left_out (more other t _ same before holds) is =
+last_left_out {n} {d} earlier s {left_out} (more other t _ same before holds) is =
     let e = same_from_push other earlier t s (sym same ∙ is) in (
       subst (λ xs. AreLeftOut n d xs) e.0 before,
       subst (λ (x : LeftOut). IsLeftOut (IsFresh n left_out) d x.node x.near.items) e.1 holds,
@@ -98,7 +98,7 @@ module _ (n width : ℕ) (all : List LeftOut) (left_out earlier : List LeftOut) 
     from_node b fresh other =
         at_other b other
         ∙ row_known n width d lengths (IsFresh n left_out) s.node s.near.items parts.1.node (λ x h. h.0)
-        (last_left_out n d earlier s left_out (so_far.holds d lengths begun) is).1 old folded
+        (last_left_out earlier s (so_far.holds d lengths begun) is).1 old folded
         (so_far.lengths d lengths begun none_fresh) lowered
         b (still b fresh other)
 
@@ -130,7 +130,7 @@ module _ (n width : ℕ) (all : List LeftOut) (left_out earlier : List LeftOut) 
     count = written.count ∙ so_far.count;
     light = light;
     within = parts.0;
-    holds = λ d lengths begun. (last_left_out n d earlier s left_out (so_far.holds d lengths begun) is).0;
+    holds = λ d lengths begun. (last_left_out earlier s (so_far.holds d lengths begun) is).0;
     fresh_is_back = next_back;
     back_within = All-push (λ x. x < n) back s.node so_far.back_within parts.1.node;
     lengths = next_lengths;
@@ -151,9 +151,9 @@ fill_begins n width all table count light within = record {
 }
 
 -- no cell rises above FAR
-pub written_light : (n width v : ℕ) (back mine old table : List ℕ) → IsNodeWritten n width v back mine old table
+pub written_light : {n width v : ℕ} {back mine old table : List ℕ} → IsNodeWritten n width v back mine old table
     → All (λ w. w ≤ FAR) old → ((x : ℕ) → x < n → get_or mine x 0 ≤ FAR) → All (λ w. w ≤ FAR) table
-written_light n width v back mine old table written light mine_light i d i_below =
+written_light {table} written light mine_light i d i_below =
     let here : get_or table i d ≡ get_or table i 0 = get_or_default table i d 0 i_below in
     subst (λ w. w ≤ FAR) (sym here) (elim (written.cause i) [
       | inl kept ↦ subst (λ w. w ≤ FAR) (sym kept) (light i 0 (omega (arith, written.count)))
@@ -186,14 +186,14 @@ module _ (n width : ℕ) (all : List LeftOut) (left_out earlier : List LeftOut) 
     pub fill_next : IsFilling n width all earlier (back ++ s.node ∷ []) table
     fill_next = fill_step n width all left_out earlier s is back old so_far taken.folded mine table taken.lowered
         taken.zeroed taken.written
-        (written_light n width s.node back mine old table taken.written so_far.light mine_light)
+        (written_light taken.written so_far.light mine_light)
 
 -- out and back
-pub both_ways : (n width : ℕ) (first table : List ℕ) (left_out : List LeftOut) (r : Result (Unit {0}) AllocError)
-    → AreAllLeftOut n width first left_out → OnOk r (IsFilled n width left_out table)
+pub both_ways : {n width : ℕ} {first : List ℕ} (table : List ℕ) {left_out : List LeftOut}
+    (r : Result (Unit {0}) AllocError) → AreAllLeftOut n width first left_out → OnOk r (IsFilled n width left_out table)
     → OnOk r (IsEliminated n width first table)
-both_ways n width first table left_out (Ok x) all filled = record {
+both_ways table (Ok x) all filled = record {
   count = filled.count;
   each = λ d lengths keeps. filled.each d lengths (all.holds d lengths keeps) all.all;
 }
-both_ways n width first table left_out (Err e) all filled = tt
+both_ways table (Err e) all filled = tt

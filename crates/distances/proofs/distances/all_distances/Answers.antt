@@ -1,17 +1,13 @@
-use Rattle.std.proofs.Common.{◌≡◌, ◌++◌, ◌∙◌, length, take, drop, refl, ap, arith}
+use Rattle.std.proofs.Common.{◌≡◌, ◌∙◌, length, drop, refl, ap, arith}
 use Rattle.std.proofs.lemmas.List.{take_at}
 use Rattle.distances.proofs.FirstTable.{rows_made}
 use Rattle.distances.proofs.distances.all_distances.Goals as goal
 
 pub returns : goal.returns
 returns c =
-    rows_made c.least_weight_is_found.ensures c.least_weight_is_bounded.ensures c.args.graph.now
-    c.nodes-n.ensures.sound c.nodes-n.result c.nodes-n.ensures.count c.width_for-width.result
-    c.width_for-width.ensures.wide c.in_ok-table.table.items c.deref_mut.result.now c.eliminate.new.table
-    (drop (length c.eliminate.new.table) c.in_ok-table.table.items)
-    (take c.in_ok-table.table.len
-    (c.eliminate.new.table ++ drop (length c.eliminate.new.table) c.in_ok-table.table.items))
-    c.close_rows.new.table.items c.in_ok-table.table.len c.in_ok-table.ensures c.deref_mut.ensures.value
+    rows_made c.least_weight_is_found.ensures c.least_weight_is_bounded.ensures c.nodes-n.ensures.sound
+    c.nodes-n.ensures.count c.width_for-width.ensures.wide
+    (drop (length c.eliminate.new.table) c.in_ok-table.table.items) c.in_ok-table.ensures c.deref_mut.ensures.value
     c.deref_mut.ensures.len c.in_ok-eliminate.ensures refl c.close_rows.ensures
 
 pub close_rows-requires-clause-count : goal.close_rows-requires-clause-count

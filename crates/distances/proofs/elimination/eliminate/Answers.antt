@@ -3,5 +3,4 @@ use Rattle.distances.proofs.elimination.eliminate.Goals as goal
 
 pub returns : goal.returns
 returns c =
-    both_ways c.args.n c.args.width c.args.table.now c.take_back_all.new.table c.in_ok-left_out.left_out.items
-    c.take_back_all.result c.in_ok-left_out.ensures.left_out c.take_back_all.ensures
+    both_ways c.take_back_all.new.table c.take_back_all.result c.in_ok-left_out.ensures.left_out c.take_back_all.ensures

@@ -9,20 +9,17 @@ loop-node-init c =
 
 pub loop-node-preserved : goal.loop-node-preserved
 loop-node-preserved c =
-    leaving_next c.args.n c.args.width c.requires.wide c.args.table.now c.loop-node.left c.loop-node.left_out.items
-    c.push.new.self.items c.loop-node.table c.lower_pairs.new.table c.in-Some.node
-    (record { node = c.in-Some.node; near = c.in_ok-near.near }) c.deref.result.now c.loop-node.invariant
-    c.in-Some.ensures refl c.in_ok-near.ensures c.deref.ensures.value c.lower_pairs.ensures c.in_ok-push.ensures.items
+    leaving_next c.requires.wide
+    (record { node = c.in-Some.node; near = c.in_ok-near.near }) c.loop-node.invariant c.in-Some.ensures refl
+    c.in_ok-near.ensures c.deref.ensures.value c.lower_pairs.ensures c.in_ok-push.ensures.items
 
 pub returns-clause-left_out : goal.returns-clause-left_out
 returns-clause-left_out c =
-    leaving_ends c.args.n c.args.width c.args.table.now c.loop-node.left c.loop-node.left_out.items c.loop-node.table
-    c.loop-node.invariant (none_left_in c.loop-node.left c.in_default.ensures)
+    leaving_ends c.loop-node.invariant (none_left_in c.loop-node.left c.in_default.ensures)
 
 pub slice_bounds-near_of-end : goal.slice_bounds-near_of-end
 slice_bounds-near_of-end c =
-    row_ends c.args.n c.args.width c.requires.wide c.args.table.now c.loop-node.left c.loop-node.left_out.items
-    c.loop-node.table c.loop-node.invariant c.in-Some.node c.in-Some.ensures.1
+    row_ends c.requires.wide c.loop-node.invariant c.in-Some.node c.in-Some.ensures.1
 
 pub loop-node-smaller : goal.loop-node-smaller
 loop-node-smaller c = fewer_left c.loop-node.left c.in-Some.node c.in-Some.ensures.1

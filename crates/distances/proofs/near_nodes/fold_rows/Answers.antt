@@ -1,5 +1,3 @@
-use Rattle.std.proofs.Common.{replicate}
-use Rattle.distances.specs.declared.weights.TheConstants.{FAR}
 use Rattle.distances.specs.Lowering.{RowOffer}
 use Rattle.distances.proofs.Lowered.{lowered_all, lowered_more}
 use Rattle.distances.proofs.near_nodes.fold_rows.Goals as goal
@@ -7,10 +5,8 @@ use Rattle.distances.proofs.near_nodes.fold_rows.Goals as goal
 pub loop-a-preserved : goal.loop-a-preserved
 loop-a-preserved c =
     lowered_more (RowOffer c.args.n c.args.width c.args.table.now) c.args.near.now c.loop-a.a-index
-    (record { node = 0; weight = 0 })
-    (replicate c.args.n FAR) c.loop-a.weights c.lower_through.new.weights c.loop-a-test.true c.loop-a.invariant
-    c.lower_through.ensures
+    (record { node = 0; weight = 0 }) c.loop-a-test.true c.loop-a.invariant c.lower_through.ensures
 
 pub returns : goal.returns
 returns c = lowered_all (RowOffer c.args.n c.args.width c.args.table.now) c.args.near.now c.loop-a.a-index
-    (replicate c.args.n FAR) c.loop-a.weights c.loop-a-test.false c.loop-a.invariant
+    c.loop-a-test.false c.loop-a.invariant

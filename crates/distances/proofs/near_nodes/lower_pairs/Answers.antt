@@ -1,4 +1,4 @@
-use Rattle.std.proofs.Common.{ℕ, List, get_or, replicate, take, subst, sym, arith}
+use Rattle.std.proofs.Common.{ℕ, List, get_or, replicate, subst, sym, arith}
 use Rattle.distances.specs.declared.weights.TheConstants.{FAR}
 use Rattle.distances.specs.declared.near_nodes.Near.{Near}
 use Rattle.distances.specs.Lowering.{Among, IsLowered, OwnOffer, PairOffer}
@@ -10,24 +10,23 @@ pub loop-a-preserved : goal.loop-a-preserved
 loop-a-preserved c =
     let a : Near = get_or c.args.near.now c.loop-a.a-index (record { node = 0; weight = 0 }) in
     lowered_more (λ a. Among c.args.near.now (PairOffer c.args.width a)) c.args.near.now c.loop-a.a-index
-    (record { node = 0; weight = 0 })
-    c.args.table.now c.loop-a.table c.if-by_row-2.table c.loop-a-test.true c.loop-a.invariant
+    (record { node = 0; weight = 0 }) c.loop-a-test.true c.loop-a.invariant
     (elim c.if-by_row-2.branch [
-      | then-by_row-2 w ↦ subst (λ (xs : List ℕ). IsLowered (Among c.args.near.now (PairOffer c.args.width a))
-          c.loop-a.table xs) (sym w.table-is) w.lower_whole_row.ensures
-      | else-by_row-2 w ↦ subst (λ (xs : List ℕ). IsLowered (Among c.args.near.now (PairOffer c.args.width a))
-          c.loop-a.table xs) (sym w.table-is) w.lower_row.ensures
+      | then-by_row-2 w ↦ subst
+          (λ (xs : List ℕ). IsLowered (Among c.args.near.now (PairOffer c.args.width a)) c.loop-a.table xs)
+          (sym w.table-is) w.lower_whole_row.ensures
+      | else-by_row-2 w ↦ subst
+          (λ (xs : List ℕ). IsLowered (Among c.args.near.now (PairOffer c.args.width a)) c.loop-a.table xs)
+          (sym w.table-is) w.lower_row.ensures
     ])
 
 pub lower_whole_row-requires-clause-light : goal.lower_whole_row-requires-clause-light
 lower_whole_row-requires-clause-light c =
-    lowered_light (Among (take c.loop-a.a-index c.args.near.now)
-    (λ a. Among c.args.near.now (PairOffer c.args.width a)))
-    c.args.table.now c.loop-a.table FAR c.loop-a.invariant c.requires.light
+    lowered_light FAR c.loop-a.invariant c.requires.light
 
 pub returns : goal.returns
 returns c = lowered_all (λ a. Among c.args.near.now (PairOffer c.args.width a)) c.args.near.now c.loop-a.a-index
-    c.args.table.now c.loop-a.table c.loop-a-test.false c.loop-a.invariant
+    c.loop-a-test.false c.loop-a.invariant
 
 pub lower_whole_row-requires-clause-mine : goal.lower_whole_row-requires-clause-mine
 lower_whole_row-requires-clause-mine c = elim c.if-by_row.branch [

@@ -2,5 +2,4 @@ use Rattle.distances.proofs.Chunks.{span_is_row}
 use Rattle.distances.proofs.near_nodes.lower_through.Goals as goal
 
 pub returns : goal.returns
-returns c = span_is_row c.args.n c.args.width c.args.table.now c.args.near c.args.weights.now c.lower_span.new.weights
-    c.lower_span.ensures
+returns c = span_is_row c.args.n c.args.width c.args.table.now c.args.near c.lower_span.ensures

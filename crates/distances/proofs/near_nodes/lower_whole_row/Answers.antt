@@ -1,18 +1,14 @@
-use Rattle.std.proofs.Common.{◌≤◌, replicate, arith}
+use Rattle.std.proofs.Common.{◌≤◌, arith}
 use Rattle.std.proofs.lemmas.List.Elements.{All-replicate}
 use Rattle.distances.specs.declared.weights.TheConstants.{FAR}
-use Rattle.distances.specs.Lowering.{Among, OwnOffer}
 use Rattle.distances.proofs.Chunks.{span_is_pairs}
 use Rattle.distances.proofs.Lowered.{lowered_light}
 use Rattle.distances.proofs.near_nodes.lower_whole_row.Goals as goal
 
 pub returns : goal.returns
-returns c = span_is_pairs c.args.n c.args.width c.args.a c.args.near.now c.args.mine.now c.args.table.now
-    c.lower_span.new.weights
-    c.requires.wide c.requires.count c.requires.a.below c.requires.near c.requires.light c.requires.mine
-    c.lower_span.ensures
+returns c = span_is_pairs c.args.n c.args.width c.args.a c.args.near.now c.requires.wide c.requires.count
+    c.requires.a.below c.requires.near c.requires.light c.requires.mine c.lower_span.ensures
 
 pub lower_span-requires-clause-light : goal.lower_span-requires-clause-light
 lower_span-requires-clause-light c =
-    lowered_light (Among c.args.near.now OwnOffer) (replicate c.args.n FAR) c.args.mine.now FAR c.requires.mine
-    (All-replicate (λ w. w ≤ FAR) c.args.n FAR (omega arith))
+    lowered_light FAR c.requires.mine (All-replicate (λ w. w ≤ FAR) c.args.n FAR (omega arith))

@@ -1,4 +1,4 @@
-use Rattle.std.proofs.Common.{◌≡◌, length, ◌+◌, ◌*◌, ◌-◌, arith}
+use Rattle.std.proofs.Common.{◌≡◌, length, arith}
 use Rattle.std.proofs.lemmas.Nat.{mul-le, row_fits}
 use Rattle.distances.proofs.Closing.{closing_ends, closing_step}
 use Rattle.distances.proofs.rows.close_rows.Goals as goal
@@ -22,13 +22,10 @@ copy_within-requires-clause-dest_in_bounds c = omega (
 
 pub loop-u-preserved : goal.loop-u-preserved
 loop-u-preserved c =
-    closing_step c.args.n c.args.width c.loop-u.u
-    (c.loop-u.u * c.args.width + c.args.n - c.loop-u.u * c.args.width) c.args.table.now.items c.loop-u.table.items
-    c.copy_within.new.self.items c.requires.wide c.loop-u-test.true (omega arith) c.loop-u.invariant
+    closing_step c.requires.wide c.loop-u-test.true (omega arith) c.loop-u.invariant
     (let e : length c.copy_within.new.self.items ≡ length c.loop-u.table.items =
     omega (arith, c.copy_within.ensures.len) in e) c.copy_within.ensures.by_index.0 c.copy_within.ensures.by_index.1
     c.copy_within.ensures.by_index.2
 
 pub returns : goal.returns
-returns c = closing_ends c.args.n c.args.width c.loop-u.u c.args.table.now.items c.loop-u.table.items
-    c.truncate.new.self.items c.requires.wide c.loop-u-test.false c.loop-u.invariant c.truncate.ensures.items
+returns c = closing_ends c.requires.wide c.loop-u-test.false c.loop-u.invariant c.truncate.ensures.items

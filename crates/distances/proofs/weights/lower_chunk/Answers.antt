@@ -4,11 +4,8 @@ use Rattle.distances.proofs.Chunks.{chunk_lowered, lanes_count, lanes_light}
 use Rattle.distances.proofs.weights.lower_chunk.Goals as goal
 
 pub returns : goal.returns
-returns c = chunk_lowered c.args.weights.now c.args.row.now c.more_lanes-through.result c.lesser_lanes.result
-    c.args.place c.args.from c.args.by
-    (c.args.place + 16 - c.args.place) (c.args.from + 16 - c.args.from) (omega arith)
-    (omega arith) c.requires.place c.requires.from
-    c.more_lanes-through.ensures c.lesser_lanes.ensures
+returns c = chunk_lowered c.args.weights.now c.args.row.now c.args.place c.args.from c.args.by (omega arith)
+    (omega arith) c.requires.place c.requires.from c.more_lanes-through.ensures c.lesser_lanes.ensures
 
 pub more_lanes-through-requires-clause-light : goal.more_lanes-through-requires-clause-light
 more_lanes-through-requires-clause-light c =
