@@ -35,11 +35,11 @@ use Rattle.runner.specs.Roles.{IsFinder, IsSetFor}
 use Rattle.runner.specs.declared.finder.Finder.{Finder}
 
 -- the walk of a caller's part
-pub walking-of : (input : Contents) (setup : Setup) (actor : ℕ) (seen : History) (spare : ℕ) (finder : Finder)
-    (walk : WalkData) → IsFinder input setup actor seen spare finder → finder.walk ≡ Some walk
+pub walking-of : {input : Contents} {setup : Setup} {actor : ℕ} {seen : History} {spare : ℕ} {finder : Finder}
+    {walk : WalkData} → IsFinder input setup actor seen spare finder → finder.walk ≡ Some walk
     → Walks setup.plan (caller_in (setting_in setup) (scripts_of input) seen actor).calls
     (caller_in (setting_in setup) (scripts_of input) seen actor).pursuit walk
-walking-of input setup actor seen spare finder walk its some =
+walking-of {input} {setup} {actor} {seen} {finder} {walk} its some =
     walking setup.plan (caller_in (setting_in setup) (scripts_of input) seen actor).calls
     (caller_in (setting_in setup) (scripts_of input) seen actor).pursuit finder.walk walk some its.walk
 
@@ -49,19 +49,19 @@ some-is None h = cc
 some-is (Some x) h = (x, refl)
 
 -- the setting of a tracker is one of the input that it is set for
-pub set-setting : (input : Contents) (setup : Setup) (plan : PlanData) (distances : DistanceTable)
+pub set-setting : {input : Contents} {setup : Setup} {plan : PlanData} {distances : DistanceTable}
     → IsSetFor input setup plan distances → IsSettingOf input (setting_in setup)
-set-setting input setup plan distances set = record {
+set-setting {input} set = record {
   nodes = subst (λ (p : PlanData). nodes_of p ≡ input.nodes) set.plan_is set.together.nodes;
   starts = set.homes;
 }
 
 -- the find that a caller is at is one of its script
-call-known : (input : Contents) (setup : Setup) (actor n : ℕ) (call : FindCall) (later : List FindCall)
+call-known : (input : Contents) (setup : Setup) (actor n : ℕ) {call : FindCall} {later : List FindCall}
     → AreValid (setting_in setup) (scripts_of input) → setup.homes ≡ input.homes → length input.homes ≤ actor
     → actor < length input.scripts → call ∷ later ≡ drop n (finds_of (setting_in setup) (scripts_of input) actor)
     → IsFindCall (setting_in setup) call
-call-known input setup actor n call later valid homes high low left =
+call-known input setup actor n {call} {later} valid homes high low left =
     let at = drop-more n (finds_of (setting_in setup) (scripts_of input) actor) call later left in
     let short : actor - subs_in setup < length (scripts_of input).finds =
     omega (
@@ -75,16 +75,15 @@ call-known input setup actor n call later valid homes high low left =
     subst (IsFindCall (setting_in setup)) (at.2 call) (valid.finds (actor - subs_in setup) [] short n call at.0)
 
 -- so its subscriber is known
-pub walk-known : ScriptsAreValid → (input : Contents) (setup : Setup) (plan : PlanData) (distances : DistanceTable)
-    (actor : ℕ) (seen : History) (spare : ℕ) (finder : Finder) (walk : WalkData)
-    → IsSetFor input setup plan distances → IsFinder input setup actor seen spare finder → finder.walk ≡ Some walk
-    → walk.sub < subs_in setup
-walk-known scripts input setup plan distances actor seen spare finder walk set its some =
+pub walk-known : ScriptsAreValid → {input : Contents} {setup : Setup} {plan : PlanData} {distances : DistanceTable}
+    {actor : ℕ} {seen : History} {spare : ℕ} {finder : Finder} {walk : WalkData} → IsSetFor input setup plan distances
+    → IsFinder input setup actor seen spare finder → finder.walk ≡ Some walk → walk.sub < subs_in setup
+walk-known scripts {input} {setup} {actor} {seen} {finder} {walk} set its some =
     let setting = setting_in setup in
     let seeker = caller_in setting (scripts_of input) seen actor in
     let at = walking setup.plan seeker.calls seeker.pursuit finder.walk walk some its.walk in
-    let valid = scripts input setting set.together.valid (set-setting input setup plan distances set) in
-    let known = call-known input setup actor finder.done at.call at.later valid set.homes its.high its.low
+    let valid = scripts input setting set.together.valid (set-setting set) in
+    let known = call-known input setup actor finder.done valid set.homes its.high its.low
     (sym at.calls_are ∙ its.left) in
     subst (λ (c : FindCall). c.sub < subs_in setup) (sym at.its) known.known
 
@@ -97,9 +96,9 @@ left-some setting call (chases chase node) none = omega arith
 left-some setting call (ended found) none = cc
 
 -- so there is room for one
-pub look-room : (input : Contents) (setup : Setup) (actor : ℕ) (seen : History) (spare : ℕ) (finder : Finder)
-    (walk : WalkData) → IsFinder input setup actor seen spare finder → finder.walk ≡ Some walk → 1 ≤ spare
-look-room input setup actor seen spare finder walk its some =
+pub look-room : {input : Contents} {setup : Setup} {actor : ℕ} {seen : History} {spare : ℕ} {finder : Finder}
+    {walk : WalkData} → IsFinder input setup actor seen spare finder → finder.walk ≡ Some walk → 1 ≤ spare
+look-room {input} {setup} {actor} {seen} {finder} {walk} its some =
     let setting = setting_in setup in
     let seeker = caller_in setting (scripts_of input) seen actor in
     let at = walking setup.plan seeker.calls seeker.pursuit finder.walk walk some its.walk in
@@ -111,11 +110,10 @@ look-room input setup actor seen spare finder walk its some =
     )
 
 -- the finds of a caller's script begin within the plan
-pub script-searches : (input : Contents) (plan : PlanData) (actor : ℕ) (script : List Call) (count : ℕ)
-    → IsValid input → nodes_of plan ≡ input.nodes → length input.homes ≤ actor → actor < length input.scripts
-    → script ≡ get_or input.scripts actor [] → count ≡ length input.homes
-    → All (IsSearch (nodes_of plan) count) script
-script-searches input plan actor script count valid nodes high low same few =
+pub script-searches : {input : Contents} (plan : PlanData) (actor : ℕ) {script : List Call} {count : ℕ} → IsValid input
+    → nodes_of plan ≡ input.nodes → length input.homes ≤ actor → actor < length input.scripts
+    → script ≡ get_or input.scripts actor [] → count ≡ length input.homes → All (IsSearch (nodes_of plan) count) script
+script-searches {input} plan actor {script} {count} valid nodes high low same few =
     subst (λ n. All (IsSearch n count) script) (sym nodes)
     (subst (λ n. All (IsSearch input.nodes n) script) (sym few)
     (subst (λ s. All (IsSearch input.nodes (length input.homes)) s) (sym same)
@@ -127,18 +125,17 @@ pub looks-origin : (setting : Setting) (finds : List FindCall)
 looks-origin setting [] = refl
 looks-origin setting (call ∷ later) = sym (sum_by-cons (λ (find : FindCall). most_looks setting find.from) call later)
 
-pub room-of : (setting : Setting) (spare : ℕ) (one two : List FindCall) (pursuit other : Pursuit) → one ≡ two
-    → pursuit ≡ other
-    → looks_after setting two other ≤ spare → looks_after setting one pursuit ≤ spare
-room-of setting spare one two pursuit other e f room =
+pub room-of : (setting : Setting) (spare : ℕ) {one two : List FindCall} {pursuit other : Pursuit} → one ≡ two
+    → pursuit ≡ other → looks_after setting two other ≤ spare → looks_after setting one pursuit ≤ spare
+room-of setting spare {two} {pursuit} e f room =
     subst (λ finds. looks_after setting finds pursuit ≤ spare) (sym e)
     (subst (λ s. looks_after setting two s ≤ spare) (sym f) room)
 
 -- a caller that has a walk has done fewer finds than its script has, and these are few
-pub done-low : (input : Contents) (setup : Setup) (actor : ℕ) (seen : History) (spare : ℕ) (finder : Finder)
-    (walk : WalkData) → IsValid input → setup.homes ≡ input.homes → IsFinder input setup actor seen spare finder
+pub done-low : {input : Contents} {setup : Setup} {actor : ℕ} {seen : History} {spare : ℕ} {finder : Finder}
+    {walk : WalkData} → IsValid input → setup.homes ≡ input.homes → IsFinder input setup actor seen spare finder
     → finder.walk ≡ Some walk → finder.done < 2 ^ 32 - 1
-done-low input setup actor seen spare finder walk valid homes its some =
+done-low {input} {setup} {actor} {seen} {finder} {walk} valid homes its some =
     let setting = setting_in setup in
     let seeker = caller_in setting (scripts_of input) seen actor in
     let at = walking setup.plan seeker.calls seeker.pursuit finder.walk walk some its.walk in
@@ -153,12 +150,12 @@ done-low input setup actor seen spare finder walk valid homes its some =
     )
 
 -- a caller that has lost a turn: it was at the node of its next visit, and the caller stays as it was
-pub lost-look : (input : Contents) (setup : Setup) (old new : PassData) (first last : Finder)
-    (walk moved : WalkData) (held : Held) → setup.homes ≡ input.homes
-    → IsFinder input setup old.view.low old.view.seen old.spare first → first.walk ≡ Some walk
+pub lost-look : {input : Contents} {setup : Setup} {old new : PassData} {first last : Finder} {walk moved : WalkData}
+    {held : Held} → setup.homes ≡ input.homes → IsFinder input setup old.view.low old.view.seen old.spare first
+    → first.walk ≡ Some walk
     → HasLostLook setup old walk held new moved → last ≡ record first { walk = Some moved }
     → HasLostNext input setup old held new × IsFinder input setup new.view.low new.view.seen new.spare last
-lost-look input setup old new first last walk moved held homes its some on same =
+lost-look {input} {setup} {old} {first} {last} {walk} homes its some on same =
     let setting = setting_in setup in
     let scripts = scripts_of input in
     let actor = old.view.low in
@@ -199,11 +196,11 @@ pub record Looked (input : Contents) (setup : Setup) (old new : PassData) (finde
   pub fewer : looks_left (setting_in setup) call pursuit
       + sum_by (λ (find : FindCall). most_looks (setting_in setup) find.from) later < old.spare
 
-pub looked : CallersKept → CallersRead → LooksFall → (input : Contents) (setup : Setup) (old new : PassData)
-    (finder : Finder) (walk moved : WalkData) (ticket : ℕ) → setup.homes ≡ input.homes
+pub looked : CallersKept → CallersRead → LooksFall → {input : Contents} {setup : Setup} {old new : PassData}
+    {finder : Finder} {walk moved : WalkData} {ticket : ℕ} → setup.homes ≡ input.homes
     → IsFinder input setup old.view.low old.view.seen old.spare finder → finder.walk ≡ Some walk
     → HasLookedOn setup old walk ticket new moved → Looked input setup old new finder moved
-looked kept read fall input setup old new finder walk moved ticket homes its some on =
+looked kept read fall {input} {setup} {old} {new} {finder} {walk} {ticket} homes its some on =
     let setting = setting_in setup in
     let scripts = scripts_of input in
     let actor = old.view.low in
@@ -255,13 +252,12 @@ looked kept read fall input setup old new finder walk moved ticket homes its som
     }
 
 -- the find goes on
-pub looked-on : (input : Contents) (setup : Setup) (old new : PassData) (first last : Finder)
-    (moved : WalkData) → IsFinder input setup old.view.low old.view.seen old.spare first
+pub looked-on : {input : Contents} {setup : Setup} {old new : PassData} {first : Finder} (last : Finder)
+    {moved : WalkData} → IsFinder input setup old.view.low old.view.seen old.spare first
     → Looked input setup old new first moved → answer_of (pursuit_of setup.plan moved) ≡ None
-    → last.script.items ≡ first.script.items → last.subs ≡ first.subs → last.done ≡ first.done
-    → last.walk ≡ Some moved
+    → last.script.items ≡ first.script.items → last.subs ≡ first.subs → last.done ≡ first.done → last.walk ≡ Some moved
     → IsFinder input setup new.view.low new.view.seen new.spare last
-looked-on input setup old new first last moved its at none script subs done walk =
+looked-on {input} {setup} {old} {new} last its at none script subs done walk =
     let setting = setting_in setup in
     let scripts = scripts_of input in
     let visited = at.made.visited in
@@ -284,18 +280,17 @@ looked-on input setup old new first last moved its at none script subs done walk
           (subst (IsWalking setup.plan (at.call ∷ at.later) at.pursuit) (sym walk)
           (at.its, at.pursuit_is, at.goes, unanswered)));
       left = finds ∙ (at.left ∙ ap (λ n. drop n (finds_of setting scripts old.view.low)) (sym done));
-      room = room-of setting new.spare _ _ _ _ finds pursuit (omega (arith, at.fewer, visited.spare));
+      room = room-of setting new.spare finds pursuit (omega (arith, at.fewer, visited.spare));
     })
 
 -- the find has its answer, and the next one begins
-pub looked-up : (input : Contents) (setup : Setup) (old new : PassData) (first last : Finder)
-    (moved : WalkData) (found : Found) → IsFinder input setup old.view.low old.view.seen old.spare first
+pub looked-up : {input : Contents} {setup : Setup} {old new : PassData} {first : Finder} (last : Finder)
+    {moved : WalkData} {found : Found} → IsFinder input setup old.view.low old.view.seen old.spare first
     → Looked input setup old new first moved → answer_of (pursuit_of setup.plan moved) ≡ Some found
     → last.script.items ≡ first.script.items → last.subs ≡ first.subs → last.done ≡ suc first.done
     → IsWalking setup.plan (drop last.done (map find_of first.script.items)) at_origin last.walk
-    → setup.homes ≡ input.homes
-    → IsFinder input setup new.view.low new.view.seen new.spare last
-looked-up input setup old new first last moved found its at some script subs done walk homes =
+    → setup.homes ≡ input.homes → IsFinder input setup new.view.low new.view.seen new.spare last
+looked-up {input} {setup} {old} {new} {first} last {found} its at some script subs done walk homes =
     let setting = setting_in setup in
     let scripts = scripts_of input in
     let visited = at.made.visited in
@@ -321,6 +316,6 @@ looked-up input setup old new first last moved found its at some script subs don
           (subst (λ s. IsWalking setup.plan (drop last.done (map find_of first.script.items)) s last.walk)
           (sym pursuit) walk);
       left = finds ∙ later;
-      room = room-of setting new.spare _ _ _ _ finds pursuit
-          (omega (arith, at.fewer, visited.spare, looks-origin setting at.later));
+      room = room-of setting new.spare finds pursuit (omega
+          (arith, at.fewer, visited.spare, looks-origin setting at.later));
     })

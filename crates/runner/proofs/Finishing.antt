@@ -28,11 +28,11 @@ use Rattle.runner.specs.Runs.{AreFreshWorkers, AreWorkersOf, HasFinished, IsOutc
 use Rattle.runner.specs.Workers.{IsFreshWorker, IsWorkerOf, MayServe}
 use Rattle.runner.specs.declared.worker.Worker.{Worker}
 
-get-map : {A B : Type 0} (f : A → B) (xs : List A) (k : ℕ) (x : A) → slice_get xs k ≡ Some x
+get-map : {A B : Type 0} (f : A → B) (xs : List A) (k : ℕ) {x : A} → slice_get xs k ≡ Some x
     → slice_get (map f xs) k ≡ Some (f x)
-get-map f [] k x h = cc
-get-map f (y ∷ ys) zero x h = let e : y ≡ x = cc in ap (λ z. Some (f z)) e
-get-map f (y ∷ ys) (suc k) x h = get-map f ys k x h
+get-map f [] k h = cc
+get-map f (y ∷ ys) zero {x} h = let e : y ≡ x = cc in ap (λ z. Some (f z)) e
+get-map f (y ∷ ys) (suc k) h = get-map f ys k h
 
 -- turns only add visits
 turns-front : (setting : Setting) (scripts : Scripts) (order : List ℕ) (history : History)
@@ -45,18 +45,18 @@ turns-front setting scripts (actor ∷ order) history =
     (turns-front setting scripts order one)
 
 -- the setting of a tracker is that of its input and its plan
-pub set-over : (input : Contents) (setup : Setup) (plan : PlanData) (distances : DistanceTable)
+pub set-over : {input : Contents} {setup : Setup} {plan : PlanData} {distances : DistanceTable}
     → IsSetFor input setup plan distances → setting_over input plan ≡ setting_in setup
-set-over input setup plan distances set =
+set-over {input} {setup} set =
     ap (λ (p : PlanData). setting_of p input.homes) set.plan_is
     ∙ ap (λ (homes : List ℕ). setting_of setup.plan homes) (sym set.homes)
 
 -- each visit of the one history was its actor's next one
-pub order-played : (input : Contents) (tracker : TrackerData) (workers : List Worker) (order : List ℕ)
+pub order-played : {input : Contents} {tracker : TrackerData} {workers : List Worker} {order : List ℕ}
     → AreWorkersOf input tracker workers → tracker.setup.actors ≡ length input.scripts
     → (its : IsOrder tracker.setup (map (λ (worker : Worker). worker.pass) workers) order)
     → IsPlayed (setting_in tracker.setup) (scripts_of input) its.history
-order-played input tracker workers order are count its =
+order-played {input} {tracker} {workers} are count its =
     all-played (setting_in tracker.setup) (scripts_of input) its.history
     (λ actor. at actor (cases_lt actor (length workers)))
   where
@@ -67,7 +67,7 @@ order-played input tracker workers order are count its =
         let worker : Worker = found.0 in
         let each = are.each actor worker found.1 in
         let there : slice_get (map (λ (w : Worker). w.pass) workers) actor ≡ Some worker.pass =
-        get-map (λ (w : Worker). w.pass) workers actor worker found.1 in
+        get-map (λ (w : Worker). w.pass) workers actor found.1 in
         subst (λ a. IsPlayedBy (setting_in tracker.setup) (scripts_of input) a its.history) each.1
         (played-in (setting_in tracker.setup) (scripts_of input) (actor_of worker.pass) worker.pass.view.seen
         its.history
@@ -77,35 +77,35 @@ order-played input tracker workers order are count its =
         (its.known actor (omega (arith, high, are.count, count))) got mine)
 
 -- a run is finished
-pub finished : HistoriesAreOrdered → (input : Contents) (tracker : TrackerData) (plan : PlanData)
-    (distances : DistanceTable) (workers : List Worker) (order : List ℕ) (outcome : Outcome)
+pub finished : HistoriesAreOrdered → {input : Contents} {tracker : TrackerData} {plan : PlanData}
+    {distances : DistanceTable} {workers : List Worker} {order : List ℕ} {outcome : Outcome}
     → IsSetFor input tracker.setup plan distances → AreWorkersOf input tracker workers
     → IsOrder tracker.setup (map (λ (worker : Worker). worker.pass) workers) order
     → outcome ≡ outcome_of (setting_over input plan) (scripts_of input) order
     → HasFinished input tracker.setup workers outcome
-finished ordered input tracker plan distances workers order outcome set are its is =
+finished ordered {input} {tracker} {workers} {order} set are its is =
     let setting = setting_in tracker.setup in
     let scripts = scripts_of input in
-    let played = order-played input tracker workers order are set.actors its in
+    let played = order-played are set.actors its in
     record {
       history = its.history;
-      seen = λ k worker at. its.seen k worker.pass (get-map (λ (w : Worker). w.pass) workers k worker at);
+      seen = λ k worker at. its.seen k worker.pass (get-map (λ (w : Worker). w.pass) workers k at);
       visits = λ k worker at. subst (λ a. own a its.history ≡ own a worker.pass.view.seen) (are.each k worker at).1
-          (its.visits k worker.pass (get-map (λ (w : Worker). w.pass) workers k worker at));
+          (its.visits k worker.pass (get-map (λ (w : Worker). w.pass) workers k at));
       known = λ actor high. its.known actor (omega (arith, high, are.count, set.actors));
       legal = its.legal;
       played = played;
-      outcome_is = is ∙ (ap (λ s. outcome_of s scripts order) (set-over input tracker.setup plan distances set)
+      outcome_is = is ∙ (ap (λ s. outcome_of s scripts order) (set-over set)
           ∙ ap (outcome_of setting scripts) its.actors);
       begins = subst (IsFront its.history) (sym (ordered setting scripts its.history played))
           (turns-front setting scripts (last_turns setting scripts) its.history);
     }
 
 -- the outcome of an order is that of the order which it tells itself
-pub outcome-of-run : OrdersAreOwn → OrdersArePlayed → OrdersAreDone → (setting : Setting) (scripts : Scripts)
-    (order : List ℕ) (outcome : Outcome) → outcome ≡ outcome_of setting scripts order
-    → IsOutcomeOfRun setting scripts outcome
-outcome-of-run own_law played done setting scripts order outcome is =
+pub outcome-of-run : OrdersAreOwn → OrdersArePlayed → OrdersAreDone
+    → (setting : Setting) (scripts : Scripts) (order : List ℕ) {outcome : Outcome}
+    → outcome ≡ outcome_of setting scripts order → IsOutcomeOfRun setting scripts outcome
+outcome-of-run own_law played done setting scripts order is =
     let history = history_of setting scripts order in
     record {
       order = actors_of history;
@@ -115,17 +115,17 @@ outcome-of-run own_law played done setting scripts order outcome is =
     }
 
 -- it stands there whatever the default
-pub at-some : {A : Type 0} (xs : List A) (i : ℕ) (x : A) → slice_get xs i ≡ Some x
+pub at-some : {A : Type 0} (xs : List A) (i : ℕ) {x : A} → slice_get xs i ≡ Some x
     → (i < length xs) × (get_or xs i x ≡ x)
-at-some [] i x at = cc
-at-some (y ∷ ys) zero x at = let e : y ≡ x = cc in (omega arith, e)
-at-some (y ∷ ys) (suc i) x at = let deep = at-some ys i x at in (omega (arith, deep.0), deep.1)
+at-some [] i at = cc
+at-some (y ∷ ys) zero {x} at = let e : y ≡ x = cc in (omega arith, e)
+at-some (y ∷ ys) (suc i) at = let deep = at-some ys i at in (omega (arith, deep.0), deep.1)
 
 -- a fresh pass of a tracker may serve its actor
-pub fresh-serves : (input : Contents) (plan : PlanData) (tracker : TrackerData) (actor : ℕ) (pass : PassData)
-    → IsFreshPass tracker actor pass → IsSetFor input tracker.setup plan plan.distances
-    → actor < length input.scripts → MayServe input plan pass
-fresh-serves input plan tracker actor pass fresh set low =
+pub fresh-serves : {input : Contents} {plan : PlanData} {tracker : TrackerData} {actor : ℕ} {pass : PassData}
+    → IsFreshPass tracker actor pass → IsSetFor input tracker.setup plan plan.distances → actor < length input.scripts
+    → MayServe input plan pass
+fresh-serves {input} {plan} {tracker} {actor} {pass} fresh set low =
     subst (λ (p : PassData). MayServe input plan p) (sym (whole pass (fresh_view tracker.setup actor) fresh.view))
     (record {
       set = set;
@@ -140,18 +140,17 @@ fresh-serves input plan tracker actor pass fresh set low =
     whole p view e = subst (λ v. p ≡ record p { view = v }) e refl
 
 -- and its worker is that of the actor
-pub fresh-actor : (tracker : TrackerData) (actor : ℕ) (pass made : PassData) → IsFreshPass tracker actor pass
+pub fresh-actor : {tracker : TrackerData} {actor : ℕ} {pass made : PassData} → IsFreshPass tracker actor pass
     → made ≡ record pass { spare = made.spare } → actor_of made ≡ actor
-fresh-actor tracker actor pass made fresh same =
+fresh-actor fresh same =
     ap actor_of same ∙ ap (λ (v : View). v.low) fresh.view
 
 -- one worker more
-pub one-more : (input : Contents) (tracker : TrackerData) (workers : List Worker) (worker : Worker)
+pub one-more : {input : Contents} {tracker : TrackerData} (workers : List Worker) {worker : Worker}
     → ((k : ℕ) (one : Worker) → slice_get workers k ≡ Some one → IsWorkerOf input tracker one × (actor_of one.pass ≡ k))
-    → IsWorkerOf input tracker worker → actor_of worker.pass ≡ length workers
-    → (k : ℕ) (one : Worker) → slice_get (workers ++ worker ∷ []) k ≡ Some one
-    → IsWorkerOf input tracker one × (actor_of one.pass ≡ k)
-one-more input tracker workers worker each its actor k one at =
+    → IsWorkerOf input tracker worker → actor_of worker.pass ≡ length workers → (k : ℕ) {one : Worker}
+    → slice_get (workers ++ worker ∷ []) k ≡ Some one → IsWorkerOf input tracker one × (actor_of one.pass ≡ k)
+one-more {input} {tracker} workers {worker} each its actor k {one} at =
     elim (get-either workers (worker ∷ []) k one at) [
       | inl there ↦ each k one there.0
       | inr last ↦ new last.0 last.1 last.2
@@ -164,20 +163,20 @@ one-more input tracker workers worker each its actor k one at =
     new (suc j) h e = cc
 
 -- which has done nothing
-pub fresh-worker : (tracker : TrackerData) (actor : ℕ) (pass : PassData) (worker : Worker)
+pub fresh-worker : {tracker : TrackerData} {actor : ℕ} {pass : PassData} (worker : Worker)
     → IsFreshPass tracker actor pass → worker.pass ≡ record pass { spare = worker.pass.spare } → worker.made ≡ 0
     → HasBegunNone worker.role → IsFreshWorker tracker actor worker
-fresh-worker tracker actor pass worker fresh same none role = record {
+fresh-worker worker fresh same none role = record {
   view = ap (λ (p : PassData). p.view) same ∙ fresh.view;
   made = none;
   role = role;
 }
 
 -- one such worker more
-pub one-fresh : (tracker : TrackerData) (workers : List Worker) (worker : Worker) (actor : ℕ)
+pub one-fresh : {tracker : TrackerData} (workers : List Worker) {worker : Worker} {actor : ℕ}
     → AreFreshWorkers tracker workers → actor ≡ length workers → IsFreshWorker tracker actor worker
     → AreFreshWorkers tracker (workers ++ worker ∷ [])
-one-fresh tracker workers worker actor each last its k one at =
+one-fresh {tracker} workers {worker} {actor} each last its k one at =
     elim (get-either workers (worker ∷ []) k one at) [
       | inl there ↦ each k one there.0
       | inr new ↦ at_end new.0 new.1 new.2
@@ -196,47 +195,46 @@ get-seam : {A : Type 0} (before later : List A) (x : A) → slice_get (before ++
 get-seam [] later x = refl
 get-seam (y ∷ before) later x = get-seam before later x
 
-pub at-seam : {A : Type 0} (all before rest later : List A) (x : A) → all ≡ before ++ rest → rest ≡ x ∷ later
-    → slice_get all (length before) ≡ Some x
-at-seam all before rest later x whole next =
+pub at-seam : {A : Type 0} {all : List A} (before : List A) {rest later : List A} {x : A} → all ≡ before ++ rest
+    → rest ≡ x ∷ later → slice_get all (length before) ≡ Some x
+at-seam before {later} {x} whole next =
     ap (λ xs. slice_get xs (length before)) (whole ∙ ap (λ xs. before ++ xs) next) ∙ get-seam before later x
 
 -- the passes of workers are of their tracker
-pub all-of : (input : Contents) (tracker : TrackerData) (workers : List Worker) (passes : List PassData)
+pub all-of : {input : Contents} {tracker : TrackerData} {workers : List Worker} {passes : List PassData}
     → AreWorkersOf input tracker workers → passes ≡ map (λ (worker : Worker). worker.pass) workers
     → All (IsPassOf tracker) passes
-all-of input tracker workers passes are same k d low =
+all-of {tracker} {workers} {passes} are same k d low =
     let pass = λ (w : Worker). w.pass in
     let short : k < length workers = omega (arith, low, ap length same, length-map workers pass) in
     let found = slice_get-within workers k short in
     let here : get_or passes k d ≡ found.0.pass =
     ap (λ ps. get_or ps k d) same ∙ (get_or-map pass workers k found.0 d short
-    ∙ ap pass (at-some workers k found.0 found.1).1) in
+    ∙ ap pass (at-some workers k found.1).1) in
     subst (IsPassOf tracker) (sym here) (are.each k found.0 found.1).0.of
 
 -- a list put back into its place
-pub put-back : {A : Type 0} (xs ys : List A) (n : ℕ) → n ≡ length ys → length xs ≡ length ys
+pub put-back : {A : Type 0} (xs ys : List A) {n : ℕ} → n ≡ length ys → length xs ≡ length ys
     → take n (xs ++ drop (length xs) ys) ≡ xs
-put-back xs ys n whole same =
+put-back xs ys {n} whole same =
     take-append-le n xs (drop (length xs) ys) (omega (arith, whole, same))
     ∙ take_all n xs (omega (arith, whole, same))
 
 -- a worker that a call has changed
-pub changed : (input : Contents) (tracker : TrackerData) (argument last old new : Worker) (k : ℕ) → argument ≡ old
-    → last ≡ new → actor_of old.pass ≡ k
-    → IsWorkerOf input tracker last × (actor_of last.pass ≡ actor_of argument.pass)
+pub changed : {input : Contents} {tracker : TrackerData} {argument last old new : Worker} {k : ℕ} → argument ≡ old
+    → last ≡ new → actor_of old.pass ≡ k → IsWorkerOf input tracker last × (actor_of last.pass ≡ actor_of argument.pass)
     → IsWorkerOf input tracker new × (actor_of new.pass ≡ k)
-changed input tracker argument last old new k is left actor now = (
+changed {input} {tracker} is left actor now = (
   subst (IsWorkerOf input tracker) left now.0,
   sym (ap (λ (w : Worker). actor_of w.pass) left)
       ∙ (now.1 ∙ (ap (λ (w : Worker). actor_of w.pass) is ∙ actor)),
 )
 
 -- a new tracker is set for its input
-pub new-set : (input : Contents) (plan : PlanData) (setup : Setup) (homes : List ℕ)
+pub new-set : {input : Contents} {plan : PlanData} {setup : Setup} {homes : List ℕ}
     → BelongTogether input plan plan.distances → homes ≡ input.homes
     → setup ≡ setup_of plan homes (length homes + input.callers) → IsSetFor input setup plan plan.distances
-new-set input plan setup homes together same is = record {
+new-set {homes} together same is = record {
   together = together;
   plan_is = sym (ap (λ (s : Setup). s.plan) is);
   homes = ap (λ (s : Setup). s.homes) is ∙ same;

@@ -48,20 +48,18 @@ due-some None h = cc
 due-some (Some x) h = (x, refl)
 
 -- what a handset writes is its subscriber's
-due-actor : (setting : Setting) (handset : HandsetData) (visit : Visit) → due setting handset ≡ Some visit
+due-actor : (setting : Setting) (handset : HandsetData) {visit : Visit} → due setting handset ≡ Some visit
     → visit ≡ record { actor = handset.sub; act = visit.act }
-due-actor setting handset visit is =
+due-actor setting handset {visit} is =
     let found = option_map-some (visit_of handset.sub) (due_at setting handset handset.stage) visit is in
     subst (λ (v : Visit). v ≡ record { actor = handset.sub; act = v.act }) found.1 refl
 
 -- the next visit of a subscriber is what its handset writes next, once a step is begun where one is left
-next-due : (input : Contents) (setup : Setup) (view : View) (spare : ℕ) (mover : Mover) (result : Option Visit)
-    → (part : IsMover input setup view spare mover)
-    → result ≡ slice_get (visits (setting_in setup) mover.handset.sub part.its.steps)
-    (length (puts_to view.low view.seen))
-    → (result ≡ None → mover.begun ≡ length (steps_of (scripts_of input) view.low))
-    → next_of input setup view ≡ result
-next-due input setup view spare mover result part is all =
+next-due : {input : Contents} {setup : Setup} {view : View} {spare : ℕ} {mover : Mover} {result : Option Visit}
+    → (part : IsMover input setup view spare mover) → result ≡ slice_get
+    (visits (setting_in setup) mover.handset.sub part.its.steps) (length (puts_to view.low view.seen))
+    → (result ≡ None → mover.begun ≡ length (steps_of (scripts_of input) view.low)) → next_of input setup view ≡ result
+next-due {input} {setup} {view} {mover} {result} part is all =
     let setting = setting_in setup in
     let scripts = scripts_of input in
     let steps = steps_of scripts view.low in
@@ -88,13 +86,12 @@ next-due input setup view spare mover result part is all =
         in-script (setting_in setup) view.low mover.begun (length (puts_to view.low view.seen))
         (steps_of (scripts_of input) view.low) visit (sym e)
 
-pub next-due-of : (input : Contents) (setup : Setup) (view : View) (spare : ℕ) (mover : Mover)
-    (result other : Option Visit) → (way : IsUnderWay input setup view spare mover)
+pub next-due-of : {input : Contents} {setup : Setup} {view : View} {spare : ℕ} {mover : Mover}
+    {result other : Option Visit} → (way : IsUnderWay input setup view spare mover)
     → result ≡ slice_get (visits (setting_in setup) mover.handset.sub way.0.its.steps)
-    (length (puts_to view.low view.seen))
-    → result ≡ other → next_of input setup view ≡ other
-next-due-of input setup view spare mover result other way is same =
-    next-due input setup view spare mover result way.0 is (λ none. way.1 (sym is ∙ none)) ∙ same
+    (length (puts_to view.low view.seen)) → result ≡ other → next_of input setup view ≡ other
+next-due-of way is same =
+    next-due way.0 is (λ none. way.1 (sym is ∙ none)) ∙ same
 
 -- what is known where a step is left
 pub record Ready (input : Contents) (setup : Setup) (view : View) (mover : Mover)
@@ -104,13 +101,12 @@ pub record Ready (input : Contents) (setup : Setup) (view : View) (mover : Mover
   pub all : length (puts_to view.low view.seen) ≡ length (visits (setting_in setup) view.low steps)
   pub script : IsScript (setting_in setup) view.low (steps_of (scripts_of input) view.low)
 
-pub ready : ScriptsAreValid → (input : Contents) (setup : Setup) (plan : PlanData) (distances : DistanceTable)
-    (view : View) (spare : ℕ) (mover : Mover) (call : Call) → {next : Option Visit}
+pub ready : ScriptsAreValid → {input : Contents} {setup : Setup} {plan : PlanData} {distances : DistanceTable}
+    {view : View} {spare : ℕ} {mover : Mover} {call : Call} → {next : Option Visit}
     → IsSetFor input setup plan distances → (part : IsMover input setup view spare mover) → next ≡ None
     → next ≡ due (setting_of plan []) mover.handset → mover.begun < length mover.script.items
-    → call ≡ get_or mover.script.items mover.begun call
-    → Ready input setup view mover part.its.steps call
-ready scripts input setup plan distances view spare mover call set part idle is short reads =
+    → call ≡ get_or mover.script.items mover.begun call → Ready input setup view mover part.its.steps call
+ready scripts {input} {setup} {plan} {view} {mover} {call} set part idle is short reads =
     let setting = setting_in setup in
     let its = part.its in
     let low = part.begun.low in
@@ -149,15 +145,13 @@ ready scripts input setup plan distances view spare mover call set part idle is 
     }
 
 -- a subscriber that has begun its next step
-begun-more : (input : Contents) (setup : Setup) (view : View) (spare : ℕ) (old new : Mover) (call : Call)
+begun-more : {input : Contents} {setup : Setup} {view : View} {spare : ℕ} {old : Mover} (new : Mover) {call : Call}
     → (part : IsMover input setup view spare old) → Ready input setup view old part.its.steps call
     → GoesWith setup.plan new.handset → new.handset.sub ≡ old.handset.sub
     → StandsForSteps (setting_in setup) new.handset (part.its.steps ++ step_of call ∷ [])
-    (length (puts_to view.low view.seen))
-    → new.script.items ≡ old.script.items → new.begun ≡ suc old.begun
-    → (next : IsMover input setup view spare new)
-    × (next.its.steps ≡ part.its.steps ++ step_of call ∷ [])
-begun-more input setup view spare old new call part at goes same stands script more =
+    (length (puts_to view.low view.seen)) → new.script.items ≡ old.script.items → new.begun ≡ suc old.begun
+    → (next : IsMover input setup view spare new) × (next.its.steps ≡ part.its.steps ++ step_of call ∷ [])
+begun-more {input} {setup} {view} {old} new {call} part at goes same stands script more =
     let setting = setting_in setup in
     let all = steps_of (scripts_of input) view.low in
     let its = part.its in
@@ -203,22 +197,21 @@ begun-more input setup view spare old new call part at goes same stands script m
     )
 
 -- and then it has a visit to make
-begun-due : (setting : Setting) (sub made : ℕ) (steps : List Step) (step : Step) (result : Option Visit)
-    → made ≡ length (visits setting sub steps)
-    → result ≡ slice_get (visits setting sub (steps ++ step ∷ [])) made → result ≢ None
-begun-due setting sub made steps step result all is none =
+begun-due : (setting : Setting) (sub : ℕ) {made : ℕ} (steps : List Step) (step : Step) {result : Option Visit}
+    → made ≡ length (visits setting sub steps) → result ≡ slice_get (visits setting sub (steps ++ step ∷ [])) made
+    → result ≢ None
+begun-due setting sub {made} steps step all is none =
     let past = past-end (visits setting sub (steps ++ step ∷ [])) made (sym is ∙ none) in
     absurd (omega (arith, past, all, visits-longer setting sub steps step))
 
 -- a step is under way
-pub still-due : (input : Contents) (setup : Setup) (plan : PlanData) (distances : DistanceTable) (view : View)
-    (spare : ℕ) (mover : Mover) (result : Option Visit) → IsSetFor input setup plan distances
-    → (part : IsMover input setup view spare mover)
-    → (StandsForSteps (setting_of plan setup.homes) mover.handset part.its.steps (length (puts_to view.low view.seen))
+pub still-due : {input : Contents} {setup : Setup} {plan : PlanData} {distances : DistanceTable} {view : View}
+    {spare : ℕ} {mover : Mover} {result : Option Visit} → IsSetFor input setup plan distances
+    → (part : IsMover input setup view spare mover) → (StandsForSteps (setting_of plan setup.homes) mover.handset
+    part.its.steps (length (puts_to view.low view.seen))
     → result ≡ slice_get (visits (setting_of plan setup.homes) mover.handset.sub part.its.steps)
-    (length (puts_to view.low view.seen)))
-    → is_some result ≡ true → IsUnderWay input setup view spare mover
-still-due input setup plan distances view spare mover result set part stands some =
+    (length (puts_to view.low view.seen))) → is_some result ≡ true → IsUnderWay input setup view spare mover
+still-due {setup} {view} {mover} {result} set part stands some =
     let made = length (puts_to view.low view.seen) in
     let here = subst (λ (p : PlanData). StandsForSteps (setting_of p setup.homes) mover.handset part.its.steps made
     → result ≡ slice_get (visits (setting_of p setup.homes) mover.handset.sub part.its.steps) made) set.plan_is stands
@@ -229,10 +222,10 @@ still-due input setup plan distances view spare mover result set part stands som
     never (Some x) h e = cc
 
 -- no step is left
-pub all-begun : (input : Contents) (setup : Setup) (plan : PlanData) (distances : DistanceTable) (view : View)
-    (spare : ℕ) (mover : Mover) → IsSetFor input setup plan distances → IsMover input setup view spare mover
+pub all-begun : {input : Contents} {setup : Setup} {plan : PlanData} {distances : DistanceTable} {view : View}
+    {spare : ℕ} {mover : Mover} → IsSetFor input setup plan distances → IsMover input setup view spare mover
     → length mover.script.items ≤ mover.begun → IsUnderWay input setup view spare mover
-all-begun input setup plan distances view spare mover set part past = (
+all-begun {input} {view} set part past = (
   part,
   λ _. omega (
     arith,
@@ -245,33 +238,30 @@ all-begun input setup plan distances view spare mover set part past = (
 )
 
 -- the next step is begun
-pub begun-now : (input : Contents) (setup : Setup) (plan : PlanData) (view : View) (spare : ℕ) (old new : Mover)
-    (call : Call) → plan ≡ setup.plan → (part : IsMover input setup view spare old)
-    → Ready input setup view old part.its.steps call
-    → GoesWith plan new.handset → new.handset.sub ≡ old.handset.sub
+pub begun-now : {input : Contents} {setup : Setup} {plan : PlanData} {view : View} {spare : ℕ} {old : Mover}
+    (new : Mover) {call : Call} → plan ≡ setup.plan → (part : IsMover input setup view spare old)
+    → Ready input setup view old part.its.steps call → GoesWith plan new.handset → new.handset.sub ≡ old.handset.sub
     → (StandsForSteps (setting_of plan setup.homes) old.handset part.its.steps (length (puts_to view.low view.seen))
     → StandsForSteps (setting_of plan setup.homes) new.handset (part.its.steps ++ step_of call ∷ [])
-    (length (puts_to view.low view.seen)))
-    → new.script.items ≡ old.script.items → new.begun ≡ suc old.begun
+    (length (puts_to view.low view.seen))) → new.script.items ≡ old.script.items → new.begun ≡ suc old.begun
     → IsUnderWay input setup view spare new
-begun-now input setup plan view spare old new call plan_is part at goes same stands script more =
+begun-now {setup} {view} {old} new {call} plan_is part at goes same stands script more =
     let made = length (puts_to view.low view.seen) in
     let here = subst (λ (p : PlanData). StandsForSteps (setting_of p setup.homes) old.handset part.its.steps made
     → StandsForSteps (setting_of p setup.homes) new.handset (part.its.steps ++ step_of call ∷ []) made) plan_is stands
     part.its.stands in
-    let on = begun-more input setup view spare old new call part at
-    (subst (λ (p : PlanData). GoesWith p new.handset) plan_is goes) same here script more in (
+    let on = begun-more new part at (subst (λ (p : PlanData). GoesWith p new.handset) plan_is goes) same here script
+    more in (
       on.0,
-      λ none. absurd (begun-due (setting_in setup) view.low made part.its.steps (step_of call)
-          (slice_get (visits (setting_in setup) new.handset.sub on.0.its.steps) made) at.all
+      λ none. absurd (begun-due (setting_in setup) view.low part.its.steps (step_of call) at.all
           (ap (λ s. slice_get (visits (setting_in setup) s on.0.its.steps) made) on.0.its.sub
           ∙ ap (λ ss. slice_get (visits (setting_in setup) view.low ss) made) on.1) none),
     )
 
 -- a subscriber's pass has a visit of room where one is left
-pub room-left : (input : Contents) (setup : Setup) (view : View) (spare : ℕ) (mover : Mover) (visit : Visit)
+pub room-left : {input : Contents} {setup : Setup} {view : View} {spare : ℕ} {mover : Mover} {visit : Visit}
     → IsMover input setup view spare mover → next_of input setup view ≡ Some visit → 1 ≤ spare
-room-left input setup view spare mover visit part is =
+room-left {input} {setup} {view} {visit} part is =
     let setting = setting_in setup in
     let scripts = scripts_of input in
     let there : slice_get (script_visits setting scripts view.low) (length (own view.low view.seen)) ≡ Some visit =
@@ -283,19 +273,16 @@ room-left input setup view spare mover visit part is =
     )
 
 -- a subscriber's next put is made
-put-made : (input : Contents) (setup : Setup) (old new : PassData) (first last : Mover) (visit : Visit)
-    (ticket : ℕ) → (part : IsMover input setup old.view old.spare first)
-    → due (setting_in setup) first.handset ≡ Some visit
-    → next_of input setup old.view ≡ due (setting_in setup) first.handset
-    → HasVisited old visit.act ticket new
-    → HandsetGoesOn setup old.view new.view last.handset part.its.steps visit
-    → last.script.items ≡ first.script.items → last.begun ≡ first.begun
-    → HasMadeNext input setup old new × IsMover input setup new.view new.spare last
-put-made input setup old new first last visit ticket part is next visited on script begun =
+put-made : {input : Contents} {setup : Setup} {old new : PassData} {first : Mover} (last : Mover) {visit : Visit}
+    {ticket : ℕ} → (part : IsMover input setup old.view old.spare first) → due (setting_in setup) first.handset ≡ Some
+    visit → next_of input setup old.view ≡ due (setting_in setup) first.handset → HasVisited old visit.act ticket new
+    → HandsetGoesOn setup old.view new.view last.handset part.its.steps visit → last.script.items ≡ first.script.items
+    → last.begun ≡ first.begun → HasMadeNext input setup old new × IsMover input setup new.view new.spare last
+put-made {input} {setup} {old} {new} {first} last {visit} {ticket} part is next visited on script begun =
     let low : new.view.low ≡ old.view.low = visited.same.actor in
     let same : visit_by old.view visit.act ≡ visit =
     ap (λ a. record { actor = a; act = visit.act }) (sym part.its.sub)
-    ∙ sym (due-actor (setting_in setup) first.handset visit is) in
+    ∙ sym (due-actor (setting_in setup) first.handset is) in
     let mine : own old.view.low new.view.seen ≡ own old.view.low old.view.seen ++ visit ∷ [] =
     own-next old new visit.act ticket visited ∙ ap (λ v. own old.view.low old.view.seen ++ v ∷ []) same in
     let puts : puts_to old.view.low new.view.seen ≡ puts_to old.view.low old.view.seen ++ visit ∷ [] =
@@ -328,11 +315,11 @@ put-made input setup old new first last visit ticket part is next visited on scr
     )
 
 -- a turn is lost
-mover-held : (input : Contents) (setup : Setup) (old new : PassData) (place : ℕ) (held : Held)
-    (first last : Mover) → HasLost old place held new → IsMover input setup old.view old.spare first
+mover-held : {input : Contents} {setup : Setup} {old new : PassData} {place : ℕ} {held : Held} {first : Mover}
+    (last : Mover) → HasLost old place held new → IsMover input setup old.view old.spare first
     → last.handset ≡ first.handset → last.script.items ≡ first.script.items → last.begun ≡ first.begun
     → IsMover input setup new.view new.spare last
-mover-held input setup old new place held first last lost part handset script begun =
+mover-held {input} {setup} {old} last lost part handset script begun =
     let its = part.its in
     subst (λ (p : PassData). IsMover input setup p.view p.spare last) (sym lost.turn)
     (record {
@@ -357,33 +344,30 @@ mover-held input setup old new place held first last lost part handset script be
     })
 
 -- what comes of a put that is tried
-pub put-on : (input : Contents) (setup : Setup) (plan : PlanData) (old new : PassData) (first last : Mover)
+pub put-on : {input : Contents} {setup : Setup} {plan : PlanData} (old new : PassData) {first : Mover} (last : Mover)
     (ticket : ℕ) → plan ≡ setup.plan → IsMover input setup old.view old.spare first
     → next_of input setup old.view ≡ due (setting_of plan []) first.handset
-    → IsSome (due (setting_of plan []) first.handset)
-    → IfSome (due (setting_of plan []) first.handset) (λ visit. HasVisited old visit.act ticket new)
-    → IfSome (due (setting_of plan []) first.handset) (λ visit. (own : IsHandsetOf setup old.view first.handset)
-    → HandsetGoesOn setup old.view new.view last.handset own.steps visit)
-    → last.script.items ≡ first.script.items → last.begun ≡ first.begun
+    → IsSome (due (setting_of plan []) first.handset) → IfSome (due (setting_of plan []) first.handset)
+    (λ visit. HasVisited old visit.act ticket new) → IfSome (due (setting_of plan []) first.handset)
+    (λ visit. (own : IsHandsetOf setup old.view first.handset) → HandsetGoesOn setup old.view new.view last.handset
+    own.steps visit) → last.script.items ≡ first.script.items → last.begun ≡ first.begun
     → HasMadeNext input setup old new × IsMover input setup new.view new.spare last
-put-on input setup plan old new first last ticket plan_is part next some made on script begun =
+put-on {input} {setup} {plan} old new {first} last ticket plan_is part next some made on script begun =
     let found = due-some (due (setting_of plan []) first.handset) some in
-    put-made input setup old new first last found.0 ticket part
-    (subst (λ (p : PlanData). due (setting_of p []) first.handset ≡ Some found.0) plan_is found.1)
+    put-made last part (subst (λ (p : PlanData). due (setting_of p []) first.handset ≡ Some found.0) plan_is found.1)
     (subst (λ (p : PlanData). next_of input setup old.view ≡ due (setting_of p []) first.handset) plan_is next)
     (subst (λ o. IfSome o (λ (visit : Visit). HasVisited old visit.act ticket new)) found.1 made)
     (subst (λ o. IfSome o (λ (visit : Visit). (own : IsHandsetOf setup old.view first.handset)
     → HandsetGoesOn setup old.view new.view last.handset own.steps visit)) found.1 on part.its) script begun
 
-pub put-held : (input : Contents) (setup : Setup) (old new : PassData) (first last : Mover)
+pub put-held : {input : Contents} {setup : Setup} (old new : PassData) {first : Mover} (last : Mover)
     (wanted : Option Visit) (held : Held) → next_of input setup old.view ≡ wanted → IsSome wanted
     → IfSome wanted (λ visit. HasLost old (act_node (setting_in setup) visit.act) held new)
-    → IsMover input setup old.view old.spare first
-    → last.handset ≡ first.handset → last.script.items ≡ first.script.items → last.begun ≡ first.begun
-    → HasLostNext input setup old held new × IsMover input setup new.view new.spare last
-put-held input setup old new first last (Some visit) held next some lost part handset script begun = (
+    → IsMover input setup old.view old.spare first → last.handset ≡ first.handset
+    → last.script.items ≡ first.script.items → last.begun ≡ first.begun → HasLostNext input setup old held new × IsMover
+    input setup new.view new.spare last
+put-held old new last (Some visit) held next some lost part handset script begun = (
   record { visit = visit; is_next = next; lost = lost },
-  mover-held input setup old new (act_node (setting_in setup) visit.act) held first last lost part handset script
-      begun,
+  mover-held last lost part handset script begun,
 )
-put-held input setup old new first last None held next some lost part handset script begun = cc
+put-held old new last None held next some lost part handset script begun = cc

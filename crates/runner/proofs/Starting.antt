@@ -33,10 +33,10 @@ use Rattle.runner.specs.declared.mover.Mover.{Mover}
 use Rattle.runner.proofs.Finding.{looks-origin, room-of, script-searches, set-setting}
 
 -- the script that the code reads
-pub script-is : (scripts : List (Vec Call Global)) (actor : ℕ) (held : Vec Call Global) (script : List Call)
+pub script-is : (scripts : List (Vec Call Global)) (actor : ℕ) {held : Vec Call Global} {script : List Call}
     → actor < length (map (λ (s : Vec Call Global). s.items) scripts) → held ≡ get_or scripts actor held
     → script ≡ held.items → script ≡ get_or (map (λ (s : Vec Call Global). s.items) scripts) actor []
-script-is scripts actor held script low same its = its ∙ (ap (λ (s : Vec Call Global). s.items) same
+script-is scripts actor {held} low same its = its ∙ (ap (λ (s : Vec Call Global). s.items) same
     ∙ sym (get_or-map (λ (s : Vec Call Global). s.items) scripts actor held []
     (omega (arith, low, length-map scripts (λ (s : Vec Call Global). s.items)))))
 
@@ -53,33 +53,30 @@ search-inside nodes subs (calls.Find from sub) its = its.0
 search-inside nodes subs calls.Off its = tt
 search-inside nodes subs calls.On its = tt
 
-pub begin-inside : (input : Contents) (plan : PlanData) (actor : ℕ) (script : List Call) → MayStart input plan actor
+pub begin-inside : {input : Contents} {plan : PlanData} {actor : ℕ} {script : List Call} → MayStart input plan actor
     → script ≡ get_or input.scripts actor [] → BeginInside (nodes_of plan) script
-begin-inside input plan actor script may same k d low =
+begin-inside {input} {plan} {actor} {script} may same k d low =
     elim (cases_lt actor (length input.homes)) as (λ _. BeginsInside (nodes_of plan) (get_or script k d)) [
       | inl sub ↦ step-inside (nodes_of plan) (get_or script k d)
           (subst (λ s. IsStep (get_or s k d)) (sym same)
           (course-steps input.format input.nodes (get_or input.homes actor 0) _ (get_or input.scripts actor []) k d
           (may.together.valid.courses actor sub) (omega (arith, low, ap length same))))
       | inr high ↦ search-inside (nodes_of plan) (length input.homes) (get_or script k d)
-          (script-searches input plan actor script (length input.homes) may.together.valid may.together.nodes high
-          may.known same refl k d low)
+          (script-searches plan actor may.together.valid may.together.nodes high may.known same refl k d low)
     ]
 
 -- a new subscriber's part
-pub mover-at : ScriptsAreValid → MovesAreShort → (input : Contents) (plan : PlanData) (actor visits : ℕ)
-    (mover : Mover) → actor < length input.homes
-    → mover.script.items ≡ get_or input.scripts actor [] → mover.begun ≡ 0 → mover.handset.sub ≡ actor
-    → GoesWith plan mover.handset
+pub mover-at : ScriptsAreValid → MovesAreShort → {input : Contents} {plan : PlanData} {actor visits : ℕ} (mover : Mover)
+    → actor < length input.homes → mover.script.items ≡ get_or input.scripts actor [] → mover.begun ≡ 0
+    → mover.handset.sub ≡ actor → GoesWith plan mover.handset
     → ((starts : List ℕ) → starts ≡ input.homes → StandsForSteps (setting_of plan starts) mover.handset [] 0)
     → ((starts : List ℕ) → visits ≡ most_in (setting_of plan starts) mover.script.items)
     → (setup : Setup) (view : View) (spare : ℕ) → IsSetFor input setup plan plan.distances → view.low ≡ actor
-    → own actor view.seen ≡ [] → puts_to actor view.seen ≡ [] → visits ≤ spare
-    → IsMover input setup view spare mover
-mover-at scripts short input plan actor visits mover low script begun sub goes stands most setup view spare set is none
+    → own actor view.seen ≡ [] → puts_to actor view.seen ≡ [] → visits ≤ spare → IsMover input setup view spare mover
+mover-at scripts short {input} mover low script begun sub goes stands most setup view spare set is none
     bare enough =
     let setting = setting_in setup in
-    let valid = scripts input setting set.together.valid (set-setting input setup plan plan.distances set) in
+    let valid = scripts input setting set.together.valid (set-setting set) in
     let sub_low : view.low < length input.homes = omega (arith, low, is) in
     let whole : IsScript setting view.low (steps_of (scripts_of input) view.low) =
     valid.steps view.low (omega (arith, sub_low, ap length set.homes)) in
@@ -134,14 +131,13 @@ unfolding words_after
 caller-new setting scripts actor = refl
 
 -- a new caller's part
-pub finder-at : CallersKept → (input : Contents) (plan : PlanData) (actor visits : ℕ) (finder : Finder)
-    → length input.homes ≤ actor → actor < length input.scripts
-    → finder.script.items ≡ get_or input.scripts actor [] → finder.subs ≡ length input.homes → finder.done ≡ 0
-    → IsWalking plan (map find_of finder.script.items) at_origin finder.walk
-    → ((starts : List ℕ) → visits ≡ most_in (setting_of plan starts) finder.script.items)
-    → (setup : Setup) (view : View) (spare : ℕ) → IsSetFor input setup plan plan.distances → view.low ≡ actor
+pub finder-at : CallersKept → {input : Contents} {plan : PlanData} {actor visits : ℕ} (finder : Finder)
+    → length input.homes ≤ actor → actor < length input.scripts → finder.script.items ≡ get_or input.scripts actor []
+    → finder.subs ≡ length input.homes → finder.done ≡ 0 → IsWalking plan (map find_of finder.script.items) at_origin
+    finder.walk → ((starts : List ℕ) → visits ≡ most_in (setting_of plan starts) finder.script.items)
+    → {setup : Setup} (view : View) (spare : ℕ) → IsSetFor input setup plan plan.distances → view.low ≡ actor
     → own actor view.seen ≡ [] → visits ≤ spare → IsFinder input setup view.low view.seen spare finder
-finder-at kept input plan actor visits finder high low script subs done walk most setup view spare set is none enough =
+finder-at kept {input} {plan} {actor} finder high low script subs done walk most {setup} view spare set is none enough =
     let setting = setting_in setup in
     let scripts = scripts_of input in
     let finds = finds_of setting scripts actor in
@@ -163,14 +159,13 @@ finder-at kept input plan actor visits finder high low script subs done walk mos
           (subst (λ s. IsWalking setup.plan (map find_of finder.script.items) s finder.walk) (sym pursuit)
           (subst (λ p. IsWalking p (map find_of finder.script.items) at_origin finder.walk) set.plan_is walk));
       left = calls_are ∙ sym (ap (λ n. drop n finds) done);
-      room = room-of setting spare _ _ _ _ (calls_are ∙ all) pursuit (omega (
+      room = room-of setting spare (calls_are ∙ all) pursuit (omega (
         arith,
         enough,
         most setup.homes,
         ap (λ p. most_in (setting_of p setup.homes) finder.script.items) set.plan_is,
         looks-origin setting (map find_of finder.script.items),
         finds-most setting (nodes_of plan) (length input.homes) finder.script.items
-            (script-searches input plan actor finder.script.items (length input.homes) set.together.valid
-            set.together.nodes high low script refl),
+            (script-searches plan actor set.together.valid set.together.nodes high low script refl),
       ));
     })

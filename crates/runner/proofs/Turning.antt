@@ -100,12 +100,11 @@ turns-mine setting actor after (visit ∷ later) events turns =
     (turns-mine setting actor after later turns.1 turns.4))))
 
 -- where the first visit of an actor stands
-own-first : (actor : ℕ) (history : History) (visit : Visit) (later : List Visit)
-    → own actor history ≡ visit ∷ later
+own-first : (actor : ℕ) (history : History) {visit : Visit} {later : List Visit} → own actor history ≡ visit ∷ later
     → (front : History) × (back : History) × (history ≡ front ++ visit ∷ back) × (own actor front ≡ [])
     × (visit.actor ≡ actor)
-own-first actor [] visit later mine = cc
-own-first actor (x ∷ xs) visit later mine = at (x.actor == actor) refl mine (own-first actor xs visit later)
+own-first actor [] mine = cc
+own-first actor (x ∷ xs) {visit} {later} mine = at (x.actor == actor) refl mine (own-first actor xs)
   where
     at : (b : Bool) → (x.actor == actor) ≡ b → cond b (x ∷ own actor xs) (own actor xs) ≡ visit ∷ later
         → (own actor xs ≡ visit ∷ later
@@ -148,7 +147,7 @@ next-first kept setting scripts actor seen new (visit ∷ later) front made play
     let mine : own actor rest ≡ visit ∷ later =
     append_cancel_left (own actor seen) (own actor rest) (visit ∷ later)
     (sym (own-append actor seen rest) ∙ (ap (own actor) (sym (front-rest seen new front)) ∙ made)) in
-    let first = own-first actor rest visit later mine in
+    let first = own-first actor rest mine in
     let before : History = seen ++ first.0 in
     let whole : new ≡ before ++ visit ∷ first.1 =
     front-rest seen new front

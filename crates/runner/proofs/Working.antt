@@ -32,11 +32,11 @@ use Rattle.runner.specs.declared.role.Role.{Role}
 use Rattle.runner.specs.declared.worker.Worker.{Worker}
 
 -- a visit is made
-pub gone-made : CallersKept → (input : Contents) (tracker : TrackerData) (old new : Worker)
+pub gone-made : CallersKept → {input : Contents} {tracker : TrackerData} {old : Worker} (new : Worker)
     → IsWorkerOf input tracker old → HasMadeNext input tracker.setup old.pass new.pass
     → IsRole input tracker.setup new.pass.view new.pass.spare new.role → new.made ≡ suc old.made
     → HasGoneOn input tracker old new 0 × (new.made ≡ old.made + 1)
-gone-made kept input tracker old new its made role count =
+gone-made kept {input} {tracker} {old} new its made role count =
     let visited : HasVisited old.pass made.act made.ticket new.pass = made.visited in
     let actor : actor_of new.pass ≡ actor_of old.pass = visited.same.actor in
     let mine = own-next old.pass new.pass made.act made.ticket visited in
@@ -80,11 +80,11 @@ gone-made kept input tracker old new its made role count =
     )
 
 -- a turn is lost
-pub gone-held : (input : Contents) (tracker : TrackerData) (old new : Worker) (held : Held)
+pub gone-held : {input : Contents} {tracker : TrackerData} {old : Worker} (new : Worker) {held : Held}
     → IsWorkerOf input tracker old → HasLostNext input tracker.setup old.pass held new.pass
     → IsRole input tracker.setup new.pass.view new.pass.spare new.role → new.made ≡ old.made
     → HasGoneOn input tracker old new 1 × (new.made ≡ old.made)
-gone-held input tracker old new held its missed role count =
+gone-held {input} {tracker} {old} new {held} its missed role count =
     let place = act_node (setting_in tracker.setup) missed.visit.act in
     let lost : HasLost old.pass place held new.pass = missed.lost in
     let turn = lost.turn in
@@ -124,12 +124,11 @@ gone-held input tracker old new held its missed role count =
     )
 
 -- a new worker
-worker-new : (input : Contents) (plan : PlanData) (tracker : TrackerData) (pass : PassData) (new : Worker)
-    (visits : ℕ) → MayServe input plan pass → IsPassOf tracker pass
-    → IsRoleAt input plan (actor_of pass) visits new.role → visits ≤ new.pass.spare → new.pass.spare ≤ 2 ^ 56
-    → new.pass ≡ record pass { spare = new.pass.spare } → new.made ≡ 0
-    → IsWorkerOf input tracker new
-worker-new input plan tracker pass new visits may of role enough few same none =
+worker-new : {input : Contents} {plan : PlanData} {tracker : TrackerData} {pass : PassData} (new : Worker) (visits : ℕ)
+    → MayServe input plan pass → IsPassOf tracker pass → IsRoleAt input plan (actor_of pass) visits new.role
+    → visits ≤ new.pass.spare → new.pass.spare ≤ 2 ^ 56
+    → new.pass ≡ record pass { spare = new.pass.spare } → new.made ≡ 0 → IsWorkerOf input tracker new
+worker-new {input} {plan} {tracker} {pass} new visits may of role enough few same none =
     let set : IsSetFor input tracker.setup plan plan.distances =
     subst (λ (s : Setup). IsSetFor input s plan plan.distances) of.setup may.set in
     let view = ap (λ (p : PassData). p.view) same in
@@ -148,19 +147,18 @@ worker-new input plan tracker pass new visits may of role enough few same none =
           (role tracker.setup pass.view new.pass.spare set refl may.none may.bare enough);
     }
 
-pub worker-reserved : (input : Contents) (plan : PlanData) (tracker : TrackerData) (pass reserved : PassData)
-    (role : Role) (visits : ℕ) (result : Result (Unit {0}) AllocError) → MayServe input plan pass
-    → IsPassOf tracker pass
-    → IsRoleAt input plan (actor_of pass) visits role → visits ≤ 2 ^ 56 → is_err result ≡ false
+pub worker-reserved : {input : Contents} {plan : PlanData} {tracker : TrackerData} {pass : PassData}
+    (reserved : PassData) (role : Role) (visits : ℕ) (result : Result (Unit {0}) AllocError) → MayServe input plan pass
+    → IsPassOf tracker pass → IsRoleAt input plan (actor_of pass) visits role → visits ≤ 2 ^ 56 → is_err result ≡ false
     → OnOk result (reserved ≡ record pass { spare = max pass.spare visits })
     → IsWorkerOf input tracker (record { pass = reserved; made = 0; role = role })
-worker-reserved input plan tracker pass reserved role visits (Ok done) may of its few fine room =
+worker-reserved {pass} reserved role visits (Ok done) may of its few fine room =
     let spare : reserved.spare ≡ max pass.spare visits = ap (λ (p : PassData). p.spare) room in
-    worker-new input plan tracker pass (record { pass = reserved; made = 0; role = role }) visits may of its
+    worker-new (record { pass = reserved; made = 0; role = role }) visits may of its
     (omega (arith, spare, le-max_right pass.spare visits))
     (omega (arith, spare, max-le may.few few))
     (room ∙ ap (λ k. record pass { spare = k }) (sym spare)) refl
-worker-reserved input plan tracker pass reserved role visits (Err e) may of its few fine room = cc
+worker-reserved reserved role visits (Err e) may of its few fine room = cc
 
 -- of a pass that has room made for it nothing else changes
 pub pass-reserved : (pass reserved : PassData) (visits : ℕ) (result : Result (Unit {0}) AllocError)
@@ -171,10 +169,10 @@ pass-reserved pass reserved visits (Ok done) fine room =
 pass-reserved pass reserved visits (Err e) fine room = cc
 
 -- a worker that is prepared
-pub role-gone : (input : Contents) (tracker : TrackerData) (old : Worker) (role : Role)
-    → IsWorkerOf input tracker old → IsRole input tracker.setup old.pass.view old.pass.spare role
+pub role-gone : {input : Contents} {tracker : TrackerData} {old : Worker} (role : Role) → IsWorkerOf input tracker old
+    → IsRole input tracker.setup old.pass.view old.pass.spare role
     → HasGoneOn input tracker old (record old { role = role }) 0
-role-gone input tracker old role its prepared = record {
+role-gone {input} {tracker} {old} role its prepared = record {
   worker = record {
     of = its.of;
     outside = its.outside;
@@ -196,11 +194,11 @@ role-gone input tracker old role its prepared = record {
 }
 
 -- the turns of a worker that has gone on, and on
-turns-through : CallersKept → (input : Contents) (tracker : TrackerData) (old mid new : Worker) (held more : ℕ)
+turns-through : CallersKept → {input : Contents} {tracker : TrackerData} {old mid new : Worker} {held more : ℕ}
     → (one : HasGoneOn input tracker old mid held) → (two : HasGoneOn input tracker mid new more)
     → HaveTurns (setting_in tracker.setup) (actor_of old.pass) (next_of input tracker.setup new.pass.view)
     (one.visits ++ two.visits) (one.events ++ two.events)
-turns-through kept input tracker old mid new held more one two =
+turns-through kept {input} {tracker} {old} {mid} {new} one two =
     let setting = setting_in tracker.setup in
     let after = next_of input tracker.setup new.pass.view in
     let actor = actor_of old.pass in
@@ -215,10 +213,10 @@ turns-through kept input tracker old mid new held more one two =
     (subst (λ a. HaveTurns setting a after two.visits two.events) mine two.turns)
 
 -- a worker that has gone on, and on
-pub gone-on : CallersKept → (input : Contents) (tracker : TrackerData) (old mid new : Worker) (held more all : ℕ)
+pub gone-on : CallersKept → {input : Contents} {tracker : TrackerData} {old mid new : Worker} {held more all : ℕ}
     → HasGoneOn input tracker old mid held → HasGoneOn input tracker mid new more → all ≡ held + more
     → HasGoneOn input tracker old new all
-gone-on kept input tracker old mid new held more all one two sum =
+gone-on kept {old} {mid} {new} one two sum =
     let actor = actor_of old.pass in
     record {
       worker = two.worker;
@@ -235,7 +233,7 @@ gone-on kept input tracker old mid new held more all one two sum =
           ∙ (ap (λ mine. mine ++ two.visits) one.made
           ∙ append_assoc (own actor old.pass.view.seen) one.visits two.visits);
       events = one.events ++ two.events;
-      turns = turns-through kept input tracker old mid new held more one two;
+      turns = turns-through kept one two;
       logged = logged-more old.pass mid.pass new.pass one.events two.events one.logged two.logged;
       count = omega (
         arith,
@@ -260,11 +258,11 @@ tries-lost input setup old new (Ok done) h tries = cc
 tries-lost input setup old new (Err held) h tries = (held, tries)
 
 -- a worker that has gone on, and is prepared
-pub prepared-gone : (input : Contents) (tracker : TrackerData) (old mid : Worker) (role : Role) (held : ℕ)
+pub prepared-gone : {input : Contents} {tracker : TrackerData} {old mid : Worker} (role : Role) {held : ℕ}
     → HasGoneOn input tracker old mid held → IsRole input tracker.setup mid.pass.view mid.pass.spare role
     → HasGoneOn input tracker old (record mid { role = role }) held
-prepared-gone input tracker old mid role held gone prepared = record {
-  worker = (role-gone input tracker mid role gone.worker prepared).worker;
+prepared-gone role gone prepared = record {
+  worker = (role-gone role gone.worker prepared).worker;
   begins = gone.begins;
   same = gone.same;
   spare = gone.spare;
@@ -282,39 +280,39 @@ Prepares input setup pass role left =
     IsRole input setup pass.view pass.spare role × IsPrepared input setup pass.view role
     × ((left ≡ false) ↔ (next_of input setup pass.view ≡ None))
 
-pub some-left : (input : Contents) (setup : Setup) (pass : PassData) (role : Role) (left : Bool) → left ≡ true
+pub some-left : (input : Contents) (setup : Setup) (pass : PassData) (role : Role) {left : Bool} → left ≡ true
     → Prepares input setup pass role left → next_of input setup pass.view ≢ None
-some-left input setup pass role left still prepares none = never left still (prepares.2.1 none)
+some-left input setup pass role {left} still prepares none = never left still (prepares.2.1 none)
   where
     never : (b : Bool) → b ≡ true → b ≡ false → ⊥
     never b h g = cc
 
 -- so it may try
-pub may-try : (input : Contents) (tracker : TrackerData) (plan : PlanData) (distances : DistanceTable) (mid : Worker)
-    (role : Role) (left : Bool) → MayPlay input tracker plan distances mid → left ≡ true
+pub may-try : {input : Contents} {tracker : TrackerData} {plan : PlanData} {distances : DistanceTable} {mid : Worker}
+    (role : Role) {left : Bool} → MayPlay input tracker plan distances mid → left ≡ true
     → Prepares input tracker.setup mid.pass role left
     → MayTry input tracker plan distances (record mid { role = role })
-may-try input tracker plan distances mid role left may still prepares = record {
+may-try {input} {tracker} {mid} role {left} may still prepares = record {
   may = record {
     set = may.set;
-    worker_is = (role-gone input tracker mid role may.worker_is prepares.0).worker;
+    worker_is = (role-gone role may.worker_is prepares.0).worker;
   };
   prepared = prepares.1;
-  left = some-left input tracker.setup mid.pass role left still prepares;
+  left = some-left input tracker.setup mid.pass role still prepares;
 }
 
 -- where the gate was closed nothing has changed
-pub kept-gone : (input : Contents) (tracker : TrackerData) (old mid new : Worker) (held : ℕ)
+pub kept-gone : {input : Contents} {tracker : TrackerData} {old mid new : Worker} {held : ℕ}
     → HasGoneOn input tracker old mid held → new ≡ mid → HasGoneOn input tracker old new held
-kept-gone input tracker old mid new held gone same =
+kept-gone {input} {tracker} {old} {held} gone same =
     subst (λ (w : Worker). HasGoneOn input tracker old w held) (sym same) gone
 
-pub kept-may : (input : Contents) (tracker : TrackerData) (plan : PlanData) (distances : DistanceTable)
-    (mid new : Worker) (role : Role) → MayPlay input tracker plan distances mid
+pub kept-may : {input : Contents} {tracker : TrackerData} {plan : PlanData} {distances : DistanceTable}
+    {mid new : Worker} (role : Role) → MayPlay input tracker plan distances mid
     → IsRole input tracker.setup mid.pass.view mid.pass.spare role → new ≡ record mid { role = role }
     → MayPlay input tracker plan distances new
-kept-may input tracker plan distances mid new role may prepared same =
+kept-may {input} {tracker} {plan} {distances} role may prepared same =
     subst (MayPlay input tracker plan distances) (sym same) (record {
       set = may.set;
-      worker_is = (role-gone input tracker mid role may.worker_is prepared).worker;
+      worker_is = (role-gone role may.worker_is prepared).worker;
     })

@@ -9,8 +9,7 @@ use Rattle.runner.proofs.room.most_of_script.Goals as goal
 
 pub loop-call-preserved : goal.loop-call-preserved
 loop-call-preserved c = λ starts.
-    let sum = added _ _ c.in_ok-most.most c.checked_add.result _ c.ok_or.result c.checked_add.ensures
-    c.ok_or.ensures.value c.in_ok-most.was in
+    let sum = added _ c.checked_add.result _ c.checked_add.ensures c.ok_or.ensures.value c.in_ok-most.was in
     omega (
       arith,
       sum,

@@ -12,8 +12,8 @@ outcome-requires c =
     let last = c.finish.new.self in record {
       stands = (
         history_of (setting_at last) (scripts_at last) c.args.order.now,
-        play-ended c.in_ok-machine.machine c.play.new.self last c.args.order.now c.play.ensures.same
-            c.finish.ensures.same (c.play.ensures.stands [] c.in_ok-machine.ensures.stands) c.finish.ensures.order,
+        play-ended c.in_ok-machine.machine c.args.order.now c.play.ensures.same c.finish.ensures.same
+            (c.play.ensures.stands [] c.in_ok-machine.ensures.stands) c.finish.ensures.order,
         c.all_scripts_done.ensures.done (setting_at last) (scripts_at last) c.args.order.now,
       );
     }
@@ -22,9 +22,8 @@ pub returns : goal.returns
 returns c =
     let last = c.finish.new.self in
     c.outcome.ensures.result (history_of (setting_at last) (scripts_at last) c.args.order.now)
-    (play-ended c.in_ok-machine.machine c.play.new.self last c.args.order.now c.play.ensures.same
-    c.finish.ensures.same (c.play.ensures.stands [] c.in_ok-machine.ensures.stands) c.finish.ensures.order)
+    (play-ended c.in_ok-machine.machine c.args.order.now c.play.ensures.same c.finish.ensures.same
+    (c.play.ensures.stands [] c.in_ok-machine.ensures.stands) c.finish.ensures.order)
     (c.all_scripts_done.ensures.done (setting_at last) (scripts_at last) c.args.order.now)
-    ∙ play-outcome c.in_ok-machine.machine c.play.new.self last c.args.input.now c.args.plan.now
-    c.args.order.now c.play.ensures.same c.finish.ensures.same c.in_ok-machine.ensures.made.0
-    c.in_ok-machine.ensures.made.1
+    ∙ play-outcome c.in_ok-machine.machine c.play.new.self last c.args.order.now c.play.ensures.same
+    c.finish.ensures.same c.in_ok-machine.ensures.made.0 c.in_ok-machine.ensures.made.1

@@ -12,8 +12,7 @@ use Rattle.runner.proofs.running.finish_run.Goals as goal
 
 pub close-requires : goal.close-requires
 close-requires c = record {
-  of = all-of (seen_input c.args.input.now) c.args.tracker c.args.workers.items c.in_ok-passes.passes.items
-      c.requires.workers c.in_ok-passes.ensures;
+  of = all-of c.requires.workers c.in_ok-passes.ensures;
 }
 
 pub returns-clause-finished : goal.returns-clause-finished
@@ -23,11 +22,10 @@ returns-clause-finished c =
     (λ outcome. result_of outcome
     ≡ outcome_of (setting_over input c.args.plan.now) (scripts_of input) c.deref.result.now)
     (λ outcome. HasFinished input c.args.tracker.setup c.args.workers.items (result_of outcome))
-    (λ outcome is. finished c.order_of_history.ensures.completed input c.args.tracker c.args.plan.now
-    c.args.distances.now c.args.workers.items c.in-Ok.order.items (result_of outcome) c.requires.set c.requires.workers
+    (λ outcome is. finished c.order_of_history.ensures.completed c.requires.set c.requires.workers
     (subst (λ (ps : List PassData). IsOrder c.args.tracker.setup ps c.in-Ok.order.items) c.in_ok-passes.ensures
-    c.in-Ok.ensures.order)
-    (is ∙ ap (outcome_of (setting_over input c.args.plan.now) (scripts_of input)) c.deref.ensures.value))
+    c.in-Ok.ensures.order) (is ∙ ap (outcome_of (setting_over input c.args.plan.now) (scripts_of input))
+    c.deref.ensures.value))
     c.complete.ensures
 
 pub returns-clause-outcome : goal.returns-clause-outcome
@@ -38,6 +36,5 @@ returns-clause-outcome c =
     ≡ outcome_of (setting_over input c.args.plan.now) (scripts_of input) c.deref.result.now)
     (λ outcome. IsOutcomeOfRun (setting_over input c.args.plan.now) (scripts_of input) (result_of outcome))
     (λ outcome is. outcome-of-run c.order_of_history.ensures.done c.each_visit_is_next.ensures.order
-    c.all_scripts_done.ensures.done (setting_over input c.args.plan.now) (scripts_of input) c.deref.result.now
-    (result_of outcome) is)
+    c.all_scripts_done.ensures.done (setting_over input c.args.plan.now) (scripts_of input) c.deref.result.now is)
     c.complete.ensures

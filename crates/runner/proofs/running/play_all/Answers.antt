@@ -23,7 +23,7 @@ pub returns : goal.returns
 returns g c = λ input set are. record {
   count = omega (arith, are.count, c.for_each_mut.auto.s);
   each = λ k worker at.
-      let here = at-some c.for_each_mut.new.s k worker at in
+      let here = at-some c.for_each_mut.new.s k at in
       let low : k < length c.args.workers.now = omega (arith, here.0, c.for_each_mut.auto.s) in
       let change = (c.for_each_mut.ensures k worker low).1 in
       let old = are.each k (get_or c.args.workers.now k worker) (slice_get-get_or c.args.workers.now k worker low) in
@@ -31,6 +31,5 @@ returns g c = λ input set are. record {
         set = set;
         worker_is = subst (IsWorkerOf input c.args.tracker.now) (sym change.argument_is) old.0;
       }) in
-      changed input c.args.tracker.now change.argument.now change.after_call.now (get_or c.args.workers.now k worker)
-      worker k change.argument_is (change.left ∙ here.1) old.1 new;
+      changed change.argument_is (change.left ∙ here.1) old.1 new;
 }

@@ -15,5 +15,5 @@ finish_run-requires-clause-workers g c =
     c.in_ok-tracker.ensures.set in
     let now = c.play_all.ensures input set (subst (AreWorkersOf input opened) (sym c.deref_mut.ensures.value) are) in
     subst (AreWorkersOf input opened)
-    (sym (put-back c.play_all.new.workers c.in_ok-tracker.workers.items c.in_ok-tracker.workers.len
-    c.in_ok-tracker.workers.ok.0 (now.count ∙ sym are.count))) now
+    (sym (put-back c.play_all.new.workers c.in_ok-tracker.workers.items c.in_ok-tracker.workers.ok.0
+    (now.count ∙ sym are.count))) now

@@ -2,7 +2,6 @@ use Rattle.std.proofs.Common.{[], ◌∷◌, ◌++◌, List, length, ap, sym, �
 use Rattle.std.specs.Prelude.{slice_get}
 use Rattle.std.specs.Vec.Iter.{into_iter_items}
 use Rattle.std.proofs.lemmas.List.{length_push}
-use Rattle.net_reader.specs.Seen.{seen_input}
 use Rattle.station.specs.Passes.{PassData}
 use Rattle.station.specs.declared.view.View.{View}
 use Rattle.runner.proofs.Finishing.{at-seam, at-some, fresh-actor, fresh-serves, fresh-worker, one-fresh, one-more}
@@ -11,19 +10,17 @@ use Rattle.runner.proofs.running.workers_of.Goals as goal
 pub new-requires : goal.new-requires
 new-requires c =
     let fresh = c.requires.fresh in
-    let at = at-seam c.args.passes.items c.passes.yielded (into_iter_items c.passes.pass-iterator)
-    (into_iter_items c.next.new.self) c.in-Some.pass c.passes.invariant.all c.in-Some.ensures.steps.0 in
-    let low = at-some c.args.passes.items (length c.passes.yielded) c.in-Some.pass at in
+    let at = at-seam c.passes.yielded c.passes.invariant.all c.in-Some.ensures.steps.0 in
+    let low = at-some c.args.passes.items (length c.passes.yielded) at in
     record {
-      may = fresh-serves (seen_input c.args.input.now) c.args.plan.now fresh.0 (length c.passes.yielded) c.in-Some.pass
-          (fresh.1 (length c.passes.yielded) c.in-Some.pass at) fresh.2 (omega (arith, low.0, c.requires.count));
+      may = fresh-serves (fresh.1 (length c.passes.yielded) c.in-Some.pass at) fresh.2
+          (omega (arith, low.0, c.requires.count));
     }
 
 pub passes-preserved : goal.passes-preserved
 passes-preserved c =
     let pushed = c.in_ok-push.ensures.items in
-    let at = at-seam c.args.passes.items c.passes.yielded (into_iter_items c.passes.pass-iterator)
-    (into_iter_items c.next.new.self) c.in-Some.pass c.passes.invariant.all c.in-Some.ensures.steps.0 in
+    let at = at-seam c.passes.yielded c.passes.invariant.all c.in-Some.ensures.steps.0 in
     record {
       count = omega (
         arith,
@@ -34,20 +31,17 @@ passes-preserved c =
       );
       each = λ tracker fresh set k one there.
           let mine = fresh (length c.passes.yielded) c.in-Some.pass at in
-          one-more (seen_input c.args.input.now) tracker c.passes.workers.items c.in-Ok.worker
-          (c.passes.invariant.each tracker fresh set)
+          one-more c.passes.workers.items (c.passes.invariant.each tracker fresh set)
           (c.in-Ok.ensures.worker tracker (record {
             table = mine.table;
             setup = ap (λ (v : View). v.setup) mine.view;
-          }))
-          (fresh-actor tracker (length c.passes.yielded) c.in-Some.pass c.in-Ok.worker.pass mine c.in-Ok.ensures.pass
-          ∙ sym c.passes.invariant.count) k one (ap (λ xs. slice_get xs k) (sym pushed) ∙ there);
+          })) (fresh-actor mine c.in-Ok.ensures.pass ∙ sym c.passes.invariant.count) k
+          (ap (λ xs. slice_get xs k) (sym pushed) ∙ there);
       fresh = λ tracker fresh k one there.
           let mine = fresh (length c.passes.yielded) c.in-Some.pass at in
-          one-fresh tracker c.passes.workers.items c.in-Ok.worker (length c.passes.yielded)
-          (c.passes.invariant.fresh tracker fresh) (sym c.passes.invariant.count)
-          (fresh-worker tracker (length c.passes.yielded) c.in-Some.pass c.in-Ok.worker mine c.in-Ok.ensures.pass
-          c.in-Ok.ensures.fresh.0 c.in-Ok.ensures.fresh.1) k one (ap (λ xs. slice_get xs k) (sym pushed) ∙ there);
+          one-fresh c.passes.workers.items (c.passes.invariant.fresh tracker fresh) (sym c.passes.invariant.count)
+          (fresh-worker c.in-Ok.worker mine c.in-Ok.ensures.pass c.in-Ok.ensures.fresh.0 c.in-Ok.ensures.fresh.1) k one
+          (ap (λ xs. slice_get xs k) (sym pushed) ∙ there);
       all = c.passes.invariant.all ∙ (ap (λ (rest : List PassData). c.passes.yielded ++ rest) c.in-Some.ensures.steps.0
           ∙ sym (append_assoc c.passes.yielded (c.in-Some.pass ∷ []) (into_iter_items c.next.new.self)));
     }

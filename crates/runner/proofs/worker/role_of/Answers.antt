@@ -2,7 +2,6 @@ use Rattle.std.proofs.Common.{ℕ, List, [], map, sym, ap, ◌∙◌, arith, sub
 use Rattle.std.proofs.lemmas.List.{get_or_default}
 use Rattle.directory.specs.Finds.{at_origin}
 use Rattle.machine.specs.Stands.{IsWalking}
-use Rattle.net_reader.specs.Seen.{seen_input}
 use Rattle.region_plan.specs.Settings.{setting_of}
 use Rattle.scripts.specs.Scripts.{find_of, most_in}
 use Rattle.runner.proofs.Finding.{script-searches}
@@ -11,19 +10,17 @@ use Rattle.runner.proofs.worker.role_of.Goals as goal
 
 pub most_of_script-requires : goal.most_of_script-requires
 most_of_script-requires c = record {
-  inside = begin-inside (seen_input c.args.input.now) c.args.plan.now c.args.actor c.as_slice-script.result.now
-      c.requires.may (script-is c.args.input.now.scripts.items c.args.actor c.index.result.now
-      c.as_slice-script.result.now c.requires.may.known c.index.ensures c.as_slice-script.ensures.value);
+  inside = begin-inside c.requires.may (script-is c.args.input.now.scripts.items c.args.actor c.requires.may.known
+      c.index.ensures c.as_slice-script.ensures.value);
 }
 
 pub returns-then-actor-len-clause-role : goal.returns-then-actor-len-clause-role
 returns-then-actor-len-clause-role c =
     let its = c.in_ok-mover.ensures in
-    let script = script-is c.args.input.now.scripts.items c.args.actor c.index.result.now c.as_slice-script.result.now
-    c.requires.may.known c.index.ensures c.as_slice-script.ensures.value in
-    mover-at c.scripts_are_valid.ensures c.moves_are_short.ensures (seen_input c.args.input.now) c.args.plan.now
-    c.args.actor c.in_ok-visits.visits c.in_ok-mover.mover (omega (arith, c.if-actor-len.true, c.len.ensures))
-    (its.script ∙ script) its.begun its.its its.goes
+    let script = script-is c.args.input.now.scripts.items c.args.actor c.requires.may.known c.index.ensures
+    c.as_slice-script.ensures.value in
+    mover-at c.scripts_are_valid.ensures c.moves_are_short.ensures c.in_ok-mover.mover
+    (omega (arith, c.if-actor-len.true, c.len.ensures)) (its.script ∙ script) its.begun its.its its.goes
     (λ starts same. its.stands starts (ap (λ (hs : List ℕ). get_or hs c.args.actor 0) same
     ∙ (get_or_default c.args.input.now.homes.items c.args.actor 0 c.index-then-actor-len.result.now
     (omega (arith, c.if-actor-len.true, c.len.ensures)) ∙ sym c.index-then-actor-len.ensures)))
@@ -31,37 +28,31 @@ returns-then-actor-len-clause-role c =
 
 pub new-requires-2 : goal.new-requires-2
 new-requires-2 c = record {
-  searches = script-searches (seen_input c.args.input.now) c.args.plan.now c.args.actor c.as_slice-script.result.now
-      c.len-2.result c.requires.may.together.valid c.requires.may.together.nodes
+  searches = script-searches c.args.plan.now c.args.actor c.requires.may.together.valid c.requires.may.together.nodes
       (omega (arith, c.if-actor-len.false, c.len.ensures)) c.requires.may.known
-      (script-is c.args.input.now.scripts.items c.args.actor c.index.result.now c.as_slice-script.result.now
-      c.requires.may.known c.index.ensures c.as_slice-script.ensures.value)
-      (omega (arith, c.len-2.ensures));
+      (script-is c.args.input.now.scripts.items c.args.actor c.requires.may.known c.index.ensures
+      c.as_slice-script.ensures.value) (omega (arith, c.len-2.ensures));
 }
 
 pub returns-clause-role : goal.returns-clause-role
 returns-clause-role c = λ setup view spare set is none bare enough.
     let its = c.in_ok-finder.ensures in
-    let script = script-is c.args.input.now.scripts.items c.args.actor c.index.result.now c.as_slice-script.result.now
-    c.requires.may.known c.index.ensures c.as_slice-script.ensures.value in
-    finder-at c.lines_grow.ensures.kept (seen_input c.args.input.now) c.args.plan.now c.args.actor
-    c.in_ok-visits.visits c.in_ok-finder.finder (omega (arith, c.if-actor-len.false, c.len.ensures))
+    let script = script-is c.args.input.now.scripts.items c.args.actor c.requires.may.known c.index.ensures
+    c.as_slice-script.ensures.value in
+    finder-at c.lines_grow.ensures.kept c.in_ok-finder.finder (omega (arith, c.if-actor-len.false, c.len.ensures))
     c.requires.may.known (its.script ∙ script) (omega (arith, its.subs, c.len-2.ensures)) its.done
     (subst (λ s. IsWalking c.args.plan.now (map find_of s) at_origin c.in_ok-finder.finder.walk) (sym its.script)
-    its.walk)
-    (λ starts. c.in_ok-visits.ensures.most starts ∙ ap (most_in (setting_of c.args.plan.now starts)) (sym its.script))
-    setup view spare set is none enough
+    its.walk) (λ starts. c.in_ok-visits.ensures.most starts ∙ ap (most_in (setting_of c.args.plan.now starts))
+    (sym its.script)) view spare set is none enough
 
 pub returns-then-actor-len-clause-most : goal.returns-then-actor-len-clause-most
 returns-then-actor-len-clause-most c =
     c.in_ok-visits.ensures.most []
     ∙ ap (most_in (setting_of c.args.plan.now [])) (script-is c.args.input.now.scripts.items c.args.actor
-    c.index.result.now c.as_slice-script.result.now c.requires.may.known c.index.ensures
-    c.as_slice-script.ensures.value)
+    c.requires.may.known c.index.ensures c.as_slice-script.ensures.value)
 
 pub returns-clause-most : goal.returns-clause-most
 returns-clause-most c =
     c.in_ok-visits.ensures.most []
     ∙ ap (most_in (setting_of c.args.plan.now [])) (script-is c.args.input.now.scripts.items c.args.actor
-    c.index.result.now c.as_slice-script.result.now c.requires.may.known c.index.ensures
-    c.as_slice-script.ensures.value)
+    c.requires.may.known c.index.ensures c.as_slice-script.ensures.value)

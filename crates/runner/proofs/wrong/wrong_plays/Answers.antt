@@ -33,10 +33,9 @@ front-no visit e = cc
 some-no : (visit : Visit) → ◌≡◌ {A = List Visit} (visit ∷ []) [] → ⊥
 some-no visit e = cc
 
-lost_more : (input : Contents) (tracker : TrackerData) (old new : Worker) (held : ℕ)
-    → HasGoneOn input tracker old new held
-    → length new.pass.view.lost ≡ length old.pass.view.lost + held
-lost_more input tracker old new held gone =
+lost_more : {input : Contents} {tracker : TrackerData} {old new : Worker} {held : ℕ}
+    → HasGoneOn input tracker old new held → length new.pass.view.lost ≡ length old.pass.view.lost + held
+lost_more {old} gone =
     omega (arith, ap length gone.logged.lost, length-append old.pass.view.lost (lost_in gone.events), gone.count)
 
 pub returns-clause-finished : goal.returns-clause-finished
@@ -47,7 +46,7 @@ pub returns-clause-many : goal.returns-clause-many
 returns-clause-many c = λ input tracker old new played before after.
     let none : length old.pass.view.lost ≡ 0 = ap (λ (turns : List NodeTurn). length turns) before in
     let one : length new.pass.view.lost ≡ 1 = ap (λ (turns : List NodeTurn). length turns) after in
-    omega (arith, played.says.1, lost_more input tracker old new _ played.gone, none, one)
+    omega (arith, played.says.1, lost_more played.gone, none, one)
 
 pub returns-clause-stopped : goal.returns-clause-stopped
 returns-clause-stopped c = λ input tracker tries held kept old new played none. played.says.0 none
@@ -59,16 +58,15 @@ pub returns-clause-unlost : goal.returns-clause-unlost
 returns-clause-unlost c = λ input tracker tries kept old new played same.
     let still : length new.pass.view.lost ≡ length old.pass.view.lost =
     ap (λ (turns : List NodeTurn). length turns) same in
-    omega (arith, played.says.2, lost_more input tracker old new _ played.gone, still)
+    omega (arith, played.says.2, lost_more played.gone, still)
 
 -- the turns of a play by what its pass has seen
-turns_of : (input : Contents) (tracker : TrackerData) (setup : Setup) (old new : Worker) (held actor : ℕ)
-    (before after : History) (visits : List Visit) (events : List TurnEvent)
-    → tracker.setup ≡ setup → HasSeen old actor before → HasSeen new actor after
-    → (gone : HasGoneOn input tracker old new held) → own actor after ≡ own actor before ++ visits
-    → gone.events ≡ events
+turns_of : {input : Contents} {tracker : TrackerData} {setup : Setup} {old new : Worker} {held actor : ℕ}
+    {before after : History} (visits : List Visit) {events : List TurnEvent} → tracker.setup ≡ setup
+    → HasSeen old actor before → HasSeen new actor after → (gone : HasGoneOn input tracker old new held)
+    → own actor after ≡ own actor before ++ visits → gone.events ≡ events
     → HaveTurns (setting_in setup) actor (next (setting_in setup) (scripts_of input) after actor) visits events
-turns_of input tracker setup old new held actor before after visits events told one two gone made are =
+turns_of {input} {setup} {old} {new} {actor} {before} {after} visits told one two gone made are =
     let low : new.pass.view.low ≡ actor = two.low in
     let more : own actor after ≡ own actor before ++ gone.visits =
     subst (λ (h : History). own actor h ≡ own actor before ++ gone.visits) two.seen_is
@@ -90,10 +88,10 @@ turns_of input tracker setup old new held actor before after visits events told 
     gone.turns)))))
 
 -- turns that begin with one that is lost, are won or given back
-lost_here : (actor node by at word : ℕ) (words : List ℕ) (later rest : List TurnEvent)
+lost_here : (actor node : ℕ) {by at word : ℕ} (words : List ℕ) {later : List TurnEvent} (rest : List TurnEvent)
     → Lost by at word ∷ later ≡ map (λ w. Lost actor node w) words ++ Won actor node ∷ rest → at ≡ node
-lost_here actor node by at word [] later rest e = cc
-lost_here actor node by at word (w ∷ words) later rest e = cc
+lost_here actor node [] rest e = cc
+lost_here actor node (w ∷ words) rest e = cc
 
 lost_next : (setting : Setting) (actor by at word : ℕ) (visit : Visit) (later : List TurnEvent)
     → AreLostBefore setting actor (Some visit) (Lost by at word ∷ later) → at ≡ act_node setting visit.act
@@ -104,11 +102,10 @@ lost_next setting actor by at word visit later lost = go lost.0 lost.1
     go [] e = cc
     go (w ∷ words) e = cc
 
-won_here : (actor node at : ℕ) (words : List ℕ) (later rest : List TurnEvent)
-    → Won actor at ∷ later ≡ map (λ w. Lost actor node w) words ++ Won actor node ∷ rest
-    → (at ≡ node) × (later ≡ rest)
-won_here actor node at [] later rest e = (cc, cc)
-won_here actor node at (w ∷ words) later rest e = cc
+won_here : {actor : ℕ} (node : ℕ) {at : ℕ} (words : List ℕ) {later : List TurnEvent} (rest : List TurnEvent)
+    → Won actor at ∷ later ≡ map (λ w. Lost actor node w) words ++ Won actor node ∷ rest → (at ≡ node) × (later ≡ rest)
+won_here node [] rest e = (cc, cc)
+won_here node (w ∷ words) rest e = cc
 
 won_no : (setting : Setting) (actor by at : ℕ) (after : Option Visit) (later : List TurnEvent)
     → AreLostBefore setting actor after (Won by at ∷ later) → ⊥
@@ -119,8 +116,8 @@ won_no setting actor by at (Some visit) later lost = go lost.0 lost.1
     go [] e = cc
     go (w ∷ words) e = cc
 
-back_no : (actor node : ℕ) (later : List TurnEvent) → [] ≡ GivenBack actor node ∷ later → ⊥
-back_no actor node later e = cc
+back_no : {actor node : ℕ} {later : List TurnEvent} → [] ≡ GivenBack actor node ∷ later → ⊥
+back_no e = cc
 
 -- what is lost first is lost at the node of the first visit
 first_lost : (setting : Setting) (actor at word : ℕ) (after : Option Visit) (visit : Visit) (visits : List Visit)
@@ -128,7 +125,7 @@ first_lost : (setting : Setting) (actor at word : ℕ) (after : Option Visit) (v
     → at ≡ act_node setting visit.act
 first_lost setting actor at word after visit visits later turns =
     let node = act_node setting visit.act in
-    lost_here actor node actor at word turns.2.0 later (GivenBack actor node ∷ turns.1)
+    lost_here actor node turns.2.0 (GivenBack actor node ∷ turns.1)
     (turns.3 ∙ ap (λ l. l ++ Won actor node ∷ GivenBack actor node ∷ turns.1) turns.2.1)
 
 -- a turn that is won first is that of the first visit, and is given back then
@@ -139,7 +136,7 @@ first_won : (setting : Setting) (actor at : ℕ) (after : Option Visit) (visit :
     × HaveTurns setting actor after visits rest
 first_won setting actor at after visit visits later turns =
     let node = act_node setting visit.act in
-    let won = won_here actor node at turns.2.0 later (GivenBack actor node ∷ turns.1)
+    let won = won_here node turns.2.0 (GivenBack actor node ∷ turns.1)
     (turns.3 ∙ ap (λ l. l ++ Won actor node ∷ GivenBack actor node ∷ turns.1) turns.2.1) in
     (won.0, turns.1, won.1, turns.4)
 
@@ -147,8 +144,7 @@ pub returns-clause-unmade : goal.returns-clause-unmade
 returns-clause-unmade c = λ input tracker tries old new played one two has events.
     won_no (setting_in tracker.setup) 0 0 2 (next (setting_in tracker.setup) (scripts_of input) [] 0)
     (GivenBack 0 2 ∷ [])
-    (turns_of input tracker tracker.setup old new _ 0 [] [] [] (Won 0 2 ∷ GivenBack 0 2 ∷ []) refl one two has.gone refl
-    events)
+    (turns_of [] refl one two has.gone refl events)
 
 pub returns-clause-stranger : goal.returns-clause-stranger
 returns-clause-stranger c = λ input tracker tries old new played event events one has are its.
@@ -176,10 +172,10 @@ pub returns-clause-roomy : goal.returns-clause-roomy
 returns-clause-roomy c = λ input tracker tries old new played has same more. omega (arith, has.gone.spare, same, more)
 
 -- the turns that a play lost, where it had lost none
-lost_turns : (input : Contents) (tracker : TrackerData) (old new : Worker) (held : ℕ) (turns : List NodeTurn)
+lost_turns : {input : Contents} {tracker : TrackerData} {old new : Worker} {held : ℕ} {turns : List NodeTurn}
     → (gone : HasGoneOn input tracker old new held) → old.pass.view.lost ≡ [] → new.pass.view.lost ≡ turns
     → lost_in gone.events ≡ turns
-lost_turns input tracker old new held turns gone before after =
+lost_turns gone before after =
     sym (gone.logged.lost ∙ ap (λ ts. ts ++ lost_in gone.events) before) ∙ after
 
 idle-next : next (setting_in line_setup) (scripts_of idle_input) [] 1 ≡ None
@@ -193,28 +189,26 @@ unfolding writes
 off-next = (_, refl, refl)
 
 -- where they are lost at one node
-lost_all : (actor node : ℕ) (words : List ℕ) (turn : NodeTurn) (turns : List NodeTurn)
+lost_all : (actor node : ℕ) (words : List ℕ) {turn : NodeTurn} {turns : List NodeTurn}
     → lost_in (map (λ word. Lost actor node word) words) ≡ turn ∷ turns → node ≡ turn.node
-lost_all actor node [] turn turns e = cc
-lost_all actor node (word ∷ words) turn turns e =
+lost_all actor node [] e = cc
+lost_all actor node (word ∷ words) {turn} e =
     let same : turn_at node word ≡ turn = cc in ap (λ (t : NodeTurn). t.node) same
 
 pub returns-clause-idle : goal.returns-clause-idle
 returns-clause-idle c = λ tracker tries old new setup one two before after has.
     let none = subst (λ v. AreLostBefore (setting_in line_setup) 1 v has.gone.events) idle-next
-    (turns_of idle_input tracker line_setup old new _ 1 [] [] [] has.gone.events setup one two has.gone refl refl) in
+    (turns_of [] setup one two has.gone refl refl) in
     let e : ◌≡◌ {A = ℕ} 0 1 = ap length (sym (ap lost_in none)
-    ∙ lost_turns idle_input tracker old new _ (record { node = 2; word = 6 } ∷ []) has.gone before after) in
+    ∙ lost_turns has.gone before after) in
     omega (arith, e)
 
 pub returns-clause-elsewhere : goal.returns-clause-elsewhere
 returns-clause-elsewhere c = λ tracker tries old new played setup one two before after has.
     let lost = subst (λ v. AreLostBefore (setting_in line_setup) 0 v has.gone.events) off-next.1
-    (turns_of switching_input tracker line_setup old new _ 0 [] [] [] has.gone.events setup one two has.gone refl
-    refl) in
-    let at = lost_all 0 (act_node (setting_in line_setup) off-next.0.act) lost.0 (record { node = 2; word = 6 }) []
-    (sym (ap lost_in lost.1)
-    ∙ lost_turns switching_input tracker old new _ (record { node = 2; word = 6 } ∷ []) has.gone before after) in
+    (turns_of [] setup one two has.gone refl refl) in
+    let at = lost_all 0 (act_node (setting_in line_setup) off-next.0.act) lost.0
+    (sym (ap lost_in lost.1) ∙ lost_turns has.gone before after) in
     let e : ◌≡◌ {A = ℕ} 3 2 = sym off-next.2 ∙ at in
     omega (arith, e)
 
@@ -245,29 +239,26 @@ abbrev moves-next : ℕ → Option Visit
 moves-next count = next (setting_in line_setup) (scripts_of moving_input) (take count moving_visits) 0
 
 -- the turns of a play that begins with the first visit
-moved_turns : (tracker : TrackerData) (old new : Worker) (held count : ℕ) (events : List TurnEvent)
+moved_turns : {tracker : TrackerData} {old new : Worker} {held : ℕ} (count : ℕ) {events : List TurnEvent}
     → tracker.setup ≡ line_setup → HasSeen old 0 [] → HasSeen new 0 (take (suc count) moving_visits)
     → (gone : HasGoneOn moving_input tracker old new held) → gone.events ≡ events
-    → HaveTurns (setting_in line_setup) 0 (moves-next (suc count))
-    (moves-first.0 ∷ own 0 (take count moves-first.1)) events
-moved_turns tracker old new held count events setup one two gone are =
-    turns_of moving_input tracker line_setup old new held 0 [] (take (suc count) moving_visits)
-    (moves-first.0 ∷ own 0 (take count moves-first.1)) events setup one two gone (moves-own count) are
+    → HaveTurns (setting_in line_setup) 0 (moves-next (suc count)) (moves-first.0 ∷ own 0 (take count moves-first.1))
+    events
+moved_turns count setup one two gone are =
+    turns_of (moves-first.0 ∷ own 0 (take count moves-first.1)) setup one two gone (moves-own count) are
 
 pub returns-clause-sooner : goal.returns-clause-sooner
 returns-clause-sooner c = λ tracker tries old new played setup one two has events.
     let seen = take 1 moving_visits in
     let lost = subst (λ v. AreLostBefore (setting_in line_setup) 0 v (Lost 0 2 2 ∷ [])) moves-second.1
-    (turns_of moving_input tracker line_setup old new _ 0 seen seen [] (Lost 0 2 2 ∷ []) setup one two has.gone
-    (sym (append-nil (own 0 seen))) events) in
+    (turns_of [] setup one two has.gone (sym (append-nil (own 0 seen))) events) in
     let e : ◌≡◌ {A = ℕ} 2 0 = lost_next (setting_in line_setup) 0 0 2 2 moves-second.0 [] lost ∙ moves-second.2 in
     omega (arith, e)
 
 pub returns-clause-later : goal.returns-clause-later
 returns-clause-later c = λ tracker tries old new played setup one two has events.
     let lost = subst (λ v. AreLostBefore (setting_in line_setup) 0 v (Lost 0 0 2 ∷ [])) moves-first.5
-    (turns_of moving_input tracker line_setup old new _ 0 [] [] [] (Lost 0 0 2 ∷ []) setup one two has.gone refl
-    events) in
+    (turns_of [] setup one two has.gone refl events) in
     let e : ◌≡◌ {A = ℕ} 0 2 = lost_next (setting_in line_setup) 0 0 0 2 moves-first.0 [] lost ∙ moves-first.3 in
     omega (arith, e)
 
@@ -275,13 +266,13 @@ pub returns-clause-ahead : goal.returns-clause-ahead
 returns-clause-ahead c = λ tracker tries count old new played events setup one two has are.
     let e : ◌≡◌ {A = ℕ} 3 2 = first_lost (setting_in line_setup) 0 3 2 (moves-next (suc count)) moves-first.0
     (own 0 (take count moves-first.1)) events
-    (moved_turns tracker old new _ count (Lost 0 3 2 ∷ events) setup one two has.gone are) ∙ moves-first.3 in
+    (moved_turns count setup one two has.gone are) ∙ moves-first.3 in
     omega (arith, e)
 
 pub returns-clause-behind : goal.returns-clause-behind
 returns-clause-behind c = λ tracker tries old new played setup one two has are.
     let won = first_won (setting_in line_setup) 0 2 (moves-next 1) moves-first.0 [] (GivenBack 0 2 ∷ Lost 0 2 2 ∷ [])
-    (moved_turns tracker old new _ 0 (Won 0 2 ∷ GivenBack 0 2 ∷ Lost 0 2 2 ∷ []) setup one two has.gone are) in
+    (moved_turns 0 setup one two has.gone are) in
     let rest : won.1 ≡ Lost 0 2 2 ∷ [] = ap (drop 1) (sym won.2) in
     let lost = subst (λ v. AreLostBefore (setting_in line_setup) 0 v (Lost 0 2 2 ∷ [])) moves-second.1
     (subst (λ es. AreLostBefore (setting_in line_setup) 0 (moves-next 1) es) rest won.3) in
@@ -291,15 +282,15 @@ returns-clause-behind c = λ tracker tries old new played setup one two has are.
 pub returns-clause-aside : goal.returns-clause-aside
 returns-clause-aside c = λ tracker tries old new played setup one two has are.
     let won = first_won (setting_in line_setup) 0 3 (moves-next 1) moves-first.0 [] (GivenBack 0 3 ∷ [])
-    (moved_turns tracker old new _ 0 (Won 0 3 ∷ GivenBack 0 3 ∷ []) setup one two has.gone are) in
+    (moved_turns 0 setup one two has.gone are) in
     let e : ◌≡◌ {A = ℕ} 3 2 = won.0 ∙ moves-first.3 in
     omega (arith, e)
 
 pub returns-clause-held : goal.returns-clause-held
 returns-clause-held c = λ tracker tries old new played setup one two has are.
     let won = first_won (setting_in line_setup) 0 2 (moves-next 1) moves-first.0 [] []
-    (moved_turns tracker old new _ 0 (Won 0 2 ∷ []) setup one two has.gone are) in
-    back_no 0 (act_node (setting_in line_setup) moves-first.0.act) won.1 won.2
+    (moved_turns 0 setup one two has.gone are) in
+    back_no won.2
 
 pub returns-clause-forgotten : goal.returns-clause-forgotten
 returns-clause-forgotten c = λ input tracker tries old new played seen none has.

@@ -60,18 +60,18 @@ unfolding writes
 one-left = refl
 
 -- no room for the visit of the switch
-full : (view : View) (spare : ℕ) (role : Role) → view.low ≡ 0 → view.seen ≡ [] → spare ≡ 0
+full : (view : View) {spare : ℕ} (role : Role) → view.low ≡ 0 → view.seen ≡ [] → spare ≡ 0
     → IsRole switching_input line_setup view spare role → ⊥
-full view spare (roles.Mover mover) low seen zeroth part =
+full view (roles.Mover mover) low seen zeroth part =
     let one : length (script_visits (setting_in line_setup) (scripts_of switching_input) view.low) ≡ 1 =
     ap (λ (a : ℕ). length (script_visits (setting_in line_setup) (scripts_of switching_input) a)) low ∙ one-left in
     let none : length (own view.low view.seen) ≡ 0 = ap (λ (h : History). length (own view.low h)) seen in
     omega (arith, part.begun.room, one, none, zeroth)
-full view spare (roles.Finder finder) low seen zeroth part = omega (arith, part.high, low)
+full view (roles.Finder finder) low seen zeroth part = omega (arith, part.high, low)
 
 pub returns-clause-no_room : goal.returns-clause-no_room
 returns-clause-no_room c = λ tracker worker set seen zeroth its.
-    full worker.pass.view worker.pass.spare worker.role seen.low seen.seen_is zeroth
+    full worker.pass.view worker.role seen.low seen.seen_is zeroth
     (subst (λ (s : Setup). IsRole switching_input s worker.pass.view worker.pass.spare worker.role) set its.role)
 
 pub returns-clause-caller : goal.returns-clause-caller

@@ -13,8 +13,7 @@ visit_walk-requires c =
     let set = c.requires.its.1 in
     let its = c.requires.its.2 in
     let setup = c.args.tracker.now.setup in
-    let at = walking-of input setup c.args.pass.now.view.low c.args.pass.now.view.seen c.args.pass.now.spare
-    c.args.self.now c.in-Some.walk its c.in-Some.is in
+    let at = walking-of its c.in-Some.is in
     record {
       way = record {
         of = c.requires.of;
@@ -22,12 +21,9 @@ visit_walk-requires c =
         belongs = set.together.belongs;
         outside = c.requires.outside;
         goes = at.goes;
-        known = walk-known c.scripts_are_valid.ensures input setup c.args.plan.now c.args.distances.now
-            c.args.pass.now.view.low c.args.pass.now.view.seen c.args.pass.now.spare c.args.self.now c.in-Some.walk
-            set its c.in-Some.is;
+        known = walk-known c.scripts_are_valid.ensures set its c.in-Some.is;
       };
-      spare = look-room input setup c.args.pass.now.view.low c.args.pass.now.view.seen c.args.pass.now.spare
-          c.args.self.now c.in-Some.walk its c.in-Some.is;
+      spare = look-room its c.in-Some.is;
       left = ap answer_of at.so_far ∙ at.unanswered;
     }
 
@@ -36,16 +32,13 @@ overflow_add-self c =
     let set = c.requires.its.1 in
     omega (
       arith,
-      done-low c.requires.its.0 c.args.tracker.now.setup c.args.pass.now.view.low c.args.pass.now.view.seen
-          c.args.pass.now.spare c.args.self.now c.in-Some.walk set.together.valid set.homes c.requires.its.2
-          c.in-Some.is,
+      done-low set.together.valid set.homes c.requires.its.2 c.in-Some.is,
     )
 
 pub returns-in_err-visit_walk : goal.returns-in_err-visit_walk
 returns-in_err-visit_walk c = record {
   tries = λ input set its.
-      let lost = lost-look input c.args.tracker.now.setup c.args.pass.now c.visit_walk.new.pass c.args.self.now _
-      c.in-Some.walk c.visit_walk.new.walk _ set.homes its c.in-Some.is c.in_err-visit_walk.ensures.looked refl in
+      let lost = lost-look set.homes its c.in-Some.is c.in_err-visit_walk.ensures.looked refl in
       (held-passed c.from_residual.result c.in_err-visit_walk.field-0.0 _ _ c.from_residual.ensures.1 lost.0, lost.1);
 }
 
@@ -56,15 +49,13 @@ returns-then-is_some c = record {
       let old = c.args.pass.now in
       let new = c.visit_walk.new.pass in
       let on = c.in_ok-visit_walk.ensures.looked in
-      let at = looked c.lines_grow.ensures.kept c.lines_grow.ensures.read c.looks_fall.ensures input setup old new
-      c.args.self.now c.in-Some.walk c.visit_walk.new.walk _ set.homes its c.in-Some.is on in
+      let at = looked c.lines_grow.ensures.kept c.lines_grow.ensures.read c.looks_fall.ensures set.homes its
+      c.in-Some.is on in
       let found = some-is c.answer.result (sym c.is_some.ensures ∙ c.if-is_some.true) in (
         at.made,
-        looked-up input setup old new c.args.self.now _ c.visit_walk.new.walk found.0 its at
-            (sym (c.answer.ensures setup.plan on.goes) ∙ found.1) refl refl (omega arith)
+        looked-up _ its at (sym (c.answer.ensures setup.plan on.goes) ∙ found.1) refl refl (omega arith)
             (subst (λ p. IsWalking p (drop (c.args.self.now.done + 1) (map find_of c.args.self.now.script.items))
-            at_origin
-            c.walk_at-self.result) set.plan_is
+            at_origin c.walk_at-self.result) set.plan_is
             (subst (λ s. IsWalking c.args.plan.now (drop (c.args.self.now.done + 1) (map find_of s)) at_origin
             c.walk_at-self.result) c.deref.ensures.value c.walk_at-self.ensures)) set.homes,
       );
@@ -76,13 +67,10 @@ returns-else-is_some c = record {
       let setup = c.args.tracker.now.setup in
       let old = c.args.pass.now in
       let new = c.visit_walk.new.pass in
-      let at = looked c.lines_grow.ensures.kept c.lines_grow.ensures.read c.looks_fall.ensures input setup old new
-      c.args.self.now c.in-Some.walk c.visit_walk.new.walk _ set.homes its c.in-Some.is
-      c.in_ok-visit_walk.ensures.looked in (
+      let at = looked c.lines_grow.ensures.kept c.lines_grow.ensures.read c.looks_fall.ensures set.homes its
+      c.in-Some.is c.in_ok-visit_walk.ensures.looked in (
         at.made,
-        looked-on input setup old new c.args.self.now _ c.visit_walk.new.walk its at
-            (sym (c.answer.ensures setup.plan at.goes) ∙ is_some-none c.answer.result
-            (sym c.is_some.ensures ∙ c.if-is_some.false))
-            refl refl refl refl,
+        looked-on _ its at (sym (c.answer.ensures setup.plan at.goes)
+            ∙ is_some-none c.answer.result (sym c.is_some.ensures ∙ c.if-is_some.false)) refl refl refl refl,
       );
 }

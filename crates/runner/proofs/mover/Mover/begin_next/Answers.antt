@@ -8,23 +8,20 @@ use Rattle.directory.specs.ListLaws.{is_some-none}
 pub returns-then-is_some : goal.returns-then-is_some
 returns-then-is_some c = record {
   its = λ input setup view spare set part.
-      still-due input setup c.args.plan.now c.args.distances.now view spare c.args.self.now c.next.result set part
-      (c.next.ensures.stands setup.homes part.its.steps (length (puts_to view.low view.seen)))
+      still-due set part (c.next.ensures.stands setup.homes part.its.steps (length (puts_to view.low view.seen)))
       (sym c.is_some.ensures ∙ c.if-is_some.true);
 }
 
 pub returns-then-self-len : goal.returns-then-self-len
 returns-then-self-len c = record {
   its = λ input setup view spare set part.
-      all-begun input setup c.args.plan.now c.args.distances.now view spare c.args.self.now set part
-      (omega (arith, c.if-self-len.true, c.len.ensures));
+      all-begun set part (omega (arith, c.if-self-len.true, c.len.ensures));
 }
 
 pub begin_step-requires-clause-may : goal.begin_step-requires-clause-may
 begin_step-requires-clause-may c =
     let its = c.requires.its in
-    let at = ready c.scripts_are_valid.ensures its.0 its.1 c.args.plan.now c.args.distances.now its.2 its.3
-    c.args.self.now c.index.result.now its.4 its.5
+    let at = ready c.scripts_are_valid.ensures its.4 its.5
     (is_some-none c.next.result (sym c.is_some.ensures ∙ c.if-is_some.false)) c.next.ensures.exact
     (omega (arith, c.if-self-len.false, c.len.ensures)) c.index.ensures
     in
@@ -33,11 +30,9 @@ begin_step-requires-clause-may c =
 pub returns : goal.returns
 returns c = record {
   its = λ input setup view spare set part.
-      begun-now input setup c.args.plan.now view spare c.args.self.now _ c.index.result.now set.plan_is part
-      (ready c.scripts_are_valid.ensures input setup c.args.plan.now c.args.distances.now view spare c.args.self.now
-      c.index.result.now set part (is_some-none c.next.result (sym c.is_some.ensures ∙ c.if-is_some.false))
-      c.next.ensures.exact (omega (arith, c.if-self-len.false, c.len.ensures)) c.index.ensures)
-      c.begin_step.ensures.goes c.begin_step.ensures.its
-      (c.begin_step.ensures.stands setup.homes part.its.steps (length (puts_to view.low view.seen))) refl
-      (omega arith);
+      begun-now _ set.plan_is part (ready c.scripts_are_valid.ensures set part
+      (is_some-none c.next.result (sym c.is_some.ensures ∙ c.if-is_some.false)) c.next.ensures.exact
+      (omega (arith, c.if-self-len.false, c.len.ensures)) c.index.ensures) c.begin_step.ensures.goes
+      c.begin_step.ensures.its (c.begin_step.ensures.stands setup.homes part.its.steps
+      (length (puts_to view.low view.seen))) refl (omega arith);
 }

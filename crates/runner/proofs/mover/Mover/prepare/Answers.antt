@@ -17,7 +17,7 @@ returns-clause-its c = λ input setup view spare set its.
     → c.next.result ≡ slice_get (visits (setting_of p setup.homes) c.begin_next.new.self.handset.sub part.its.steps)
     made) set.plan_is (c.next.ensures.stands setup.homes part.its.steps made) part.its.stands in (
       part,
-      next-due-of input setup view spare c.begin_next.new.self c.next.result _ way here c.next.ensures.exact,
+      next-due-of way here c.next.ensures.exact,
     )
 
 pub next-requires : goal.next-requires

@@ -7,20 +7,18 @@ use Rattle.runner.proofs.mover.Mover.put.Goals as goal
 pub visit_put-requires-clause-spare : goal.visit_put-requires-clause-spare
 visit_put-requires-clause-spare c =
     let visit = due-some (due (setting_of c.args.plan.now []) c.args.self.now.handset) c.requires.left in
-    room-left c.requires.its.0 c.args.tracker.now.setup c.args.pass.now.view c.args.pass.now.spare c.args.self.now
-    visit.0 c.requires.its.1 (c.requires.its.2 ∙ visit.1)
+    room-left c.requires.its.1 (c.requires.its.2 ∙ visit.1)
 
 pub returns-in-Ok : goal.returns-in-Ok
 returns-in-Ok c = record {
   tries = λ input part next.
-      put-on input c.args.tracker.now.setup c.args.plan.now c.args.pass.now c.visit_put.new.pass c.args.self.now _
-      c.in-Ok._ticket c.requires.plan part next c.requires.left c.in-Ok.ensures.made.0 c.in-Ok.ensures.goes_on refl
-      refl;
+      put-on c.args.pass.now c.visit_put.new.pass _ c.in-Ok._ticket c.requires.plan part next c.requires.left
+      c.in-Ok.ensures.made.0 c.in-Ok.ensures.goes_on refl refl;
 }
 
 pub returns-in-Err : goal.returns-in-Err
 returns-in-Err c = record {
   tries = λ input part next.
-      put-held input c.args.tracker.now.setup c.args.pass.now c.visit_put.new.pass c.args.self.now _ _
-      c.in-Err.held next c.requires.left c.in-Err.ensures.made.0 part c.in-Err.ensures.made.1 refl refl;
+      put-held c.args.pass.now c.visit_put.new.pass _ _ c.in-Err.held next c.requires.left c.in-Err.ensures.made.0 part
+      c.in-Err.ensures.made.1 refl refl;
 }

@@ -6,8 +6,7 @@ use Rattle.runner.proofs.worker.Worker.new.Goals as goal
 
 pub returns-clause-worker : goal.returns-clause-worker
 returns-clause-worker c = λ tracker of.
-    worker-reserved (seen_input c.args.input.now) c.args.plan.now tracker c.args.pass c.reserve.new.self c.in-Ok.role
-    c.in-Ok.visits c.reserve.result c.requires.may of
+    worker-reserved c.reserve.new.self c.in-Ok.role c.in-Ok.visits c.reserve.result c.requires.may of
     (subst (λ a. IsRoleAt (seen_input c.args.input.now) c.args.plan.now a c.in-Ok.visits c.in-Ok.role) c.actor.ensures
     c.in-Ok.ensures.role) c.in-Ok.ensures.few
     (sym c.is_err.ensures.value ∙ c.if-is_err.false) c.reserve.ensures.room

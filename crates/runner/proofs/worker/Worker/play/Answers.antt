@@ -1,4 +1,4 @@
-use Rattle.std.proofs.Common.{◌≡◌, ◌+◌, refl, ap, ◌∙◌, arith}
+use Rattle.std.proofs.Common.{◌≡◌, refl, ap, ◌∙◌, arith}
 use Rattle.net_reader.specs.Input.{Contents}
 use Rattle.runner.specs.Workers.{MayPlay}
 use Rattle.runner.specs.declared.worker.Attempt.{Attempt}
@@ -16,8 +16,7 @@ held-no e = cc
 pub tries-init : goal.tries-init
 tries-init g c = record {
   may = c.requires.may;
-  gone = λ input may. role-gone input c.args.tracker.now c.args.self.now c.args.self.now.role may.worker_is
-      may.worker_is.role;
+  gone = λ input may. role-gone c.args.self.now.role may.worker_is may.worker_is.role;
   few = omega arith;
   kept = λ is_open. refl;
   shut = λ is_shut. (refl, refl, refl);
@@ -45,9 +44,9 @@ returns-then-held-kept-clause-played g c = λ input may.
     gone.worker.role in
     record {
       lost = c.tries.held;
-      gone = prepared-gone input tracker c.args.self.now c.tries.self c.prepare.new.self c.tries.held gone prepares.0;
+      gone = prepared-gone c.prepare.new.self gone prepares.0;
       says = (
-        some-left input tracker.setup c.tries.self.pass c.prepare.new.self c.prepare.result c.tries-test.true prepares,
+        some-left input tracker.setup c.tries.self.pass c.prepare.new.self c.tries-test.true prepares,
         c.if-held-kept.true,
         refl,
       );
@@ -58,10 +57,8 @@ attempt-requires-clause-may g c κs within =
     let input = c.tries.invariant.may.0 in
     let may = c.tries.invariant.may.1 in (
       input,
-      may-try input c.args.tracker.now c.args.plan.now c.args.distances.now c.tries.self c.prepare.new.self
-          c.prepare.result may c.tries-test.true
-          (c.prepare.ensures.its input c.args.tracker.now.setup c.tries.self.pass.view c.tries.self.pass.spare may.set
-          may.worker_is.role),
+      may-try c.prepare.new.self may c.tries-test.true (c.prepare.ensures.its input c.args.tracker.now.setup
+          c.tries.self.pass.view c.tries.self.pass.spare may.set may.worker_is.role),
     )
 
 pub tries-smaller-in-Made : goal.tries-smaller-in-Made
@@ -69,10 +66,8 @@ tries-smaller-in-Made g c =
     let input = c.tries.invariant.may.0 in
     let may = c.tries.invariant.may.1 in
     let tried = c.in-Made.ensures.tried input
-    (may-try input c.args.tracker.now c.args.plan.now c.args.distances.now c.tries.self c.prepare.new.self
-    c.prepare.result may c.tries-test.true
-    (c.prepare.ensures.its input c.args.tracker.now.setup c.tries.self.pass.view c.tries.self.pass.spare may.set
-    may.worker_is.role)) in
+    (may-try c.prepare.new.self may c.tries-test.true (c.prepare.ensures.its input c.args.tracker.now.setup
+    c.tries.self.pass.view c.tries.self.pass.spare may.set may.worker_is.role)) in
     omega (arith, tried.0.spare, tried.1)
 
 pub tries-preserved-in-Made : goal.tries-preserved-in-Made
@@ -80,10 +75,8 @@ tries-preserved-in-Made g c =
     let tracker = c.args.tracker.now in
     let try_of = λ (input : Contents) (may : MayPlay input tracker c.args.plan.now c.args.distances.now c.tries.self).
     c.in-Made.ensures.tried input
-    (may-try input tracker c.args.plan.now c.args.distances.now c.tries.self c.prepare.new.self
-    c.prepare.result may c.tries-test.true
-    (c.prepare.ensures.its input tracker.setup c.tries.self.pass.view c.tries.self.pass.spare may.set
-    may.worker_is.role)) in
+    (may-try c.prepare.new.self may c.tries-test.true (c.prepare.ensures.its input tracker.setup c.tries.self.pass.view
+    c.tries.self.pass.spare may.set may.worker_is.role)) in
     record {
       may = (
         c.tries.invariant.may.0,
@@ -97,9 +90,7 @@ tries-preserved-in-Made g c =
           let prepares = c.prepare.ensures.its input tracker.setup c.tries.self.pass.view c.tries.self.pass.spare
           may.set
           gone.worker.role in
-          gone-on c.lines_grow.ensures.kept input tracker c.args.self.now _ c.attempt.new.self c.tries.held 0
-          c.tries.held
-          (prepared-gone input tracker c.args.self.now c.tries.self c.prepare.new.self c.tries.held gone prepares.0)
+          gone-on c.lines_grow.ensures.kept (prepared-gone c.prepare.new.self gone prepares.0)
           (try_of input (record { set = may.set; worker_is = gone.worker })).0 (omega arith);
       few = c.tries.invariant.few;
       kept = c.tries.invariant.kept;
@@ -111,10 +102,8 @@ tries-smaller-in-Held g c =
     let input = c.tries.invariant.may.0 in
     let may = c.tries.invariant.may.1 in
     let tried = c.in-Held.ensures.tried input
-    (may-try input c.args.tracker.now c.args.plan.now c.args.distances.now c.tries.self c.prepare.new.self
-    c.prepare.result may c.tries-test.true
-    (c.prepare.ensures.its input c.args.tracker.now.setup c.tries.self.pass.view c.tries.self.pass.spare may.set
-    may.worker_is.role)) in
+    (may-try c.prepare.new.self may c.tries-test.true (c.prepare.ensures.its input c.args.tracker.now.setup
+    c.tries.self.pass.view c.tries.self.pass.spare may.set may.worker_is.role)) in
     omega (arith, tried.0.spare, tried.1, c.tries.invariant.few, c.if-held-kept.false)
 
 pub tries-preserved-in-Held : goal.tries-preserved-in-Held
@@ -122,10 +111,8 @@ tries-preserved-in-Held g c =
     let tracker = c.args.tracker.now in
     let try_of = λ (input : Contents) (may : MayPlay input tracker c.args.plan.now c.args.distances.now c.tries.self).
     c.in-Held.ensures.tried input
-    (may-try input tracker c.args.plan.now c.args.distances.now c.tries.self c.prepare.new.self
-    c.prepare.result may c.tries-test.true
-    (c.prepare.ensures.its input tracker.setup c.tries.self.pass.view c.tries.self.pass.spare may.set
-    may.worker_is.role)) in
+    (may-try c.prepare.new.self may c.tries-test.true (c.prepare.ensures.its input tracker.setup c.tries.self.pass.view
+    c.tries.self.pass.spare may.set may.worker_is.role)) in
     record {
       may = (
         c.tries.invariant.may.0,
@@ -139,9 +126,7 @@ tries-preserved-in-Held g c =
           let prepares = c.prepare.ensures.its input tracker.setup c.tries.self.pass.view c.tries.self.pass.spare
           may.set
           gone.worker.role in
-          gone-on c.lines_grow.ensures.kept input tracker c.args.self.now _ c.attempt.new.self c.tries.held 1
-          (c.tries.held + 1)
-          (prepared-gone input tracker c.args.self.now c.tries.self c.prepare.new.self c.tries.held gone prepares.0)
+          gone-on c.lines_grow.ensures.kept (prepared-gone c.prepare.new.self gone prepares.0)
           (try_of input (record { set = may.set; worker_is = gone.worker })).0 (omega arith);
       few = omega (arith, c.tries.invariant.few, c.if-held-kept.false);
       kept = c.tries.invariant.kept;
@@ -153,10 +138,8 @@ tries-smaller g c =
     let input = c.tries.invariant.may.0 in
     let may = c.tries.invariant.may.1 in
     let same = c.in-Shut.ensures.tried input
-    (may-try input c.args.tracker.now c.args.plan.now c.args.distances.now c.tries.self c.prepare.new.self
-    c.prepare.result may c.tries-test.true
-    (c.prepare.ensures.its input c.args.tracker.now.setup c.tries.self.pass.view c.tries.self.pass.spare may.set
-    may.worker_is.role)) in
+    (may-try c.prepare.new.self may c.tries-test.true (c.prepare.ensures.its input c.args.tracker.now.setup
+    c.tries.self.pass.view c.tries.self.pass.spare may.set may.worker_is.role)) in
     omega (arith, ap (λ (w : Worker). w.pass.spare) same, c.tries.invariant.few, c.if-held-kept.false)
 
 pub tries-preserved : goal.tries-preserved
@@ -164,15 +147,12 @@ tries-preserved g c =
     let tracker = c.args.tracker.now in
     let try_of = λ (input : Contents) (may : MayPlay input tracker c.args.plan.now c.args.distances.now c.tries.self).
     c.in-Shut.ensures.tried input
-    (may-try input tracker c.args.plan.now c.args.distances.now c.tries.self c.prepare.new.self
-    c.prepare.result may c.tries-test.true
-    (c.prepare.ensures.its input tracker.setup c.tries.self.pass.view c.tries.self.pass.spare may.set
-    may.worker_is.role)) in
+    (may-try c.prepare.new.self may c.tries-test.true (c.prepare.ensures.its input tracker.setup c.tries.self.pass.view
+    c.tries.self.pass.spare may.set may.worker_is.role)) in
     record {
       may = (
         c.tries.invariant.may.0,
-        kept-may c.tries.invariant.may.0 tracker c.args.plan.now c.args.distances.now c.tries.self c.attempt.new.self
-            c.prepare.new.self c.tries.invariant.may.1
+        kept-may c.prepare.new.self c.tries.invariant.may.1
             (c.prepare.ensures.its c.tries.invariant.may.0 tracker.setup c.tries.self.pass.view c.tries.self.pass.spare
             c.tries.invariant.may.1.set c.tries.invariant.may.1.worker_is.role).0
             (try_of c.tries.invariant.may.0 c.tries.invariant.may.1),
@@ -182,8 +162,7 @@ tries-preserved g c =
           let prepares = c.prepare.ensures.its input tracker.setup c.tries.self.pass.view c.tries.self.pass.spare
           may.set
           gone.worker.role in
-          kept-gone input tracker c.args.self.now _ c.attempt.new.self c.tries.held
-          (prepared-gone input tracker c.args.self.now c.tries.self c.prepare.new.self c.tries.held gone prepares.0)
+          kept-gone (prepared-gone c.prepare.new.self gone prepares.0)
           (try_of input (record { set = may.set; worker_is = gone.worker }));
       few = omega (arith, c.tries.invariant.few, c.if-held-kept.false);
       kept = λ is_open. absurd (c.in-Shut.ensures.closed is_open refl);
@@ -204,6 +183,6 @@ returns-clause-played g c = λ input may.
     gone.worker.role in
     record {
       lost = c.tries.held;
-      gone = prepared-gone input tracker c.args.self.now c.tries.self c.prepare.new.self c.tries.held gone prepares.0;
+      gone = prepared-gone c.prepare.new.self gone prepares.0;
       says = (prepares.2.0 c.tries-test.false, omega (arith, c.tries.invariant.few));
     }
