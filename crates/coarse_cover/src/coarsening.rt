@@ -5,7 +5,7 @@ ghost use Rattle.std.specs.Prelude.{OnOk};
 ghost use Rattle.node_set.specs.Ascending.{has};
 ghost use Rattle.node_set.specs.Nodes.{Nodes};
 ghost use Rattle.coarse_cover.specs.Coarsening.{coarsening, all_clusters};
-ghost use Rattle.node_set.specs.Workspaces.{IsWorkspace};
+ghost use Rattle.node_set.specs.Workspaces.{AreSpareLeft, IsWorkspace, SpareTaken};
 ghost use Rattle.node_set.specs.Turned.{AreTurned};
 ghost use Rattle.node_set.specs.Balls.{sets, AreCentred, AreHomes};
 ghost use Rattle.coarse_cover.specs.Covers.{IsCover, member_lists, AreApart};
@@ -50,7 +50,8 @@ pub fn coarsen(alloc: Global, balls: &[NodeSet], k: u32) -> Result<Cover, OutOfM
 
 /// Coarsens balls as `coarsen` does, where their rows are there: the row of each node is the set of
 /// the centres of the balls that have it. Balls of distances are their own rows. The workspace is
-/// for as many balls, and stays so where memory is wanting.
+/// for as many balls, and stays so where memory is wanting. Each cluster takes the last of its
+/// spare sets, where one is left; its other sets are written over.
 pub fn coarsen_by_rows(
     alloc: Global,
     balls: &[NodeSet],
@@ -74,6 +75,9 @@ pub fn coarsen_by_rows(
     ensures overlap { IfOk result (λ cover. (x : ℕ)
         → count_by (λ c. has x c.members.members) cover.clusters.items ≤ cover.phases) }
     ensures few { IfOk result (λ cover. length cover.clusters.items ≤ length balls.now) }
+    ensures spare { IfOk result (λ cover. SpareTaken (length cover.clusters.items)
+        work.old.growth.spare.items work.new.growth.spare.items) }
+    ensures spare_left { AreSpareLeft work.old.growth.spare.items work.new.growth.spare.items }
 {
     covers_are_sparse();
     fill_all(&mut work.left);

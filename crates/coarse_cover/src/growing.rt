@@ -4,6 +4,7 @@ ghost use Rattle.std.specs.Prelude.{◌≡◌, ℕ, ◌≤◌, ◌<◌, ◌∷�
 ghost use Rattle.node_set.specs.Nodes.{Nodes};
 ghost use Rattle.coarse_cover.specs.Coarsening.{cluster_of};
 ghost use Rattle.node_set.specs.Turned.{AreTurned};
+ghost use Rattle.node_set.specs.Workspaces.{SpareTaken};
 ghost use Rattle.node_set.specs.Balls.{touches, sets};
 ghost use Rattle.coarse_cover.specs.HalfMade.{IsReady};
 
@@ -51,6 +52,7 @@ pub fn grow(
     ensures touched_room { growth.new.touched.room ≡ length balls.now }
     ensures spare_rooms { All (λ (s : Nodes). s.room ≡ length balls.now)
         growth.new.spare.items }
+    ensures spare { SpareTaken 1 growth.old.spare.items growth.new.spare.items }
 {
     let mut members = empty_set(alloc, &mut growth.spare, balls.len() as u32)?;
     members.absorb(&balls[first]);

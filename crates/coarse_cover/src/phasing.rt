@@ -1,11 +1,12 @@
 //! One phase: clusters are added until no ball waits.
 
-ghost use Rattle.std.specs.Prelude.{◌≡◌, ℕ, ◌+◌, ◌≤◌, ◌<◌, ◌∷◌, ◌^◌, List, length, All, IfOk, OnOk};
+ghost use Rattle.std.specs.Prelude.{◌≡◌, ℕ, ◌+◌, ◌-◌, ◌≤◌, ◌<◌, ◌∷◌, ◌^◌, List, length, All, IfOk};
+ghost use Rattle.std.specs.Prelude.{OnOk};
 ghost use Rattle.node_set.specs.Nodes.{Nodes};
 ghost use Rattle.coarse_cover.specs.Coarsening.{cluster_of};
 ghost use Rattle.node_set.specs.Balls.{sets, AreCentred};
 ghost use Rattle.coarse_cover.specs.HalfMade.{IsReady, IsAdded, IsBetween};
-ghost use Rattle.node_set.specs.Workspaces.{IsWorkspace};
+ghost use Rattle.node_set.specs.Workspaces.{AreSpareLeft, IsWorkspace, SpareTaken};
 ghost use Rattle.node_set.specs.Turned.{AreTurned};
 
 use crate::cover::{Cluster, Cover};
@@ -41,6 +42,7 @@ fn add_cluster(
         (cluster_of (sets balls.now) k r work.old.waiting.members first)
         work.old work.new cover.old cover.new) }
     ensures sized { IsWorkspace (length balls.now) work.new }
+    ensures spare { SpareTaken 1 work.old.growth.spare.items work.new.growth.spare.items }
 {
     let number = cover.clusters.len() as u32;
     let members = grow(
@@ -91,6 +93,11 @@ pub fn make_phase(
     ensures next { OnOk result (cover.new.phases ≡ cover.old.phases + 1) }
     ensures sized { IsWorkspace (length balls.now) work.new }
     ensures home_count { OnOk result (length cover.new.home.items ≡ length balls.now) }
+    ensures more { OnOk result (length cover.old.clusters.items ≤ length cover.new.clusters.items) }
+    ensures spare { OnOk result (SpareTaken
+        (length cover.new.clusters.items - length cover.old.clusters.items)
+        work.old.growth.spare.items work.new.growth.spare.items) }
+    ensures spare_left { AreSpareLeft work.old.growth.spare.items work.new.growth.spare.items }
 {
     // No more balls are left than there are.
     set_is_sound(&work.left);

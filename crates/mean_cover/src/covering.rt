@@ -5,7 +5,7 @@ ghost use Rattle.std.specs.Prelude.{IfOk, OnOk};
 ghost use Rattle.node_set.specs.Nodes.{Nodes};
 ghost use Rattle.node_set.specs.Balls.{sets, AreCentred, AreInside, AreHomes};
 ghost use Rattle.node_set.specs.Turned.{AreTurned};
-ghost use Rattle.node_set.specs.Workspaces.{IsWorkspace};
+ghost use Rattle.node_set.specs.Workspaces.{AreSpareLeft, IsWorkspace, SpareTaken};
 ghost use Rattle.mean_cover.specs.Covering.{mean_cluster, mean_covering};
 ghost use Rattle.mean_cover.specs.MeanCovers.{IsMeanCover, member_lists};
 ghost use Rattle.mean_cover.specs.HalfMade.{IsReady, IsAdded};
@@ -49,7 +49,8 @@ pub fn coarsen_mean(alloc: Global, balls: &[NodeSet], k: u32) -> Result<MeanCove
 
 /// Coarsens balls as `coarsen_mean` does, where their rows are there: the row of each node is the
 /// set of the centres of the balls that have it. Balls of distances are their own rows. The
-/// workspace is for as many balls, and stays so where memory is wanting.
+/// workspace is for as many balls, and stays so where memory is wanting. Each cluster takes the
+/// last of its spare sets, where one is left; its other sets are written over.
 pub fn coarsen_mean_by_rows(
     alloc: Global,
     balls: &[NodeSet],
@@ -71,6 +72,9 @@ pub fn coarsen_mean_by_rows(
     ensures exact { IfOk result (λ cover.
         IsMeanCover (length balls.now) (mean_covering (sets balls.now) k) cover) }
     ensures few { IfOk result (λ cover. length cover.clusters.items ≤ length balls.now) }
+    ensures spare { IfOk result (λ cover. SpareTaken (length cover.clusters.items)
+        work.old.growth.spare.items work.new.growth.spare.items) }
+    ensures spare_left { AreSpareLeft work.old.growth.spare.items work.new.growth.spare.items }
 {
     fill_all(&mut work.waiting);
     let mut cover = MeanCover {
@@ -113,6 +117,7 @@ fn add_cluster(
         (mean_cluster (sets balls.now) k work.old.waiting.members first)
         work.old work.new cover.old cover.new) }
     ensures sized { IsWorkspace (length balls.now) work.new }
+    ensures spare { SpareTaken 1 work.old.growth.spare.items work.new.growth.spare.items }
 {
     let number = cover.clusters.len() as u32;
     let members = grow(

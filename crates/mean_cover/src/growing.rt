@@ -4,6 +4,7 @@ ghost use Rattle.std.specs.Prelude.{◌≡◌, ℕ, ◌≤◌, ◌<◌, ◌∷�
 ghost use Rattle.node_set.specs.Nodes.{Nodes};
 ghost use Rattle.node_set.specs.Balls.{AreInside, sets};
 ghost use Rattle.node_set.specs.Turned.{AreTurned};
+ghost use Rattle.node_set.specs.Workspaces.{SpareTaken};
 ghost use Rattle.mean_cover.specs.Covering.{mean_cluster};
 ghost use Rattle.mean_cover.specs.HalfMade.{IsReady};
 
@@ -46,6 +47,7 @@ pub fn grow(
     ensures touched_room { growth.new.touched.room ≡ length balls.now }
     ensures spare_rooms { All (λ (s : Nodes). s.room ≡ length balls.now)
         growth.new.spare.items }
+    ensures spare { SpareTaken 1 growth.old.spare.items growth.new.spare.items }
 {
     let nodes = balls.len() as u32;
     let mut members = empty_set(alloc, &mut growth.spare, nodes)?;

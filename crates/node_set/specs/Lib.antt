@@ -10,6 +10,7 @@ pub mod Limits
 pub mod ScanLaws
 pub mod Turned
 pub mod Workspaces
+pub mod WorkspaceLaws
 pub mod TurnLaws
 pub mod LeadLaws
 pub mod GrowthLaws

@@ -1,9 +1,8 @@
 //! What the making of a cover writes over.
 
 ghost use Rattle.std.specs.Prelude.{◌≡◌, ◌≤◌, ◌++◌, ◌∷◌, ◌-◌, ℕ, [], All, IfOk, OnErr, OnOk, length};
-ghost use Rattle.std.specs.Prelude.{take};
 ghost use Rattle.node_set.specs.Nodes.{Nodes};
-ghost use Rattle.node_set.specs.Workspaces.{IsWorkspace};
+ghost use Rattle.node_set.specs.Workspaces.{IsWorkspace, SpareTaken};
 
 use crate::set::{NodeSet, OutOfMemory};
 use std::alloc::Global;
@@ -69,7 +68,7 @@ pub fn empty_set(alloc: Global, spare: &mut Vec<NodeSet>, room: u32) -> Result<N
     requires spare { All (λ (s : Nodes). s.room ≡ room) spare.old.items }
     ensures set { IfOk result (λ set. set ≡ record { room = room; members = [] }) }
     ensures spare { All (λ (s : Nodes). s.room ≡ room) spare.new.items }
-    ensures taken { spare.new.items ≡ take (length spare.old.items - 1) spare.old.items }
+    ensures taken { SpareTaken 1 spare.old.items spare.new.items }
 {
     match spare.pop() {
         Some(set) => {

@@ -1,4 +1,4 @@
-use Rattle.std.proofs.Common.{◌≡◌, ◌≤◌, ℕ, List, length, ap, sym, ◌∙◌, subst}
+use Rattle.std.proofs.Common.{◌≡◌, ◌≤◌, ◌-◌, ℕ, List, length, ap, arith, sym, ◌∙◌, subst}
 use Rattle.coarse_cover.specs.Coarsening.{coarsening}
 use Rattle.coarse_cover.specs.Covers.{IsCover}
 use Rattle.coarse_cover.specs.HalfMade.{IsBetween}
@@ -9,6 +9,8 @@ use Rattle.coarse_cover.proofs.coarsening.coarsen_by_rows.Goals as goal
 use Rattle.coarse_cover.specs.declared.cover.Cover.{Cover}
 use Rattle.node_set.specs.Nodes.{Nodes}
 use Rattle.node_set.specs.Balls.{centres, sets}
+use Rattle.node_set.specs.Workspaces.{SpareTaken}
+use Rattle.node_set.specs.WorkspaceLaws.{left_on, none_taken, taken_on}
 use Rattle.node_set.specs.BallLaws.{length-sets}
 
 pub phase-init : goal.phase-init
@@ -32,7 +34,23 @@ phase-init c =
         spare = c.requires.work.spare;
       };
       home_count = sym c.in_ok-vec.field-0.ok.0 ∙ c.in_ok-vec.ensures.len;
+      spare = subst (λ (l : List Cluster). SpareTaken (length l) c.args.work.now.growth.spare.items
+          c.args.work.now.growth.spare.items) (sym c.new.ensures.items) (none_taken c.args.work.now.growth.spare.items);
     }
+
+pub phase-preserved : goal.phase-preserved
+phase-preserved c = record {
+  between = c.in_ok-make_phase.ensures.between;
+  sized = c.make_phase.ensures.sized;
+  home_count = c.in_ok-make_phase.ensures.home_count;
+  spare = subst
+      (λ (n : ℕ). SpareTaken n c.args.work.now.growth.spare.items c.make_phase.new.work.growth.spare.items)
+      (omega (arith, c.in_ok-make_phase.ensures.more))
+      (taken_on (length c.phase.cover.clusters.items)
+      (length c.make_phase.new.cover.clusters.items - length c.phase.cover.clusters.items)
+      c.args.work.now.growth.spare.items c.phase.work.growth.spare.items c.make_phase.new.work.growth.spare.items
+      c.phase.invariant.spare c.in_ok-make_phase.ensures.spare);
+}
 
 -- no ball is left
 cover_is : (balls : List Nodes) (k : ℕ) (left : List ℕ) (cover : Cover) → length left ≤ 0
@@ -72,3 +90,11 @@ returns-clause-overlap c = λ x.
     (cover_is c.args.balls.now c.args.k c.phase.work.left.members c.phase.cover
     (subst (λ (n : ℕ). n ≤ 0) c.count.ensures c.phase-test.false) c.phase.invariant.between
     c.phase.invariant.home_count)
+
+pub returns-clause-spare_left : goal.returns-clause-spare_left
+returns-clause-spare_left c = (length c.phase.cover.clusters.items, c.phase.invariant.spare)
+
+pub returns-in_err-make_phase-clause-spare_left : goal.returns-in_err-make_phase-clause-spare_left
+returns-in_err-make_phase-clause-spare_left c =
+    left_on (length c.phase.cover.clusters.items) c.args.work.now.growth.spare.items c.phase.work.growth.spare.items
+    c.make_phase.new.work.growth.spare.items c.phase.invariant.spare c.make_phase.ensures.spare_left

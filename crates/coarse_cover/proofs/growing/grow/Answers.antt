@@ -36,6 +36,7 @@ loop-step-init c =
           ∙ c.requires.taken;
       touched_room = c.requires.touched;
       spare_rooms = c.in_ok-members.ensures.spare;
+      spare = c.in_ok-members.ensures.taken;
     }
 
 -- the balls that touch the union so far
@@ -155,6 +156,7 @@ loop-step-preserved c =
           ∙ c.loop-step.invariant.touched_room;
       touched_room = ap (λ (s : Nodes). s.room) c.swap.ensures.y_after ∙ c.loop-step.invariant.taken_room;
       spare_rooms = c.loop-step.invariant.spare_rooms;
+      spare = c.loop-step.invariant.spare;
     })
 
 pub unreachable-requires : goal.unreachable-requires

@@ -3,6 +3,7 @@ use Rattle.coarse_cover.specs.Coarsening.{is_enough}
 use Rattle.node_set.specs.Balls.{growth, union_of, sets}
 use Rattle.std.specs.Prelude.{All}
 use Rattle.node_set.specs.Nodes.{Nodes}
+use Rattle.node_set.specs.Workspaces.{SpareTaken}
 use Rattle.coarse_cover.proofs.growing.grow.Given as goal
 
 abbrev pub invariant-loop-step : goal.invariant-loop-step
@@ -17,4 +18,5 @@ invariant-loop-step l = record {
   taken_room : l.growth.taken.room ≡ length l.balls;
   touched_room : l.growth.touched.room ≡ length l.balls;
   spare_rooms : All (λ (s : Nodes). s.room ≡ length l.balls) l.growth.spare.items;
+  spare : SpareTaken 1 l.fn.growth.spare.items l.growth.spare.items;
 }

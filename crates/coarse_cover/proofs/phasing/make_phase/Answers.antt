@@ -1,7 +1,9 @@
 use Rattle.std.proofs.Common.{◌≡◌, inl, inr, ◌<◌, ◌≤◌, ℕ, List, [], ◌∷◌, false, length, ap, arith, refl, sym, ◌∙◌}
-use Rattle.std.proofs.Common.{subst, add-one}
+use Rattle.std.proofs.Common.{subst, add-one, ◌+◌, ◌-◌, length-append}
 use Rattle.coarse_cover.specs.Coarsening.{cluster_of}
 use Rattle.coarse_cover.specs.HalfMade.{IsAdded}
+use Rattle.node_set.specs.Workspaces.{SpareTaken}
+use Rattle.node_set.specs.WorkspaceLaws.{left_on, none_taken, taken_on}
 use Rattle.node_set.specs.LeadLaws.{lead, nothing_at, members_few, none_waits}
 use Rattle.node_set.specs.Ascending.{has}
 use Rattle.node_set.specs.Nodes.{Nodes}
@@ -37,6 +39,9 @@ first-init c =
         members_few c.args.work.now.left c.set_is_sound.ensures,
         c.set_is_sound.ensures.small,
       );
+      more = omega arith;
+      spare = subst (λ (n : ℕ). SpareTaken n c.args.work.now.growth.spare.items c.args.work.now.growth.spare.items)
+          (omega arith) (none_taken c.args.work.now.growth.spare.items);
     }
 
 pub add_cluster-requires-clause-numbers : goal.add_cluster-requires-clause-numbers
@@ -70,6 +75,8 @@ first-preserved c =
     c.first.work.waiting.members c.in-Some.first in
     let added : IsAdded (length c.args.balls.now) (sets c.args.balls.now) cluster c.first.work
     c.add_cluster.new.work c.first.cover c.add_cluster.new.cover = c.in_ok-add_cluster.ensures.added in
+    let one_more : length c.add_cluster.new.cover.clusters.items ≡ length c.first.cover.clusters.items + 1 =
+    ap length added.clusters ∙ length-append c.first.cover.clusters.items _ in
     record {
       in_phase = in_phase_next (sets c.args.balls.now) c.args.k c.count-r.result c.in-Some.first leads.0
           c.first.work c.add_cluster.new.work c.first.cover c.add_cluster.new.cover leads.1
@@ -83,6 +90,13 @@ first-preserved c =
       home_count = added.home_count;
       phases_kept = added.phases ∙ c.first.invariant.phases_kept;
       small = c.first.invariant.small;
+      more = omega (arith, one_more, c.first.invariant.more);
+      spare = subst
+          (λ (n : ℕ). SpareTaken n c.args.work.now.growth.spare.items c.add_cluster.new.work.growth.spare.items)
+          (omega (arith, one_more, c.first.invariant.more))
+          (taken_on (length c.first.cover.clusters.items - length c.args.cover.now.clusters.items) 1
+          c.args.work.now.growth.spare.items c.first.work.growth.spare.items
+          c.add_cluster.new.work.growth.spare.items c.first.invariant.spare c.add_cluster.ensures.spare);
     }
 
 pub overflow_add-cover : goal.overflow_add-cover
@@ -108,3 +122,13 @@ returns-clause-between c =
     c.first.work.left.members
     c.first.cover.clusters.items c.first.cover.home.items c.first.cover.phases
     c.first.invariant.in_phase none)
+
+pub returns-clause-spare_left : goal.returns-clause-spare_left
+returns-clause-spare_left c =
+    (length c.first.cover.clusters.items - length c.args.cover.now.clusters.items, c.first.invariant.spare)
+
+pub returns-in_err-add_cluster-clause-spare_left : goal.returns-in_err-add_cluster-clause-spare_left
+returns-in_err-add_cluster-clause-spare_left c =
+    left_on (length c.first.cover.clusters.items - length c.args.cover.now.clusters.items)
+    c.args.work.now.growth.spare.items c.first.work.growth.spare.items c.add_cluster.new.work.growth.spare.items
+    c.first.invariant.spare (1, c.add_cluster.ensures.spare)

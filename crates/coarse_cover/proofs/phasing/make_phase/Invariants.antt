@@ -1,7 +1,7 @@
 use Rattle.std.proofs.Common.{◌≡◌, ℕ, ◌-◌, ◌<◌, ◌≤◌, false, length}
 use Rattle.node_set.specs.Ascending.{has}
 use Rattle.coarse_cover.specs.HalfMade.{IsInPhase}
-use Rattle.node_set.specs.Workspaces.{IsWorkspace}
+use Rattle.node_set.specs.Workspaces.{IsWorkspace, SpareTaken}
 use Rattle.node_set.specs.Balls.{sets}
 use Rattle.coarse_cover.proofs.phasing.make_phase.Given as goal
 
@@ -14,6 +14,9 @@ invariant-first l = record {
   home_count : length l.cover.home.items ≡ length l.balls;
   phases_kept : l.cover.phases ≡ l.initial.cover.phases;
   small : l.r ≤ 1024;
+  more : length l.initial.cover.clusters.items ≤ length l.cover.clusters.items;
+  spare : SpareTaken (length l.cover.clusters.items - length l.initial.cover.clusters.items)
+      l.initial.work.growth.spare.items l.work.growth.spare.items;
 }
 
 abbrev pub decreases-first : goal.decreases-first

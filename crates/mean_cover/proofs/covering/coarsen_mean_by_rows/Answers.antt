@@ -1,10 +1,12 @@
-use Rattle.std.proofs.Common.{◌≡◌, inl, inr, ◌<◌, ◌≤◌, ℕ, List, [], ◌∷◌, false, length, ap, arith, sym, ◌∙◌, subst}
+use Rattle.std.proofs.Common.{◌≡◌, inl, inr, ◌<◌, ◌≤◌, ℕ, List, [], ◌∷◌, false, length, length-append, ap, arith, sym, ◌∙◌, subst}
 use Rattle.std.proofs.lemmas.Bool.{cases_lt}
 use Rattle.node_set.specs.Ascending.{has}
 use Rattle.node_set.specs.Balls.{centres, sets}
 use Rattle.node_set.specs.BallLaws.{length-sets}
 use Rattle.node_set.specs.LeadLaws.{lead, none_waits, nothing_at}
 use Rattle.node_set.specs.Nodes.{Nodes}
+use Rattle.node_set.specs.Workspaces.{SpareTaken}
+use Rattle.node_set.specs.WorkspaceLaws.{left_on, none_taken, taken_on}
 use Rattle.mean_cover.specs.Covering.{mean_cluster, mean_covering}
 use Rattle.mean_cover.specs.MeanCovers.{IsMeanCover}
 use Rattle.mean_cover.specs.HalfMade.{IsAdded, IsUnderWay}
@@ -34,6 +36,8 @@ first-init c =
         spare = c.requires.work.spare;
       };
       home_count = sym c.in_ok-vec.field-0.ok.0 ∙ c.in_ok-vec.ensures.len;
+      spare = subst (λ (l : List MeanCluster). SpareTaken (length l) c.args.work.now.growth.spare.items
+          c.args.work.now.growth.spare.items) (sym c.new.ensures.items) (none_taken c.args.work.now.growth.spare.items);
     }
 
 pub add_cluster-requires-clause-numbers : goal.add_cluster-requires-clause-numbers
@@ -78,6 +82,12 @@ first-preserved c =
           c.add_cluster.new.work.waiting.members added.waiting before;
       sized = c.add_cluster.ensures.sized;
       home_count = added.home_count;
+      spare = subst
+          (λ (n : ℕ). SpareTaken n c.args.work.now.growth.spare.items c.add_cluster.new.work.growth.spare.items)
+          (sym (ap length added.clusters ∙ length-append c.first.cover.clusters.items _))
+          (taken_on (length c.first.cover.clusters.items) 1 c.args.work.now.growth.spare.items
+          c.first.work.growth.spare.items c.add_cluster.new.work.growth.spare.items c.first.invariant.spare
+          c.add_cluster.ensures.spare);
     }
 
 -- no ball waits
@@ -107,3 +117,12 @@ returns-clause-few c =
       numbers_few (sets c.args.balls.now) c.args.k c.first.work.waiting.members c.first.cover.clusters.items
           c.first.cover.home.items c.requires.low c.requires.centred c.requires.inside c.first.invariant.under_way,
     )
+
+pub returns-clause-spare_left : goal.returns-clause-spare_left
+returns-clause-spare_left c = (length c.first.cover.clusters.items, c.first.invariant.spare)
+
+pub returns-in_err-add_cluster-clause-spare_left : goal.returns-in_err-add_cluster-clause-spare_left
+returns-in_err-add_cluster-clause-spare_left c =
+    left_on (length c.first.cover.clusters.items) c.args.work.now.growth.spare.items
+    c.first.work.growth.spare.items c.add_cluster.new.work.growth.spare.items c.first.invariant.spare
+    (1, c.add_cluster.ensures.spare)

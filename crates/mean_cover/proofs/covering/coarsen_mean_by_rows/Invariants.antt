@@ -1,7 +1,7 @@
 use Rattle.std.proofs.Common.{◌≡◌, ℕ, ◌-◌, ◌<◌, false, length}
 use Rattle.node_set.specs.Ascending.{has}
 use Rattle.node_set.specs.Balls.{sets}
-use Rattle.node_set.specs.Workspaces.{IsWorkspace}
+use Rattle.node_set.specs.Workspaces.{IsWorkspace, SpareTaken}
 use Rattle.mean_cover.specs.HalfMade.{IsUnderWay}
 use Rattle.mean_cover.proofs.covering.coarsen_mean_by_rows.Given as goal
 
@@ -11,6 +11,7 @@ invariant-first l = record {
   none_before : (v : ℕ) → v < l.from → has v l.work.waiting.members ≡ false;
   sized : IsWorkspace (length l.balls) l.work;
   home_count : length l.cover.home.items ≡ length l.balls;
+  spare : SpareTaken (length l.cover.clusters.items) l.initial.work.growth.spare.items l.work.growth.spare.items;
 }
 
 abbrev pub decreases-first : goal.decreases-first

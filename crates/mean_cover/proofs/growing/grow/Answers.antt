@@ -34,6 +34,7 @@ loop-step-init c =
       taken_room = refl;
       touched_room = c.requires.touched;
       spare_rooms = c.in_ok-members.ensures.spare;
+      spare = c.in_ok-members.ensures.taken;
     }
 
 -- the balls that touch the union so far are those of the next growth
@@ -139,6 +140,7 @@ loop-step-preserved c =
       taken_room = c.loop-step.invariant.taken_room;
       touched_room = c.touch.ensures.room ∙ c.loop-step.invariant.touched_room;
       spare_rooms = c.loop-step.invariant.spare_rooms;
+      spare = c.loop-step.invariant.spare;
     })
 
 pub unreachable-requires : goal.unreachable-requires

@@ -2,6 +2,7 @@ use Rattle.std.proofs.Common.{◌≡◌, ℕ, ◌<◌, false, length}
 use Rattle.std.specs.Prelude.{All}
 use Rattle.node_set.specs.Balls.{growth, union_of, sets}
 use Rattle.node_set.specs.Nodes.{Nodes}
+use Rattle.node_set.specs.Workspaces.{SpareTaken}
 use Rattle.mean_cover.specs.Covering.{is_last, size_after}
 use Rattle.mean_cover.proofs.growing.grow.Given as goal
 
@@ -16,4 +17,5 @@ invariant-loop-step l = record {
   taken_room : l.growth.taken.room ≡ l.fn.growth.taken.room;
   touched_room : l.growth.touched.room ≡ length l.balls;
   spare_rooms : All (λ (s : Nodes). s.room ≡ length l.balls) l.growth.spare.items;
+  spare : SpareTaken 1 l.fn.growth.spare.items l.growth.spare.items;
 }
