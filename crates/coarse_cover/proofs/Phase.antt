@@ -63,23 +63,24 @@ IsPhase balls k r waiting [] = waiting ≡ []
 IsPhase balls k r waiting (c ∷ cs) = IsCluster balls k r waiting c
     × IsPhase balls k r (apart balls c.members waiting) cs
 
-pub ready_filter : (balls : List (List ℕ)) (k r : ℕ) (waiting : List ℕ) (p : ℕ → Bool) → IsReady balls k r waiting
+pub ready_filter : {balls : List (List ℕ)} {k r : ℕ} {waiting : List ℕ} (p : ℕ → Bool) → IsReady balls k r waiting
     → IsReady balls k r (filter p waiting)
-ready_filter balls k r waiting p ready = record {
+ready_filter {waiting} p ready = record {
   some = ready.some;
   fits = omega (arith, filter_fewer p waiting, ready.fits);
   ascending = ascending-filter p waiting ready.ascending;
   centred = λ v h. ready.centred v (filter_keeps p v waiting h).0;
 }
 
-pub cluster_ready : (balls : List (List ℕ)) (k r a : ℕ) (rest : List ℕ) → IsReady balls k r (a ∷ rest)
+pub cluster_ready : {balls : List (List ℕ)} {k r a : ℕ} {rest : List ℕ} → IsReady balls k r (a ∷ rest)
     → IsCluster balls k r (a ∷ rest) (cluster_of balls k r (a ∷ rest) a)
-cluster_ready balls k r a rest ready = is_cluster balls k r a rest ready.some ready.fits ready.ascending.0 ready.centred
+cluster_ready {balls} {k} {r} {a} {rest} ready = is_cluster balls k r a rest ready.some ready.fits ready.ascending.0
+    ready.centred
 
 -- a cluster takes its leader at least
-pub apart_fewer : (balls : List (List ℕ)) (k r : ℕ) (waiting : List ℕ) (c : GrownCluster)
+pub apart_fewer : {balls : List (List ℕ)} {k r : ℕ} {waiting : List ℕ} {c : GrownCluster}
     → IsCluster balls k r waiting c → length (apart balls c.members waiting) < length waiting
-apart_fewer balls k r waiting c is =
+apart_fewer {balls} {waiting} {c} is =
     let taken : has c.first (filter (touches balls c.members) waiting)
     ≡ true = filter-has (touches balls c.members) c.first waiting (is.waits c.first is.leads)
     (is.touching c.first is.leads) in
@@ -89,21 +90,20 @@ apart_fewer balls k r waiting c is =
       filter_halves (touches balls c.members) waiting,
     )
 
-pub phase_is : (balls : List (List ℕ)) (k r more : ℕ) (waiting : List ℕ) → IsReady balls k r waiting
+pub phase_is : {balls : List (List ℕ)} {k r : ℕ} (more : ℕ) (waiting : List ℕ) → IsReady balls k r waiting
     → length waiting ≤ more → IsPhase balls k r waiting (phase balls k r more waiting)
 unfolding phase
-phase_is balls k r zero [] ready enough = refl
-phase_is balls k r zero (a ∷ rest) ready enough = absurd (omega arith)
-phase_is balls k r (suc more) [] ready enough = refl
-phase_is balls k r (suc more) (a ∷ rest) ready enough =
+phase_is zero [] ready enough = refl
+phase_is zero (a ∷ rest) ready enough = absurd (omega arith)
+phase_is (suc more) [] ready enough = refl
+phase_is {balls} {k} {r} (suc more) (a ∷ rest) ready enough =
     let c : GrownCluster = cluster_of balls k r (a ∷ rest) a in
-    let is : IsCluster balls k r (a ∷ rest) (cluster_of balls k r (a ∷ rest) a) = cluster_ready balls k r a rest ready
+    let is : IsCluster balls k r (a ∷ rest) (cluster_of balls k r (a ∷ rest) a) = cluster_ready ready
     in (
       is,
-      phase_is balls k r more (apart balls (cluster_of balls k r (a ∷ rest) a).members (a ∷ rest))
-          (ready_filter balls k r (a ∷ rest) (λ v. not (touches balls (cluster_of balls k r (a ∷ rest) a).members v))
-          ready)
-          (omega (arith, apart_fewer balls k r (a ∷ rest) (cluster_of balls k r (a ∷ rest) a) is)),
+      phase_is more (apart balls (cluster_of balls k r (a ∷ rest) a).members (a ∷ rest))
+          (ready_filter (λ v. not (touches balls (cluster_of balls k r (a ∷ rest) a).members v)) ready)
+          (omega (arith, apart_fewer is)),
     )
 
 module _ (balls : List (List ℕ)) (k r : ℕ) where

@@ -29,12 +29,11 @@ append_nothing : (xs : List Cluster) → xs ++ [] ≡ xs
 append_nothing [] = refl
 append_nothing (x ∷ xs) = ap (λ (l : List Cluster). x ∷ l) (append_nothing xs)
 
-pub is_cover : (balls : List (List ℕ)) (k : ℕ) (left : List ℕ) (cover : Cover)
-    → IsBetween balls k left cover.clusters.items cover.home.items cover.phases → left ≡ [] → length cover.home.items
-    ≡ length balls →
-    IsCover (length balls) (coarsening balls k) cover
+pub is_cover : {balls : List (List ℕ)} {k : ℕ} {left : List ℕ} (cover : Cover)
+    → IsBetween balls k left cover.clusters.items cover.home.items cover.phases → left ≡ []
+    → length cover.home.items ≡ length balls → IsCover (length balls) (coarsening balls k) cover
 unfolding cluster_list all_clusters
-is_cover balls k left cover between none sized =
+is_cover {balls} {k} cover between none sized =
     let over : Agrees (length balls) (coarsening balls k) [] [] cover.clusters.items cover.home.items cover.phases =
     subst (λ (l : List (List GrownCluster)).
     Agrees (length balls) (coarsening balls k) l [] cover.clusters.items cover.home.items cover.phases)
@@ -57,9 +56,10 @@ is_cover balls k left cover between none sized =
 -- ---- clusters as they are cluster_list
 
 -- so a cover is
-pub overlap : CoversAreSparse → (balls : List (List ℕ)) (k n : ℕ) (cover : Cover) (x : ℕ) → 0 < k → AreCentred balls
-    → IsCover n (coarsening balls k) cover → count_by (λ c. has x c.members.members) cover.clusters.items ≤ cover.phases
-overlap sparse balls k n cover x some centred is =
+pub overlap : CoversAreSparse → (balls : List (List ℕ)) (k : ℕ) {n : ℕ} {cover : Cover} (x : ℕ) → 0 < k
+    → AreCentred balls → IsCover n (coarsening balls k) cover
+    → count_by (λ c. has x c.members.members) cover.clusters.items ≤ cover.phases
+overlap sparse balls k {n} {cover} x some centred is =
     let same : count_by (λ c. has x c.members.members) cover.clusters.items
     ≡ count_by (λ c. has x c.members) (all_clusters (coarsening balls k)) =
     ap (λ (l : List Cluster). count_by (λ (c : Cluster). has x c.members.members) l) is.clusters ∙
@@ -69,15 +69,15 @@ overlap sparse balls k n cover x some centred is =
     in
     omega (arith, same, is.phases, (sparse balls k some centred).1 x)
 
-pub phases_bounded : CoversAreSparse → (balls : List (List ℕ)) (k n : ℕ) (cover : Cover) → 0 < k → AreCentred balls
-    → n ≡ length balls → IsCover n (coarsening balls k) cover → cover.phases ^ k ≤ k ^ k * n
-phases_bounded sparse balls k n cover some centred sized is =
+pub phases_bounded : CoversAreSparse → (balls : List (List ℕ)) (k : ℕ) {n : ℕ} {cover : Cover} → 0 < k
+    → AreCentred balls → n ≡ length balls → IsCover n (coarsening balls k) cover → cover.phases ^ k ≤ k ^ k * n
+phases_bounded sparse balls k {n} some centred sized is =
     subst (λ (m : ℕ). m ^ k ≤ k ^ k * n) (sym is.phases)
     (subst (λ (m : ℕ). length (coarsening balls k) ^ k ≤ k ^ k * m) (sym sized) (sparse balls k some centred).0)
 
-pub clusters_few : (balls : List (List ℕ)) (k n : ℕ) (cover : Cover) → 0 < k → AreCentred balls
+pub clusters_few : (balls : List (List ℕ)) (k : ℕ) {n : ℕ} {cover : Cover} → 0 < k → AreCentred balls
     → IsCover n (coarsening balls k) cover → length cover.clusters.items ≤ length balls
-clusters_few balls k n cover some centred is =
+clusters_few balls k {n} some centred is =
     omega (
       arith,
       ap length is.clusters,
@@ -97,10 +97,10 @@ no_cluster : GrownCluster
 no_cluster = record { first = 0; growths = 0; homed = []; members = [] }
 
 -- the nodes of a cluster in the list are those of the one that was grown
-nodes_at : (n i : ℕ) (all : List (List GrownCluster)) (clusters : List Cluster) → clusters ≡ cluster_list n 0 all
-    → i < length (all_clusters all) → get_or (member_lists clusters) i [] ≡
-    (get_or (all_clusters all) i no_cluster).members
-nodes_at n i all clusters e h =
+nodes_at : (n i : ℕ) (all : List (List GrownCluster)) {clusters : List Cluster} → clusters ≡ cluster_list n 0 all
+    → i < length (all_clusters all) → get_or (member_lists clusters) i
+    [] ≡ (get_or (all_clusters all) i no_cluster).members
+nodes_at n i all e h =
     ap (λ (l : List (List ℕ)). get_or l i []) (ap member_lists e ∙ cluster_list_nodes n 0 all)
     ∙ get_or-map (λ (c : GrownCluster). c.members) (all_clusters all) i no_cluster [] h
 
@@ -120,9 +120,9 @@ home_has_nodes balls k v x left all are waits inside =
     (union_has balls x v (get_or (all_clusters all) (home_of (all_clusters all) v) no_cluster).homed
     (home_has (all_clusters all) v no_cluster homed) inside)
 
-pub homes_hold : (balls : List (List ℕ)) (k n : ℕ) (cover : Cover) → 0 < k → AreCentred balls → n ≡ length balls
+pub homes_hold : (balls : List (List ℕ)) (k : ℕ) {n : ℕ} {cover : Cover} → 0 < k → AreCentred balls → n ≡ length balls
     → IsCover n (coarsening balls k) cover → AreHomes balls (member_lists cover.clusters.items) cover.home.items
-homes_hold balls k n cover some centred size is = λ v h.
+homes_hold balls k {n} {cover} some centred size is = λ v h.
     let are : ArePhases balls k (centres (length balls)) (coarsening balls k) =
     coarsening_phases balls k some centred in
     let waits : has v (centres (length balls)) ≡ true = has_centre (length balls) v h in
@@ -141,8 +141,7 @@ homes_hold balls k n cover some centred size is = λ v h.
           (subst (λ (m : ℕ). home_of (all_clusters (coarsening balls k)) v < m) (sym count) within),
       λ x inside. subst (λ (i : ℕ). has x (get_or (member_lists cover.clusters.items) i []) ≡ true) (sym home)
           (subst (λ (l : List ℕ). has x l ≡ true)
-          (sym (nodes_at n (home_of (all_clusters (coarsening balls k)) v) (coarsening balls k) cover.clusters.items
-          is.clusters within))
+          (sym (nodes_at n (home_of (all_clusters (coarsening balls k)) v) (coarsening balls k) is.clusters within))
           (home_has_nodes balls k v x (centres (length balls)) (coarsening balls k) are waits inside)),
     )
 

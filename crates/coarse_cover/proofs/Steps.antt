@@ -28,46 +28,44 @@ unfolding phase
 phase_none balls k r zero = refl
 phase_none balls k r (suc more) = refl
 
-phase_enough : (balls : List (List ℕ)) (k r m n : ℕ) (waiting : List ℕ) → IsReady balls k r waiting → length waiting ≤ m
-    → length waiting ≤ n → phase balls k r m waiting ≡ phase balls k r n waiting
+phase_enough : {balls : List (List ℕ)} {k r : ℕ} (m n : ℕ) (waiting : List ℕ) → IsReady balls k r waiting
+    → length waiting ≤ m → length waiting ≤ n → phase balls k r m waiting ≡ phase balls k r n waiting
 unfolding phase
-phase_enough balls k r m n [] ready h g = phase_none balls k r m ∙ sym (phase_none balls k r n)
-phase_enough balls k r zero n (a ∷ rest) ready h g = absurd (omega arith)
-phase_enough balls k r (suc m) zero (a ∷ rest) ready h g = absurd (omega arith)
-phase_enough balls k r (suc m) (suc n) (a ∷ rest) ready h g =
+phase_enough {balls} {k} {r} m n [] ready h g = phase_none balls k r m ∙ sym (phase_none balls k r n)
+phase_enough zero n (a ∷ rest) ready h g = absurd (omega arith)
+phase_enough (suc m) zero (a ∷ rest) ready h g = absurd (omega arith)
+phase_enough {balls} {k} {r} (suc m) (suc n) (a ∷ rest) ready h g =
     let fewer : length (apart balls (cluster_of balls k r (a ∷ rest) a).members (a ∷ rest)) < length (a ∷ rest) =
-    apart_fewer balls k r (a ∷ rest) (cluster_of balls k r (a ∷ rest) a) (cluster_ready balls k r a rest ready) in
+    apart_fewer (cluster_ready ready) in
     ap (λ (cs : List GrownCluster). cluster_of balls k r (a ∷ rest) a ∷ cs)
-    (phase_enough balls k r m n (apart balls (cluster_of balls k r (a ∷ rest) a).members (a ∷ rest))
-    (ready_filter balls k r (a ∷ rest) (λ v. not (touches balls (cluster_of balls k r (a ∷ rest) a).members v))
-    ready)
-    (omega arith) (omega arith))
+    (phase_enough m n (apart balls (cluster_of balls k r (a ∷ rest) a).members (a ∷ rest))
+    (ready_filter (λ v. not (touches balls (cluster_of balls k r (a ∷ rest) a).members v)) ready) (omega arith)
+    (omega arith))
 
 pub phase_of_none : (balls : List (List ℕ)) (k r : ℕ) → phase_of balls k r [] ≡ []
 unfolding phase_of phase
 phase_of_none balls k r = refl
 
-phase_of_lead : (balls : List (List ℕ)) (k r a : ℕ) (rest : List ℕ) → IsReady balls k r (a ∷ rest) →
-    phase_of balls k r (a ∷ rest) ≡ cluster_of balls k r (a ∷ rest) a ∷ phase_of balls k r (apart balls
-    (cluster_of balls k r (a ∷ rest) a).members (a ∷ rest))
-unfolding phase_of phase
-phase_of_lead balls k r a rest ready =
-    let fewer : length (apart balls (cluster_of balls k r (a ∷ rest) a).members (a ∷ rest)) < length (a ∷ rest) =
-    apart_fewer balls k r (a ∷ rest) (cluster_of balls k r (a ∷ rest) a) (cluster_ready balls k r a rest ready) in
-    ap (λ (cs : List GrownCluster). cluster_of balls k r (a ∷ rest) a ∷ cs)
-    (phase_enough balls k r (length rest) (length (apart balls (cluster_of balls k r (a ∷ rest) a).members (a ∷ rest)))
+phase_of_lead : {balls : List (List ℕ)} {k r a : ℕ} {rest : List ℕ} → IsReady balls k r (a ∷ rest)
+    → phase_of balls k r (a ∷ rest) ≡ cluster_of balls k r (a ∷ rest) a ∷ phase_of balls k r
     (apart balls (cluster_of balls k r (a ∷ rest) a).members (a ∷ rest))
-    (ready_filter balls k r (a ∷ rest) (λ v. not (touches balls (cluster_of balls k r (a ∷ rest) a).members v)) ready)
-    (omega arith) (le_refl (length (apart balls (cluster_of balls k r (a ∷ rest) a).members (a ∷ rest)))))
+unfolding phase_of phase
+phase_of_lead {balls} {k} {r} {a} {rest} ready =
+    let fewer : length (apart balls (cluster_of balls k r (a ∷ rest) a).members (a ∷ rest)) < length (a ∷ rest) =
+    apart_fewer (cluster_ready ready) in
+    ap (λ (cs : List GrownCluster). cluster_of balls k r (a ∷ rest) a ∷ cs)
+    (phase_enough (length rest) (length (apart balls (cluster_of balls k r (a ∷ rest) a).members (a ∷ rest)))
+    (apart balls (cluster_of balls k r (a ∷ rest) a).members (a ∷ rest))
+    (ready_filter (λ v. not (touches balls (cluster_of balls k r (a ∷ rest) a).members v)) ready) (omega arith)
+    (le_refl (length (apart balls (cluster_of balls k r (a ∷ rest) a).members (a ∷ rest)))))
 
-pub phase_of_next : (balls : List (List ℕ)) (k r a : ℕ) (waiting rest : List ℕ) → waiting ≡ a ∷ rest
-    → IsReady balls k r waiting →
-    phase_of balls k r waiting ≡ cluster_of balls k r waiting a ∷ phase_of balls k r
+pub phase_of_next : {balls : List (List ℕ)} {k r a : ℕ} {waiting rest : List ℕ} → waiting ≡ a ∷ rest
+    → IsReady balls k r waiting → phase_of balls k r waiting ≡ cluster_of balls k r waiting a ∷ phase_of balls k r
     (apart balls (cluster_of balls k r waiting a).members waiting)
-phase_of_next balls k r a waiting rest leads ready =
+phase_of_next {balls} {k} {r} {a} leads ready =
     subst (λ (l : List ℕ). IsReady balls k r l → phase_of balls k r l
     ≡ cluster_of balls k r l a ∷ phase_of balls k r (apart balls (cluster_of balls k r l a).members l)) (sym leads)
-    (phase_of_lead balls k r a rest) ready
+    (phase_of_lead) ready
 
 phases_none : (balls : List (List ℕ)) (k more : ℕ) → phases balls k more [] ≡ []
 unfolding phases
@@ -78,12 +76,12 @@ phases_none balls k (suc more) = refl
 first_phase : (balls : List (List ℕ)) (k v : ℕ) (vs : List ℕ) → List GrownCluster
 first_phase balls k v vs = phase balls k (length (v ∷ vs)) (length (v ∷ vs)) (v ∷ vs)
 
-first_fewer : (balls : List (List ℕ)) (k v : ℕ) (vs : List ℕ) → IsReady balls k (length (v ∷ vs)) (v ∷ vs)
+first_fewer : {balls : List (List ℕ)} {k v : ℕ} {vs : List ℕ} → IsReady balls k (length (v ∷ vs)) (v ∷ vs)
     → length (without_home (first_phase balls k v vs) (v ∷ vs)) < length (v ∷ vs)
 unfolding first_phase
-first_fewer balls k v vs ready =
+first_fewer {balls} {k} {v} {vs} ready =
     let is : IsPhase balls k (length (v ∷ vs)) (v ∷ vs) (phase balls k (length (v ∷ vs)) (length (v ∷ vs)) (v ∷ vs)) =
-    phase_is balls k (length (v ∷ vs)) (length (v ∷ vs)) (v ∷ vs) ready (le_refl (length (v ∷ vs))) in
+    phase_is (length (v ∷ vs)) (v ∷ vs) ready (le_refl (length (v ∷ vs))) in
     fewer (length (without_home (phase balls k (length (v ∷ vs)) (length (v ∷ vs)) (v ∷ vs)) (v ∷ vs)))
     (length (phase balls k (length (v ∷ vs)) (length (v ∷ vs)) (v ∷ vs))) (length (v ∷ vs))
     (phase_fewer balls k (length (v ∷ vs)) (v ∷ vs) (phase balls k (length (v ∷ vs)) (length (v ∷ vs)) (v ∷ vs)) is)
@@ -92,20 +90,17 @@ first_fewer balls k v vs ready =
     fewer : (after taken before : ℕ) → after + taken ≤ before → 0 < taken → after < before
     fewer after taken before h some = omega arith
 
-phases_enough : (balls : List (List ℕ)) (k m n : ℕ) (left : List ℕ) → IsReady balls k (length left) left
+phases_enough : {balls : List (List ℕ)} {k : ℕ} (m n : ℕ) (left : List ℕ) → IsReady balls k (length left) left
     → length left ≤ m → length left ≤ n → phases balls k m left ≡ phases balls k n left
 unfolding phases first_phase
-phases_enough balls k m n [] ready h g = phases_none balls k m ∙ sym (phases_none balls k n)
-phases_enough balls k zero n (v ∷ vs) ready h g = absurd (omega arith)
-phases_enough balls k (suc m) zero (v ∷ vs) ready h g = absurd (omega arith)
-phases_enough balls k (suc m) (suc n) (v ∷ vs) ready h g =
+phases_enough {balls} {k} m n [] ready h g = phases_none balls k m ∙ sym (phases_none balls k n)
+phases_enough zero n (v ∷ vs) ready h g = absurd (omega arith)
+phases_enough (suc m) zero (v ∷ vs) ready h g = absurd (omega arith)
+phases_enough {balls} {k} (suc m) (suc n) (v ∷ vs) ready h g =
     ap (λ (later : List (List GrownCluster)). first_phase balls k v vs ∷ later)
-    (phases_enough balls k m n (without_home (first_phase balls k v vs) (v ∷ vs))
-    (ready_left balls k (v ∷ vs) (first_phase balls k v vs) ready)
-    (less (length (without_home (first_phase balls k v vs) (v ∷ vs))) (length (v ∷ vs)) m
-    (first_fewer balls k v vs ready) h)
-    (less (length (without_home (first_phase balls k v vs) (v ∷ vs))) (length (v ∷ vs)) n
-    (first_fewer balls k v vs ready) g))
+    (phases_enough m n (without_home (first_phase balls k v vs) (v ∷ vs)) (ready_left (first_phase balls k v vs) ready)
+    (less (length (without_home (first_phase balls k v vs) (v ∷ vs))) (length (v ∷ vs)) m (first_fewer ready) h)
+    (less (length (without_home (first_phase balls k v vs) (v ∷ vs))) (length (v ∷ vs)) n (first_fewer ready) g))
   where
     less : (a b c : ℕ) → a < b → b ≤ suc c → a ≤ c
     less a b c h g = omega arith
@@ -114,18 +109,16 @@ pub phases_of_none : (balls : List (List ℕ)) (k : ℕ) → phases_of balls k [
 unfolding phases_of phases
 phases_of_none balls k = refl
 
-pub phases_of_next : (balls : List (List ℕ)) (k : ℕ) (left : List ℕ) → 0 < length left
-    → IsReady balls k (length left) left →
-    phases_of balls k left ≡ phase_of balls k (length left) left ∷ phases_of balls k
-    (without_home (phase_of balls k (length left) left) left)
+pub phases_of_next : {balls : List (List ℕ)} {k : ℕ} (left : List ℕ) → 0 < length left
+    → IsReady balls k (length left) left → phases_of balls k left ≡ phase_of balls k (length left) left ∷ phases_of
+    balls k (without_home (phase_of balls k (length left) left) left)
 unfolding phases_of phase_of phases first_phase
-phases_of_next balls k [] some ready = absurd (omega arith)
-phases_of_next balls k (v ∷ vs) some ready =
+phases_of_next [] some ready = absurd (omega arith)
+phases_of_next {balls} {k} (v ∷ vs) some ready =
     ap (λ (later : List (List GrownCluster)). first_phase balls k v vs ∷ later)
-    (phases_enough balls k (length vs) (length (without_home (first_phase balls k v vs) (v ∷ vs)))
-    (without_home (first_phase balls k v vs) (v ∷ vs))
-    (ready_left balls k (v ∷ vs) (first_phase balls k v vs) ready)
-    (less (length (without_home (first_phase balls k v vs) (v ∷ vs))) (length vs) (first_fewer balls k v vs ready))
+    (phases_enough (length vs) (length (without_home (first_phase balls k v vs) (v ∷ vs)))
+    (without_home (first_phase balls k v vs) (v ∷ vs)) (ready_left (first_phase balls k v vs) ready)
+    (less (length (without_home (first_phase balls k v vs) (v ∷ vs))) (length vs) (first_fewer ready))
     (le_refl (length (without_home (first_phase balls k v vs) (v ∷ vs)))))
   where
     less : (a c : ℕ) → a < suc c → a ≤ c
@@ -143,10 +136,10 @@ pub filter_rest : (t : ℕ → Bool) (xs : List ℕ) → filter (λ v. not (has 
 filter_rest t xs = filter_same (λ v. not (has v (filter t xs))) (λ v. not (t v)) xs
     (λ v h. ap not (has-filter t v xs ∙ ap (λ (b : Bool). b && t v) h))
 
-pub ready_shrunk : (balls : List (List ℕ)) (k : ℕ) (left : List ℕ) (p : ℕ → Bool) → IsReady balls k (length left) left
+pub ready_shrunk : {balls : List (List ℕ)} {k : ℕ} {left : List ℕ} (p : ℕ → Bool) → IsReady balls k (length left) left
     → IsReady balls k (length (filter p left)) (filter p left)
-ready_shrunk balls k left p ready =
-    let all : IsReady balls k (length left) (filter p left) = ready_filter balls k (length left) left p ready in
+ready_shrunk {balls} {k} {left} p ready =
+    let all : IsReady balls k (length left) (filter p left) = ready_filter p ready in
     record {
       some = all.some;
       fits = le_refl (length (filter p left));
@@ -174,16 +167,16 @@ unhomed_none [] = refl
 unhomed_none (v ∷ vs) = ap (λ (l : List ℕ). v ∷ l) (unhomed_none vs)
 
 -- what the steps keep
-agrees_cluster : (n : ℕ) (all later : List (List GrownCluster)) (c : GrownCluster) (cs : List GrownCluster)
-    (left : List ℕ) (before after : List Cluster) (home new_home : List ℕ) (p : ℕ) →
-    Agrees n all ((c ∷ cs) ∷ later) left before home p → ((v : ℕ) → has v c.homed ≡ true → has v left ≡ true) → after
-    ≡ before ++ as_cluster n p c ∷ [] →
-    ((v : ℕ) → v < n → get_or new_home v 0 ≡ cond (has v c.homed) (length before) (get_or home v 0)) →
-    Agrees n all (cs ∷ later) (filter (λ v. not (has v c.homed)) left) after new_home p
+agrees_cluster : {n : ℕ} {all later : List (List GrownCluster)} {c : GrownCluster} {cs : List GrownCluster}
+    {left : List ℕ} {before after : List Cluster} {home : List ℕ} (new_home : List ℕ) {p : ℕ}
+    → Agrees n all ((c ∷ cs) ∷ later) left before home p → ((v : ℕ) → has v c.homed ≡ true → has v left ≡ true)
+    → after ≡ before ++ as_cluster n p c ∷ [] → ((v : ℕ) → v < n → get_or new_home v 0 ≡ cond (has v c.homed)
+    (length before) (get_or home v 0)) → Agrees n all (cs ∷ later) (filter (λ v. not (has v c.homed)) left) after
+    new_home p
 unfolding cluster_list all_clusters home_of
-agrees_cluster n all later c cs left before after home new_home p so_far inside added homed = record {
+agrees_cluster {n} {all} {later} {c} {cs} {left} {before} {after} {home} new_home {p} so_far among adds homed = record {
   clusters_so_far = rw (
-    added,
+    adds,
     append_assoc before (as_cluster n p c ∷ [])
         (map (as_cluster n p) cs ++ cluster_list n (suc p) later),
   ) so_far.clusters_so_far;
@@ -191,15 +184,15 @@ agrees_cluster n all later c cs left before after home new_home p so_far inside 
       cond b (length after + home_of (cs ++ all_clusters later) v) (get_or new_home v 0) ≡ home_of (all_clusters all) v)
       (sym (has-filter (λ w. not (has w c.homed)) v left))
       (home_step (has v left) (has v c.homed) (get_or home v 0) (get_or new_home v 0) (length before) (length after)
-      (home_of (cs ++ all_clusters later) v) (home_of (all_clusters all) v) (inside v)
-      (ap length added ∙ length-append before (as_cluster n p c ∷ [])) (so_far.homes_so_far v h) (homed v h));
+      (home_of (cs ++ all_clusters later) v) (home_of (all_clusters all) v) (among v)
+      (ap length adds ∙ length-append before (as_cluster n p c ∷ [])) (so_far.homes_so_far v h) (homed v h));
   phases_so_far = so_far.phases_so_far;
 }
 
-agrees_phase : (n : ℕ) (all later : List (List GrownCluster)) (left : List ℕ) (clusters : List Cluster) (home : List ℕ)
-    (p : ℕ) → Agrees n all ([] ∷ later) left clusters home p → Agrees n all later left clusters home (suc p)
+agrees_phase : {n : ℕ} {all later : List (List GrownCluster)} {left : List ℕ} {clusters : List Cluster} {home : List ℕ}
+    {p : ℕ} → Agrees n all ([] ∷ later) left clusters home p → Agrees n all later left clusters home (suc p)
 unfolding cluster_list all_clusters
-agrees_phase n all later left clusters home p so_far =
+agrees_phase so_far =
     record {
       clusters_so_far = so_far.clusters_so_far;
       homes_so_far = so_far.homes_so_far;
@@ -207,60 +200,52 @@ agrees_phase n all later left clusters home p so_far =
           omega (arith, so_far.phases_so_far);
     }
 
-agrees_as : (n : ℕ) (all later same : List (List GrownCluster)) (left : List ℕ) (clusters : List Cluster)
-    (home : List ℕ) (p : ℕ) → later ≡ same → Agrees n all later left clusters home p
+agrees_as : {n : ℕ} {all later same : List (List GrownCluster)} {left : List ℕ} {clusters : List Cluster}
+    {home : List ℕ} {p : ℕ} → later ≡ same → Agrees n all later left clusters home p
     → Agrees n all same left clusters home p
-agrees_as n all later same left clusters home p e so_far =
+agrees_as {n} {all} {left} {clusters} {home} {p} e so_far =
     subst (λ (l : List (List GrownCluster)). Agrees n all l left clusters home p) e so_far
 
 -- ---- a phase: its start, its steps, its end
 
-pub in_phase_start : (balls : List (List ℕ)) (k r : ℕ) (waiting left : List ℕ) (clusters : List Cluster) (home : List ℕ)
-    (p : ℕ) →
-    IsBetween balls k left clusters home p → 0 < length left → waiting ≡ left → r ≡ length left
+pub in_phase_start : {balls : List (List ℕ)} {k r : ℕ} {waiting left : List ℕ} {clusters : List Cluster} {home : List ℕ}
+    {p : ℕ} → IsBetween balls k left clusters home p → 0 < length left → waiting ≡ left → r ≡ length left
     → IsInPhase balls k r waiting left clusters home p
-in_phase_start balls k r waiting left clusters home p between some same counted =
+in_phase_start {balls} {k} {r} {left} {clusters} {home} {p} between some same counted =
     subst (λ (l : List ℕ). IsInPhase balls k r l left clusters home p) (sym same)
     (subst (λ (m : ℕ). IsInPhase balls k m left left clusters home p) (sym counted) (record {
       ready = between.left_ready;
       left_ready = between.left_ready;
       waiting_left = λ v h. h;
-      so_far = agrees_as (length balls) (coarsening balls k) (phases_of balls k left)
-          (phase_of balls k (length left) left ∷ phases_of balls k
-          (without_home (phase_of balls k (length left) left) left)) left clusters home p
-          (phases_of_next balls k left some between.left_ready) between.so_far;
+      so_far = agrees_as (phases_of_next left some between.left_ready) between.so_far;
     }))
 
-pub in_phase_end : (balls : List (List ℕ)) (k r : ℕ) (waiting left : List ℕ) (clusters : List Cluster) (home : List ℕ)
-    (p : ℕ) →
-    IsInPhase balls k r waiting left clusters home p → waiting ≡ [] → IsBetween balls k left clusters home (suc p)
-in_phase_end balls k r waiting left clusters home p phase none = record {
+pub in_phase_end : {balls : List (List ℕ)} {k r : ℕ} {waiting left : List ℕ} {clusters : List Cluster} {home : List ℕ}
+    {p : ℕ} → IsInPhase balls k r waiting left clusters home p → waiting ≡ []
+    → IsBetween balls k left clusters home (suc p)
+in_phase_end {balls} {k} {r} {left} phase none = record {
   left_ready = phase.left_ready;
-  so_far = agrees_phase (length balls) (coarsening balls k) (phases_of balls k left) left clusters home p
-      (agrees_as (length balls) (coarsening balls k)
-      (phase_of balls k r waiting ∷ phases_of balls k (without_home (phase_of balls k r waiting) left))
-      ([] ∷ phases_of balls k left) left clusters home p
-      (ap (λ (cs : List GrownCluster). cs ∷ phases_of balls k (without_home cs left))
-      (ap (phase_of balls k r) none ∙ phase_of_none balls k r)
-      ∙ ap (λ (l : List ℕ). [] ∷ phases_of balls k l) (unhomed_none left)) phase.so_far);
+  so_far = agrees_phase (agrees_as (ap (λ (cs : List GrownCluster). cs ∷ phases_of balls k (without_home cs left))
+      (ap (phase_of balls k r) none ∙ phase_of_none balls k r) ∙ ap (λ (l : List ℕ). [] ∷ phases_of balls k l)
+      (unhomed_none left)) phase.so_far);
 }
 
-pub cluster_is : (balls : List (List ℕ)) (k r a : ℕ) (waiting rest : List ℕ) → waiting ≡ a ∷ rest
+pub cluster_is : {balls : List (List ℕ)} {k r a : ℕ} {waiting rest : List ℕ} → waiting ≡ a ∷ rest
     → IsReady balls k r waiting → IsCluster balls k r waiting (cluster_of balls k r waiting a)
-cluster_is balls k r a waiting rest leads ready =
+cluster_is {balls} {k} {r} {a} leads ready =
     subst (λ (l : List ℕ). IsReady balls k r l → IsCluster balls k r l (cluster_of balls k r l a)) (sym leads)
-    (cluster_ready balls k r a rest) ready
+    (cluster_ready) ready
 
 first_is : (balls : List (List ℕ)) (k r a : ℕ) (waiting : List ℕ) → (cluster_of balls k r waiting a).first ≡ a
 unfolding cluster_of
 first_is balls k r a waiting = refl
 
 -- the leader waits no more
-pub leader_gone : (balls : List (List ℕ)) (k r a : ℕ) (waiting rest : List ℕ) → waiting ≡ a ∷ rest
+pub leader_gone : {balls : List (List ℕ)} {k r a : ℕ} {waiting rest : List ℕ} → waiting ≡ a ∷ rest
     → IsReady balls k r waiting → has a (apart balls (cluster_of balls k r waiting a).members waiting) ≡ false
-leader_gone balls k r a waiting rest leads ready =
+leader_gone {balls} {k} {r} {a} {waiting} leads ready =
     let is : IsCluster balls k r waiting (cluster_of balls k r waiting a) =
-    cluster_is balls k r a waiting rest leads ready in
+    cluster_is leads ready in
     let touched : touches balls (cluster_of balls k r waiting a).members a ≡ true =
     subst (λ (v : ℕ). touches balls (cluster_of balls k r waiting a).members v ≡ true) (first_is balls k r a waiting)
     (is.touching (cluster_of balls k r waiting a).first is.leads)
@@ -268,19 +253,18 @@ leader_gone balls k r a waiting rest leads ready =
     has-filter (λ v. not (touches balls (cluster_of balls k r waiting a).members v)) a waiting
     ∙ (ap (λ (b : Bool). has a waiting && not b) touched ∙ and_right (has a waiting) false refl)
 
-pub in_phase_next : (balls : List (List ℕ)) (k r a : ℕ) (rest : List ℕ) (old new : Workspace) (before after : Cover)
-    → old.waiting.members ≡ a ∷ rest →
-    IsInPhase balls k r old.waiting.members old.left.members before.clusters.items before.home.items before.phases →
-    IsAdded (length balls) balls (cluster_of balls k r old.waiting.members a) old new before after →
-    IsInPhase balls k r new.waiting.members new.left.members after.clusters.items after.home.items after.phases
-in_phase_next balls k r a rest old new before after leads phase added =
+pub in_phase_next : {balls : List (List ℕ)} {k r a : ℕ} {rest : List ℕ} {old new : Workspace} {before after : Cover}
+    → old.waiting.members ≡ a ∷ rest → IsInPhase balls k r old.waiting.members old.left.members before.clusters.items
+    before.home.items before.phases → IsAdded (length balls) balls (cluster_of balls k r old.waiting.members a) old new
+    before after → IsInPhase balls k r new.waiting.members new.left.members after.clusters.items after.home.items
+    after.phases
+in_phase_next {balls} {k} {r} {a} {old} {after} leads phase added =
     let is : IsCluster balls k r old.waiting.members (cluster_of balls k r old.waiting.members a) =
-    cluster_is balls k r a old.waiting.members rest leads phase.ready in
+    cluster_is leads phase.ready in
     rw (added.waiting, added.left, added.phases) (record {
-      ready = ready_filter balls k r old.waiting.members
-          (λ v. not (touches balls (cluster_of balls k r old.waiting.members a).members v)) phase.ready;
-      left_ready = ready_shrunk balls k old.left.members
-          (λ v. not (has v (cluster_of balls k r old.waiting.members a).homed)) phase.left_ready;
+      ready = ready_filter (λ v. not (touches balls (cluster_of balls k r old.waiting.members a).members v))
+          phase.ready;
+      left_ready = ready_shrunk (λ v. not (has v (cluster_of balls k r old.waiting.members a).homed)) phase.left_ready;
       waiting_left = λ v h.
           let w : (has v old.waiting.members ≡ true)
           × (not (touches balls (cluster_of balls k r old.waiting.members a).members v) ≡ true) =
@@ -293,31 +277,14 @@ in_phase_next balls k r a rest old new before after leads phase added =
           (false_from_ne_true (has v (cluster_of balls k r old.waiting.members a).homed) (λ homed.
           false≢true (sym (not-true (touches balls (cluster_of balls k r old.waiting.members a).members v) w.1)
           ∙ is.touching v homed))));
-      so_far = agrees_cluster (length balls) (coarsening balls k)
-          (phases_of balls k (without_home (phase_of balls k r
-          (apart balls (cluster_of balls k r old.waiting.members a).members old.waiting.members))
-          (filter (λ v. not (has v (cluster_of balls k r old.waiting.members a).homed)) old.left.members)))
-          (cluster_of balls k r old.waiting.members a)
-          (phase_of balls k r (apart balls (cluster_of balls k r old.waiting.members a).members old.waiting.members))
-          old.left.members before.clusters.items after.clusters.items before.home.items after.home.items before.phases
-          (agrees_as (length balls) (coarsening balls k)
-          (phase_of balls k r old.waiting.members ∷ phases_of balls k
-          (without_home (phase_of balls k r old.waiting.members) old.left.members))
-          (((cluster_of balls k r old.waiting.members a) ∷
-          (phase_of balls k r (apart balls (cluster_of balls k r old.waiting.members a).members
-          old.waiting.members))) ∷ phases_of balls k
-          (without_home (phase_of balls k r (apart balls (cluster_of balls k r old.waiting.members a).members
-          old.waiting.members)) (filter (λ v. not (has v (cluster_of balls k r old.waiting.members a).homed))
-          old.left.members))) old.left.members before.clusters.items before.home.items before.phases
+      so_far = agrees_cluster after.home.items (agrees_as
           (ap (λ (cs : List GrownCluster). cs ∷ phases_of balls k (without_home cs old.left.members))
-          (phase_of_next balls k r a old.waiting.members rest leads phase.ready) ∙
-          ap (λ (l : List ℕ). ((cluster_of balls k r old.waiting.members a) ∷
-          (phase_of balls k r (apart balls (cluster_of balls k r old.waiting.members a).members
-          old.waiting.members))) ∷ phases_of balls k l)
-          (unhomed_next (cluster_of balls k r old.waiting.members a)
-          (phase_of balls k r (apart balls (cluster_of balls k r old.waiting.members a).members
-          old.waiting.members)) old.left.members)) phase.so_far)
-          (λ v h. phase.waiting_left v (is.waits v h)) added.clusters added.homes;
+          (phase_of_next leads phase.ready) ∙ ap (λ (l : List ℕ).
+          ((cluster_of balls k r old.waiting.members a)
+          ∷ (phase_of balls k r (apart balls (cluster_of balls k r old.waiting.members a).members old.waiting.members)))
+          ∷ phases_of balls k l) (unhomed_next (cluster_of balls k r old.waiting.members a)
+          (phase_of balls k r (apart balls (cluster_of balls k r old.waiting.members a).members old.waiting.members))
+          old.left.members)) phase.so_far) (λ v h. phase.waiting_left v (is.waits v h)) added.clusters added.homes;
     })
 
 -- ---- the start and the end of it all
@@ -341,28 +308,26 @@ coarsening_is balls k = ap (λ (n : ℕ). phases balls k n (centres (length ball
 pub coarsening_phases : (balls : List (List ℕ)) (k : ℕ) → 0 < k → AreCentred balls
     → ArePhases balls k (centres (length balls)) (coarsening balls k)
 coarsening_phases balls k some centred =
-    phases_are balls k (length balls) (centres (length balls)) (ready_all balls k some centred)
+    phases_are (length balls) (centres (length balls)) (ready_all balls k some centred)
     (omega (arith, length-centres (length balls)))
 
-pub between_start : (balls : List (List ℕ)) (k : ℕ) (left : List ℕ) (home : List ℕ) → 0 < k → AreCentred balls → left
-    ≡ centres (length balls) → IsBetween balls k left [] home 0
-between_start balls k left home some centred all = rw all (record {
+pub between_start : (balls : List (List ℕ)) (k : ℕ) {left : List ℕ} (home : List ℕ) → 0 < k → AreCentred balls
+    → left ≡ centres (length balls) → IsBetween balls k left [] home 0
+between_start balls k home some centred all = rw all (record {
   left_ready = ready_all balls k some centred;
-  so_far = agrees_as (length balls) (coarsening balls k) (coarsening balls k)
-      (phases_of balls k (centres (length balls))) (centres (length balls)) [] home 0 (sym (coarsening_is balls k))
-      (record {
-        clusters_so_far = refl;
-        homes_so_far = λ v h. rw (has-passing (λ w. true) v 0 (length balls) (omega arith) (omega arith)) (omega arith);
-        phases_so_far = omega arith;
-      });
+  so_far = agrees_as (sym (coarsening_is balls k)) (record {
+    clusters_so_far = refl;
+    homes_so_far = λ v h. rw (has-passing (λ w. true) v 0 (length balls) (omega arith) (omega arith)) (omega arith);
+    phases_so_far = omega arith;
+  });
 })
 
 -- ---- bounds on what is done
 
-pub in_phase_numbers : (balls : List (List ℕ)) (k r : ℕ) (waiting left : List ℕ) (clusters : List Cluster)
-    (home : List ℕ) (p : ℕ) → 0 < k → AreCentred balls →
-    IsInPhase balls k r waiting left clusters home p → length clusters ≤ length balls
-in_phase_numbers balls k r waiting left clusters home p some centred phase =
+pub in_phase_numbers : {balls : List (List ℕ)} {k r : ℕ} {waiting left : List ℕ} {clusters : List Cluster}
+    {home : List ℕ} {p : ℕ} → 0 < k → AreCentred balls → IsInPhase balls k r waiting left clusters home p
+    → length clusters ≤ length balls
+in_phase_numbers {balls} {k} {r} {waiting} {left} {clusters} {p} some centred phase =
     omega (
       arith,
       ap length phase.so_far.clusters_so_far,
@@ -373,10 +338,10 @@ in_phase_numbers balls k r waiting left clusters home p some centred phase =
       clusters_within balls k (centres (length balls)) (coarsening balls k) (coarsening_phases balls k some centred),
     )
 
-pub in_phase_number : (balls : List (List ℕ)) (k r : ℕ) (waiting left : List ℕ) (clusters : List Cluster)
-    (home : List ℕ) (p : ℕ) → 0 < k → AreCentred balls →
-    IsInPhase balls k r waiting left clusters home p → p < length balls
-in_phase_number balls k r waiting left clusters home p some centred phase =
+pub in_phase_number : {balls : List (List ℕ)} {k r : ℕ} {waiting left : List ℕ} {clusters : List Cluster}
+    {home : List ℕ} {p : ℕ} → 0 < k → AreCentred balls → IsInPhase balls k r waiting left clusters home p
+    → p < length balls
+in_phase_number {balls} {k} some centred phase =
     omega (
       arith,
       phase.so_far.phases_so_far,
@@ -385,10 +350,10 @@ in_phase_number balls k r waiting left clusters home p some centred phase =
     )
 
 -- with the cluster gone, none waits up to its leader
-pub none_next : (balls : List (List ℕ)) (k r a : ℕ) (rest old new : List ℕ) → old ≡ a ∷ rest → IsReady balls k r old
-    → new ≡ apart balls (cluster_of balls k r old a).members old → ((v : ℕ) → v < a → has v old ≡ false)
-    → (v : ℕ) → v < a + 1 → has v new ≡ false
-none_next balls k r a rest old new leads ready gone none v h =
+pub none_next : {balls : List (List ℕ)} {k r a : ℕ} {rest old new : List ℕ} → old ≡ a ∷ rest → IsReady balls k r old
+    → new ≡ apart balls (cluster_of balls k r old a).members old → ((v : ℕ) → v < a → has v old ≡ false) → (v : ℕ)
+    → v < a + 1 → has v new ≡ false
+none_next {balls} {k} {r} {a} {old} leads ready gone none v h =
     ap (λ (l : List ℕ). has v l) gone ∙ elim (cases_lt v a) [
       | inl before ↦
           has-filter (λ u. not (touches balls (cluster_of balls k r old a).members u)) v old
@@ -396,5 +361,5 @@ none_next balls k r a rest old new leads ready gone none v h =
       | inr here ↦
           let same : v ≡ a = omega arith in
           subst (λ (u : ℕ). has u (apart balls (cluster_of balls k r old a).members old) ≡ false) (sym same)
-          (leader_gone balls k r a old rest leads ready)
+          (leader_gone leads ready)
     ]

@@ -32,11 +32,11 @@ pub some_clusters : (balls : List (List ℕ)) (k r v : ℕ) (vs : List ℕ) (cs 
 some_clusters balls k r v vs [] is = absurd (omega (arith, ap length is))
 some_clusters balls k r v vs (c ∷ cs) is = omega arith
 
-pub ready_left : (balls : List (List ℕ)) (k : ℕ) (left : List ℕ) (cs : List GrownCluster)
+pub ready_left : {balls : List (List ℕ)} {k : ℕ} {left : List ℕ} (cs : List GrownCluster)
     → IsReady balls k (length left) left → IsReady balls k (length (without_home cs left)) (without_home cs left)
-ready_left balls k left cs ready =
+ready_left {balls} {k} {left} cs ready =
     let all : IsReady balls k (length left) (without_home cs left) =
-    ready_filter balls k (length left) left (λ v. not (is_homed cs v)) ready in
+    ready_filter (λ v. not (is_homed cs v)) ready in
     record {
       some = all.some;
       fits = le_refl (length (without_home cs left));
@@ -45,23 +45,23 @@ ready_left balls k left cs ready =
           all.centred;
     }
 
-pub phases_are : (balls : List (List ℕ)) (k more : ℕ) (left : List ℕ) → IsReady balls k (length left) left
+pub phases_are : {balls : List (List ℕ)} {k : ℕ} (more : ℕ) (left : List ℕ) → IsReady balls k (length left) left
     → length left ≤ more → ArePhases balls k left (phases balls k more left)
 unfolding phases
-phases_are balls k zero [] ready enough = refl
-phases_are balls k zero (v ∷ vs) ready enough = absurd (omega arith)
-phases_are balls k (suc more) [] ready enough = refl
-phases_are balls k (suc more) (v ∷ vs) ready enough =
+phases_are zero [] ready enough = refl
+phases_are zero (v ∷ vs) ready enough = absurd (omega arith)
+phases_are (suc more) [] ready enough = refl
+phases_are {balls} {k} (suc more) (v ∷ vs) ready enough =
     let here : IsPhase balls k (length (v ∷ vs)) (v ∷ vs) (phase balls k (length (v ∷ vs)) (length (v ∷ vs)) (v ∷ vs)) =
-    phase_is balls k (length (v ∷ vs)) (length (v ∷ vs)) (v ∷ vs) ready (le_refl (length (v ∷ vs)))
+    phase_is (length (v ∷ vs)) (v ∷ vs) ready (le_refl (length (v ∷ vs)))
     in
     let some : 0 < length (phase balls k (length (v ∷ vs)) (length (v ∷ vs)) (v ∷ vs)) =
     some_clusters balls k (length (v ∷ vs)) v vs (phase balls k (length (v ∷ vs)) (length (v ∷ vs)) (v ∷ vs)) here
     in (
       some,
       here,
-      phases_are balls k more (without_home (phase balls k (length (v ∷ vs)) (length (v ∷ vs)) (v ∷ vs)) (v ∷ vs))
-          (ready_left balls k (v ∷ vs) (phase balls k (length (v ∷ vs)) (length (v ∷ vs)) (v ∷ vs)) ready)
+      phases_are more (without_home (phase balls k (length (v ∷ vs)) (length (v ∷ vs)) (v ∷ vs)) (v ∷ vs))
+          (ready_left (phase balls k (length (v ∷ vs)) (length (v ∷ vs)) (v ∷ vs)) ready)
           (fewer (length (without_home (phase balls k (length (v ∷ vs)) (length (v ∷ vs)) (v ∷ vs)) (v ∷ vs)))
           (length (phase balls k (length (v ∷ vs)) (length (v ∷ vs)) (v ∷ vs))) (length (v ∷ vs)) more
           (phase_fewer balls k (length (v ∷ vs)) (v ∷ vs) (phase balls k (length (v ∷ vs)) (length (v ∷ vs)) (v ∷ vs))

@@ -9,9 +9,8 @@ returns-clause-growths c = growths_bounded (sets c.args.balls.now) c.args.k c.re
 
 pub returns-clause-homes : goal.returns-clause-homes
 returns-clause-homes c =
-    homes_hold (sets c.args.balls.now) c.args.k (length c.args.balls.now) c.in_ok-cover.cover c.requires.low
-    c.requires.centred
-    (sym (length-sets c.args.balls.now)) c.in_ok-cover.ensures.exact
+    homes_hold (sets c.args.balls.now) c.args.k c.requires.low c.requires.centred (sym (length-sets c.args.balls.now))
+    c.in_ok-cover.ensures.exact
 
 pub returns-clause-apart : goal.returns-clause-apart
 returns-clause-apart c =

@@ -24,8 +24,8 @@ phase-init c =
       between = subst (λ (l : List Cluster).
           IsBetween (sets c.args.balls.now) c.args.k c.fill_all.new.set.members l c.in_ok-vec.field-0.items 0)
           (sym c.new.ensures.items)
-          (between_start (sets c.args.balls.now) c.args.k c.fill_all.new.set.members c.in_ok-vec.field-0.items
-          c.requires.low c.requires.centred all);
+          (between_start (sets c.args.balls.now) c.args.k c.in_ok-vec.field-0.items c.requires.low c.requires.centred
+          all);
       sized = record {
         left = ap (λ (s : Nodes). s.room) c.fill_all.ensures ∙ c.requires.work.left;
         waiting = c.requires.work.waiting;
@@ -53,43 +53,37 @@ phase-preserved c = record {
 }
 
 -- no ball is left
-cover_is : (balls : List Nodes) (k : ℕ) (left : List ℕ) (cover : Cover) → length left ≤ 0
-    → IsBetween (sets balls) k left cover.clusters.items cover.home.items cover.phases → length cover.home.items
-    ≡ length balls
-    → IsCover (length balls) (coarsening (sets balls) k) cover
-cover_is balls k left cover none between home_count =
+cover_is : (balls : List Nodes) {k : ℕ} {left : List ℕ} (cover : Cover) → length left ≤ 0
+    → IsBetween (sets balls) k left cover.clusters.items cover.home.items cover.phases
+    → length cover.home.items ≡ length balls → IsCover (length balls) (coarsening (sets balls) k) cover
+cover_is balls {k} {left} cover none between home_count =
     subst (λ (n : ℕ). IsCover n (coarsening (sets balls) k) cover) (length-sets balls)
-    (is_cover (sets balls) k left cover between (nothing_in left none) (home_count ∙ sym (length-sets balls)))
+    (is_cover cover between (nothing_in left none) (home_count ∙ sym (length-sets balls)))
 
 pub returns-clause-exact : goal.returns-clause-exact
 returns-clause-exact c =
-    cover_is c.args.balls.now c.args.k c.phase.work.left.members c.phase.cover
-    (subst (λ (n : ℕ). n ≤ 0) c.count.ensures c.phase-test.false) c.phase.invariant.between c.phase.invariant.home_count
+    cover_is c.args.balls.now c.phase.cover (subst (λ (n : ℕ). n ≤ 0) c.count.ensures c.phase-test.false)
+    c.phase.invariant.between c.phase.invariant.home_count
 
 pub returns-clause-few : goal.returns-clause-few
 returns-clause-few c =
     subst (λ (n : ℕ). length c.phase.cover.clusters.items ≤ n) (length-sets c.args.balls.now)
-    (clusters_few (sets c.args.balls.now) c.args.k (length c.args.balls.now) c.phase.cover c.requires.low
-    c.requires.centred
-    (cover_is c.args.balls.now c.args.k c.phase.work.left.members c.phase.cover
-    (subst (λ (n : ℕ). n ≤ 0) c.count.ensures c.phase-test.false) c.phase.invariant.between
-    c.phase.invariant.home_count))
+    (clusters_few (sets c.args.balls.now) c.args.k c.requires.low c.requires.centred
+    (cover_is c.args.balls.now c.phase.cover (subst (λ (n : ℕ). n ≤ 0) c.count.ensures c.phase-test.false)
+    c.phase.invariant.between c.phase.invariant.home_count))
 
 pub returns-clause-phases : goal.returns-clause-phases
 returns-clause-phases c =
-    phases_bounded c.covers_are_sparse.ensures (sets c.args.balls.now) c.args.k (length c.args.balls.now) c.phase.cover
-    c.requires.low c.requires.centred (sym (length-sets c.args.balls.now))
-    (cover_is c.args.balls.now c.args.k c.phase.work.left.members c.phase.cover
+    phases_bounded c.covers_are_sparse.ensures (sets c.args.balls.now) c.args.k c.requires.low c.requires.centred
+    (sym (length-sets c.args.balls.now)) (cover_is c.args.balls.now c.phase.cover
     (subst (λ (n : ℕ). n ≤ 0) c.count.ensures c.phase-test.false) c.phase.invariant.between
     c.phase.invariant.home_count)
 
 pub returns-clause-overlap : goal.returns-clause-overlap
 returns-clause-overlap c = λ x.
-    overlap c.covers_are_sparse.ensures (sets c.args.balls.now) c.args.k (length c.args.balls.now) c.phase.cover x
-    c.requires.low c.requires.centred
-    (cover_is c.args.balls.now c.args.k c.phase.work.left.members c.phase.cover
-    (subst (λ (n : ℕ). n ≤ 0) c.count.ensures c.phase-test.false) c.phase.invariant.between
-    c.phase.invariant.home_count)
+    overlap c.covers_are_sparse.ensures (sets c.args.balls.now) c.args.k x c.requires.low c.requires.centred
+    (cover_is c.args.balls.now c.phase.cover (subst (λ (n : ℕ). n ≤ 0) c.count.ensures c.phase-test.false)
+    c.phase.invariant.between c.phase.invariant.home_count)
 
 pub returns-clause-spare_left : goal.returns-clause-spare_left
 returns-clause-spare_left c = (length c.phase.cover.clusters.items, c.phase.invariant.spare)

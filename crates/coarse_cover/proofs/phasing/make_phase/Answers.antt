@@ -19,10 +19,7 @@ first-init c =
     let copied : c.assign.new.self.members
     ≡ c.args.work.now.left.members = ap (λ (s : Nodes). s.members) c.assign.ensures in
     record {
-      in_phase = in_phase_start (sets c.args.balls.now) c.args.k c.count-r.result c.assign.new.self.members
-          c.args.work.now.left.members
-          c.args.cover.now.clusters.items c.args.cover.now.home.items c.args.cover.now.phases
-          c.requires.between c.requires.some copied c.count-r.ensures;
+      in_phase = in_phase_start c.requires.between c.requires.some copied c.count-r.ensures;
       none_before = λ v h. absurd (omega arith);
       sized = record {
         left = c.requires.sized.left;
@@ -47,10 +44,7 @@ first-init c =
 pub add_cluster-requires-clause-numbers : goal.add_cluster-requires-clause-numbers
 add_cluster-requires-clause-numbers c =
     let few : length c.first.cover.clusters.items ≤ length (sets c.args.balls.now) =
-    in_phase_numbers (sets c.args.balls.now) c.args.k c.count-r.result c.first.work.waiting.members
-    c.first.work.left.members c.first.cover.clusters.items c.first.cover.home.items
-    c.first.cover.phases
-    c.requires.low c.requires.centred c.first.invariant.in_phase
+    in_phase_numbers c.requires.low c.requires.centred c.first.invariant.in_phase
     in
     omega (arith, length-sets c.args.balls.now)
 
@@ -78,14 +72,10 @@ first-preserved c =
     let one_more : length c.add_cluster.new.cover.clusters.items ≡ length c.first.cover.clusters.items + 1 =
     ap length added.clusters ∙ length-append c.first.cover.clusters.items _ in
     record {
-      in_phase = in_phase_next (sets c.args.balls.now) c.args.k c.count-r.result c.in-Some.first leads.0
-          c.first.work c.add_cluster.new.work c.first.cover c.add_cluster.new.cover leads.1
-          c.first.invariant.in_phase (subst
-          (λ (n : ℕ). IsAdded n (sets c.args.balls.now) cluster c.first.work c.add_cluster.new.work
-          c.first.cover c.add_cluster.new.cover) (sym (length-sets c.args.balls.now)) added);
-      none_before = none_next (sets c.args.balls.now) c.args.k c.count-r.result c.in-Some.first leads.0
-          c.first.work.waiting.members c.add_cluster.new.work.waiting.members leads.1
-          c.first.invariant.in_phase.ready added.waiting before;
+      in_phase = in_phase_next leads.1 c.first.invariant.in_phase
+          (subst (λ (n : ℕ). IsAdded n (sets c.args.balls.now) cluster c.first.work c.add_cluster.new.work c.first.cover
+          c.add_cluster.new.cover) (sym (length-sets c.args.balls.now)) added);
+      none_before = none_next leads.1 c.first.invariant.in_phase.ready added.waiting before;
       sized = c.add_cluster.ensures.sized;
       home_count = added.home_count;
       phases_kept = added.phases ∙ c.first.invariant.phases_kept;
@@ -102,10 +92,7 @@ first-preserved c =
 pub overflow_add-cover : goal.overflow_add-cover
 overflow_add-cover c =
     let few : c.first.cover.phases < length (sets c.args.balls.now) =
-    in_phase_number (sets c.args.balls.now) c.args.k c.count-r.result c.first.work.waiting.members
-    c.first.work.left.members c.first.cover.clusters.items c.first.cover.home.items
-    c.first.cover.phases
-    c.requires.low c.requires.centred c.first.invariant.in_phase
+    in_phase_number c.requires.low c.requires.centred c.first.invariant.in_phase
     in
     omega (arith, length-sets c.args.balls.now)
 
@@ -118,10 +105,7 @@ returns-clause-between c =
     ])
     in
     rw (add-one c.first.cover.phases)
-    (in_phase_end (sets c.args.balls.now) c.args.k c.count-r.result c.first.work.waiting.members
-    c.first.work.left.members
-    c.first.cover.clusters.items c.first.cover.home.items c.first.cover.phases
-    c.first.invariant.in_phase none)
+    (in_phase_end c.first.invariant.in_phase none)
 
 pub returns-clause-spare_left : goal.returns-clause-spare_left
 returns-clause-spare_left c =
