@@ -20,7 +20,8 @@ fn empty_scripts(alloc: Global, actors: u32) -> Result<Vec<Vec<Call>>, AllocErro
     Ok(scripts)
 }
 
-/// The script of each actor: its calls, in the order of the list.
+/// The script of each of so many actors: its calls, in the order of the list. Calls of an actor
+/// beyond them are in no script.
 pub fn scripts_of(
     alloc: Global,
     actors: u32,

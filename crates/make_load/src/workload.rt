@@ -109,7 +109,7 @@ impl Workload {
     }
 }
 
-/// The input that a load makes.
+/// The input that a load makes, which is valid (`loads_are_valid`).
 pub fn make_input(alloc: Global, load: Load) -> Result<Input, AllocError>
     requires { IsLoad load }
     ensures { IfOk result (λ input. seen_input input ≡ load_contents load) }

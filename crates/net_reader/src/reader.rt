@@ -51,7 +51,8 @@ impl Reader {
         })
     }
 
-    /// Reads one piece more. Where memory runs out the reader has failed from then on.
+    /// Reads one piece more; all pieces together have fewer than 2^32 bytes. Where memory runs out
+    /// the reader has failed from then on, and this call and each later one say so.
     pub fn feed(&mut self, piece: &[u8]) -> Result<(), AllocError>
         requires { HasRoom self.old (length piece.now) }
         ensures fed { OnOk result ((bytes : List ℕ) → StandsFor self.old bytes
@@ -67,7 +68,8 @@ impl Reader {
         read
     }
 
-    /// The input that the bytes say that the reader stands for, or their first fault.
+    /// The input that the bytes say that the reader stands for, or their first fault. It answers
+    /// `OutOfMemory` where the reader has failed, and where there is no memory for the input.
     pub fn end(self, alloc: Global) -> Result<Input, ReadRefusal>
         ensures input { (bytes : List ℕ) → StandsFor self bytes → IsRead bytes result }
         ensures failed { self.failed ≡ true → result ≡ Err OutOfMemory }
@@ -94,7 +96,7 @@ impl Reader {
     }
 }
 
-/// The input that bytes say, or their first fault.
+/// The input that bytes say, of which there are at most `MAX_BYTES`, or their first fault.
 pub fn read_input(alloc: Global, bytes: &[u8]) -> Result<Input, ReadRefusal>
     requires { length bytes.now ≤ most_bytes }
     ensures { IsRead bytes.now result }
