@@ -29,7 +29,8 @@ use std::alloc::{AllocError, Global};
 
 /// What the moves of each subscriber cost, by its number: how many moves it makes, how far it goes,
 /// the weight of all that it writes and how many marks it purges (docs/DIRECTORY.md, "What moves
-/// cost"). Over a plan that bounds its finds each line is within the plan's rate.
+/// cost"). Over a plan that bounds its finds each line is within the plan's rate. The input is
+/// valid, and the plan is one of its nodes, with these distances. The only fault is want of memory.
 pub fn costs(
     alloc: Global,
     input: &Input,
