@@ -1,11 +1,14 @@
-//! Worked examples, computed: what moves on the line of four nodes cost, and how it is told.
-ghost use Rattle.std.specs.Prelude.{◌≡◌, ◌+◌, ◌++◌, [], ◌∷◌, codes};
+//! Worked examples, computed: what moves on the line of four nodes cost, and how it is told. And
+//! what the laws of moves say of some of them, by number.
+ghost use Rattle.std.specs.Prelude.{◌≡◌, ◌+◌, ◌++◌, [], ◌∷◌, None, codes, count_by, filter, length, ℕ};
 ghost use Rattle.outside.specs.Texts.{◌then◌};
-ghost use Rattle.directory.specs.Courses.{move_to, switch_off, switch_on};
+ghost use Rattle.directory.specs.Courses.{Course, last_stop, move_to, next_move, switch_off, switch_on};
+ghost use Rattle.directory.specs.Settings.{Setting};
+ghost use Rattle.directory.specs.Writes.{entry_at, old_home, purge_writes, step_writes};
 ghost use Rattle.plan_laws.specs.Examples.{line_scripts, line_setting};
 ghost use Rattle.move_cost.specs.CostText.{costs_text_of};
-ghost use Rattle.move_cost.specs.Costs.{cost_lines};
-ghost use Rattle.move_cost.specs.Pace.{IsPaced};
+ghost use Rattle.move_cost.specs.Costs.{cost_lines, erased_levels, is_erasure, is_purge, step_weight};
+ghost use Rattle.move_cost.specs.Pace.{ErasuresAreWritten, IsPaced, MoveWeighs, PurgesAreCounted};
 ghost use Rattle.move_cost.specs.Rate.{writing_rate};
 
 use crate::laws::plans_are_paced;
@@ -33,6 +36,28 @@ pub fn example_costs()
     ensures winding { cost_lines (record line_setting { inside = λ level cluster node. 10 + node })
         (line_scripts (move_to 2 ∷ []) [])
         ≡ record { sub = 0; moves = 1; moved = 1; written = 52; purged = 0 } ∷ [] }
+{}
+
+/// What the laws of moves say by number: of a move by 3 that renews level 0 alone, 2 from the
+/// leader of its home there, and erases nothing; of one that purges two marks; of one that erases
+/// no address; and of one that erases that of one level.
+pub fn example_moves()
+    ensures weighs { MoveWeighs → (setting : Setting) (course : Course) (node : ℕ)
+        → setting.distance (last_stop course) node ≡ 3
+        → (next_move setting course node).renewed ≡ 0
+        → setting.inside 0 (setting.home 0 node) node ≡ 2
+        → erased_levels setting course (next_move setting course node) ≡ []
+        → step_weight setting course (move_to node) ≡ 10 }
+    ensures purges { PurgesAreCounted → (setting : Setting) (course : Course) (node : ℕ)
+        → length (purge_writes setting course (next_move setting course node)) ≡ 2
+        → count_by is_purge (step_writes setting course (move_to node)) ≡ 2 }
+    ensures none { ErasuresAreWritten → (setting : Setting) (course : Course) (node : ℕ)
+        → erased_levels setting course (next_move setting course node) ≡ []
+        → filter is_erasure (step_writes setting course (move_to node)) ≡ [] }
+    ensures one { ErasuresAreWritten → (setting : Setting) (course : Course) (node level : ℕ)
+        → erased_levels setting course (next_move setting course node) ≡ level ∷ []
+        → filter is_erasure (step_writes setting course (move_to node))
+        ≡ entry_at level (old_home setting course level) None ∷ [] }
 {}
 
 /// The line of four is renewed at the pace that the bound asks for, with clusters 3 radii wide: a

@@ -13,7 +13,7 @@ mod text;
 mod weights;
 
 pub use counting::costs;
-pub use examples::{example_costs, example_pace, example_texts};
+pub use examples::{example_costs, example_moves, example_pace, example_texts};
 pub use laws::{
     erasures_are_written, lines_are_within_rate, move_weighs, network_lines_are_within_rate,
     plans_are_paced, purged_is_bounded, purges_are_counted, written_is_bounded,
