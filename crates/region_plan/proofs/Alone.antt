@@ -98,9 +98,9 @@ abbrev pub LeastIsOne : Type 0
 LeastIsOne = (edges : List Edge) (inside : ℕ → Bool) (u v w x : ℕ) → IsLeastWeight edges inside u v w
     → IsLeastWeight edges inside u v x → w ≡ x
 
-same_cluster : (one_weight : LeastIsOne) (network : Network) (made : Cluster) (d e : PlanCluster) → Rises made
+same_cluster : (one_weight : LeastIsOne) {network : Network} {made : Cluster} {d e : PlanCluster} → Rises made
     → IsClusterOf network made d → IsClusterOf network made e → d ≡ e
-same_cluster one_weight network made d e rises p q =
+same_cluster one_weight {network} {made} {d} {e} rises p q =
     let xs = made.members.members in
     let leader : d.leader ≡ e.leader = p.leader ∙ sym q.leader in
     let phase_is : d.phase ≡ e.phase = p.phase ∙ sym q.phase in
@@ -129,16 +129,15 @@ same_clusters one_weight network [] (d ∷ ds) es all p q = absurd p
 same_clusters one_weight network (c ∷ cs) [] es all p q = absurd p
 same_clusters one_weight network (c ∷ cs) (d ∷ ds) [] all p q = absurd q
 same_clusters one_weight network (c ∷ cs) (d ∷ ds) (e ∷ es) all p q =
-    let first : d ≡ e = same_cluster one_weight network c d e (All-head Rises c cs all) p.0 q.0 in
+    let first : d ≡ e = same_cluster one_weight (All-head Rises c cs all) p.0 q.0 in
     let others : ds ≡ es = same_clusters one_weight network cs ds es (All-tail Rises c cs all) p.1 q.1 in
     cc
 
 -- ---- one level, and one plan
 
-same_level : (one_weight : LeastIsOne) (network : Network) (table : DistanceTable) (covering : Covering) (i : ℕ)
-    (one two : Level)
-    → IsLevelOf network table covering i one → IsLevelOf network table covering i two → one ≡ two
-same_level one_weight network table covering i one two p q =
+same_level : (one_weight : LeastIsOne) {network : Network} {table : DistanceTable} {covering : Covering} {i : ℕ}
+    {one two : Level} → IsLevelOf network table covering i one → IsLevelOf network table covering i two → one ≡ two
+same_level one_weight {network} {table} {covering} {i} {one} {two} p q =
     let rise : All Rises (cluster_list table.nodes 0 (regions_of table covering i)) =
     listed_rise table.nodes 0 (regions_of table covering i) (covering_ascends covering _) in
     let clusters : one.clusters ≡ two.clusters =
@@ -168,10 +167,9 @@ same_level one_weight network table covering i one two p q =
     }) = cc in
     parts
 
-pub one_plan : (one_table : DistancesAreOne) (one_weight : LeastIsOne) (network : Network) (covering : Covering)
-    (one two : PlanData)
-    → IsCoveredPlan covering network one → IsCoveredPlan covering network two → one ≡ two
-one_plan one_table one_weight network covering one two p q =
+pub one_plan : (one_table : DistancesAreOne) (one_weight : LeastIsOne) {network : Network} {covering : Covering}
+    {one two : PlanData} → IsCoveredPlan covering network one → IsCoveredPlan covering network two → one ≡ two
+one_plan one_table one_weight {network} {covering} {one} {two} p q =
     let a : one.distances ≡ two.distances = tables in
     let b : one.k ≡ two.k = trade_off in
     let r : one.reach ≡ two.reach = p.reach ∙ sym q.reach in
@@ -195,9 +193,8 @@ one_plan one_table one_weight network covering one two p q =
     count = omega (arith, tops, p.some, q.some)
 
     level : (i : ℕ) → i < levels_of one → level_at one i ≡ level_at two i
-    level i below = same_level one_weight network two.distances covering i (level_at one i) (level_at two i)
-        (subst (λ (t : DistanceTable). IsLevelOf network t covering i (level_at one i)) tables (p.each i below))
-        (q.each i (omega (arith, count)))
+    level i below = same_level one_weight (subst (λ (t : DistanceTable). IsLevelOf network t covering i
+        (level_at one i)) tables (p.each i below)) (q.each i (omega (arith, count)))
 
     levels : one.levels ≡ two.levels
     levels = same_lists one.levels two.levels count (λ i d below.

@@ -56,11 +56,11 @@ pub writes_counted : (plan : PlanData) (starts : List ℕ) → 1 ≤ levels_of p
 writes_counted plan starts some = omega arith
 
 -- the readers of one level more
-pub looks_more : (levels : List Level) (shape : Shape) (v i old len : ℕ) → i < length levels
+pub looks_more : (levels : List Level) {shape : Shape} (v i : ℕ) {old len : ℕ} → i < length levels
     → old ≡ sum_by (λ level. length (readers_in level v)) (take i levels) → shape ≡ shape_of (level_in levels i)
-    → len ≡ length (readers_for shape v)
-    → old + len ≡ sum_by (λ level. length (readers_in level v)) (take (i + 1) levels)
-looks_more levels shape v i old len below before is counted =
+    → len ≡ length (readers_for shape v) → old + len ≡ sum_by (λ level. length (readers_in level v))
+    (take (i + 1) levels)
+looks_more levels v i {len} below before is counted =
     ap (λ n. n + len) before
     ∙ ap (λ n. sum_by (λ (level : Level). length (readers_in level v)) (take i levels) + n)
     (counted ∙ ap (λ (s : Shape). length (readers_for s v)) is)

@@ -55,10 +55,10 @@ one_list : (n : ℕ) (all : List GrownCluster) → cluster_list n 0 (all ∷ [])
 unfolding cluster_list
 one_list n all = append-nil (map (as_cluster n 0) all)
 
-pub phased_cover : (n : ℕ) (all : List GrownCluster) (cover : MeanCover) (made : Cover) → IsMeanCover n all cover
-    → made.clusters.items ≡ map in_phase_0 cover.clusters.items → made.home.items ≡ cover.home.items
-    → made.phases ≡ 1 → IsCover n (all ∷ []) made
-phased_cover n all cover made is clusters homes phases = record {
+pub phased_cover : {n : ℕ} {all : List GrownCluster} {cover : MeanCover} (made : Cover) → IsMeanCover n all cover
+    → made.clusters.items ≡ map in_phase_0 cover.clusters.items → made.home.items ≡ cover.home.items → made.phases ≡ 1
+    → IsCover n (all ∷ []) made
+phased_cover {n} {all} made is clusters homes phases = record {
   clusters = clusters ∙ ap (map in_phase_0) is.clusters ∙ phased_clusters n all ∙ sym (one_list n all);
   homes = homes ∙ is.homes ∙ ap (λ (cs : List GrownCluster). map (home_of cs) (centres n)) (sym (one_phase all));
   phases = phases;

@@ -36,9 +36,9 @@ one_exponent d e i reached just above within = elim (cases_lt e (suc i)) [
     two = omega arith
 
 -- where an exponent has no mark, no distance lies between its power and the one below
-none_between : (marks : List Bool) (d i : ℕ) → HasExponent marks d → get_or marks (suc i) false ≡ false → d ≤ 2 ^ suc i
-    → d ≤ 2 ^ i
-none_between marks d i mark none within = elim (cases_lt (2 ^ i) d) [
+none_between : {marks : List Bool} {d : ℕ} (i : ℕ) → HasExponent marks d → get_or marks (suc i) false ≡ false
+    → d ≤ 2 ^ suc i → d ≤ 2 ^ i
+none_between {marks} {d} i mark none within = elim (cases_lt (2 ^ i) d) [
   | inl above ↦
       let same : mark.exponent ≡ suc i = one_exponent d mark.exponent i mark.reached mark.just above
       within in
@@ -62,7 +62,7 @@ module _ (table : DistanceTable) (marks : List Bool) (marked : AreMarked table m
       far above = elim (cases_lt (2 ^ suc i) (dist table v w)) [
         | inl over ↦ over
         | inr within ↦ absurd (let low : dist table v w ≤ 2 ^ i =
-            none_between marks (dist table v w) i (marked v w hv hw (omega arith)) none within in omega arith)
+            none_between i (marked v w hv hw (omega arith)) none within in omega arith)
       ]
 
   same_balls : balls_of table (suc i) ≡ balls_of table i
@@ -85,23 +85,21 @@ module _ (table : DistanceTable) (marks : List Bool) (marked : AreMarked table m
         readers = is.readers;
       }
 
-sized_above : (n exponent threshold : ℕ) (level : Level) → exponent ≤ 30 → IsSized n level
+sized_above : {n : ℕ} (exponent threshold : ℕ) {level : Level} → exponent ≤ 30 → IsSized n level
     → IsSized n (level_with exponent threshold level)
-sized_above n exponent threshold level few sized =
+sized_above exponent threshold few sized =
     record { homes = sized.homes; readers = sized.readers; clusters = sized.clusters; exponent = few }
 
 -- a level that shares the table of the one below
-pub levels_shared : (network : Network) (table : DistanceTable) (covering : Covering) (i t : ℕ) (marks : List Bool)
-    (old new : List Level) → AreMarked table marks → 0 < i → i ≤ 30 → get_or marks i false ≡ false
+pub levels_shared : {network : Network} {table : DistanceTable} {covering : Covering} (i : ℕ) {t : ℕ}
+    (marks : List Bool) {old new : List Level} → AreMarked table marks → 0 < i → i ≤ 30 → get_or marks i false ≡ false
     → AreLevelsOf network table covering i old → t ≡ threshold_of i
     → new ≡ old ++ level_with i t (level_in old (length old - 1)) ∷ [] → AreLevelsOf network table covering (i + 1) new
-levels_shared network table covering zero t marks old new marked some few none before is now = absurd (omega arith)
-levels_shared network table covering (suc i) t marks old new marked some few none before is now =
+levels_shared zero marks marked some few none before is now = absurd (omega arith)
+levels_shared {network} {table} {covering} (suc i) marks {old} marked some few none before is now =
     let last : length old - 1 ≡ i = omega (arith, before.count_is) in
-    levels_more network table covering (suc i) old new (level_with (suc i) (threshold_of (suc i)) (level_in old i))
-    before
-    (level_above table marks marked i none network covering (level_in old i) (before.each i (omega arith)))
-    (sized_above table.nodes (suc i) (threshold_of (suc i)) (level_in old i) few
+    levels_more before (level_above table marks marked i none network covering (level_in old i)
+    (before.each i (omega arith))) (sized_above (suc i) (threshold_of (suc i)) few
     (before.sized i no_level (omega (arith, before.count_is))))
     (now ∙ ap (λ n. old ++ level_with (suc i) n (level_in old (length old - 1)) ∷ []) is
     ∙ ap (λ j. old ++ level_with (suc i) (threshold_of (suc i)) (level_in old j) ∷ []) last)

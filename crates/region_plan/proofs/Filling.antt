@@ -60,13 +60,13 @@ module _ (clusters : List PlanCluster) (number i : ℕ) (members : List ℕ)
       ∙ ap (λ ws. weight_beside (get_or members i 0) (cluster_in clusters number).members ws) beside
 
 -- the next place of a member is free, and its reader is this cluster
-pub next_free : (clusters : List PlanCluster) (number i : ℕ) (members old taken : List ℕ)
+pub next_free : (clusters : List PlanCluster) (number i : ℕ) {members old taken : List ℕ}
     → members ≡ (cluster_in clusters number).members → IsAscending (cluster_in clusters number).members
-    → number < length clusters → i < length members → get_or members i 0 < length old
-    → AreCounts clusters number old → IsCounted (take i members) old taken
-    → (get_or taken (get_or members i 0) 0 < length (clusters_with clusters (get_or members i 0)))
-    × (get_or (clusters_with clusters (get_or members i 0)) (get_or taken (get_or members i 0) 0) 0 ≡ number)
-next_free clusters number i members old taken listed ascending below short node counts counted =
+    → number < length clusters → i < length members → get_or members i 0 < length old → AreCounts clusters number old
+    → IsCounted (take i members) old taken → (get_or taken (get_or members i 0) 0 < length
+    (clusters_with clusters (get_or members i 0))) × (get_or (clusters_with clusters (get_or members i 0))
+    (get_or taken (get_or members i 0) 0) 0 ≡ number)
+next_free clusters number i {members} {old} {taken} listed ascending below short node counts counted =
     let same : get_or taken (get_or members i 0) 0 ≡ length (readers_below clusters number (get_or members i 0)) =
     uncounted members old taken i short counted (subst IsAscending (sym listed) ascending) node
     ∙ counts (get_or members i 0) node in

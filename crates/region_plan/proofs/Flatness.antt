@@ -105,10 +105,10 @@ module _ (network : Network) (plan : PlanData) (flat : IsFlat network plan) wher
       ))) c) i
 
 -- the plan of one flat level
-pub flat_made : (network : Network) (table copy : DistanceTable) (levels : List Level) → AreDistancesOf network table
+pub flat_made : {network : Network} {table copy : DistanceTable} (levels : List Level) → AreDistancesOf network table
     → copy ≡ table → length levels ≡ 1 → IsFlatLevel table (level_in levels 0)
     → IsFlat network (plan_with 1 1 copy levels)
-flat_made network table copy levels belongs same one level = record {
+flat_made {network} levels belongs same one level = record {
   distances = subst (λ (t : DistanceTable). AreDistancesOf network t) (sym same) belongs;
   trade_off = refl;
   reach = refl;

@@ -90,10 +90,10 @@ length_more test c = length-passing-add test 0 c 1
     ∙ ap (λ i. length (sift test 0 c) + length (sift test i 1)) (zero-add c)
     ∙ ap (λ n. length (sift test 0 c) + n) (length-cond (test c) c [] ∙ add-zero (cond (test c) 1 0))
 
-pub cluster_counted : (clusters : List PlanCluster) (number : ℕ) (members old new : List ℕ)
+pub cluster_counted : (clusters : List PlanCluster) (number : ℕ) {members old new : List ℕ}
     → members ≡ (cluster_in clusters number).members → AreCounts clusters number old → IsCounted members old new
     → AreCounts clusters (number + 1) new
-cluster_counted clusters number members old new is before counted v below =
+cluster_counted clusters number {members} {old} is before counted v below =
     let short : v < length old = omega (arith, below, counted.count) in
     counted.each v short ∙ ap (λ n. n + cond (has v members) 1 0) (before v short)
     ∙ ap (λ xs. length (readers_below clusters number v) + cond (has v xs) 1 0) is
@@ -116,7 +116,8 @@ pub count_few : (counts : List ℕ) (i : ℕ) → i < length counts → All (λ 
     → get_or counts i 0 ≤ 1024
 count_few counts i short few = few i 0 short
 
-pub room_made : (clusters : List PlanCluster) (n : ℕ) (counts starts : List ℕ) → length counts ≡ n
+pub room_made : (clusters : List PlanCluster) {n : ℕ} {counts starts : List ℕ} → length counts ≡ n
     → AreCounts clusters (length clusters) counts → AreStarts counts starts → HaveRoom n clusters starts
-room_made clusters n counts starts long are sums = places_made n (λ v. length (clusters_with clusters v)) counts starts
+room_made clusters {n} {counts} {starts} long are sums = places_made n (λ v. length (clusters_with clusters v)) counts
+    starts
     long are sums

@@ -23,9 +23,9 @@ use Rattle.region_plan.proofs.Making.{range_new, range_old, row_is, whole_is}
 
 -- ---- a cluster as it is read
 
-pub head_short : (lists : ClusterLists) (clusters : List PlanCluster) (c : ℕ) → clusters_of_lists lists ≡ clusters
+pub head_short : (lists : ClusterLists) {clusters : List PlanCluster} (c : ℕ) → clusters_of_lists lists ≡ clusters
     → c < length clusters → c < length lists.heads.items
-head_short lists clusters c view below =
+head_short lists c view below =
     omega (
       arith,
       subst (λ (cs : List PlanCluster). c < length cs) (sym view) below,
@@ -37,12 +37,12 @@ module _ (lists : ClusterLists) (clusters : List PlanCluster) (c : ℕ) (head : 
     (at : head ≡ get_or lists.heads.items c head) where
   pub head_laid : IsLaid lists.nodes.items head
   head_laid = subst (λ (h : ClusterHead). IsLaid lists.nodes.items h) (sym at)
-      (laid.each c head (head_short lists clusters c view below))
+      (laid.each c head (head_short lists c view below))
 
   pub head_read : cluster_under lists.nodes.items lists.weights.items head ≡ cluster_in clusters c
   head_read = ap (cluster_under lists.nodes.items lists.weights.items) at
       ∙ sym (get_or-map (cluster_under lists.nodes.items lists.weights.items) lists.heads.items c head no_cluster
-      (head_short lists clusters c view below))
+      (head_short lists c view below))
       ∙ ap (λ (cs : List PlanCluster). cluster_in cs c) view
 
   pub head_count : length (slice_range lists.weights.items head.start head.end) ≡ length (cluster_in clusters c).members
@@ -110,11 +110,11 @@ module _ (old new : ClusterLists) (members weights : List ℕ) (leader phase dep
 
   here : slice_range new.nodes.items start end ≡ members
   here = ap (λ (xs : List ℕ). slice_range xs start end) nodes_now
-      ∙ range_new old.nodes.items members start end begins (ends ∙ ap (length {A = ℕ}) nodes_now)
+      ∙ range_new old.nodes.items members begins (ends ∙ ap (length {A = ℕ}) nodes_now)
 
   beside : slice_range new.weights.items start end ≡ weights
   beside = ap (λ (xs : List ℕ). slice_range xs start end) weights_now
-      ∙ range_new old.weights.items weights start end (omega (arith, begins, laid.count))
+      ∙ range_new old.weights.items weights (omega (arith, begins, laid.count))
       (omega (arith, ends, long, laid.count, count, length-append old.weights.items weights))
 
   pub still_laid : IsAscending members → AreLaid new
@@ -163,9 +163,9 @@ module _ (old new : ClusterLists) (members weights : List ℕ) (leader phase dep
 -- ---- a cluster of a cover more
 
 -- its leader is a node
-pub leader_below : (network : Network) (table : DistanceTable) (made : Cluster) → AreDistancesOf network table
+pub leader_below : {network : Network} {table : DistanceTable} {made : Cluster} → AreDistancesOf network table
     → IsSpanned network made → AreNodes made.members → made.first < table.nodes
-leader_below network table made belongs spanned sound =
+leader_below {made} belongs spanned sound =
     omega (
       arith,
       below-has made.members.room made.first made.members.members sound.below spanned.leads,
@@ -199,7 +199,7 @@ module _ (network : Network) (made : Cluster) (old new : ClusterLists) (start en
       weights = is.weights;
       depth = depth;
     };
-    is = row_is network made made.members.members old.weights.items new.weights.items depth refl is;
+    is = row_is made refl is;
     pushed = cluster_pushed old new made.members.members is.weights made.first made.phase depth start end laid nodes_now
         is.appended heads_now is.sound.count begins ends;
   }

@@ -30,8 +30,8 @@ use Rattle.node_set.specs.Turned.{AreTurned}
 use Rattle.region_plan.proofs.Making.{clusters_count, level_sized}
 
 -- a node is in a ball just where the ball's centre is in the node's ball
-balls_are_rows : (table : DistanceTable) → IsMetric table → (i : ℕ) → AreTurned (balls_of table i) (balls_of table i)
-balls_are_rows table metric i u v u_below v_below =
+balls_are_rows : {table : DistanceTable} → IsMetric table → (i : ℕ) → AreTurned (balls_of table i) (balls_of table i)
+balls_are_rows {table} metric i u v u_below v_below =
     let n : length (balls_of table i) ≡ table.nodes = length-map_centres (λ w. ball_of table w (2 ^ i)) table.nodes in
     member u v (omega (arith, n)) (omega (arith, n))
     ∙ ap (λ d. nat_le d (2 ^ i)) (metric.turned v u (omega (arith, n)) (omega (arith, n)))
@@ -72,7 +72,7 @@ module _ (network : Network) (table : DistanceTable) (metric : IsMetric table) (
 
   -- the balls are their own rows
   pub balls_turned : AreTurned (sets now) (sets now)
-  balls_turned = subst (λ (bs : List (List ℕ)). AreTurned bs bs) (sym sets_are) (balls_are_rows table metric i)
+  balls_turned = subst (λ (bs : List (List ℕ)). AreTurned bs bs) (sym sets_are) (balls_are_rows metric i)
 
   module _ (cover : Cover) (exact : IsCover (length now) (covering_of covering (sets now)) cover) where
     cover_is : IsCover table.nodes (regions_of table covering i) cover
@@ -107,20 +107,16 @@ module _ (network : Network) (table : DistanceTable) (metric : IsMetric table) (
       pub level_fits : (shape : Shape) → i ≤ 30 → shape ≡ shape_with cover.phases rows cover.home.items
           → IsSized table.nodes (level_of i (threshold_of i) shape)
       level_fits shape light made =
-          level_sized table.nodes i (threshold_of i) cover.phases rows cover.home.items
-          (level_of i (threshold_of i) shape)
-          (ap (level_of i (threshold_of i)) made) homes_count rows_few light
+          level_sized i (threshold_of i) cover.phases rows cover.home.items (ap (level_of i (threshold_of i)) made)
+          homes_count rows_few light
 
 -- ---- the levels, one after another
 
-pub more_levels : (network : Network) (table : DistanceTable) (covering : Covering) (i : ℕ) (old new : List Level)
-    (level : Level)
-    → length old ≡ i
+pub more_levels : {network : Network} {table : DistanceTable} {covering : Covering} {i : ℕ} (old : List Level)
+    {new : List Level} {level : Level} → length old ≡ i
     → ((j : ℕ) → j < i → IsLevelOf network table covering j (level_in old j)) → IsLevelOf network table covering i level
-    → new
-    ≡ old ++ level ∷ []
-    → (j : ℕ) → j < i + 1 → IsLevelOf network table covering j (level_in new j)
-more_levels network table covering i old new level count each is now j below = elim (cases_lt j i) [
+    → new ≡ old ++ level ∷ [] → (j : ℕ) → j < i + 1 → IsLevelOf network table covering j (level_in new j)
+more_levels {network} {table} {covering} {i} old {new} {level} count each is now j below = elim (cases_lt j i) [
   | inl less ↦ subst (λ (l : Level). IsLevelOf network table covering j l)
       (sym (ap (λ (ls : List Level). get_or ls j no_level) now
       ∙ get_or_append_left old (level ∷ []) no_level j (omega (arith, count)))) (each j less)
@@ -132,35 +128,31 @@ more_levels network table covering i old new level count each is now j below = e
 ]
 
 -- one level more
-pub levels_more : (network : Network) (table : DistanceTable) (covering : Covering) (i : ℕ) (old new : List Level)
-    (level : Level)
-    → AreLevelsOf network table covering i old → IsLevelOf network table covering i level → IsSized table.nodes level
-    → new ≡ old ++ level ∷ [] → AreLevelsOf network table covering (i + 1) new
-levels_more network table covering i old new level before is sized now = record {
+pub levels_more : {network : Network} {table : DistanceTable} {covering : Covering} {i : ℕ} {old new : List Level}
+    {level : Level} → AreLevelsOf network table covering i old → IsLevelOf network table covering i level
+    → IsSized table.nodes level → new ≡ old ++ level ∷ [] → AreLevelsOf network table covering (i + 1) new
+levels_more {table} {old} {level} before is sized now = record {
   count_is = ap (length {A = Level}) now ∙ length_push old level ∙ ap (λ n. n + 1) before.count_is;
-  each = more_levels network table covering i old new level before.count_is before.each is now;
+  each = more_levels old before.count_is before.each is now;
   sized = subst (λ (ls : List Level). All (IsSized table.nodes) ls) (sym now)
       (All-push (IsSized table.nodes) old level before.sized sized);
 }
 
 -- a level over a table of its own
-pub levels_tabled : (network : Network) (table : DistanceTable) (covering : Covering) (i threshold : ℕ)
-    (old new : List Level) (shape : Shape) → AreLevelsOf network table covering i old
+pub levels_tabled : {network : Network} {table : DistanceTable} {covering : Covering} {i threshold : ℕ}
+    {old new : List Level} (shape : Shape) → AreLevelsOf network table covering i old
     → IsLevelOf network table covering i (level_of i (threshold_of i) shape)
     → IsSized table.nodes (level_of i (threshold_of i) shape) → threshold ≡ threshold_of i
     → new ≡ old ++ level_of i threshold shape ∷ [] → AreLevelsOf network table covering (i + 1) new
-levels_tabled network table covering i threshold old new shape before is sized same now =
-    levels_more network table covering i old new (level_of i (threshold_of i) shape) before is sized
-    (now ∙ ap (λ t. old ++ level_of i t shape ∷ []) same)
+levels_tabled {i} {old} shape before is sized same now =
+    levels_more before is sized (now ∙ ap (λ t. old ++ level_of i t shape ∷ []) same)
 
-pub plan_built : (network : Network) (table copy : DistanceTable) (covering : Covering) (k reach top : ℕ)
-    (levels : List Level)
-    (plan : PlanData) → AreDistancesOf network table → copy ≡ table
-    → k ≡ trade_off_of covering → reach ≡ reach_of covering → plan ≡ plan_with k reach copy levels
-    → length levels ≡ top + 1 → IsTop table top
+pub plan_built : {network : Network} {table copy : DistanceTable} {covering : Covering} {k reach top : ℕ}
+    (levels : List Level) {plan : PlanData} → AreDistancesOf network table → copy ≡ table → k ≡ trade_off_of covering
+    → reach ≡ reach_of covering → plan ≡ plan_with k reach copy levels → length levels ≡ top + 1 → IsTop table top
     → ((j : ℕ) → j < top + 1 → IsLevelOf network table covering j (level_in levels j))
     → IsCoveredPlan covering network plan
-plan_built network table copy covering k reach top levels plan least same k_is reach_is is count top_is each =
+plan_built {network} {table} {covering} {k} {reach} {top} levels least same k_is reach_is is count top_is each =
     subst (λ (p : PlanData). IsCoveredPlan covering network p)
     (sym (is ∙ ap (λ t. plan_with k reach t levels) same)) (record {
       distances = least;

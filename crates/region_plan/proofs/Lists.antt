@@ -13,10 +13,9 @@ use Rattle.node_set.specs.Balls.{centres}
 pub centres_push : (v : ℕ) → centres (v + 1) ≡ centres v ++ v ∷ []
 centres_push v = passing_takes (λ x. true) v refl
 
-pub made_more : {X : Type 0} (f : ℕ → X) (v : ℕ) (old new : List X) (y : X) → old ≡ map f (centres v) → y ≡ f v → new
-    ≡ old ++ y ∷ []
-    → new ≡ map f (centres (v + 1))
-made_more {X} f v old new y before is now =
+pub made_more : {X : Type 0} (f : ℕ → X) (v : ℕ) {old new : List X} {y : X} → old ≡ map f (centres v) → y ≡ f v
+    → new ≡ old ++ y ∷ [] → new ≡ map f (centres (v + 1))
+made_more {X} f v {y} before is now =
     now ∙ ap (λ (xs : List X). xs ++ y ∷ []) before ∙ ap (λ (x : X). map f (centres v) ++ x ∷ []) is
     ∙ sym (ap (λ (xs : List ℕ). map f xs) (centres_push v) ∙ map_push f (centres v) v)
 
@@ -32,9 +31,9 @@ pub map_same : {X : Type 0} (f g : ℕ → X) (n : ℕ) → ((u : ℕ) → u < n
 map_same f g n same = map_same_range f g 0 n (λ u low high. same u (omega arith))
 
 -- what holds of all holds of the one that comes next
-pub next_holds : {X : Type 0} (P : X → Type 0) (all before rest later : List X) (x : X) → all ≡ before ++ rest
-    → rest ≡ x ∷ later → All P all → P x
-next_holds {X} P all before rest later x whole next holds =
+pub next_holds : {X : Type 0} (P : X → Type 0) {all : List X} (before : List X) {rest later : List X} {x : X}
+    → all ≡ before ++ rest → rest ≡ x ∷ later → All P all → P x
+next_holds {X} P {all} before {rest} {later} {x} whole next holds =
     let dropped : drop (length before) all ≡ x ∷ later =
     ap (λ (xs : List X). drop (length before) xs) whole ∙ drop-append_seam before rest ∙ next in
     subst (λ (xs : List X). All P xs) dropped (All-drop P (length before) all holds) 0 x (omega arith)

@@ -32,26 +32,24 @@ range_old xs ys a b order short =
     ap (λ l. take (b - a) l) (drop-append-le a xs ys (omega arith))
     ∙ take-append-le (b - a) (drop a xs) ys (omega (arith, length-drop a xs))
 
-pub range_new : (xs ys : List ℕ) (a b : ℕ) → a ≡ length xs → b ≡ length (xs ++ ys) → slice_range (xs ++ ys) a b ≡ ys
-range_new xs ys a b from to =
+pub range_new : (xs ys : List ℕ) {a b : ℕ} → a ≡ length xs → b ≡ length (xs ++ ys) → slice_range (xs ++ ys) a b ≡ ys
+range_new xs ys {a} {b} from to =
     ap (λ l. take (b - a) l) (drop-append-le a xs ys (omega arith))
     ∙ ap (λ l. take (b - a) (l ++ ys)) (drop_all a xs (omega arith))
     ∙ take_all (b - a) ys (omega (arith, length-append xs ys))
 
-pub range_behind : (xs ys all : List ℕ) (a : ℕ) → a ≡ length xs → all ≡ xs ++ ys
+pub range_behind : (xs ys : List ℕ) {all : List ℕ} {a : ℕ} → a ≡ length xs → all ≡ xs ++ ys
     → take (length all - a) (drop a all) ≡ ys
-range_behind xs ys all a from grown =
-    ap (λ l. take (length l - a) (drop a l)) grown ∙ range_new xs ys a (length (xs ++ ys)) from refl
+range_behind xs ys {a} from grown =
+    ap (λ l. take (length l - a) (drop a l)) grown ∙ range_new xs ys from refl
 
 -- ---- the balls, and the cluster of all nodes
 
-pub more_balls : (table : DistanceTable) (radius v : ℕ) (old new : List Nodes) (ball : Nodes) → sets old
-    ≡ map (λ u. ball_of table u radius) (centres v)
-    → ball.members ≡ ball_of table v radius → new ≡ old ++ ball ∷ [] → sets new
-    ≡ map (λ u. ball_of table u radius) (centres (v + 1))
-more_balls table radius v old new ball before is now =
-    made_more (λ u. ball_of table u radius) v (sets old) (sets new) ball.members before is
-    (ap sets now ∙ map_push (λ (b : Nodes). b.members) old ball)
+pub more_balls : (table : DistanceTable) (radius v : ℕ) (old : List Nodes) {new : List Nodes} (ball : Nodes)
+    → sets old ≡ map (λ u. ball_of table u radius) (centres v) → ball.members ≡ ball_of table v radius
+    → new ≡ old ++ ball ∷ [] → sets new ≡ map (λ u. ball_of table u radius) (centres (v + 1))
+more_balls table radius v old ball before is now =
+    made_more (λ u. ball_of table u radius) v before is (ap sets now ∙ map_push (λ (b : Nodes). b.members) old ball)
 
 module _ (table : DistanceTable) (metric : IsMetric table) (cells : List ℕ) (depth : ℕ) (nodes : List ℕ)
     (all : nodes ≡ centres table.nodes) (row : IsRowOf table 0 cells)
@@ -93,10 +91,10 @@ module _ (table : DistanceTable) (metric : IsMetric table) (cells : List ℕ) (d
 
 -- ---- the flat level and the flat plan
 
-pub flat_level_is : (table : DistanceTable) (top : ℕ) (clusters : List PlanCluster) (homes : List ℕ) (level : Level)
-    → IsTop table top → IsWholeAlone table clusters → homes ≡ replicate {A = ℕ} table.nodes 0 → level
-    ≡ level_of top 1 (shape_with 1 clusters homes) → IsFlatLevel table level
-flat_level_is table top clusters homes level top_is alone zeros is =
+pub flat_level_is : {table : DistanceTable} {top : ℕ} {clusters : List PlanCluster} {homes : List ℕ} {level : Level}
+    → IsTop table top → IsWholeAlone table clusters → homes ≡ replicate {A = ℕ} table.nodes 0
+    → level ≡ level_of top 1 (shape_with 1 clusters homes) → IsFlatLevel table level
+flat_level_is {table} {top} {homes} top_is alone zeros is =
     subst (λ (l : Level). IsFlatLevel table l) (sym is)
     (subst (λ (cs : List PlanCluster). IsFlatLevel table (level_of top 1 (shape_with 1 cs homes))) (sym alone.alone)
     (record {
@@ -119,10 +117,10 @@ flat_level_is table top clusters homes level top_is alone zeros is =
     replicated : (n : ℕ) → replicate {A = ℕ} n 0 ≡ map (λ v. 0) (centres n)
     replicated n = replicated_from 0 n
 
-pub level_sized : (n exponent threshold phases : ℕ) (clusters : List PlanCluster) (homes : List ℕ) (level : Level)
-    → level ≡ level_of exponent threshold (shape_with phases clusters homes)
-    → length homes ≡ n → length clusters ≤ n → exponent ≤ 30 → IsSized n level
-level_sized n exponent threshold phases clusters homes level is nodes few light =
+pub level_sized : {n : ℕ} (exponent threshold phases : ℕ) (clusters : List PlanCluster) (homes : List ℕ) {level : Level}
+    → level ≡ level_of exponent threshold (shape_with phases clusters homes) → length homes ≡ n → length clusters ≤ n
+    → exponent ≤ 30 → IsSized n level
+level_sized {n} exponent threshold phases clusters homes is nodes few light =
     subst (λ (l : Level). IsSized n l) (sym is)
     (record {
       homes = nodes;
@@ -134,16 +132,15 @@ level_sized n exponent threshold phases clusters homes level is nodes few light 
 
 -- ---- a cluster of a cover, as a row
 
-pub row_is : (network : Network) (made : Cluster) (nodes old new : List ℕ) (depth : ℕ) → nodes ≡ made.members.members
-    → (is : AreWeightsWritten network nodes made.first old new depth)
-    → IsClusterOf network made (record {
+pub row_is : {network : Network} (made : Cluster) {nodes old new : List ℕ} {depth : ℕ} → nodes ≡ made.members.members
+    → (is : AreWeightsWritten network nodes made.first old new depth) → IsClusterOf network made (record {
       leader = made.first;
       phase = made.phase;
       members = nodes;
       weights = is.weights;
       depth = depth;
     })
-row_is network made nodes old new depth listed is = record {
+row_is {network} made {nodes} {depth} listed is = record {
   leader = refl;
   phase = refl;
   members = listed;
@@ -152,13 +149,13 @@ row_is network made nodes old new depth listed is = record {
   depth = is.sound.depth_is;
 }
 
-pub more_clusters : (network : Network) (made : List Cluster) (rows : List PlanCluster) (c : Cluster) (d : PlanCluster)
+pub more_clusters : {network : Network} (made : List Cluster) (rows : List PlanCluster) {c : Cluster} {d : PlanCluster}
     → AreClustersOf network made rows → IsClusterOf network c d
     → AreClustersOf network (made ++ c ∷ []) (rows ++ d ∷ [])
-more_clusters network [] [] c d are is = (is, tt)
-more_clusters network [] (e ∷ es) c d are is = absurd are
-more_clusters network (b ∷ bs) [] c d are is = absurd are
-more_clusters network (b ∷ bs) (e ∷ es) c d are is = (are.0, more_clusters network bs es c d are.1 is)
+more_clusters [] [] are is = (is, tt)
+more_clusters [] (e ∷ es) are is = absurd are
+more_clusters (b ∷ bs) [] are is = absurd are
+more_clusters (b ∷ bs) (e ∷ es) are is = (are.0, more_clusters bs es are.1 is)
 
 pub clusters_count : (network : Network) (made : List Cluster) (rows : List PlanCluster)
     → AreClustersOf network made rows → length made ≡ length rows

@@ -65,8 +65,8 @@ power_above : (d : ℕ) → d < 2 ^ d
 power_above zero = omega arith
 power_above (suc d) = let double : 2 ^ suc d ≡ 2 * 2 ^ d = omega arith in omega (arith, power_above d)
 
-top_is : (table : DistanceTable) (diameter : ℕ) → IsDiameter table diameter → IsTop table (top_for diameter)
-top_is table d greatest =
+top_is : {table : DistanceTable} {diameter : ℕ} → IsDiameter table diameter → IsTop table (top_for diameter)
+top_is {diameter = d} greatest =
     let test : ℕ → Bool = λ i. nat_le d (2 ^ i) in
     record {
       diameter = d;
@@ -157,7 +157,7 @@ module _ (found : LeastWeightsAreFound) (shape : CoveringsAreShaped) (network : 
         trade_off = refl;
         reach = refl;
         some = omega (arith, count);
-        top = subst (IsTop table) last (top_is table (most table.cells) (widest table metric.some metric.count));
+        top = subst (IsTop table) last (top_is (widest table metric.some metric.count));
         each = λ i h. subst (λ (l : Level). IsLevelOf network table covering i l)
             (sym (get_or-map_centres (level_for network table covering) (top + 1) i no_level (omega (arith, h, count))))
             (level_is i);
@@ -174,8 +174,7 @@ means found distances shape covering network sound low =
 -- what is a plan of a network is the plan
 pub plan_is_this : CoveredPlansMean → DistancesAreOne → LeastIsOne → CoveredPlansAreOne
 plan_is_this plans_mean one_table one_weight covering network plan sound low is =
-    one_plan one_table one_weight network covering plan (covered_plan covering network) is
-    (plans_mean covering network sound low)
+    one_plan one_table one_weight is (plans_mean covering network sound low)
 
 pub bounds : CoveredPlansMean → NetworksHaveDistances → CoveringsAreShaped → CoveringsHaveHomes
     → CoveredPlansBoundFinds

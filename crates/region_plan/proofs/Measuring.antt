@@ -18,40 +18,39 @@ most_push : (xs : List ℕ) (y : ℕ) → most (xs ++ y ∷ []) ≡ max (most xs
 most_push [] y = max-zero y ∙ sym (zero-max y)
 most_push (x ∷ xs) y = ap (λ n. max x n) (most_push xs y) ∙ sym (max_both x (most xs) y)
 
-most_more : (xs : List ℕ) (i y : ℕ) → i < length xs → get_or xs i 0 ≡ y → most (take (i + 1) xs)
-    ≡ max (most (take i xs)) y
-most_more xs i y below is = ap most (take_more xs i 0 below) ∙ most_push (take i xs) (get_or xs i 0)
+most_more : (xs : List ℕ) (i : ℕ) {y : ℕ} → i < length xs → get_or xs i 0 ≡ y
+    → most (take (i + 1) xs) ≡ max (most (take i xs)) y
+most_more xs i below is = ap most (take_more xs i 0 below) ∙ most_push (take i xs) (get_or xs i 0)
     ∙ ap (λ n. max (most (take i xs)) n) is
 
-pub degree_step : (shape : Shape) (v old len new : ℕ) (row : List ℕ) → v < length shape.readers → old
-    ≡ most (take v (map length shape.readers))
-    → len ≡ length row → row ≡ readers_for shape v → new ≡ max old len → new
-    ≡ most (take (v + 1) (map length shape.readers))
-degree_step shape v old len new row below before is reads now =
+pub degree_step : (shape : Shape) (v : ℕ) {old len new : ℕ} {row : List ℕ} → v < length shape.readers
+    → old ≡ most (take v (map length shape.readers)) → len ≡ length row → row ≡ readers_for shape v → new ≡ max old len
+    → new ≡ most (take (v + 1) (map length shape.readers))
+degree_step shape v {len} below before is reads now =
     let at : get_or (map length shape.readers) v 0 ≡ len = get_or-map length shape.readers v [] 0 below
     ∙ ap length (sym reads) ∙ sym is in
-    now ∙ ap (λ n. max n len) before ∙ sym (most_more (map length shape.readers) v len
+    now ∙ ap (λ n. max n len) before ∙ sym (most_more (map length shape.readers) v
     (omega (arith, length-map shape.readers (length {A = ℕ}))) at)
 
-pub degree_done : (shape : Shape) (v degree : ℕ) → length shape.readers ≤ v → degree
-    ≡ most (take v (map length shape.readers)) → degree ≡ most (map length shape.readers)
-degree_done shape v degree past is = is
+pub degree_done : (shape : Shape) (v : ℕ) {degree : ℕ} → length shape.readers ≤ v
+    → degree ≡ most (take v (map length shape.readers)) → degree ≡ most (map length shape.readers)
+degree_done shape v past is = is
     ∙ ap most (take_all v (map length shape.readers) (omega (arith, length-map shape.readers (length {A = ℕ}))))
 
-pub level_step : (levels : List Level) (i old d new : ℕ) (shape : Shape) → i < length levels
+pub level_step : (levels : List Level) (i : ℕ) {old d new : ℕ} {shape : Shape} → i < length levels
     → old ≡ most (take i (map degree_in levels)) → shape ≡ shape_of (level_in levels i)
     → d ≡ most (map length shape.readers) → new ≡ max old d → new ≡ most (take (i + 1) (map degree_in levels))
-level_step levels i old d new shape below before is reads now =
+level_step levels i {d} below before is reads now =
     let at : get_or (map degree_in levels) i 0 ≡ d = get_or-map degree_in levels i no_level 0 below
     ∙ sym (reads ∙ ap (λ (s : Shape). most (map length s.readers)) is) in
-    now ∙ ap (λ n. max n d) before ∙ sym (most_more (map degree_in levels) i d
+    now ∙ ap (λ n. max n d) before ∙ sym (most_more (map degree_in levels) i
     (omega (arith, length-map levels degree_in)) at)
 
-pub max_few : (a b c new : ℕ) → new ≡ max a b → a ≤ c → b ≤ c → new ≤ c
-max_few a b c new is left right = omega arith
+pub max_few : (a b c : ℕ) {new : ℕ} → new ≡ max a b → a ≤ c → b ≤ c → new ≤ c
+max_few a b c is left right = omega arith
 
-pub greater_is : (a b new : ℕ) → new ≡ ord_max nat_cmp a b → new ≡ max a b
-greater_is a b new is = first_of (omega arith, grind (arith, nat_tests), grind arith, search rules)
+pub greater_is : (a b : ℕ) {new : ℕ} → new ≡ ord_max nat_cmp a b → new ≡ max a b
+greater_is a b is = first_of (omega arith, grind (arith, nat_tests), grind arith, search rules)
 
 -- no number is above the greatest
 pub most_bounds : (xs : List ℕ) (i : ℕ) → get_or xs i 0 ≤ most xs

@@ -19,23 +19,23 @@ use Rattle.node_set.specs.BallLaws.{union_has, union_from, union_more, touches_o
 
 -- ---- walks that aren't heavier
 
-near_back : (edges : List Edge) (inside : ℕ → Bool) (u v w : ℕ) → IsNoHeavier edges inside u v w
+near_back : {edges : List Edge} {inside : ℕ → Bool} {u v w : ℕ} → IsNoHeavier edges inside u v w
     → IsNoHeavier edges inside v u w
-near_back edges inside u v w near =
+near_back {edges} {inside} {u} {v} near =
     let back = walk_turned edges inside u near.steps v near.walk in
     record { steps = back.steps; walk = back.walk; light = omega (arith, back.sum, near.light) }
 
-near_on : (edges : List Edge) (inside : ℕ → Bool) (u v x a b : ℕ) → IsNoHeavier edges inside u v a
+near_on : {edges : List Edge} {inside : ℕ → Bool} {u v x a b : ℕ} → IsNoHeavier edges inside u v a
     → IsNoHeavier edges inside v x b → IsNoHeavier edges inside u x (a + b)
-near_on edges inside u v x a b here there = record {
+near_on {edges} {inside} {u} {v} {x} here there = record {
   steps = here.steps ++ there.steps;
   walk = walk-append edges inside u here.steps v there.steps x here.walk there.walk;
   light = omega (arith, weight_of-append here.steps there.steps, here.light, there.light);
 }
 
-pub near_more : (edges : List Edge) (inside : ℕ → Bool) (u v a b : ℕ) → a ≤ b → IsNoHeavier edges inside u v a
+pub near_more : {edges : List Edge} {inside : ℕ → Bool} {u v a : ℕ} (b : ℕ) → a ≤ b → IsNoHeavier edges inside u v a
     → IsNoHeavier edges inside u v b
-near_more edges inside u v a b less near =
+near_more b less near =
     record { steps = near.steps; walk = near.walk; light = omega (arith, near.light) }
 
 module _ (network : Network) (table : DistanceTable) (metric : IsMetric table) (least : AreDistancesOf network table)
@@ -145,9 +145,8 @@ module _ (network : Network) (table : DistanceTable) (metric : IsMetric table) (
       near_leader zero x h =
           let from = union_from balls x (growth balls waiting a 0) h in
           let same : a ≡ from.0 = only from.0 (ap (has from.0) (sym (growth_first balls waiting a)) ∙ from.1) in
-          near_more network.edges (within (union_of balls (growth balls waiting a 0))) a x r ((2 * 0 + 1) * r)
-          (omega arith)
-          (subst (λ v. IsNoHeavier network.edges (within (union_of balls (growth balls waiting a 0))) v x r) (sym same)
+          near_more ((2 * 0 + 1) * r) (omega arith) (subst
+          (λ v. IsNoHeavier network.edges (within (union_of balls (growth balls waiting a 0))) v x r) (sym same)
           (near_in 0 from.0 x from.1 from.2))
       near_leader (suc j) x h =
           let from = union_from balls x (growth balls waiting a (suc j)) h in
@@ -164,13 +163,8 @@ module _ (network : Network) (table : DistanceTable) (metric : IsMetric table) (
                 a before.steps shared.0 (omega (arith, least.nodes)) before.walk;
             light = before.light;
           } in
-          near_more network.edges (within (union_of balls (growth balls waiting a (suc j)))) a x
-          ((2 * j + 1) * r + (r + r)) ((2 * suc j + 1) * r) (more j r)
-          (near_on network.edges (within (union_of balls (growth balls waiting a (suc j)))) a shared.0 x
-          ((2 * j + 1) * r) (r + r) wider
-          (near_on network.edges (within (union_of balls (growth balls waiting a (suc j)))) shared.0 from.0 x r r
-          (near_back network.edges (within (union_of balls (growth balls waiting a (suc j)))) from.0 shared.0 r
-          (near_in (suc j) from.0 shared.0 from.1 shared.1))
+          near_more ((2 * suc j + 1) * r) (more j r) (near_on wider
+          (near_on (near_back (near_in (suc j) from.0 shared.0 from.1 shared.1))
           (near_in (suc j) from.0 x from.1 from.2)))
         where
           more : (j r : ℕ) → (2 * j + 1) * r + (r + r) ≤ (2 * suc j + 1) * r

@@ -32,26 +32,26 @@ found_member xs v k ascending result =
     let at = searched xs v (Ok k) result (rising xs ascending) in
     sym (subst (λ y. has y xs ≡ true) at.1 (has_place xs k at.0))
 
-pub missed_member : (xs : List ℕ) (v k : ℕ) → IsAscending xs → IsBinarySearchResult (λ y. nat_cmp y v) xs (Err k)
+pub missed_member : (xs : List ℕ) (v : ℕ) {k : ℕ} → IsAscending xs → IsBinarySearchResult (λ y. nat_cmp y v) xs (Err k)
     → false ≡ has v xs
-missed_member xs v k ascending result =
+missed_member xs v {k} ascending result =
     sym (false_from_ne_true (has v xs) (λ member. always_found xs v k ascending member result))
 
 -- ---- readers
 
-pub readers_count : (phases : ℕ) (clusters : List PlanCluster) (homes : List ℕ) (shape : Shape)
+pub readers_count : (phases : ℕ) (clusters : List PlanCluster) (homes : List ℕ) {shape : Shape}
     → shape_with phases clusters homes ≡ shape → length shape.readers ≡ length shape.homes
-readers_count phases clusters homes shape is =
+readers_count phases clusters homes is =
     subst (λ (l : Shape). length l.readers ≡ length l.homes) is
     (length-map_centres (clusters_with clusters) (length homes))
 
 pub length-containing : (clusters : List PlanCluster) (v : ℕ) → length (clusters_with clusters v) ≤ length clusters
 length-containing clusters v = length-passing-le (λ c. has v (cluster_in clusters c).members) 0 (length clusters)
 
-pub starts_long : (phases : ℕ) (clusters : List PlanCluster) (homes starts readers : List ℕ) (shape : Shape) (v : ℕ)
-    → AreRows (length homes) clusters starts readers → shape_with phases clusters homes ≡ shape
+pub starts_long : (phases : ℕ) {clusters : List PlanCluster} (homes : List ℕ) {starts readers : List ℕ} {shape : Shape}
+    (v : ℕ) → AreRows (length homes) clusters starts readers → shape_with phases clusters homes ≡ shape
     → v < length shape.homes → v + 1 < length starts
-starts_long phases clusters homes starts readers shape v rows view below =
+starts_long phases homes v rows view below =
     omega (arith, rows.count, subst (λ (l : Shape). v < length l.homes) (sym view) below)
 
 module _ (phases : ℕ) (clusters : List PlanCluster) (homes starts readers : List ℕ) (shape : Shape)

@@ -22,13 +22,13 @@ shape_added shapes shape (h ∷ hs) below =
     (shape_added shapes shape hs (λ i d short. below (suc i) d (omega arith)))
 
 -- a level more, over a shape more
-pub level_pushed : (shapes new_shapes : List Shape) (shape : Shape) (heads new_heads : List LevelHead)
-    (levels : List Level) (exponent threshold place : ℕ) → levels_over shapes heads ≡ levels
-    → All (λ (h : LevelHead). h.table < length shapes) heads → new_shapes ≡ shapes ++ shape ∷ []
-    → place ≡ length shapes
+pub level_pushed : (shapes : List Shape) {new_shapes : List Shape} (shape : Shape) (heads : List LevelHead)
+    {new_heads : List LevelHead} {levels : List Level} (exponent threshold : ℕ) {place : ℕ}
+    → levels_over shapes heads ≡ levels → All (λ (h : LevelHead). h.table < length shapes) heads
+    → new_shapes ≡ shapes ++ shape ∷ [] → place ≡ length shapes
     → new_heads ≡ heads ++ record { exponent = exponent; threshold = threshold; table = place } ∷ []
     → levels_over new_shapes new_heads ≡ levels ++ level_of exponent threshold shape ∷ []
-level_pushed shapes new_shapes shape heads new_heads levels exponent threshold place view below grown last now =
+level_pushed shapes shape heads {new_heads} {levels} exponent threshold {place} view below grown last now =
     let head : LevelHead = record { exponent = exponent; threshold = threshold; table = place } in
     ap (λ (ss : List Shape). levels_over ss new_heads) grown
     ∙ ap (λ (hs : List LevelHead). levels_over (shapes ++ shape ∷ []) hs) now
@@ -40,10 +40,9 @@ level_pushed shapes new_shapes shape heads new_heads levels exponent threshold p
 
 -- ---- a level that shares the shape of the last one
 
-pub heads_count : (shapes : List Shape) (heads : List LevelHead) (levels : List Level) → levels_over shapes heads
-    ≡ levels
-    → length heads ≡ length levels
-heads_count shapes heads levels view =
+pub heads_count : (shapes : List Shape) (heads : List LevelHead) {levels : List Level}
+    → levels_over shapes heads ≡ levels → length heads ≡ length levels
+heads_count shapes heads view =
     sym (length-map heads (level_under shapes)) ∙ ap (length {A = Level}) view
 
 module _ (shapes : List Shape) (heads new_heads : List LevelHead) (levels : List Level) (exponent threshold at : ℕ)
@@ -51,7 +50,7 @@ module _ (shapes : List Shape) (heads new_heads : List LevelHead) (levels : List
     (at_is : at ≡ length heads - 1) (here : last ≡ get_or heads at last) where
   pub last_within : All (λ (h : LevelHead). h.table < length shapes) heads → last.table < length shapes
   last_within below = subst (λ (h : LevelHead). h.table < length shapes) (sym here)
-      (below at last (omega (arith, heads_count shapes heads levels view)))
+      (below at last (omega (arith, heads_count shapes heads view)))
 
   pub level_shared : new_heads
       ≡ heads ++ record { exponent = exponent; threshold = threshold; table = last.table } ∷ []
@@ -61,9 +60,9 @@ module _ (shapes : List Shape) (heads new_heads : List LevelHead) (levels : List
       let same : level_under shapes last ≡ level_in levels (length levels - 1) =
       ap (level_under shapes) here
       ∙ sym (get_or-map (level_under shapes) heads at last no_level
-      (omega (arith, heads_count shapes heads levels view)))
+      (omega (arith, heads_count shapes heads view)))
       ∙ ap (λ (ls : List Level). level_in ls at) view
-      ∙ ap (level_in levels) (omega (arith, heads_count shapes heads levels view))
+      ∙ ap (level_in levels) (omega (arith, heads_count shapes heads view))
       in
       ap (levels_over shapes) now
       ∙ map_push (level_under shapes) heads

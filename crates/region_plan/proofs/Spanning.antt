@@ -50,8 +50,8 @@ pub record IsClose (network : Network) (radius : ℕ) (c : Cluster) : Type 0 whe
   pub near : (v : ℕ) → has v c.members.members ≡ true
       → IsNoHeavier network.edges (within c.members.members) c.first v radius
 
-pub close_spans : (network : Network) (radius : ℕ) (c : Cluster) → IsClose network radius c → IsSpanned network c
-close_spans network radius c close = record {
+pub close_spans : {network : Network} {radius : ℕ} {c : Cluster} → IsClose network radius c → IsSpanned network c
+close_spans close = record {
   room = close.room;
   leads = close.leads;
   reached = λ v h. let near = close.near v h in record { steps = near.steps; walk = near.walk };
@@ -97,13 +97,10 @@ module _ (network : Network) (table : DistanceTable) (metric : IsMetric table) (
             from.2 in
             omega (arith, here.1, least.nodes);
         near = λ v h.
-            near_more network.edges (within c.members) c.first v ((2 * c.growths + 1) * 2 ^ i)
-            (reach_of covering * 2 ^ i)
-            (enough c.growths (steps_of covering) (reach_of covering) (2 ^ i) shaped.0 (reach_is covering low))
-            (subst (λ (xs : List ℕ). IsNoHeavier network.edges (within xs) c.first v ((2 * c.growths + 1) * 2 ^ i))
-            (sym is)
-            (near_leader network table metric least sound.limits.edges (2 ^ i) (balls_of table i) refl waiting c.first
-            below shaped.3.1 c.growths v (ap (has v) (sym is) ∙ h)));
+            near_more (reach_of covering * 2 ^ i) (enough c.growths (steps_of covering) (reach_of covering) (2 ^ i)
+            shaped.0 (reach_is covering low)) (subst (λ (xs : List ℕ). IsNoHeavier network.edges (within xs) c.first v
+            ((2 * c.growths + 1) * 2 ^ i)) (sym is) (near_leader network table metric least sound.limits.edges (2 ^ i)
+            (balls_of table i) refl waiting c.first below shaped.3.1 c.growths v (ap (has v) (sym is) ∙ h)));
       }
     where
       enough : (j k w r : ℕ) → j < k → 2 * k - 1 ≡ w → (2 * j + 1) * r ≤ w * r
@@ -119,5 +116,4 @@ module _ (network : Network) (table : DistanceTable) (metric : IsMetric table) (
 
   pub listed_spanned : CoveringsAreShaped → All (IsSpanned network)
       (cluster_list table.nodes 0 (regions_of table covering i))
-  listed_spanned law j d h = close_spans network (reach_of covering * 2 ^ i)
-      (get_or (cluster_list table.nodes 0 (regions_of table covering i)) j d) (listed_close law j d h)
+  listed_spanned law j d h = close_spans (listed_close law j d h)

@@ -53,17 +53,17 @@ marked_exponent marks d e some is mark = record {
 place_below : (n u v : ℕ) → u < n → v < n → u * n + v < n * n
 place_below n u v u_below v_below = omega (arith, row_fits u n n n u_below (omega arith))
 
-pub marked_all : (table : DistanceTable) (exponents : List ℕ) (marks : List Bool) → AreExponents table exponents
+pub marked_all : {table : DistanceTable} {exponents : List ℕ} (marks : List Bool) → AreExponents table exponents
     → ((x : ℕ) → x < length exponents → get_or marks (slice_index exponents x) false ≡ true) → AreMarked table marks
-marked_all table exponents marks are marked u v u_below v_below some =
+marked_all {table} {exponents} marks are marked u v u_below v_below some =
     marked_exponent marks (dist table u v) (slice_index exponents (u * table.nodes + v)) some
     (are.each u v u_below v_below)
     (marked (u * table.nodes + v) (omega (arith, are.count, place_below table.nodes u v u_below v_below)))
 
 -- a row's distances are small
-pub row_small : (table : DistanceTable) (u : ℕ) (row : List ℕ) → IsMetric table → u < table.nodes → IsRowOf table u row
+pub row_small : {table : DistanceTable} {u : ℕ} {row : List ℕ} → IsMetric table → u < table.nodes → IsRowOf table u row
     → All (λ d. d ≤ 2 ^ 30) row
-row_small table u row metric below is v d short =
+row_small {u} {row} metric below is v d short =
     omega (
       arith,
       get_or_default_zero row v d short,
@@ -73,18 +73,18 @@ row_small table u row metric below is v d short =
     )
 
 -- and there is room for each
-pub row_short : (table : DistanceTable) (u at : ℕ) (row exponents : List ℕ) → u < table.nodes → at ≡ u * table.nodes
-    → IsRowOf table u row → length exponents ≡ table.nodes * table.nodes → at + length row ≤ length exponents
-row_short table u at row exponents below begins is count =
+pub row_short : {table : DistanceTable} {u at : ℕ} {row : List ℕ} (exponents : List ℕ) → u < table.nodes
+    → at ≡ u * table.nodes → IsRowOf table u row → length exponents ≡ table.nodes * table.nodes
+    → at + length row ≤ length exponents
+row_short {table} {u} exponents below begins is count =
     omega (arith, row_fits u table.nodes table.nodes table.nodes below (omega arith), begins, is.count, count)
 
 -- one row more
-pub row_written : (table : DistanceTable) (u at : ℕ) (row old new : List ℕ) → at ≡ u * table.nodes
-    → IsRowOf table u row → AreExponentsTo table old u
-    → ((x : ℕ) → x < at → slice_index new x ≡ slice_index old x)
+pub row_written : {table : DistanceTable} {u at : ℕ} {row : List ℕ} (old new : List ℕ) → at ≡ u * table.nodes
+    → IsRowOf table u row → AreExponentsTo table old u → ((x : ℕ) → x < at → slice_index new x ≡ slice_index old x)
     → ((v : ℕ) → v < length row → IsExponent (slice_index row v) (slice_index new (at + v)))
     → AreExponentsTo table new (u + 1)
-row_written table u at row old new begins is before kept here w v w_below v_below = elim (cases_lt w u) [
+row_written {table} {u} {at} old new begins is before kept here w v w_below v_below = elim (cases_lt w u) [
   | inl less ↦
       let within : w * table.nodes + v < at = omega (arith, row_fits w table.nodes u table.nodes less (omega arith)) in
       subst (λ e. IsExponent (dist table w v) e) (sym (kept (w * table.nodes + v) within)) (before w v less v_below)
@@ -97,33 +97,31 @@ row_written table u at row old new begins is before kept here w v w_below v_belo
 ]
 
 -- the numbers of a row within a radius are the ball's nodes
-row_within : (table : DistanceTable) (v radius : ℕ) (row : List ℕ) → IsRowOf table v row
+row_within : {table : DistanceTable} {v : ℕ} (radius : ℕ) {row : List ℕ} → IsRowOf table v row
     → sift (λ x. nat_le (slice_index row x) radius) 0 (length row) ≡ ball_of table v radius
-row_within table v radius row is =
+row_within {table} {v} radius {row} is =
     ap (sift (λ x. nat_le (slice_index row x) radius) 0) is.count
     ∙ passing_same (λ x. nat_le (slice_index row x) radius) (λ w. nat_le (dist table v w) radius) 0 table.nodes
     (λ x low high. ap (λ d. nat_le d radius) (is.each x (omega arith)))
 
 -- the nodes whose exponents are within a level's are those of the ball
-pub ball_within : (table : DistanceTable) (exponents row : List ℕ) (v i : ℕ) → AreExponents table exponents
+pub ball_within : {table : DistanceTable} {exponents row : List ℕ} (v i : ℕ) → AreExponents table exponents
     → v < table.nodes → row ≡ slice_range exponents (v * table.nodes) ((v + 1) * table.nodes)
     → sift (λ x. nat_le (slice_index row x) i) 0 (length row) ≡ ball_of table v (2 ^ i)
-ball_within table exponents row v i are below is =
+ball_within {table} {exponents} v i are below is =
     let as_table : DistanceTable = record { nodes = table.nodes; cells = exponents } in
-    row_within as_table v i row
-    (subst (λ (r : List ℕ). IsRowOf as_table v r) (sym is)
+    row_within i (subst (λ (r : List ℕ). IsRowOf as_table v r) (sym is)
     (part_is_row table.nodes v exponents are.count below))
     ∙ passing_same (λ w. nat_le (dist as_table v w) i) (λ w. nat_le (dist table v w) (2 ^ i)) 0 table.nodes
     (λ w low high. are.each v w below (omega arith) i)
 
 -- one ball more
-pub ball_filled : (table : DistanceTable) (exponents row : List ℕ) (v i : ℕ) (balls : List Nodes) (ball : Nodes)
+pub ball_filled : {table : DistanceTable} {exponents row : List ℕ} (v i : ℕ) (balls : List Nodes) (ball : Nodes)
     → AreExponents table exponents → v < table.nodes → length balls ≡ table.nodes
     → row ≡ slice_range exponents (v * table.nodes) ((v + 1) * table.nodes)
     → sets (take v balls) ≡ map (λ u. ball_of table u (2 ^ i)) (centres v)
     → ball.members ≡ sift (λ x. nat_le (slice_index row x) i) 0 (length row)
     → sets (take (v + 1) (set balls v ball)) ≡ map (λ u. ball_of table u (2 ^ i)) (centres (v + 1))
-ball_filled table exponents row v i balls ball are below count is before made =
-    more_balls table (2 ^ i) v (take v balls) (take (v + 1) (set balls v ball)) ball before
-    (made ∙ ball_within table exponents row v i are below is)
+ball_filled {table} v i balls ball are below count is before made =
+    more_balls table (2 ^ i) v (take v balls) ball before (made ∙ ball_within v i are below is)
     (take_more_set balls v ball (omega (arith, count)))

@@ -10,13 +10,10 @@ loop-v-preserved c =
     let n : ℕ = c.nodes-nodes.result in
     let row : List ℕ = slice_range c.args.exponents.now (c.loop-v.v * n) ((c.loop-v.v + 1) * n) in
     record {
-      balls = ball_filled c.args.distances.now c.args.exponents.now row c.loop-v.v c.args.i c.loop-v.balls
-          c.fill_within.new.self c.requires.exponents
-          (omega (arith, c.loop-v-test.true, c.nodes-nodes.ensures.count))
-          (c.loop-v.auto.balls ∙ c.requires.count)
+      balls = ball_filled c.loop-v.v c.args.i c.loop-v.balls c.fill_within.new.self c.requires.exponents
+          (omega (arith, c.loop-v-test.true, c.nodes-nodes.ensures.count)) (c.loop-v.auto.balls ∙ c.requires.count)
           (ap (λ m. slice_range c.args.exponents.now (c.loop-v.v * m) ((c.loop-v.v + 1) * m))
-          c.nodes-nodes.ensures.count)
-          c.loop-v.invariant.balls c.fill_within.ensures.members;
+          c.nodes-nodes.ensures.count) c.loop-v.invariant.balls c.fill_within.ensures.members;
       rooms = All-set (λ (b : Nodes). b.room ≡ c.args.distances.now.nodes) c.loop-v.balls c.loop-v.v
           c.fill_within.new.self
           (c.fill_within.ensures.room

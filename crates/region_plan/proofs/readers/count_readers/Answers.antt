@@ -13,5 +13,5 @@ count_members-requires-clause-small c =
 
 pub loop-number-preserved : goal.loop-number-preserved
 loop-number-preserved c =
-    cluster_counted c.args.clusters.now c.loop-number.number c.nodes.result.now c.loop-number.counts
-    c.count_members.new.counts c.nodes.ensures.members c.loop-number.invariant c.count_members.ensures
+    cluster_counted c.args.clusters.now c.loop-number.number c.nodes.ensures.members c.loop-number.invariant
+    c.count_members.ensures

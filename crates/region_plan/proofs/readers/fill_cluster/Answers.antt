@@ -12,9 +12,9 @@ pub bounds-readers-next : goal.bounds-readers-next
 bounds-readers-next c =
     let m : ℕ = get_or c.nodes-members.result.now c.loop-place.place 0 in
     let node : m < length c.args.taken.now = omega (arith, c.if-v-taken.true, c.loop-place.auto.taken) in
-    let free = next_free c.args.clusters.now c.args.number c.loop-place.place c.nodes-members.result.now
-    c.args.taken.now c.loop-place.taken c.nodes-members.ensures.members c.nodes-members.ensures.ascending
-    c.requires.number c.loop-place-test.true node c.requires.counts c.loop-place.invariant.counted in
+    let free = next_free c.args.clusters.now c.args.number c.loop-place.place c.nodes-members.ensures.members
+    c.nodes-members.ensures.ascending c.requires.number c.loop-place-test.true node c.requires.counts
+    c.loop-place.invariant.counted in
     omega (
       arith,
       place_within (length c.args.taken.now) c.args.clusters.now c.args.starts.now c.requires.room m
@@ -27,9 +27,9 @@ pub bounds-weights-next : goal.bounds-weights-next
 bounds-weights-next c =
     let m : ℕ = get_or c.nodes-members.result.now c.loop-place.place 0 in
     let node : m < length c.args.taken.now = omega (arith, c.if-v-taken.true, c.loop-place.auto.taken) in
-    let free = next_free c.args.clusters.now c.args.number c.loop-place.place c.nodes-members.result.now
-    c.args.taken.now c.loop-place.taken c.nodes-members.ensures.members c.nodes-members.ensures.ascending
-    c.requires.number c.loop-place-test.true node c.requires.counts c.loop-place.invariant.counted in
+    let free = next_free c.args.clusters.now c.args.number c.loop-place.place c.nodes-members.ensures.members
+    c.nodes-members.ensures.ascending c.requires.number c.loop-place-test.true node c.requires.counts
+    c.loop-place.invariant.counted in
     omega (
       arith,
       place_within (length c.args.taken.now) c.args.clusters.now c.args.starts.now c.requires.room m
@@ -53,9 +53,9 @@ loop-place-preserved c = elim c.if-v-taken.branch [
   | then-v-taken w ↦
       let m : ℕ = get_or c.nodes-members.result.now c.loop-place.place 0 in
       let node : m < length c.args.taken.now = omega (arith, w.if-v-taken.true, c.loop-place.auto.taken) in
-      let free = next_free c.args.clusters.now c.args.number c.loop-place.place c.nodes-members.result.now
-      c.args.taken.now c.loop-place.taken c.nodes-members.ensures.members c.nodes-members.ensures.ascending
-      c.requires.number c.loop-place-test.true node c.requires.counts c.loop-place.invariant.counted in
+      let free = next_free c.args.clusters.now c.args.number c.loop-place.place c.nodes-members.ensures.members
+      c.nodes-members.ensures.ascending c.requires.number c.loop-place-test.true node c.requires.counts
+      c.loop-place.invariant.counted in
       rw (w.taken-is, w.readers-is, w.weights-is) (record {
         counted = one_counted c.nodes-members.result.now c.args.taken.now c.loop-place.taken c.loop-place.place
             c.loop-place-test.true c.loop-place.invariant.counted
@@ -81,8 +81,7 @@ loop-place-preserved c = elim c.if-v-taken.branch [
 
 pub returns-clause-counts : goal.returns-clause-counts
 returns-clause-counts c =
-    cluster_counted c.args.clusters.now c.args.number c.nodes-members.result.now c.args.taken.now c.loop-place.taken
-    c.nodes-members.ensures.members c.requires.counts
+    cluster_counted c.args.clusters.now c.args.number c.nodes-members.ensures.members c.requires.counts
     (subst (λ (xs : List ℕ). IsCounted xs c.args.taken.now c.loop-place.taken)
     (take_all c.loop-place.place c.nodes-members.result.now (omega (arith, c.loop-place-test.false)))
     c.loop-place.invariant.counted)

@@ -14,12 +14,10 @@ pub returns : goal.returns
 returns c =
     IfOk-weaker c.sum_counts.result (λ starts. AreStarts c.count_readers.new.counts starts.items)
     (λ starts. HaveRoom c.args.nodes c.args.clusters.now starts.items)
-    (λ starts sums. room_made c.args.clusters.now c.args.nodes c.count_readers.new.counts starts.items
-    (omega (
+    (λ starts sums. room_made c.args.clusters.now (omega (
       arith,
       c.count_readers.auto.counts,
       c.as_mut_slice-counts.ensures.len,
       c.in_ok-room.ensures.len,
-    ))
-    c.count_readers.ensures sums)
+    )) c.count_readers.ensures sums)
     c.sum_counts.ensures

@@ -21,13 +21,12 @@ loop-u-init c = record {
 
 pub write_exponents-requires-clause-small : goal.write_exponents-requires-clause-small
 write_exponents-requires-clause-small c =
-    row_small c.args.distances.now c.loop-u.u c.row.result.now c.nodes-nodes.ensures.metric
-    (omega (arith, c.loop-u-test.true, c.nodes-nodes.ensures.count)) c.row.ensures
+    row_small c.nodes-nodes.ensures.metric (omega (arith, c.loop-u-test.true, c.nodes-nodes.ensures.count))
+    c.row.ensures
 
 pub write_exponents-requires-clause-room : goal.write_exponents-requires-clause-room
 write_exponents-requires-clause-room c =
-    row_short c.args.distances.now c.loop-u.u (c.loop-u.u * c.nodes-nodes.result) c.row.result.now
-    c.deref_mut.result.now (omega (arith, c.loop-u-test.true, c.nodes-nodes.ensures.count))
+    row_short c.deref_mut.result.now (omega (arith, c.loop-u-test.true, c.nodes-nodes.ensures.count))
     (ap (λ n. c.loop-u.u * n) c.nodes-nodes.ensures.count) c.row.ensures
     (ap (length {A = ℕ}) c.deref_mut.ensures.value ∙ c.loop-u.invariant.count)
 
@@ -44,12 +43,10 @@ loop-u-preserved c =
       count = kept ∙ c.loop-u.invariant.count;
       few = c.write_exponents.ensures.few
           (subst (λ (l : List ℕ). All (λ e. e ≤ 30) l) (sym c.deref_mut.ensures.value) c.loop-u.invariant.few);
-      each = row_written c.args.distances.now c.loop-u.u (c.loop-u.u * c.nodes-nodes.result) c.row.result.now
-          c.loop-u.exponents.items c.write_exponents.new.exponents
+      each = row_written c.loop-u.exponents.items c.write_exponents.new.exponents
           (ap (λ n. c.loop-u.u * n) c.nodes-nodes.ensures.count) c.row.ensures c.loop-u.invariant.each
           (λ x below. c.write_exponents.ensures.kept x below
-          ∙ ap (λ (l : List ℕ). slice_index l x) c.deref_mut.ensures.value)
-          c.write_exponents.ensures.each;
+          ∙ ap (λ (l : List ℕ). slice_index l x) c.deref_mut.ensures.value) c.write_exponents.ensures.each;
     })
 
 pub returns : goal.returns

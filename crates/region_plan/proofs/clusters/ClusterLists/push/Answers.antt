@@ -6,7 +6,7 @@ use Rattle.region_plan.proofs.clusters.ClusterLists.push.Goals as goal
 
 pub weigh_members-requires-clause-nodes : goal.weigh_members-requires-clause-nodes
 weigh_members-requires-clause-nodes c =
-    range_behind c.args.self.now.nodes.items c.args.cluster.now.members.members c.deref.result.now c.len-start.result
+    range_behind c.args.self.now.nodes.items c.args.cluster.now.members.members
     (omega (arith, c.len-start.ensures, c.args.self.now.nodes.ok.0))
     (c.deref.ensures.value ∙ c.in_ok-push_members.ensures.pushed)
 

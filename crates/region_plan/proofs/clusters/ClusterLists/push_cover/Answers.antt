@@ -12,24 +12,21 @@ use Rattle.region_plan.proofs.clusters.ClusterLists.push_cover.Goals as goal
 
 pub push-requires-clause-spanned : goal.push-requires-clause-spanned
 push-requires-clause-spanned c =
-    next_holds (IsSpanned c.args.graph.now) c.args.made.items c.loop-cluster.yielded
-    (into_iter_items c.loop-cluster.cluster-iterator) (into_iter_items c.next.new.self) c.in-Some.cluster
-    c.loop-cluster.invariant.all c.in-Some.ensures.steps.0 c.requires.spanned
+    next_holds (IsSpanned c.args.graph.now) c.loop-cluster.yielded c.loop-cluster.invariant.all
+    c.in-Some.ensures.steps.0 c.requires.spanned
 
 pub loop-cluster-preserved : goal.loop-cluster-preserved
 loop-cluster-preserved c = record {
   work =
       let spanned : IsSpanned c.args.graph.now c.in-Some.cluster =
-      next_holds (IsSpanned c.args.graph.now) c.args.made.items c.loop-cluster.yielded
-      (into_iter_items c.loop-cluster.cluster-iterator) (into_iter_items c.next.new.self) c.in-Some.cluster
-      c.loop-cluster.invariant.all c.in-Some.ensures.steps.0 c.requires.spanned in
+      next_holds (IsSpanned c.args.graph.now) c.loop-cluster.yielded c.loop-cluster.invariant.all
+      c.in-Some.ensures.steps.0 c.requires.spanned in
       c.give_back.ensures.sized c.args.graph.now.nodes c.loop-cluster.invariant.work spanned.room;
   laid = c.in_ok-push.ensures.laid;
   done = subst (λ (cs : List PlanCluster).
       AreClustersOf c.args.graph.now (c.loop-cluster.yielded ++ c.in-Some.cluster ∷ []) cs)
       (sym c.in_ok-push.ensures.pushed.pushed)
-      (more_clusters c.args.graph.now c.loop-cluster.yielded (clusters_of_lists c.loop-cluster.self)
-      c.in-Some.cluster c.in_ok-push.ensures.pushed.cluster c.loop-cluster.invariant.done
+      (more_clusters c.loop-cluster.yielded (clusters_of_lists c.loop-cluster.self) c.loop-cluster.invariant.done
       c.in_ok-push.ensures.pushed.is);
   all = c.loop-cluster.invariant.all ∙ ap (λ (rest : List Cluster). c.loop-cluster.yielded ++ rest)
       c.in-Some.ensures.steps.0

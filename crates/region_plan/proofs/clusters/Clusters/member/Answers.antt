@@ -11,6 +11,6 @@ returns-in-Ok c =
 
 pub returns-in-Err : goal.returns-in-Err
 returns-in-Err c =
-    missed_member c.nodes.result.now c.args.v c.in-Err.field-0
-    (subst IsAscending (sym c.nodes.ensures.members) c.nodes.ensures.ascending) c.in-Err.ensures.position
+    missed_member c.nodes.result.now c.args.v (subst IsAscending (sym c.nodes.ensures.members)
+    c.nodes.ensures.ascending) c.in-Err.ensures.position
     ∙ ap (has c.args.v) c.nodes.ensures.members

@@ -8,7 +8,7 @@ pub index-head-requires : goal.index-head-requires
 index-head-requires c =
     omega (
       arith,
-      head_short c.self.inside.lists c.args.self.now c.args.c c.self.view_is c.requires,
+      head_short c.self.inside.lists c.args.c c.self.view_is c.requires,
       c.self.inside.lists.heads.ok.0,
     )
 

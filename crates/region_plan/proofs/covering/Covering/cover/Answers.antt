@@ -1,6 +1,5 @@
 use Rattle.std.proofs.Common.{length, subst, sym}
 use Rattle.coarse_cover.specs.Covers.{IsCover}
-use Rattle.mean_cover.specs.Covering.{mean_covering}
 use Rattle.node_set.specs.Balls.{sets}
 use Rattle.region_plan.specs.Coverings.{covering_of}
 use Rattle.region_plan.specs.declared.covering.Covering.{Covering}
@@ -12,7 +11,6 @@ pub returns-in_ok-in_one_phase-in-Mean-clause-exact :
 returns-in_ok-in_one_phase-in-Mean-clause-exact c =
     subst (λ (covering : Covering). IsCover (length c.args.balls.now) (covering_of covering (sets c.args.balls.now))
     c.in_ok-in_one_phase-in-Mean.field-0) (sym c.in-Mean.is)
-    (phased_cover (length c.args.balls.now) (mean_covering (sets c.args.balls.now) c.in-Mean.k)
-    c.in_ok-cover-in-Mean.cover c.in_ok-in_one_phase-in-Mean.field-0 c.in_ok-cover-in-Mean.ensures.exact
+    (phased_cover c.in_ok-in_one_phase-in-Mean.field-0 c.in_ok-cover-in-Mean.ensures.exact
     c.in_ok-in_one_phase-in-Mean.ensures.clusters c.in_ok-in_one_phase-in-Mean.ensures.homes
     c.in_ok-in_one_phase-in-Mean.ensures.phases)

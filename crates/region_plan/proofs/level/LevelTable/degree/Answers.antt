@@ -10,17 +10,15 @@ loop-v-preserved c =
     let homes : length c.self.inside.homes.items
     ≡ length c.args.self.now.homes = ap (λ (l : Shape). length l.homes) c.self.view_is in
     let count : length c.args.self.now.readers ≡ length c.args.self.now.homes =
-    readers_count c.self.inside.phases c.self.inside.clusters
-    c.self.inside.homes.items c.args.self.now c.self.view_is
+    readers_count c.self.inside.phases c.self.inside.clusters c.self.inside.homes.items c.self.view_is
     in
     let greater : c.max-degree.result ≡ max c.loop-v.degree (length c.readers_at.result.now) = greater_is
-    c.loop-v.degree (length c.readers_at.result.now) c.max-degree.result c.max-degree.ensures in
+    c.loop-v.degree (length c.readers_at.result.now) c.max-degree.ensures in
     record {
-      most = degree_step c.args.self.now c.loop-v.v c.loop-v.degree (length c.readers_at.result.now) c.max-degree.result
-          c.readers_at.result.now (omega (arith, count, homes))
-          c.loop-v.invariant.most refl c.readers_at.ensures.numbers greater;
-      few = max_few c.loop-v.degree (length c.readers_at.result.now) 1024 c.max-degree.result greater
-          c.loop-v.invariant.few (omega (arith, c.readers_at.ensures.few));
+      most = degree_step c.args.self.now c.loop-v.v (omega (arith, count, homes)) c.loop-v.invariant.most refl
+          c.readers_at.ensures.numbers greater;
+      few = max_few c.loop-v.degree (length c.readers_at.result.now) 1024 greater c.loop-v.invariant.few
+          (omega (arith, c.readers_at.ensures.few));
     }
 
 pub returns-clause-exact : goal.returns-clause-exact
@@ -28,7 +26,6 @@ returns-clause-exact c =
     let homes : length c.self.inside.homes.items
     ≡ length c.args.self.now.homes = ap (λ (l : Shape). length l.homes) c.self.view_is in
     let count : length c.args.self.now.readers ≡ length c.args.self.now.homes =
-    readers_count c.self.inside.phases c.self.inside.clusters
-    c.self.inside.homes.items c.args.self.now c.self.view_is
+    readers_count c.self.inside.phases c.self.inside.clusters c.self.inside.homes.items c.self.view_is
     in
-    degree_done c.args.self.now c.loop-v.v c.loop-v.degree (omega (arith, count, homes)) c.loop-v.invariant.most
+    degree_done c.args.self.now c.loop-v.v (omega (arith, count, homes)) c.loop-v.invariant.most

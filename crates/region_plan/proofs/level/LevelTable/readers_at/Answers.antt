@@ -6,9 +6,8 @@ pub index-requires : goal.index-requires
 index-requires c =
     omega (
       arith,
-      starts_long c.self.inside.phases c.self.inside.clusters c.self.inside.homes.items
-          c.self.inside.lists.starts.items c.self.inside.lists.readers.items c.args.self.now c.args.v
-          c.self.invariant.rows c.self.view_is c.requires,
+      starts_long c.self.inside.phases c.self.inside.homes.items c.args.v c.self.invariant.rows c.self.view_is
+          c.requires,
       c.self.inside.lists.starts.ok.0,
     )
 
@@ -16,9 +15,8 @@ pub index-requires-2 : goal.index-requires-2
 index-requires-2 c =
     omega (
       arith,
-      starts_long c.self.inside.phases c.self.inside.clusters c.self.inside.homes.items
-          c.self.inside.lists.starts.items c.self.inside.lists.readers.items c.args.self.now c.args.v
-          c.self.invariant.rows c.self.view_is c.requires,
+      starts_long c.self.inside.phases c.self.inside.homes.items c.args.v c.self.invariant.rows c.self.view_is
+          c.requires,
       c.self.inside.lists.starts.ok.0,
     )
 

@@ -16,11 +16,8 @@ abbrev made : (c : After-reach) → PlanData
 made c = plan_with c.trade_off.result c.reach.result c.in_ok-copy.copy c.in_ok-levels.levels
 
 made_is : (c : After-reach) → IsCoveredPlan c.args.covering c.args.graph.now (made c)
-made_is c = plan_built c.args.graph.now c.args.distances.now c.in_ok-copy.copy c.args.covering c.trade_off.result
-    c.reach.result c.top_for-top.result c.in_ok-levels.levels (made c)
-    c.requires.belongs c.in_ok-copy.ensures c.trade_off.ensures c.reach.ensures refl
-    (omega (arith, c.in_ok-levels.ensures.levels.count_is))
-    c.top_for-top.ensures.top
+made_is c = plan_built c.in_ok-levels.levels c.requires.belongs c.in_ok-copy.ensures c.trade_off.ensures c.reach.ensures
+    refl (omega (arith, c.in_ok-levels.ensures.levels.count_is)) c.top_for-top.ensures.top
     (λ j h. c.in_ok-levels.ensures.levels.each j (omega arith))
 
 made_metric : (c : After-reach) → IsMetric (made c).distances
@@ -32,11 +29,8 @@ made_bounds c = plan_bounds c.covering_shape.ensures c.covering_home_means.ensur
 
 -- and so it is once the rest is dropped
 plan_is : (c : After-of_levels) → IsCoveredPlan c.args.covering c.args.graph.now c.of_levels.result
-plan_is c = plan_built c.args.graph.now c.args.distances.now c.in_ok-copy.copy c.args.covering c.trade_off.result
-    c.reach.result c.top_for-top.result c.in_ok-levels.levels c.of_levels.result
-    c.requires.belongs c.in_ok-copy.ensures c.trade_off.ensures c.reach.ensures c.of_levels.ensures
-    (omega (arith, c.in_ok-levels.ensures.levels.count_is))
-    c.top_for-top.ensures.top
+plan_is c = plan_built c.in_ok-levels.levels c.requires.belongs c.in_ok-copy.ensures c.trade_off.ensures c.reach.ensures
+    c.of_levels.ensures (omega (arith, c.in_ok-levels.ensures.levels.count_is)) c.top_for-top.ensures.top
     (λ j h. c.in_ok-levels.ensures.levels.each j (omega arith))
 
 metric_is : (c : After-of_levels) → IsMetric c.of_levels.result.distances

@@ -13,8 +13,8 @@ abbrev made : (c : In_ok-copy) → PlanData
 made c = plan_with 1 1 c.in_ok-copy.field-0 c.in_ok-levels.levels
 
 made_flat : (c : In_ok-copy) → IsFlat c.args.graph.now (made c)
-made_flat c = flat_made c.args.graph.now c.args.distances.now c.in_ok-copy.field-0 c.in_ok-levels.levels
-    c.requires.belongs c.in_ok-copy.ensures c.in_ok-levels.ensures.one c.in_ok-levels.ensures.level
+made_flat c = flat_made c.in_ok-levels.levels c.requires.belongs c.in_ok-copy.ensures c.in_ok-levels.ensures.one
+    c.in_ok-levels.ensures.level
 
 made_metric : (c : In_ok-copy) → IsMetric (made c).distances
 made_metric c = subst (λ (t : DistanceTable). IsMetric t) (sym c.in_ok-copy.ensures) c.flat_levels.ensures.metric

@@ -16,8 +16,7 @@ loop-i-preserved c =
     let sized : IsSized c.self.inside.distances.nodes (level_in c.self.inside.levels c.loop-i.i) =
     c.self.invariant.kept.levels c.loop-i.i no_level (omega (arith, below, ap (length {A = Level}) levels)) in
     record {
-      sum = looks_more c.args.self.now.levels c.table.result.now c.args.from c.loop-i.i c.loop-i.read
-          (length c.readers_at.result.now) below c.loop-i.invariant.sum shape
+      sum = looks_more c.args.self.now.levels c.args.from c.loop-i.i below c.loop-i.invariant.sum shape
           (ap (length {A = ℕ}) c.readers_at.ensures.numbers);
       few = omega (
         arith,

@@ -5,12 +5,10 @@ use Rattle.region_plan.proofs.plan.Plan.of_levels.Goals as goal
 
 pub loop-i-preserved : goal.loop-i-preserved
 loop-i-preserved c =
-    let greater : c.max-degree.result ≡ max c.loop-i.degree c.degree.result = greater_is c.loop-i.degree
-    c.degree.result c.max-degree.result c.max-degree.ensures in
+    let greater : c.max-degree.result ≡ max c.loop-i.degree c.degree.result = greater_is c.loop-i.degree c.degree.result
+    c.max-degree.ensures in
     record {
-      most = level_step c.args.levels c.loop-i.i c.loop-i.degree c.degree.result c.max-degree.result
-          c.table.result.now (omega (arith, c.loop-i-test.true)) c.loop-i.invariant.most c.table.ensures
-          c.degree.ensures.exact greater;
-      few = max_few c.loop-i.degree c.degree.result 1024 c.max-degree.result greater c.loop-i.invariant.few
-          c.degree.ensures.few;
+      most = level_step c.args.levels c.loop-i.i (omega (arith, c.loop-i-test.true)) c.loop-i.invariant.most
+          c.table.ensures c.degree.ensures.exact greater;
+      few = max_few c.loop-i.degree c.degree.result 1024 greater c.loop-i.invariant.few c.degree.ensures.few;
     }

@@ -9,7 +9,7 @@ pub overflow_sub-len : goal.overflow_sub-len
 overflow_sub-len c =
     omega (
       arith,
-      heads_count c.self.inside.tables.items c.self.inside.heads.items c.args.self.now c.self.view_is,
+      heads_count c.self.inside.tables.items c.self.inside.heads.items c.self.view_is,
       c.len.ensures,
       c.self.inside.heads.ok.0,
       c.requires,

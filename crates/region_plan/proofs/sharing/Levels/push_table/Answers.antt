@@ -4,7 +4,6 @@ use Rattle.region_plan.proofs.sharing.Levels.push_table.Goals as goal
 
 pub returns : goal.returns
 returns c =
-    level_pushed c.self.inside.tables.items c.push.new.self.items c.args.table c.self.inside.heads.items
-    c.push-2.new.self.items c.args.self.now c.args.exponent c.args.threshold c.len-place.result c.self.view_is
-    c.self.invariant c.in_ok-push.ensures.items (omega (arith, c.len-place.ensures, c.self.inside.tables.ok.0))
-    c.in_ok-push-2.ensures.items
+    level_pushed c.self.inside.tables.items c.args.table c.self.inside.heads.items c.args.exponent c.args.threshold
+    c.self.view_is c.self.invariant c.in_ok-push.ensures.items
+    (omega (arith, c.len-place.ensures, c.self.inside.tables.ok.0)) c.in_ok-push-2.ensures.items

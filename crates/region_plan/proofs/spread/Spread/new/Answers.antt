@@ -7,7 +7,6 @@ pub returns : goal.returns
 returns c = record {
   exponents = c.in_ok-exponents.ensures;
   count = c.in_ok-in_use.ensures.count;
-  marked = marked_all c.args.distances.now c.deref.result.now c.in_ok-in_use.in_use.items
-      (subst (λ (l : List ℕ). AreExponents c.args.distances.now l) (sym c.deref.ensures.value)
-      c.in_ok-exponents.ensures) c.in_ok-in_use.ensures.marked;
+  marked = marked_all c.in_ok-in_use.in_use.items (subst (λ (l : List ℕ). AreExponents c.args.distances.now l)
+      (sym c.deref.ensures.value) c.in_ok-exponents.ensures) c.in_ok-in_use.ensures.marked;
 }
