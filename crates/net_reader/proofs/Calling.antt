@@ -66,14 +66,13 @@ quiet said none no_order = record {
 }
 
 -- one call more: what it adds to a course where a subscriber makes it, and to a search where a caller does
-call-kept : (said : Said) (actor : ℕ) (call : Call) → IsCalling said → said.place ≤ 7
-    → length said.calls < most_calls said.format
-    → ((s : ℕ) → s < length said.homes → eqb actor s ≡ true
-    → IsCourse said.format said.nodes (place_after (get_or said.homes s 0) (script_of s said.calls)) (off_after
-    false (script_of s said.calls)) (call ∷ []))
+call-kept : {said : Said} (actor : ℕ) (call : Call) → IsCalling said → said.place ≤ 7
+    → length said.calls < most_calls said.format → ((s : ℕ) → s < length said.homes → eqb actor s ≡ true
+    → IsCourse said.format said.nodes (place_after (get_or said.homes s 0) (script_of s said.calls))
+    (off_after false (script_of s said.calls)) (call ∷ []))
     → ((a : ℕ) → length said.homes ≤ a → eqb actor a ≡ true → IsSearch said.nodes (length said.homes) call)
     → IsCalling (call_said said actor call)
-call-kept said actor call m early few course search = record {
+call-kept {said} actor call m early few course search = record {
   no_calls = λ le. absurd (omega (arith, le));
   no_order = λ le. m.no_order early;
   few = omega (arith, few, length-append said.calls (make actor call ∷ []));
@@ -94,51 +93,51 @@ call-kept said actor call m early few course search = record {
 no-caller : (sub n subs a : ℕ) (call : Call) → sub < subs → subs ≤ a → eqb sub a ≡ true → IsSearch n subs call
 no-caller sub n subs a call lt le e = let is = eqb-true sub a e in absurd (omega (arith, is, lt, le))
 
-calling-heard : (said found : Said) (word : Word) → IsCalling said → may_stand said.place (place_of_word word) ≡ true
-    → Heard said word found → IsCalling found
-calling-heard said found words.Track m p h =
+calling-heard : {said : Said} (found : Said) (word : Word) → IsCalling said
+    → may_stand said.place (place_of_word word) ≡ true → Heard said word found → IsCalling found
+calling-heard {said} found words.Track m p h =
     let early = at-1 said.place p in
     subst IsCalling h.2 (quiet (record said {
       place =
           1;
       format = h.0;
     }) (m.no_calls (omega (arith, early))) (m.no_order (omega (arith, early))))
-calling-heard said found words.Nodes m p h =
+calling-heard {said} found words.Nodes m p h =
     let early = at-2 said.place p in
     subst IsCalling h.3 (quiet (record said {
       place =
           2;
       nodes = h.0;
     }) (m.no_calls (omega (arith, early))) (m.no_order (omega (arith, early))))
-calling-heard said found words.K m p h =
+calling-heard {said} found words.K m p h =
     let early = at-3 said.place p in
     subst IsCalling h.2 (quiet (record said {
       place =
           3;
       k = h.0;
     }) (m.no_calls (omega (arith, early))) (m.no_order (omega (arith, early))))
-calling-heard said found words.Edge m p h =
+calling-heard {said} found words.Edge m p h =
     let early = at-4 said.place p in
     subst IsCalling h.3 (quiet (record said {
       place =
           4;
       edges = said.edges ++ h.0 ∷ [];
     }) (m.no_calls (omega (arith, early))) (m.no_order (omega (arith, early))))
-calling-heard said found words.Sub m p h =
+calling-heard {said} found words.Sub m p h =
     let early = at-5 said.place p in
     subst IsCalling h.3 (quiet (record said {
       place =
           5;
       homes = said.homes ++ h.0 ∷ [];
     }) (m.no_calls (omega (arith, early))) (m.no_order (omega (arith, early))))
-calling-heard said found words.Callers m p h =
+calling-heard {said} found words.Callers m p h =
     let early = at-6 said.place p in
     subst IsCalling h.2 (quiet (record said {
       place =
           6;
       callers = h.0;
     }) (m.no_calls (omega (arith, early))) (m.no_order (omega (arith, early))))
-calling-heard said found words.Move m p h =
+calling-heard {said} found words.Move m p h =
     let sub = h.0 in
     let to = h.1 in
     let is = h.2 in
@@ -147,20 +146,20 @@ calling-heard said found words.Move m p h =
     false (script_of s said.calls)) (acts.Move to ∷ []) = λ s below e.
     subst (λ (x : ℕ). IsCourse said.format said.nodes (place_after (get_or said.homes x 0) (script_of x said.calls))
     (off_after false (script_of x said.calls)) (acts.Move to ∷ [])) (eqb-true sub s e) (is.3, is.2, is.4, tt) in
-    subst IsCalling h.3 (call-kept said sub (acts.Move to) m (at-7 said.place p) is.0 course (λ a above e. no-caller
-    sub said.nodes (length said.homes) a (acts.Move to) is.1 above e))
-calling-heard said found words.Find m p h =
+    subst IsCalling h.3 (call-kept sub (acts.Move to) m (at-7 said.place p) is.0 course
+    (λ a above e. no-caller sub said.nodes (length said.homes) a (acts.Move to) is.1 above e))
+calling-heard {said} found words.Find m p h =
     let caller = h.0 in
     let is = h.3 in
     let none : (s : ℕ) → s < length said.homes → eqb caller s ≡ true
     → IsCourse said.format said.nodes (place_after (get_or said.homes s 0) (script_of s said.calls)) (off_after
     false (script_of s said.calls)) (acts.Find h.1 h.2 ∷ []) = λ s below e.
     let found = eqb-true caller s e in absurd (omega (arith, found, below, is.1)) in
-    subst IsCalling h.4 (call-kept said caller (acts.Find h.1 h.2) m (at-7 said.place p) is.0 none (λ a above e. (
+    subst IsCalling h.4 (call-kept caller (acts.Find h.1 h.2) m (at-7 said.place p) is.0 none (λ a above e. (
       is.3,
       is.4,
     )))
-calling-heard said found words.Off m p h =
+calling-heard {said} found words.Off m p h =
     let sub = h.0 in
     let is = h.1 in
     let course : (s : ℕ) → s < length said.homes → eqb sub s ≡ true
@@ -168,9 +167,9 @@ calling-heard said found words.Off m p h =
     false (script_of s said.calls)) (acts.Off ∷ []) = λ s below e.
     subst (λ (x : ℕ). IsCourse said.format said.nodes (place_after (get_or said.homes x 0) (script_of x said.calls))
     (off_after false (script_of x said.calls)) (acts.Off ∷ [])) (eqb-true sub s e) (is.2, is.3, tt) in
-    subst IsCalling h.2 (call-kept said sub acts.Off m (at-7 said.place p) is.0 course (λ a above e. no-caller sub
-    said.nodes (length said.homes) a acts.Off is.1 above e))
-calling-heard said found words.On m p h =
+    subst IsCalling h.2 (call-kept sub acts.Off m (at-7 said.place p) is.0 course
+    (λ a above e. no-caller sub said.nodes (length said.homes) a acts.Off is.1 above e))
+calling-heard {said} found words.On m p h =
     let sub = h.0 in
     let is = h.1 in
     let course : (s : ℕ) → s < length said.homes → eqb sub s ≡ true
@@ -178,9 +177,9 @@ calling-heard said found words.On m p h =
     false (script_of s said.calls)) (acts.On ∷ []) = λ s below e.
     subst (λ (x : ℕ). IsCourse said.format said.nodes (place_after (get_or said.homes x 0) (script_of x said.calls))
     (off_after false (script_of x said.calls)) (acts.On ∷ [])) (eqb-true sub s e) (is.2, is.3, tt) in
-    subst IsCalling h.2 (call-kept said sub acts.On m (at-7 said.place p) is.0 course (λ a above e. no-caller sub
-    said.nodes (length said.homes) a acts.On is.1 above e))
-calling-heard said found words.Order m p h =
+    subst IsCalling h.2 (call-kept sub acts.On m (at-7 said.place p) is.0 course
+    (λ a above e. no-caller sub said.nodes (length said.homes) a acts.On is.1 above e))
+calling-heard {said} found words.Order m p h =
     let next : IsCalling (record said { place = 8; order = said.order ++ h.0 }) = record {
       no_calls = λ le. absurd (omega (arith, le));
       no_order = λ le. absurd (omega (arith, le));
@@ -196,4 +195,4 @@ begins-calling = quiet nothing refl refl
 
 pub keeps-calling : (said found : Said) (word : Word) (ns : List ℕ) → IsCalling said
     → may_stand said.place (place_of_word word) ≡ true → verdict (row_of said word ns) ≡ Ok found → IsCalling found
-keeps-calling said found word ns m p e = calling-heard said found word m p (heard said found word ns e)
+keeps-calling said found word ns m p e = calling-heard found word m p (heard said word ns e)

@@ -20,11 +20,10 @@ below-most value taken small few =
     omega (arith, small, most)
 
 -- a byte from which 48 are taken without a test for less is a digit where at most 9 are left
-pub wrapped : (b base : ℕ) → b < 18446744073709551616 → base ≡ 48
+pub wrapped : (b : ℕ) {base : ℕ} → b < 18446744073709551616 → base ≡ 48
     → (b + (18446744073709551616 - base)) % 18446744073709551616 ≤ 9
-    → (is_ascii_digit b ≡ true)
-    × ((b + (18446744073709551616 - base)) % 18446744073709551616 ≡ b - 48)
-wrapped b base fits is few =
+    → (is_ascii_digit b ≡ true) × ((b + (18446744073709551616 - base)) % 18446744073709551616 ≡ b - 48)
+wrapped b fits is few =
     let low : 48 ≤ b = omega (arith, fits, is, few) in
     let high : b ≤ 57 = omega (arith, fits, is, few) in
     (grind (arith, nat_tests, low, high), omega (arith, fits, is, low))
@@ -49,11 +48,10 @@ digit-read : (count value b : ℕ) → is_ascii_digit b ≡ true → count < 18 
 unfolding more more_digits
 digit-read count value b digit few small = grind (arith, nat_tests)
 
-pub read-more : (xs : List ℕ) (count value : ℕ) → count < length xs → is_ascii_digit (get_or xs count 0) ≡ true
-    → count < 18 → value < 100000000000000000
-    → Number count value ≡ fold more (Number 0 0) (take count xs)
+pub read-more : (xs : List ℕ) {count value : ℕ} → count < length xs → is_ascii_digit (get_or xs count 0) ≡ true
+    → count < 18 → value < 100000000000000000 → Number count value ≡ fold more (Number 0 0) (take count xs)
     → Number (count + 1) (10 * value + (get_or xs count 0 - 48)) ≡ fold more (Number 0 0) (take (count + 1) xs)
-read-more xs count value within digit few small read =
+read-more xs {count} {value} within digit few small read =
     digit-read count value (get_or xs count 0) digit few small
     ∙ ap (λ (field : Open). more field (get_or xs count 0)) read
     ∙ sym (fold_more more (Number 0 0) xs count 0 within)

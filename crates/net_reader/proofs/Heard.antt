@@ -62,37 +62,37 @@ record Taken (row : Row) (found : Said) : Type 0 where
   nowhere : row.nowhere ≡ false
   next : row.next ≡ found
 
-taken-go : (a b c d e : Bool) (next found : Said)
+taken-go : (a b c d e : Bool) (next : Said) {found : Said}
     → verdict (Some (record { too_large = a; too_many = b; unknown = c; switched = d; nowhere = e; next = next })) ≡ Ok
     found → Taken (record { too_large = a; too_many = b; unknown = c; switched = d; nowhere = e; next = next }) found
-taken-go true b c d e next found h = cc
-taken-go false true c d e next found h = cc
-taken-go false false true d e next found h = cc
-taken-go false false false true e next found h = cc
-taken-go false false false false true next found h = cc
-taken-go false false false false false next found h =
+taken-go true b c d e next h = cc
+taken-go false true c d e next h = cc
+taken-go false false true d e next h = cc
+taken-go false false false true e next h = cc
+taken-go false false false false true next h = cc
+taken-go false false false false false next h =
     record { large = refl; many = refl; unknown = refl; switched = refl; nowhere = refl; next = cc }
 
-taken : (row : Row) (found : Said) → verdict (Some row) ≡ Ok found → Taken row found
-taken row found h = taken-go row.too_large row.too_many row.unknown row.switched row.nowhere row.next found h
+taken : (row : Row) {found : Said} → verdict (Some row) ≡ Ok found → Taken row found
+taken row h = taken-go row.too_large row.too_many row.unknown row.switched row.nowhere row.next h
 
 abbrev TakenIfSome : Option Row → Said → Type 0
 TakenIfSome None found = ⊥
 TakenIfSome (Some row) found = Taken row found
 
-taken-some : (row : Option Row) (found : Said) → verdict row ≡ Ok found → TakenIfSome row found
-taken-some None found h = cc
-taken-some (Some row) found h = taken row found h
+taken-some : (row : Option Row) {found : Said} → verdict row ≡ Ok found → TakenIfSome row found
+taken-some None h = cc
+taken-some (Some row) h = taken row h
 
-taken-if : (none : Bool) (row : Row) (found : Said) → verdict (cond none None (Some row)) ≡ Ok found
+taken-if : (none : Bool) (row : Row) {found : Said} → verdict (cond none None (Some row)) ≡ Ok found
     → (none ≡ false) × Taken row found
-taken-if true row found h = cc
-taken-if false row found h = (refl, taken row found h)
+taken-if true row h = cc
+taken-if false row h = (refl, taken row h)
 
-taken-then : (some : Bool) (row : Row) (found : Said) → verdict (cond some (Some row) None) ≡ Ok found
+taken-then : (some : Bool) (row : Row) {found : Said} → verdict (cond some (Some row) None) ≡ Ok found
     → (some ≡ true) × Taken row found
-taken-then true row found h = (refl, taken row found h)
-taken-then false row found h = cc
+taken-then true row h = (refl, taken row h)
+taken-then false row h = cc
 
 positive : (n : ℕ) → eqb n 0 ≡ false → 1 ≤ n
 positive n e = grind (arith, nat_tests)
@@ -136,49 +136,49 @@ all-below n (a ∷ numbers) e =
     All-cons (λ actor. actor < n) a numbers (leb-false n a both.0) (all-below n numbers both.1)
 
 -- what each word's line says
-pub heard : (said found : Said) (word : Word) (ns : List ℕ) → verdict (row_of said word ns) ≡ Ok found
+pub heard : (said : Said) {found : Said} (word : Word) (ns : List ℕ) → verdict (row_of said word ns) ≡ Ok found
     → Heard said word found
-heard said found words.Track [] h = cc
-heard said found words.Track (format ∷ []) h =
-    let t = taken-then (eqb format 1 || eqb format 2) _ found h in
+heard said words.Track [] h = cc
+heard said words.Track (format ∷ []) h =
+    let t = taken-then (eqb format 1 || eqb format 2) _ h in
     (format, format-go _ _ format refl refl t.0, t.1.next)
-heard said found words.Track (a ∷ b ∷ ns) h = cc
-heard said found words.Nodes [] h = cc
-heard said found words.Nodes (n ∷ []) h =
-    let t = taken-if (eqb n 0) _ found h in
+heard said words.Track (a ∷ b ∷ ns) h = cc
+heard said words.Nodes [] h = cc
+heard said words.Nodes (n ∷ []) h =
+    let t = taken-if (eqb n 0) _ h in
     (n, positive n t.0, at_most (most_nodes said.format) n t.1.large, t.1.next)
-heard said found words.Nodes (a ∷ b ∷ ns) h = cc
-heard said found words.K [] h = cc
-heard said found words.K (k ∷ []) h =
-    let t = taken-if (eqb k 0) _ found h in
+heard said words.Nodes (a ∷ b ∷ ns) h = cc
+heard said words.K [] h = cc
+heard said words.K (k ∷ []) h =
+    let t = taken-if (eqb k 0) _ h in
     (k, k-go k said.nodes t.0 t.1.large, t.1.next)
-heard said found words.K (a ∷ b ∷ ns) h = cc
-heard said found words.Edge [] h = cc
-heard said found words.Edge (a ∷ []) h = cc
-heard said found words.Edge (a ∷ b ∷ []) h = cc
-heard said found words.Edge (a ∷ b ∷ w ∷ []) h =
-    let t = taken-if (eqb w 0) _ found h in (
+heard said words.K (a ∷ b ∷ ns) h = cc
+heard said words.Edge [] h = cc
+heard said words.Edge (a ∷ []) h = cc
+heard said words.Edge (a ∷ b ∷ []) h = cc
+heard said words.Edge (a ∷ b ∷ w ∷ []) h =
+    let t = taken-if (eqb w 0) _ h in (
       record { a = a; b = b; weight = w },
       is-edge said.nodes a b w t.0 t.1.large t.1.unknown,
       leb-false 32768 (length
           said.edges) t.1.many,
       t.1.next,
     )
-heard said found words.Edge (a ∷ b ∷ c ∷ d ∷ ns) h = cc
-heard said found words.Sub [] h = cc
-heard said found words.Sub (node ∷ []) h =
-    let t = taken-some (sub_row said (node ∷ [])) found h in
+heard said words.Edge (a ∷ b ∷ c ∷ d ∷ ns) h = cc
+heard said words.Sub [] h = cc
+heard said words.Sub (node ∷ []) h =
+    let t = taken-some (sub_row said (node ∷ [])) h in
     (node, leb-false said.nodes node t.unknown, leb-false 64 (subs said) t.many, t.next)
-heard said found words.Sub (a ∷ b ∷ ns) h = cc
-heard said found words.Callers [] h = cc
-heard said found words.Callers (callers ∷ []) h =
-    let t = taken-some (callers_row said (callers ∷ [])) found h in
+heard said words.Sub (a ∷ b ∷ ns) h = cc
+heard said words.Callers [] h = cc
+heard said words.Callers (callers ∷ []) h =
+    let t = taken-some (callers_row said (callers ∷ [])) h in
     (callers, at_most 64 callers t.large, t.next)
-heard said found words.Callers (a ∷ b ∷ ns) h = cc
-heard said found words.Move [] h = cc
-heard said found words.Move (a ∷ []) h = cc
-heard said found words.Move (sub ∷ to ∷ []) h =
-    let t = taken-some (move_row said (sub ∷ to ∷ [])) found h in
+heard said words.Callers (a ∷ b ∷ ns) h = cc
+heard said words.Move [] h = cc
+heard said words.Move (a ∷ []) h = cc
+heard said words.Move (sub ∷ to ∷ []) h =
+    let t = taken-some (move_row said (sub ∷ to ∷ [])) h in
     let unknown = or_parts (leb (subs said) sub) (leb said.nodes to) t.unknown in (
       sub,
       to,
@@ -192,12 +192,12 @@ heard said found words.Move (sub ∷ to ∷ []) h =
       ),
       t.next,
     )
-heard said found words.Move (a ∷ b ∷ c ∷ ns) h = cc
-heard said found words.Find [] h = cc
-heard said found words.Find (a ∷ []) h = cc
-heard said found words.Find (a ∷ b ∷ []) h = cc
-heard said found words.Find (caller ∷ from ∷ sub ∷ []) h =
-    let t = taken-some (find_row said (caller ∷ from ∷ sub ∷ [])) found h in
+heard said words.Move (a ∷ b ∷ c ∷ ns) h = cc
+heard said words.Find [] h = cc
+heard said words.Find (a ∷ []) h = cc
+heard said words.Find (a ∷ b ∷ []) h = cc
+heard said words.Find (caller ∷ from ∷ sub ∷ []) h =
+    let t = taken-some (find_row said (caller ∷ from ∷ sub ∷ [])) h in
     let last = or_parts _ (leb (subs said) sub) t.unknown in
     let third = or_parts _ (leb said.nodes from) last.0 in
     let second = or_parts (ltb caller (subs said)) (leb (actors said) caller) third.0 in (
@@ -214,10 +214,10 @@ heard said found words.Find (caller ∷ from ∷ sub ∷ []) h =
       ),
       t.next,
     )
-heard said found words.Find (a ∷ b ∷ c ∷ d ∷ ns) h = cc
-heard said found words.Off [] h = cc
-heard said found words.Off (sub ∷ []) h =
-    let t = taken-then (eqb said.format 2) _ found h in (
+heard said words.Find (a ∷ b ∷ c ∷ d ∷ ns) h = cc
+heard said words.Off [] h = cc
+heard said words.Off (sub ∷ []) h =
+    let t = taken-then (eqb said.format 2) _ h in (
       sub,
       (
         leb-false (most_calls said.format) (length said.calls) t.1.many,
@@ -228,10 +228,10 @@ heard said found words.Off (sub ∷ []) h =
       ),
       t.1.next,
     )
-heard said found words.Off (a ∷ b ∷ ns) h = cc
-heard said found words.On [] h = cc
-heard said found words.On (sub ∷ []) h =
-    let t = taken-then (eqb said.format 2) _ found h in (
+heard said words.Off (a ∷ b ∷ ns) h = cc
+heard said words.On [] h = cc
+heard said words.On (sub ∷ []) h =
+    let t = taken-then (eqb said.format 2) _ h in (
       sub,
       (
         leb-false (most_calls said.format) (length said.calls) t.1.many,
@@ -242,7 +242,7 @@ heard said found words.On (sub ∷ []) h =
       ),
       t.1.next,
     )
-heard said found words.On (a ∷ b ∷ ns) h = cc
-heard said found words.Order ns h =
-    let t = taken-if (eqb (length ns) 0) _ found h in
+heard said words.On (a ∷ b ∷ ns) h = cc
+heard said words.Order ns h =
+    let t = taken-if (eqb (length ns) 0) _ h in
     (ns, all-below (actors said) ns t.1.unknown, t.1.next)

@@ -115,9 +115,9 @@ nothing-measured = record {
   callers = lit≤ tt;
 }
 
-track-measured : (said : Said) (format : ℕ) → said.place ≤ 0 → (format ≡ 1) ⊎ (format ≡ 2) → IsMeasured said
+track-measured : {said : Said} {format : ℕ} → said.place ≤ 0 → (format ≡ 1) ⊎ (format ≡ 2) → IsMeasured said
     → IsMeasured (record said { place = 1; format = format })
-track-measured said format early one m = record {
+track-measured {format} early one m = record {
   format = λ le. one;
   no_nodes = λ le. m.no_nodes (omega (arith, early));
   few = omega (arith, m.no_nodes (omega (arith, early)));
@@ -133,33 +133,33 @@ track-measured said format early one m = record {
   callers = m.callers;
 }
 
-no-edges : (n : ℕ) (edges : List Edge) → edges ≡ [] → All (IsEdge n) edges
-no-edges n edges e = subst (λ (es : List Edge). All (IsEdge n) es) (sym e) (All-nil (IsEdge n))
+no-edges : (n : ℕ) {edges : List Edge} → edges ≡ [] → All (IsEdge n) edges
+no-edges n e = subst (λ (es : List Edge). All (IsEdge n) es) (sym e) (All-nil (IsEdge n))
 
-no-homes : (n : ℕ) (homes : List ℕ) → homes ≡ [] → All (λ home. home < n) homes
-no-homes n homes e = subst (λ (hs : List ℕ). All (λ home. home < n) hs) (sym e) (All-nil (λ home. home < n))
+no-homes : (n : ℕ) {homes : List ℕ} → homes ≡ [] → All (λ home. home < n) homes
+no-homes n e = subst (λ (hs : List ℕ). All (λ home. home < n) hs) (sym e) (All-nil (λ home. home < n))
 
-nodes-measured : (said : Said) (n : ℕ) → said.place ≤ 1 → 1 ≤ said.place → 1 ≤ n → n ≤ most_nodes said.format
+nodes-measured : {said : Said} (n : ℕ) → said.place ≤ 1 → 1 ≤ said.place → 1 ≤ n → n ≤ most_nodes said.format
     → IsMeasured said → IsMeasured (record said { place = 2; nodes = n })
-nodes-measured said n early late some few m = record {
+nodes-measured n early late some few m = record {
   format = λ le. m.format late;
   no_nodes = λ le. absurd (omega (arith, le));
   few = few;
   some = λ le. some;
   k = λ le. absurd (omega (arith, le));
   no_edges = λ le. m.no_edges (omega (arith, early));
-  edges = no-edges n said.edges (m.no_edges (omega (arith, early)));
+  edges = no-edges n (m.no_edges (omega (arith, early)));
   few_edges = m.few_edges;
   no_homes = λ le. m.no_homes (omega (arith, early));
-  homes = no-homes n said.homes (m.no_homes (omega (arith, early)));
+  homes = no-homes n (m.no_homes (omega (arith, early)));
   some_homes = λ le. absurd (omega (arith, le));
   few_homes = m.few_homes;
   callers = m.callers;
 }
 
-k-measured : (said : Said) (k : ℕ) → said.place ≤ 2 → 2 ≤ said.place → (1 ≤ k) × (k ≤ 8) × (256 < said.nodes → 2 ≤ k)
+k-measured : {said : Said} (k : ℕ) → said.place ≤ 2 → 2 ≤ said.place → (1 ≤ k) × (k ≤ 8) × (256 < said.nodes → 2 ≤ k)
     → IsMeasured said → IsMeasured (record said { place = 3; k = k })
-k-measured said k early late is m = record {
+k-measured k early late is m = record {
   format = λ le. m.format (omega (arith, late));
   no_nodes = λ le. absurd (omega (arith, le));
   few = m.few;
@@ -178,10 +178,10 @@ k-measured said k early late is m = record {
 one-more : {X : Type 0} (xs : List X) (x : X) → length (xs ++ x ∷ []) ≡ length xs + 1
 one-more xs x = length-append xs (x ∷ [])
 
-edge-measured : (said : Said) (edge : Edge) → said.place ≤ 4 → 3 ≤ said.place → IsEdge said.nodes edge
+edge-measured : {said : Said} {edge : Edge} → said.place ≤ 4 → 3 ≤ said.place → IsEdge said.nodes edge
     → length said.edges < 32768 → IsMeasured said
     → IsMeasured (record said { place = 4; edges = said.edges ++ edge ∷ [] })
-edge-measured said edge early late is few m = record {
+edge-measured {said} {edge} early late is few m = record {
   format = λ le. m.format (omega (arith, late));
   no_nodes = λ le. absurd (omega (arith, le));
   few = m.few;
@@ -198,9 +198,9 @@ edge-measured said edge early late is few m = record {
   callers = m.callers;
 }
 
-sub-measured : (said : Said) (node : ℕ) → 3 ≤ said.place → node < said.nodes → length said.homes < 64 → IsMeasured said
+sub-measured : {said : Said} (node : ℕ) → 3 ≤ said.place → node < said.nodes → length said.homes < 64 → IsMeasured said
     → IsMeasured (record said { place = 5; homes = said.homes ++ node ∷ [] })
-sub-measured said node late is few m =
+sub-measured {said} node late is few m =
     let Below : ℕ → Type 0 = λ home. home < said.nodes in record {
       format = λ le. m.format (omega (arith, late));
       no_nodes = λ le. absurd (omega (arith, le));
@@ -217,9 +217,9 @@ sub-measured said node late is few m =
       callers = m.callers;
     }
 
-callers-measured : (said : Said) (callers : ℕ) → 5 ≤ said.place → callers ≤ 64 → IsMeasured said
+callers-measured : {said : Said} (callers : ℕ) → 5 ≤ said.place → callers ≤ 64 → IsMeasured said
     → IsMeasured (record said { place = 6; callers = callers })
-callers-measured said callers late few m = record {
+callers-measured callers late few m = record {
   format = λ le. m.format (omega (arith, late));
   no_nodes = λ le. absurd (omega (arith, le));
   few = m.few;
@@ -236,9 +236,9 @@ callers-measured said callers late few m = record {
 }
 
 -- calls and orders change none of these
-called-measured : (said : Said) (place : ℕ) (calls : List Spoken) (order : List ℕ) → 6 ≤ said.place → 6 ≤ place
+called-measured : {said : Said} (place : ℕ) (calls : List Spoken) (order : List ℕ) → 6 ≤ said.place → 6 ≤ place
     → IsMeasured said → IsMeasured (record said { place = place; calls = calls; order = order })
-called-measured said place calls order late later m = record {
+called-measured place calls order late later m = record {
   format = λ le. m.format (omega (arith, late));
   no_nodes = λ le. absurd (omega (arith, le, later));
   few = m.few;
@@ -255,32 +255,32 @@ called-measured said place calls order late later m = record {
 }
 
 -- each line keeps the limits
-measured-heard : (said found : Said) (word : Word) → IsMeasured said → may_stand said.place (place_of_word word) ≡ true
-    → Heard said word found → IsMeasured found
-measured-heard said found words.Track m p h = subst IsMeasured h.2 (track-measured said h.0 (at-1 said.place p) h.1 m)
-measured-heard said found words.Nodes m p h =
-    subst IsMeasured h.3 (nodes-measured said h.0 (at-2 said.place p) (from-2 said.place p) h.1 h.2 m)
-measured-heard said found words.K m p h = subst IsMeasured h.2 (k-measured said h.0 (at-3 said.place p) (from-3
-    said.place p) h.1 m)
-measured-heard said found words.Edge m p h =
-    subst IsMeasured h.3 (edge-measured said h.0 (at-4 said.place p) (from-4 said.place p) h.1 h.2 m)
-measured-heard said found words.Sub m p h = subst IsMeasured h.3 (sub-measured said h.0 (from-5 said.place p) h.1 h.2 m)
-measured-heard said found words.Callers m p h =
-    subst IsMeasured h.2 (callers-measured said h.0 (from-6 said.place p) h.1 m)
-measured-heard said found words.Move m p h =
-    subst IsMeasured h.3 (called-measured said 7 _ said.order (from-7 said.place p) (omega arith) m)
-measured-heard said found words.Find m p h =
-    subst IsMeasured h.4 (called-measured said 7 _ said.order (from-7 said.place p) (omega arith) m)
-measured-heard said found words.Off m p h =
-    subst IsMeasured h.2 (called-measured said 7 _ said.order (from-7 said.place p) (omega arith) m)
-measured-heard said found words.On m p h =
-    subst IsMeasured h.2 (called-measured said 7 _ said.order (from-7 said.place p) (omega arith) m)
-measured-heard said found words.Order m p h =
-    subst IsMeasured h.2 (called-measured said 8 said.calls _ (from-8 said.place p) (omega arith) m)
+measured-heard : {said : Said} (found : Said) (word : Word) → IsMeasured said
+    → may_stand said.place (place_of_word word) ≡ true → Heard said word found → IsMeasured found
+measured-heard {said} found words.Track m p h = subst IsMeasured h.2 (track-measured (at-1 said.place p) h.1 m)
+measured-heard {said} found words.Nodes m p h =
+    subst IsMeasured h.3 (nodes-measured h.0 (at-2 said.place p) (from-2 said.place p) h.1 h.2 m)
+measured-heard {said} found words.K m p h = subst IsMeasured h.2
+    (k-measured h.0 (at-3 said.place p) (from-3 said.place p) h.1 m)
+measured-heard {said} found words.Edge m p h =
+    subst IsMeasured h.3 (edge-measured (at-4 said.place p) (from-4 said.place p) h.1 h.2 m)
+measured-heard {said} found words.Sub m p h = subst IsMeasured h.3 (sub-measured h.0 (from-5 said.place p) h.1 h.2 m)
+measured-heard {said} found words.Callers m p h =
+    subst IsMeasured h.2 (callers-measured h.0 (from-6 said.place p) h.1 m)
+measured-heard {said} found words.Move m p h =
+    subst IsMeasured h.3 (called-measured 7 _ said.order (from-7 said.place p) (omega arith) m)
+measured-heard {said} found words.Find m p h =
+    subst IsMeasured h.4 (called-measured 7 _ said.order (from-7 said.place p) (omega arith) m)
+measured-heard {said} found words.Off m p h =
+    subst IsMeasured h.2 (called-measured 7 _ said.order (from-7 said.place p) (omega arith) m)
+measured-heard {said} found words.On m p h =
+    subst IsMeasured h.2 (called-measured 7 _ said.order (from-7 said.place p) (omega arith) m)
+measured-heard {said} found words.Order m p h =
+    subst IsMeasured h.2 (called-measured 8 said.calls _ (from-8 said.place p) (omega arith) m)
 
 pub begins-measured : IsMeasured nothing
 begins-measured = nothing-measured
 
 pub keeps-measured : (said found : Said) (word : Word) (ns : List ℕ) → IsMeasured said
     → may_stand said.place (place_of_word word) ≡ true → verdict (row_of said word ns) ≡ Ok found → IsMeasured found
-keeps-measured said found word ns m p e = measured-heard said found word m p (heard said found word ns e)
+keeps-measured said found word ns m p e = measured-heard found word m p (heard said word ns e)

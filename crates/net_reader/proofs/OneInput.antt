@@ -9,8 +9,8 @@ use Rattle.net_reader.specs.Said.{Said}
 use Rattle.net_reader.specs.Input.{Contents, IsAnswer, IsInput, read}
 
 -- the least node apart is one
-one_apart : (n : ℕ) (edges : List Edge) (v w : ℕ) → IsFirstApart n edges v → IsFirstApart n edges w → v ≡ w
-one_apart n edges v w p q = elim (cases_lt v w) [
+one_apart : {n : ℕ} {edges : List Edge} {v w : ℕ} → IsFirstApart n edges v → IsFirstApart n edges w → v ≡ w
+one_apart {v} {w} p q = elim (cases_lt v w) [
   | inl lt ↦ let reached = q.first v lt in absurd (p.apart reached.steps reached.walk)
   | inr ge ↦ elim (cases_lt w v) [
     | inl lt ↦ let reached =
@@ -28,7 +28,7 @@ one_answer (Ok found) (Ok one) (Err fault) p q =
 one_answer (Ok found) (Err fault) (Ok other) p q =
     let reached = q.1 p.0 p.2.below in absurd (p.2.apart reached.steps reached.walk)
 one_answer (Ok found) (Err one) (Err other) p q =
-    let node : p.0 ≡ q.0 = one_apart found.0.nodes found.0.edges p.0 q.0 p.2 q.2 in
+    let node : p.0 ≡ q.0 = one_apart p.2 q.2 in
     let fault : ℕ → InputFault = λ v. record { line = found.1; cause = Apart v } in
     let same : one ≡ other = p.1 ∙ ap fault node ∙ sym q.1 in
     ap Err same

@@ -25,9 +25,9 @@ below-more limit value numbers below less =
     ∙ ap (λ b. b || (leb limit value || false)) below ∙ ap (λ b. b || false) no
 
 -- one number more of those that a line has
-pub taken-more : (order now later numbers : List ℕ) (i : ℕ) → i < length numbers → now ≡ order ++ take i numbers
-    → later ≡ now ++ get_or numbers i 0 ∷ [] → later ≡ order ++ take (i + 1) numbers
-taken-more order now later numbers i within before is =
+pub taken-more : (order : List ℕ) {now later : List ℕ} (numbers : List ℕ) (i : ℕ) → i < length numbers
+    → now ≡ order ++ take i numbers → later ≡ now ++ get_or numbers i 0 ∷ [] → later ≡ order ++ take (i + 1) numbers
+taken-more order numbers i within before is =
     is ∙ ap (λ xs. xs ++ get_or numbers i 0 ∷ []) before
     ∙ append_assoc order (take i numbers) (get_or numbers i 0 ∷ [])
     ∙ ap (λ xs. order ++ xs) (sym (take_more numbers i 0 within))
@@ -53,51 +53,50 @@ taking-none limit before piece = record {
   below = refl;
 }
 
-pub taking-more : (limit value : ℕ) (before now piece rest after : List ℕ) → IsTaking limit before now piece rest
+pub taking-more : {limit value : ℕ} {before now piece rest after : List ℕ} → IsTaking limit before now piece rest
     → IsNumberTo 32 value rest after → value < limit → length now < length before + 64
     → IsTaking limit before (now ++ value ∷ []) piece after
-taking-more limit value before now piece rest after taking number less few =
+taking-more {limit} {value} {before} {piece} {after} taking number less few =
     let numbers = taking.numbers in
     let short : length numbers < 64 = omega (arith, few, ap length taking.added, length-append before numbers) in
     record {
       numbers = numbers ++ value ∷ [];
       run = λ word. subst (λ ns. IsRun (between word []) (between word ns) piece after) (keep-few numbers value short)
-          (run-join (between word []) (between word numbers) (between word (keep numbers value)) piece rest after
-          (taking.run word) (blank-behind word value numbers rest after number));
+          (run-join (taking.run word) (blank-behind word numbers number));
       added = ap (λ xs. xs ++ value ∷ []) taking.added ∙ append_assoc before numbers (value ∷ []);
       below = below-more limit value numbers taking.below less;
     }
 
-taken-up-to : (limit value end : ℕ) (before now piece rest after : List ℕ)
+taken-up-to : {limit value end : ℕ} {before now piece rest after : List ℕ}
     (taking : IsTaking limit before now piece rest) → IsNumberTo end value rest after → length taking.numbers < 64
     → IsUpTo (taking.numbers ++ value ∷ []) piece (end ∷ after)
 unfolding close_as
-taken-up-to limit value end before now piece rest after taking number short =
+taken-up-to {value} taking number short =
     let numbers = taking.numbers in
     let last : ℕ → LineState = λ word. record (between word numbers) { open_field = opens.Number number.count value } in
     record {
       last = last;
-      run = λ word. run-join (between word []) (between word numbers) (last word) piece rest (end ∷ after)
-          (taking.run word) (number.run (between word numbers) refl);
+      run = λ word. run-join (taking.run word) (number.run (between word numbers) refl);
       closed = λ word. ap (between word) (keep-few numbers value short);
     }
 
-taken-ends : (limit value : ℕ) (before now piece rest after : List ℕ) (taking : IsTaking limit before now piece rest)
-    → IsLast value rest after → length taking.numbers < 64 → IsNumbers (taking.numbers ++ value ∷ []) piece after
-taken-ends limit value before now piece rest after taking (inl number) short =
-    inl (taken-up-to limit value 10 before now piece rest after taking number short)
-taken-ends limit value before now piece rest after taking (inr number) short =
-    inr (taken-up-to limit value 13 before now piece rest (10 ∷ after) taking number short)
+taken-ends : {limit : ℕ} (value : ℕ) {before now piece rest : List ℕ} (after : List ℕ)
+    (taking : IsTaking limit before now piece rest) → IsLast value rest after → length taking.numbers < 64
+    → IsNumbers (taking.numbers ++ value ∷ []) piece after
+taken-ends value after taking (inl number) short =
+    inl (taken-up-to taking number short)
+taken-ends value after taking (inr number) short =
+    inr (taken-up-to taking number short)
 
-pub taking-last : (limit value : ℕ) (before now piece rest after : List ℕ) → IsTaking limit before now piece rest
-    → IsLast value rest after → value < limit → length now < length before + 64
+pub taking-last : {limit : ℕ} (value : ℕ) {before now piece rest : List ℕ} (after : List ℕ)
+    → IsTaking limit before now piece rest → IsLast value rest after → value < limit → length now < length before + 64
     → Takes limit before (now ++ value ∷ []) piece after
-taking-last limit value before now piece rest after taking number less few =
+taking-last {limit} value {before} after taking number less few =
     let numbers = taking.numbers in
     let short : length numbers < 64 = omega (arith, few, ap length taking.added, length-append before numbers) in
     record {
       numbers = numbers ++ value ∷ [];
-      ends = taken-ends limit value before now piece rest after taking number short;
+      ends = taken-ends value after taking number short;
       added = ap (λ xs. xs ++ value ∷ []) taking.added ∙ append_assoc before numbers (value ∷ []);
       some = omega (arith, length-append numbers (value ∷ []));
       few = omega (arith, short, length-append numbers (value ∷ []));
@@ -111,36 +110,34 @@ take-more-set xs i x within =
     ∙ ap (λ front. front ++ get_or (set xs i x) i 0 ∷ []) (take-set xs i x)
     ∙ ap (λ y. take i xs ++ y ∷ []) (get_or-set_same xs i x 0 within)
 
-pub written-more : (limit value count : ℕ) (before xs piece rest after : List ℕ)
+pub written-more : {limit value : ℕ} (count : ℕ) {before : List ℕ} (xs : List ℕ) {piece rest after : List ℕ}
     → IsTaking limit before (take count xs) piece rest → IsNumberTo 32 value rest after → value < limit
     → count < length xs → length xs ≤ 64 → IsTaking limit before (take (count + 1) (set xs count value)) piece after
-written-more limit value count before xs piece rest after taking number less within few =
+written-more {limit} {value} count {before} xs {piece} {after} taking number less within few =
     subst (λ (ys : List ℕ). IsTaking limit before ys piece after) (sym (take-more-set xs count value within))
-    (taking-more limit value before (take count xs) piece rest after taking number less
-    (omega (arith, few, within, length-take count xs)))
+    (taking-more taking number less (omega (arith, few, within, length-take count xs)))
 
-pub written-last : (limit value count : ℕ) (before xs piece rest after : List ℕ)
-    → IsTaking limit before (take count xs) piece rest → IsLast value rest after → value < limit
-    → count < length xs → length xs ≤ 64 → Takes limit before (take (count + 1) (set xs count value)) piece after
-written-last limit value count before xs piece rest after taking number less within few =
+pub written-last : {limit : ℕ} (value count : ℕ) {before : List ℕ} (xs : List ℕ) {piece rest : List ℕ} (after : List ℕ)
+    → IsTaking limit before (take count xs) piece rest → IsLast value rest after → value < limit → count < length xs
+    → length xs ≤ 64 → Takes limit before (take (count + 1) (set xs count value)) piece after
+written-last {limit} value count {before} xs {piece} after taking number less within few =
     subst (λ (ys : List ℕ). Takes limit before ys piece after) (sym (take-more-set xs count value within))
-    (taking-last limit value before (take count xs) piece rest after taking number less
-    (omega (arith, few, within, length-take count xs)))
+    (taking-last value after taking number less (omega (arith, few, within, length-take count xs)))
 
 -- a number from a place on
-pub number-at : (end value at taken : ℕ) (piece rest after : List ℕ) → rest ≡ drop at piece
+pub number-at : {end value : ℕ} (at taken : ℕ) (piece : List ℕ) {rest after : List ℕ} → rest ≡ drop at piece
     → after ≡ drop (at + taken) piece → IsNumberTo end value rest (drop taken rest)
     → IsNumberTo end value (drop at piece) after
-number-at end value at taken piece rest after front back number =
+number-at {end} {value} at taken piece front back number =
     let joined : drop taken (drop at piece) ≡ drop (at + taken) piece = drop-drop taken at piece in
     let here : IsNumberTo end value (drop at piece) (drop taken (drop at piece)) =
     subst (λ (xs : List ℕ). IsNumberTo end value xs (drop taken xs)) front number in
     subst (λ (xs : List ℕ). IsNumberTo end value (drop at piece) xs) (joined ∙ sym back) here
 
 -- the same numbers behind others
-pub behind-others : (limit : ℕ) (before now numbers piece rest : List ℕ) → Takes limit [] numbers piece rest
+pub behind-others : {limit : ℕ} (before : List ℕ) {now numbers piece rest : List ℕ} → Takes limit [] numbers piece rest
     → now ≡ before ++ numbers → Takes limit before now piece rest
-behind-others limit before now numbers piece rest takes is = record {
+behind-others before {numbers} takes is = record {
   numbers = takes.numbers;
   ends = takes.ends;
   added = is ∙ ap (λ ns. before ++ ns) takes.added;

@@ -98,9 +98,9 @@ first-byte (x ∷ xs) h =
 pub run-none : (line : LineState) (piece : List ℕ) → IsRun line line piece piece
 run-none line piece = record { front = []; parts = refl; inside = refl; read = refl }
 
-pub run-more : (first line last : LineState) (piece rest after : List ℕ) (b : ℕ) → IsRun first line piece (b ∷ rest)
+pub run-more : {first line last : LineState} {piece rest after : List ℕ} {b : ℕ} → IsRun first line piece (b ∷ rest)
     → is_inside b ≡ true → IsRun (put line b) last rest after → IsRun first last piece after
-run-more first line last piece rest after b run h more = record {
+run-more {first} {after} {b} run h more = record {
   front = run.front ++ b ∷ more.front;
   parts = run.parts ∙ ap (λ xs. run.front ++ b ∷ xs) more.parts ∙ sym (append_assoc run.front (b ∷ more.front) after);
   inside = all-append is_inside run.front (b ∷ more.front) run.inside
@@ -110,54 +110,54 @@ run-more first line last piece rest after b run h more = record {
 }
 
 -- a run from the front of a piece
-cut : (piece rest : List ℕ) (found : Open × ℕ) (field : Open) (taken : ℕ) → found ≡ (field, taken)
+cut : (piece : List ℕ) {rest : List ℕ} {found : Open × ℕ} (field : Open) (taken : ℕ) → found ≡ (field, taken)
     → rest ≡ drop found.1 piece → piece ≡ take taken piece ++ rest
-cut piece rest found field taken e back =
+cut piece field taken e back =
     sym (take-append-drop taken piece)
     ∙ ap (λ xs. take taken piece ++ xs) (ap (λ (p : Open × ℕ). drop p.1 piece) (sym e) ∙ sym back)
 
-pub run-plain : (line : LineState) (start field : Open) (found : Open × ℕ) (taken : ℕ) (piece rest : List ℕ)
+pub run-plain : (line : LineState) {start field : Open} {found : Open × ℕ} (taken : ℕ) (piece : List ℕ) {rest : List ℕ}
     → line.open_field ≡ start → found ≡ (field, taken) → rest ≡ drop found.1 piece
     → list_all is_plain (take taken piece) ≡ true → field ≡ fold more start (take taken piece)
     → IsRun line (record line { open_field = found.0 }) piece rest
-run-plain line start field found taken piece rest begins e back plain is = record {
+run-plain line {field} taken piece begins e back plain is = record {
   front = take taken piece;
-  parts = cut piece rest found field taken e back;
+  parts = cut piece field taken e back;
   inside = all-inside (take taken piece) plain;
   read = ap (λ (p : Open × ℕ). record line { open_field = p.0 }) e
       ∙ ap (λ f. record line { open_field = f }) (is ∙ ap (λ s. fold more s (take taken piece)) (sym begins))
       ∙ put-plain (take taken piece) line plain;
 }
 
-pub run-comment : (line : LineState) (found : Open × ℕ) (taken : ℕ) (piece rest : List ℕ)
+pub run-comment : (line : LineState) {found : Open × ℕ} (taken : ℕ) (piece : List ℕ) {rest : List ℕ}
     → line.open_field ≡ opens.Comment → found ≡ (opens.Comment, taken) → rest ≡ drop found.1 piece
     → list_all is_inside (take taken piece) ≡ true → IsRun line (record line { open_field = found.0 }) piece rest
-run-comment line found taken piece rest begins e back inside = record {
+run-comment line taken piece begins e back inside = record {
   front = take taken piece;
-  parts = cut piece rest found opens.Comment taken e back;
+  parts = cut piece opens.Comment taken e back;
   inside = inside;
   read = ap (λ (p : Open × ℕ). record line { open_field = p.0 }) e
       ∙ put-comment (take taken piece) line.word line.numbers
       ∙ ap (λ f. fold put (record line { open_field = f }) (take taken piece)) (sym begins);
 }
 
-pub run-wrong : (line : LineState) (found : Open × ℕ) (taken : ℕ) (piece rest : List ℕ)
+pub run-wrong : (line : LineState) {found : Open × ℕ} (taken : ℕ) (piece : List ℕ) {rest : List ℕ}
     → line.open_field ≡ opens.Wrong → found ≡ (opens.Wrong, taken) → rest ≡ drop found.1 piece
     → list_all is_inside (take taken piece) ≡ true → IsRun line (record line { open_field = found.0 }) piece rest
-run-wrong line found taken piece rest begins e back inside = record {
+run-wrong line taken piece begins e back inside = record {
   front = take taken piece;
-  parts = cut piece rest found opens.Wrong taken e back;
+  parts = cut piece opens.Wrong taken e back;
   inside = inside;
   read = ap (λ (p : Open × ℕ). record line { open_field = p.0 }) e
       ∙ put-wrong (take taken piece) line.word line.numbers
       ∙ ap (λ f. fold put (record line { open_field = f }) (take taken piece)) (sym begins);
 }
 
-pub run-still : (line : LineState) (field : Open) (found : Open × ℕ) (piece rest : List ℕ)
+pub run-still : (line : LineState) {field : Open} {found : Open × ℕ} (piece : List ℕ) {rest : List ℕ}
     → line.open_field ≡ field → found ≡ (field, 0) → rest ≡ drop found.1 piece
     → IsRun line (record line { open_field = found.0 }) piece rest
-run-still line field found piece rest begins e back =
-    run-plain line field field found 0 piece rest begins e back refl refl
+run-still line piece begins e back =
+    run-plain line 0 piece begins e back refl refl
 
 -- a number at the front where no field is open, and the blank behind it
 between-digits : (xs : List ℕ) → 0 < length xs → fold more opens.Between xs ≡ fold more (opens.Number 0 0) xs
@@ -165,14 +165,14 @@ unfolding more
 between-digits [] h = absurd (omega arith)
 between-digits (x ∷ xs) h = refl
 
-pub run-number : (line : LineState) (piece rest : List ℕ) (count value taken : ℕ) → line.open_field ≡ opens.Between
-    → 0 < taken → taken ≤ length piece → rest ≡ drop taken piece → list_all is_plain (take taken piece) ≡ true
-    → opens.Number count value ≡ fold more (opens.Number 0 0) (take taken piece)
+pub run-number : (line : LineState) (piece : List ℕ) {rest : List ℕ} (count value taken : ℕ)
+    → line.open_field ≡ opens.Between → 0 < taken → taken ≤ length piece → rest ≡ drop taken piece
+    → list_all is_plain (take taken piece) ≡ true → opens.Number count value ≡ fold more (opens.Number 0 0)
+    (take taken piece)
     → IsRun line (record line { open_field = opens.Number count value }) piece rest
-run-number line piece rest count value taken between some within back plain is =
+run-number line piece count value taken between some within back plain is =
     let digits : 0 < length (take taken piece) = omega (arith, length-take taken piece, some, within) in
-    run-plain line opens.Between (opens.Number count value) (opens.Number count value, taken) taken piece rest between
-    refl back plain (is ∙ sym (between-digits (take taken piece) digits))
+    run-plain line taken piece between refl back plain (is ∙ sym (between-digits (take taken piece) digits))
 
 blank-inside : (b : ℕ) → is_blank b ≡ true → is_inside b ≡ true
 blank-inside b e = grind (arith, nat_tests)
@@ -189,16 +189,15 @@ closed line count value b between blank =
     (record line { open_field = more (opens.Number count value) b }) blank
     ∙ ap (λ f. record line { open_field = f; numbers = keep line.numbers value }) (sym between)
 
-pub run-number-blank : (line : LineState) (piece rest : List ℕ) (b count value taken : ℕ)
+pub run-number-blank : (line : LineState) (piece : List ℕ) {rest : List ℕ} {b : ℕ} (count value taken : ℕ)
     → line.open_field ≡ opens.Between → 0 < taken → taken ≤ length piece → b ∷ rest ≡ drop taken piece
-    → list_all is_plain (take taken piece) ≡ true
-    → opens.Number count value ≡ fold more (opens.Number 0 0) (take taken piece) → is_blank b ≡ true
+    → list_all is_plain (take taken piece) ≡ true → opens.Number count value ≡ fold more (opens.Number 0 0)
+    (take taken piece) → is_blank b ≡ true
     → IsRun line (record line { numbers = keep line.numbers value }) piece rest
-run-number-blank line piece rest b count value taken between some within back plain is blank =
+run-number-blank line piece {rest} {b} count value taken between some within back plain is blank =
     let last = put (record line { open_field = opens.Number count value }) b in
     subst (λ l. IsRun line l piece rest) (closed line count value b between blank)
-    (run-more line (record line { open_field = opens.Number count value }) last piece rest rest b
-    (run-number line piece (b ∷ rest) count value taken between some within back plain is) (blank-inside b blank)
+    (run-more (run-number line piece count value taken between some within back plain is) (blank-inside b blank)
     (run-none last rest))
 
 -- the word that begins a line, and the blank behind it
@@ -216,16 +215,15 @@ begun line b fresh no_blank no_comment =
     ap (λ f. cond (is_blank b) (close line) (record line { open_field = more f b })) fresh
     ∙ begun-go (eqb b 35) (is_blank b) line (pack 1 b) b no_blank no_comment
 
-pub run-word : (line : LineState) (piece rest : List ℕ) (b packed taken : ℕ) → line.open_field ≡ opens.Blank
+pub run-word : (line : LineState) (piece : List ℕ) {rest : List ℕ} (b packed taken : ℕ) → line.open_field ≡ opens.Blank
     → is_blank b ≡ false → eqb b 35 ≡ false → rest ≡ drop taken piece → list_all is_plain (take taken piece) ≡ true
     → opens.Word packed ≡ fold more (opens.Word (pack 1 b)) (take taken piece)
     → IsRun (put line b) (record line { open_field = opens.Word packed }) piece rest
-run-word line piece rest b packed taken fresh no_blank no_comment back plain is =
+run-word line piece {rest} b packed taken fresh no_blank no_comment back plain is =
     let first = record line { open_field = opens.Word (pack 1 b) } in
     subst (λ l. IsRun l (record line { open_field = opens.Word packed }) piece rest)
     (sym (begun line b fresh no_blank no_comment))
-    (run-plain first (opens.Word (pack 1 b)) (opens.Word packed) (opens.Word packed, taken) taken piece rest
-    refl refl back plain is)
+    (run-plain first taken piece refl refl back plain is)
 
 closed-word : (line : LineState) (packed b : ℕ) → is_blank b ≡ true
     → put (record line { open_field = opens.Word packed }) b ≡ record line { open_field = opens.Between; word = packed }
@@ -234,28 +232,26 @@ closed-word line packed b blank =
     closed-go (is_blank b) (close (record line { open_field = opens.Word packed }))
     (record line { open_field = more (opens.Word packed) b }) blank
 
-pub run-word-blank : (line : LineState) (piece rest : List ℕ) (b blank packed taken : ℕ)
+pub run-word-blank : (line : LineState) (piece : List ℕ) {rest : List ℕ} (b : ℕ) {blank : ℕ} (packed taken : ℕ)
     → line.open_field ≡ opens.Blank → is_blank b ≡ false → eqb b 35 ≡ false → blank ∷ rest ≡ drop taken piece
-    → list_all is_plain (take taken piece) ≡ true
-    → opens.Word packed ≡ fold more (opens.Word (pack 1 b)) (take taken piece) → is_blank blank ≡ true
+    → list_all is_plain (take taken piece) ≡ true → opens.Word packed ≡ fold more (opens.Word (pack 1 b))
+    (take taken piece) → is_blank blank ≡ true
     → IsRun (put line b) (record line { open_field = opens.Between; word = packed }) piece rest
-run-word-blank line piece rest b blank packed taken fresh no_blank no_comment back plain is ends =
+run-word-blank line piece {rest} b {blank} packed taken fresh no_blank no_comment back plain is ends =
     let last = put (record line { open_field = opens.Word packed }) blank in
     subst (λ l. IsRun (put line b) l piece rest) (closed-word line packed blank ends)
-    (run-more (put line b) (record line { open_field = opens.Word packed }) last piece rest rest blank
-    (run-word line piece (blank ∷ rest) b packed taken fresh no_blank no_comment back plain is)
-    (blank-inside blank ends)
+    (run-more (run-word line piece b packed taken fresh no_blank no_comment back plain is) (blank-inside blank ends)
     (run-none last rest))
 
 -- one run behind another
-pub run-join : (first line last : LineState) (piece rest after : List ℕ) → IsRun first line piece rest
+pub run-join : {first line last : LineState} {piece rest after : List ℕ} → IsRun first line piece rest
     → IsRun line last rest after → IsRun first last piece after
-run-join first line last piece rest after run more = record {
+run-join {first} {after} run more = record {
   front = run.front ++ more.front;
   parts = run.parts ∙ ap (λ xs. run.front ++ xs) more.parts ∙ sym (append_assoc run.front more.front after);
   inside = all-append is_inside run.front more.front run.inside more.inside;
   read = more.read ∙ ap (λ l. fold put l more.front) run.read ∙ sym (fold-append put first run.front more.front);
 }
 
-pub run-length : (line now : LineState) (piece rest : List ℕ) → IsRun line now piece rest → length rest ≤ length piece
-run-length line now piece rest run = omega (arith, ap length run.parts, length-append run.front rest)
+pub run-length : {line now : LineState} {piece rest : List ℕ} → IsRun line now piece rest → length rest ≤ length piece
+run-length {rest} run = omega (arith, ap length run.parts, length-append run.front rest)

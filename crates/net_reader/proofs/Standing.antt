@@ -72,10 +72,10 @@ off-with s calls d = ap (off_after false) (script_of-push s calls d)
     ∙ off-go (eqb d.actor s) false (script_of s calls) d.call
 
 -- a subscriber moves
-pub Stands-move : (homes : List ℕ) (calls : List Spoken) (places : List ℕ) (off : List Bool) (a to : ℕ)
-    → Stands homes calls places off → a < length homes
-    → Stands homes (calls ++ make a (acts.Move to) ∷ []) (set places a to) off
-Stands-move homes calls places off a to h lt = record {
+pub Stands-move : {homes : List ℕ} {calls : List Spoken} {places : List ℕ} {off : List Bool} (a to : ℕ)
+    → Stands homes calls places off → a < length homes → Stands homes (calls ++ make a (acts.Move to) ∷ [])
+    (set places a to) off
+Stands-move {homes} {calls} {places} a to h lt = record {
   places_count = length-set places a to ∙ h.places_count;
   off_count = h.off_count;
   place = λ s below. grind (
@@ -100,9 +100,9 @@ Stands-move homes calls places off a to h lt = record {
 }
 
 -- a caller finds
-pub Stands-find : (homes : List ℕ) (calls : List Spoken) (places : List ℕ) (off : List Bool) (a from sub : ℕ)
+pub Stands-find : {homes : List ℕ} {calls : List Spoken} {places : List ℕ} {off : List Bool} (a from sub : ℕ)
     → Stands homes calls places off → Stands homes (calls ++ make a (acts.Find from sub) ∷ []) places off
-Stands-find homes calls places off a from sub h = record {
+Stands-find {homes} {calls} a from sub h = record {
   places_count = h.places_count;
   off_count = h.off_count;
   place = λ s below. grind (
@@ -129,10 +129,10 @@ Stands-find homes calls places off a from sub h = record {
 }
 
 -- a subscriber switches off
-pub Stands-off : (homes : List ℕ) (calls : List Spoken) (places : List ℕ) (off : List Bool) (a : ℕ)
-    → Stands homes calls places off → a < length homes
-    → Stands homes (calls ++ make a acts.Off ∷ []) places (set off a true)
-Stands-off homes calls places off a h lt = record {
+pub Stands-off : {homes : List ℕ} {calls : List Spoken} {places : List ℕ} {off : List Bool} (a : ℕ)
+    → Stands homes calls places off → a < length homes → Stands homes (calls ++ make a acts.Off ∷ []) places
+    (set off a true)
+Stands-off {homes} {calls} {off} a h lt = record {
   places_count = h.places_count;
   off_count = length-set off a true ∙ h.off_count;
   place = λ s below. grind (arith, nat_tests, place-with s (get_or homes s 0) calls (make a acts.Off), h.place s below);
@@ -157,10 +157,10 @@ Stands-off homes calls places off a h lt = record {
 }
 
 -- a subscriber switches on
-pub Stands-on : (homes : List ℕ) (calls : List Spoken) (places : List ℕ) (off : List Bool) (a : ℕ)
-    → Stands homes calls places off → a < length homes
-    → Stands homes (calls ++ make a acts.On ∷ []) places (set off a false)
-Stands-on homes calls places off a h lt = record {
+pub Stands-on : {homes : List ℕ} {calls : List Spoken} {places : List ℕ} {off : List Bool} (a : ℕ)
+    → Stands homes calls places off → a < length homes → Stands homes (calls ++ make a acts.On ∷ []) places
+    (set off a false)
+Stands-on {homes} {calls} {off} a h lt = record {
   places_count = h.places_count;
   off_count = length-set off a false ∙ h.off_count;
   place = λ s below. grind (arith, nat_tests, place-with s (get_or homes s 0) calls (make a acts.On), h.place s below);
@@ -185,10 +185,10 @@ Stands-on homes calls places off a h lt = record {
 }
 
 -- a switch either way
-pub Stands-switched : (homes : List ℕ) (calls later : List Spoken) (places : List ℕ) (offs : List Bool) (a : ℕ)
-    (off now : Bool) (call made : Call) → now ≡ off → call ≡ made → later ≡ calls ++ make a call ∷ []
+pub Stands-switched : {homes : List ℕ} (calls : List Spoken) {later : List Spoken} {places : List ℕ} (offs : List Bool)
+    (a : ℕ) {off now : Bool} {call made : Call} → now ≡ off → call ≡ made → later ≡ calls ++ make a call ∷ []
     → Stands homes (calls ++ make a made ∷ []) places (set offs a off) → Stands homes later places (set offs a now)
-Stands-switched homes calls later places offs a off now call made is so after h =
+Stands-switched {homes} calls {places} offs a {now} {made} is so after h =
     subst (λ (xs : List Spoken). Stands homes xs places (set offs a now)) (sym after)
     (subst (λ (x : Call). Stands homes (calls ++ make a x ∷ []) places (set offs a now)) (sym so)
     (subst (λ (b : Bool). Stands homes (calls ++ make a made ∷ []) places (set offs a b)) (sym is) h))

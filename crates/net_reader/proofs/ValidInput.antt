@@ -11,9 +11,9 @@ use Rattle.net_reader.proofs.Calling.{IsCalling, begins-calling, keeps-calling}
 use Rattle.net_reader.proofs.Folding.{holds_of_read}
 use Rattle.net_reader.proofs.Measured.{IsMeasured, begins-measured, keeps-measured}
 
-valid_of : (said : Said) → IsMeasured said → IsCalling said → 6 ≤ said.place
+valid_of : {said : Said} → IsMeasured said → IsCalling said → 6 ≤ said.place
     → ((v : ℕ) → v < said.nodes → IsReached said.edges everywhere 0 v) → IsValid (contents_of said)
-valid_of said m c late connected =
+valid_of {said} m c late connected =
     let script : ℕ → List Call = λ actor. script_of actor said.calls in
     let count = scripts_count script 0 (actors said) in
     let k = m.k (omega (arith, late)) in record {
@@ -45,9 +45,9 @@ valid-go : (found : Result (Said × ℕ) InputFault) (bytes : List ℕ) (content
     → IsAnswer found (Ok contents) → IsValid contents
 valid-go (Err fault) bytes contents e h = cc
 valid-go (Ok found) bytes contents e h =
-    let m = holds_of_read IsMeasured begins-measured keeps-measured bytes found e in
-    let c = holds_of_read IsCalling begins-calling keeps-calling bytes found e in
-    subst IsValid (sym h.0) (valid_of found.0 m.0 c.0 m.1 h.1)
+    let m = holds_of_read IsMeasured begins-measured keeps-measured bytes e in
+    let c = holds_of_read IsCalling begins-calling keeps-calling bytes e in
+    subst IsValid (sym h.0) (valid_of m.0 c.0 m.1 h.1)
 
 pub inputs_are_valid : (bytes : List ℕ) (contents : Contents) → IsInput bytes (Ok contents) → IsValid contents
 inputs_are_valid bytes contents h = valid-go (read bytes) bytes contents refl h

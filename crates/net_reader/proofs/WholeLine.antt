@@ -19,15 +19,15 @@ use Rattle.net_reader.proofs.Feeding.{fed-faulty, ran}
 use Rattle.net_reader.proofs.Running.{run-comment, run-join, run-length, run-more, run-none, run-number}
 
 -- the five bytes of a word and a blank
-five : (a b c d e : ℕ) (piece : List ℕ) → 5 ≤ length piece → get_or piece 0 0 ≡ a → get_or piece 1 0 ≡ b
+five : {a b c d e : ℕ} (piece : List ℕ) → 5 ≤ length piece → get_or piece 0 0 ≡ a → get_or piece 1 0 ≡ b
     → get_or piece 2 0 ≡ c → get_or piece 3 0 ≡ d → get_or piece 4 0 ≡ e
     → piece ≡ (a ∷ b ∷ c ∷ d ∷ e ∷ []) ++ take (length piece - 5) (drop 5 piece)
-five a b c d e [] h p q r s t = absurd (omega arith)
-five a b c d e (v ∷ []) h p q r s t = absurd (omega arith)
-five a b c d e (v ∷ w ∷ []) h p q r s t = absurd (omega arith)
-five a b c d e (v ∷ w ∷ x ∷ []) h p q r s t = absurd (omega arith)
-five a b c d e (v ∷ w ∷ x ∷ y ∷ []) h p q r s t = absurd (omega arith)
-five a b c d e (v ∷ w ∷ x ∷ y ∷ z ∷ zs) h p q r s t =
+five [] h p q r s t = absurd (omega arith)
+five (v ∷ []) h p q r s t = absurd (omega arith)
+five (v ∷ w ∷ []) h p q r s t = absurd (omega arith)
+five (v ∷ w ∷ x ∷ []) h p q r s t = absurd (omega arith)
+five (v ∷ w ∷ x ∷ y ∷ []) h p q r s t = absurd (omega arith)
+five (v ∷ w ∷ x ∷ y ∷ z ∷ zs) h p q r s t =
     let all : take (length (v ∷ w ∷ x ∷ y ∷ z ∷ zs) - 5) zs ≡ zs = take_all _ zs (omega arith) in cc
 
 pub opened : (word : Word) (packed a b c d e : ℕ) (piece : List ℕ) → 5 ≤ length piece → get_or piece 0 0 ≡ a
@@ -40,7 +40,7 @@ opened word packed a b c d e piece h p q r s t named inside read = record {
   named = named;
   run = record {
     front = a ∷ b ∷ c ∷ d ∷ e ∷ [];
-    parts = five a b c d e piece h p q r s t;
+    parts = five piece h p q r s t;
     inside = inside;
     read = read;
   };
@@ -48,13 +48,12 @@ opened word packed a b c d e piece h p q r s t named inside read = record {
 }
 
 -- the six of `order` and a blank
-six : (a b c d e f : ℕ) (piece : List ℕ) → 6 ≤ length piece → get_or piece 0 0 ≡ a
-    → get_or piece 1 0 ≡ b → get_or piece 2 0 ≡ c → get_or piece 3 0 ≡ d → get_or piece 4 0 ≡ e
-    → get_or piece 5 0 ≡ f
+six : {a b c d e f : ℕ} (piece : List ℕ) → 6 ≤ length piece → get_or piece 0 0 ≡ a → get_or piece 1 0 ≡ b
+    → get_or piece 2 0 ≡ c → get_or piece 3 0 ≡ d → get_or piece 4 0 ≡ e → get_or piece 5 0 ≡ f
     → piece ≡ (a ∷ b ∷ c ∷ d ∷ e ∷ f ∷ []) ++ take (length piece - 6) (drop 6 piece)
-six a b c d e f [] h p q r s t u = absurd (omega arith)
-six a b c d e f (v ∷ vs) h p q r s t u =
-    let rest = five b c d e f vs (omega arith) q r s t u in
+six [] h p q r s t u = absurd (omega arith)
+six {a} {b} {c} {d} {e} {f} (v ∷ vs) h p q r s t u =
+    let rest = five vs (omega arith) q r s t u in
     let same : length (v ∷ vs) - 6 ≡ length vs - 5 = omega arith in
     ap (λ x. x ∷ vs) p ∙ ap (λ xs. a ∷ xs) rest
     ∙ ap (λ n. (a ∷ b ∷ c ∷ d ∷ e ∷ f ∷ []) ++ take n (drop 5 vs)) (sym same)
@@ -68,7 +67,7 @@ opened-order piece h p q r s t u = record {
   named = refl;
   run = record {
     front = 111 ∷ 114 ∷ 100 ∷ 101 ∷ 114 ∷ 32 ∷ [];
-    parts = six 111 114 100 101 114 32 piece h p q r s t u;
+    parts = six piece h p q r s t u;
     inside = refl;
     read = refl;
   };
@@ -76,103 +75,96 @@ opened-order piece h p q r s t u = record {
 }
 
 -- one digit more
-pub digit-behind : (piece : List ℕ) (taken value digit : ℕ) → IsDigits piece taken value → taken < length piece
+pub digit-behind : {piece : List ℕ} {taken value digit : ℕ} → IsDigits piece taken value → taken < length piece
     → taken < 18 → is_ascii_digit (get_or piece taken 0) ≡ true → digit ≡ get_or piece taken 0 - 48
     → IsDigits piece (taken + 1) (10 * value + digit)
-digit-behind piece taken value digit before within few is same =
+digit-behind {piece} {taken} {value} {digit} before within few is same =
     let small = below-most value taken before.small few in
     let low : digit < 10 = grind (arith, nat_tests, is, same) in
     record {
       plain = plain-more piece taken within is before.plain;
       read = ap (λ d. opens.Number (taken + 1) (10 * value + d)) same
-          ∙ read-more piece taken value within is few small before.read;
+          ∙ read-more piece within is few small before.read;
       small = still-small value taken digit before.small low;
     }
 
 -- digits, and the byte behind them
-pub number-before : (piece : List ℕ) (taken value end b : ℕ) (rest : List ℕ) → 0 < taken → taken ≤ length piece
-    → list_all is_plain (take taken piece) ≡ true
-    → opens.Number taken value ≡ fold more (opens.Number 0 0) (take taken piece) → end ≡ b
-    → b ∷ rest ≡ drop taken piece → IsNumberTo end value piece rest
-number-before piece taken value end b rest some within plain read same back = record {
+pub number-before : (piece : List ℕ) (taken value : ℕ) {end b : ℕ} {rest : List ℕ} → 0 < taken → taken ≤ length piece
+    → list_all is_plain (take taken piece) ≡ true → opens.Number taken value ≡ fold more (opens.Number 0 0)
+    (take taken piece) → end ≡ b → b ∷ rest ≡ drop taken piece → IsNumberTo end value piece rest
+number-before piece taken value {rest} some within plain read same back = record {
   count = taken;
-  run = λ line is. run-number line piece (end ∷ rest) taken value taken is some within
-      (ap (λ x. x ∷ rest) same ∙ back) plain read;
+  run = λ line is. run-number line piece taken value taken is some within (ap (λ x. x ∷ rest) same ∙ back) plain read;
 }
 
-pub number-to : (piece : List ℕ) (taken value : ℕ) (rest : List ℕ) → 0 < taken → taken < length piece
+pub number-to : {piece : List ℕ} {taken value : ℕ} {rest : List ℕ} → 0 < taken → taken < length piece
     → IsDigits piece taken value → rest ≡ drop (taken + 1) piece → IsNumberTo (get_or piece taken 0) value piece rest
-number-to piece taken value rest some within digits back =
+number-to {piece} {taken} {value} some within digits back =
     let cut : drop taken piece ≡ get_or piece taken 0 ∷ drop (taken + 1) piece = rw (add-one, drop-cons piece taken 0)
     in
-    number-before piece taken value (get_or piece taken 0) (get_or piece taken 0) rest some (omega (arith, within))
-    digits.plain digits.read refl (ap (λ xs. get_or piece taken 0 ∷ xs) back ∙ sym cut)
+    number-before piece taken value some (omega (arith, within)) digits.plain digits.read refl
+    (ap (λ xs. get_or piece taken 0 ∷ xs) back ∙ sym cut)
 
 -- a number, a blank, and what follows
-pub blank-behind : (word value : ℕ) (numbers piece rest : List ℕ) → IsNumberTo 32 value piece rest
+pub blank-behind : (word : ℕ) {value : ℕ} (numbers : List ℕ) {piece rest : List ℕ} → IsNumberTo 32 value piece rest
     → IsRun (between word numbers) (between word (keep numbers value)) piece rest
 unfolding put close_as
-blank-behind word value numbers piece rest number =
-    run-more (between word numbers) (record (between word numbers) { open_field = opens.Number number.count value })
-    (between word (keep numbers value)) piece rest rest 32 (number.run (between word numbers) refl) refl
-    (run-none (between word (keep numbers value)) rest)
+blank-behind word {value} numbers {rest} number =
+    run-more (number.run (between word numbers) refl) refl (run-none (between word (keep numbers value)) rest)
 
 -- a number before the end of a line
-pub last-read : (end value : ℕ) (piece after rest : List ℕ) → IsNumberTo end value piece after → IsEnd end after rest
+pub last-read : {end value : ℕ} {piece after rest : List ℕ} → IsNumberTo end value piece after → IsEnd end after rest
     → IsLast value piece rest
-last-read end value piece after rest number (inl e) =
+last-read {value} {piece} {after} number (inl e) =
     let feed : IsNumberTo 10 value piece after = subst (λ b. IsNumberTo b value piece after) e.0 number in
     inl (subst (IsNumberTo 10 value piece) (sym e.1) feed)
-last-read end value piece after rest number (inr e) =
+last-read {value} {piece} {after} number (inr e) =
     let return : IsNumberTo 13 value piece after = subst (λ b. IsNumberTo b value piece after) e.0 number in
     inr (subst (IsNumberTo 13 value piece) e.1 return)
 
 -- two numbers
-two-up-to : (a b end : ℕ) (piece middle rest : List ℕ) → IsNumberTo 32 a piece middle → IsNumberTo end b middle rest
+two-up-to : {a b end : ℕ} {piece middle rest : List ℕ} → IsNumberTo 32 a piece middle → IsNumberTo end b middle rest
     → IsUpTo (a ∷ b ∷ []) piece (end ∷ rest)
 unfolding close_as
-two-up-to a b end piece middle rest first second = record {
+two-up-to {a} {b} first second = record {
   last = λ word. record (between word (a ∷ [])) { open_field = opens.Number second.count b };
-  run = λ word. run-join (between word []) (between word (a ∷ [])) _ piece middle (end ∷ rest)
-      (blank-behind word a [] piece middle first) (second.run (between word (a ∷ [])) refl);
+  run = λ word. run-join (blank-behind word [] first) (second.run (between word (a ∷ [])) refl);
   closed = λ word. refl;
 }
 
-pub two-read : (a b : ℕ) (piece middle rest : List ℕ) → IsNumberTo 32 a piece middle → IsLast b middle rest
-    → IsNumbers (a ∷ b ∷ []) piece rest
-two-read a b piece middle rest first (inl second) = inl (two-up-to a b 10 piece middle rest first second)
-two-read a b piece middle rest first (inr second) = inr (two-up-to a b 13 piece middle (10 ∷ rest) first second)
+pub two-read : {a : ℕ} (b : ℕ) {piece middle : List ℕ} (rest : List ℕ) → IsNumberTo 32 a piece middle
+    → IsLast b middle rest → IsNumbers (a ∷ b ∷ []) piece rest
+two-read b rest first (inl second) = inl (two-up-to first second)
+two-read b rest first (inr second) = inr (two-up-to first second)
 
 -- three
-three-up-to : (a b c end : ℕ) (piece middle later rest : List ℕ) → IsNumberTo 32 a piece middle
+three-up-to : {a b c end : ℕ} {piece middle later rest : List ℕ} → IsNumberTo 32 a piece middle
     → IsNumberTo 32 b middle later → IsNumberTo end c later rest → IsUpTo (a ∷ b ∷ c ∷ []) piece (end ∷ rest)
 unfolding close_as
-three-up-to a b c end piece middle later rest first second third = record {
+three-up-to {a} {b} {c} first second third = record {
   last = λ word. record (between word (a ∷ b ∷ [])) { open_field = opens.Number third.count c };
-  run = λ word. run-join (between word []) (between word (a ∷ [])) _ piece middle (end ∷ rest)
-      (blank-behind word a [] piece middle first)
-      (run-join (between word (a ∷ [])) (between word (a ∷ b ∷ [])) _ middle later (end ∷ rest)
-      (blank-behind word b (a ∷ []) middle later second) (third.run (between word (a ∷ b ∷ [])) refl));
+  run = λ word. run-join (blank-behind word [] first) (run-join (blank-behind word (a ∷ []) second)
+      (third.run (between word (a ∷ b ∷ [])) refl));
   closed = λ word. refl;
 }
 
-pub three-read : (a b c : ℕ) (piece middle later rest : List ℕ) → IsNumberTo 32 a piece middle
+pub three-read : {a b : ℕ} (c : ℕ) {piece middle later : List ℕ} (rest : List ℕ) → IsNumberTo 32 a piece middle
     → IsNumberTo 32 b middle later → IsLast c later rest → IsNumbers (a ∷ b ∷ c ∷ []) piece rest
-three-read a b c piece middle later rest first second (inl third) =
-    inl (three-up-to a b c 10 piece middle later rest first second third)
-three-read a b c piece middle later rest first second (inr third) =
-    inr (three-up-to a b c 13 piece middle later (10 ∷ rest) first second third)
+three-read c rest first second (inl third) =
+    inl (three-up-to first second third)
+three-read c rest first second (inr third) =
+    inr (three-up-to first second third)
 
 -- a reader before a line
 abbrev resting : ℕ → Said → ReaderState
 resting m said = record { said = Ok said; lines = m; begun = false; held = false; line = fresh }
 
 -- the end of a line with a word and numbers
-judged : (last : LineState) (said : Said) (packed : ℕ) (word : Word) (numbers : List ℕ)
+judged : (last : LineState) (said : Said) (packed : ℕ) {word : Word} (numbers : List ℕ)
     → close last ≡ between packed numbers → word_in packed ≡ Some word
     → end_line last said ≡ judge_word said (Some word) (Some numbers)
 unfolding end_line
-judged last said packed word numbers closed named =
+judged last said packed numbers closed named =
     ap (λ (l : LineState). line_said l.open_field l.word l.numbers said) closed
     ∙ ap (λ w. judge_word said w (Some numbers)) named
 
@@ -186,39 +178,34 @@ judged_at m said word numbers = record {
   line = fresh;
 }
 
-up-to-shorter : (word : Word) (numbers piece after left : List ℕ) → Opens word piece after
-    → IsUpTo numbers after left → length left < length piece
-up-to-shorter word numbers piece after left opening ends =
-    omega (arith, opening.shorter, run-length (between 0 []) (ends.last 0) after left (ends.run 0))
+up-to-shorter : {word : Word} {numbers piece after left : List ℕ} → Opens word piece after → IsUpTo numbers after left
+    → length left < length piece
+up-to-shorter opening ends =
+    omega (arith, opening.shorter, run-length (ends.run 0))
 
-up-to-read : (m : ℕ) (said : Said) (word : Word) (numbers piece after left : List ℕ) (opening : Opens word piece after)
-    (ends : IsUpTo numbers after left)
-    → after_bytes (record {
+up-to-read : (m : ℕ) (said : Said) {word : Word} {numbers piece after left : List ℕ} (opening : Opens word piece after)
+    (ends : IsUpTo numbers after left) → after_bytes (record {
       said = Ok said;
       lines = m + 1;
       begun = true;
       held = false;
       line = ends.last opening.packed;
-    }) left
-    ≡ after_bytes (resting m said) piece
-up-to-read m said word numbers piece after left opening ends =
+    }) left ≡ after_bytes (resting m said) piece
+up-to-read m said opening ends =
     let packed = opening.packed in
     let last = ends.last packed in
-    ran None false false m said fresh last piece left refl refl
-    (run-join fresh (between packed []) last piece after left opening.run (ends.run packed))
-    (up-to-shorter word numbers piece after left opening ends)
+    ran None false false m said refl refl (run-join opening.run (ends.run packed)) (up-to-shorter opening ends)
 
-judged-line : (m : ℕ) (said : Said) (word : Word) (numbers piece after left rest : List ℕ)
-    (opening : Opens word piece after) (ends : IsUpTo numbers after left)
-    → after_bytes (judged_at m said word numbers) rest
-    ≡ after_bytes (record {
+judged-line : (m : ℕ) (said : Said) {word : Word} {numbers piece after left : List ℕ} (rest : List ℕ)
+    (opening : Opens word piece after) (ends : IsUpTo numbers after left) → after_bytes (judged_at m said word numbers)
+    rest ≡ after_bytes (record {
       said = fault_at (m + 1) (end_line (ends.last opening.packed) said);
       lines = m + 1;
       begun = false;
       held = false;
       line = fresh;
     }) rest
-judged-line m said word numbers piece after left rest opening ends =
+judged-line m said {numbers} rest opening ends =
     let packed = opening.packed in
     ap (λ s. after_bytes (record {
       said = fault_at (m + 1) s;
@@ -226,59 +213,59 @@ judged-line m said word numbers piece after left rest opening ends =
       begun = false;
       held = false;
       line = fresh;
-    }) rest) (sym (judged (ends.last packed) said packed word numbers (ends.closed packed) opening.named))
+    }) rest) (sym (judged (ends.last packed) said packed numbers (ends.closed packed) opening.named))
 
-pub whole-read : (m : ℕ) (said : Said) (word : Word) (numbers piece after rest : List ℕ) → Opens word piece after
-    → IsNumbers numbers after rest
-    → after_bytes (judged_at m said word numbers) rest ≡ after_bytes (resting m said) piece
+pub whole-read : (m : ℕ) (said : Said) {word : Word} (numbers : List ℕ) {piece after : List ℕ} (rest : List ℕ)
+    → Opens word piece after → IsNumbers numbers after rest → after_bytes (judged_at m said word numbers)
+    rest ≡ after_bytes (resting m said) piece
 unfolding after_bytes next past_line release
-whole-read m said word numbers piece after rest opening (inl ends) =
-    judged-line m said word numbers piece after (10 ∷ rest) rest opening ends
-    ∙ up-to-read m said word numbers piece after (10 ∷ rest) opening ends
-whole-read m said word numbers piece after rest opening (inr ends) =
-    judged-line m said word numbers piece after (13 ∷ 10 ∷ rest) rest opening ends
-    ∙ up-to-read m said word numbers piece after (13 ∷ 10 ∷ rest) opening ends
+whole-read m said numbers rest opening (inl ends) =
+    judged-line m said rest opening ends
+    ∙ up-to-read m said opening ends
+whole-read m said numbers rest opening (inr ends) =
+    judged-line m said rest opening ends
+    ∙ up-to-read m said opening ends
 
-pub heard-whole : (old new : ReaderState) (m : ℕ) (said : Said) (word : Word) (numbers piece after rest : List ℕ)
-    → old ≡ resting m said
+pub heard-whole : {old new : ReaderState} (m : ℕ) (said : Said) {word : Word} (numbers : List ℕ) {piece after : List ℕ}
+    (rest : List ℕ) → old ≡ resting m said
     → new ≡ record old { said = fault_at (m + 1) (judge_word said (Some word) (Some numbers)); lines = m + 1 }
     → Opens word piece after → IsNumbers numbers after rest → after_bytes new rest ≡ after_bytes old piece
-heard-whole old new m said word numbers piece after rest is heard opening ends =
+heard-whole m said {word} numbers {piece} rest is heard opening ends =
     ap (λ r. after_bytes r rest) (heard ∙ ap (λ (r : ReaderState). record r {
       said = fault_at (m + 1) (judge_word said (Some word) (Some numbers));
       lines = m + 1;
     }) is)
-    ∙ whole-read m said word numbers piece after rest opening ends
+    ∙ whole-read m said numbers rest opening ends
     ∙ ap (λ r. after_bytes r piece) (sym is)
 
 -- and it is shorter behind
-pub whole-shorter : (word : Word) (numbers piece after rest : List ℕ) → Opens word piece after
+pub whole-shorter : {word : Word} (numbers : List ℕ) {piece after : List ℕ} (rest : List ℕ) → Opens word piece after
     → IsNumbers numbers after rest → length rest + 1 < length piece
-whole-shorter word numbers piece after rest opening (inl ends) =
-    omega (arith, up-to-shorter word numbers piece after (10 ∷ rest) opening ends)
-whole-shorter word numbers piece after rest opening (inr ends) =
-    omega (arith, up-to-shorter word numbers piece after (13 ∷ 10 ∷ rest) opening ends)
+whole-shorter numbers rest opening (inl ends) =
+    omega (arith, up-to-shorter opening ends)
+whole-shorter numbers rest opening (inr ends) =
+    omega (arith, up-to-shorter opening ends)
 
 -- a comment that lies whole at the front
-pub comment-to : (piece after left : List ℕ) (taken : ℕ) → piece ≡ 35 ∷ after → left ≡ drop taken after
+pub comment-to : {piece after left : List ℕ} (taken : ℕ) → piece ≡ 35 ∷ after → left ≡ drop taken after
     → list_all is_inside (take taken after) ≡ true → IsCommentTo piece left
 unfolding put more
-comment-to piece after left taken begins back inside =
+comment-to {piece} {after} {left} taken begins back inside =
     let comment : LineState = record fresh { open_field = opens.Comment } in
     let first : IsRun fresh fresh piece (35 ∷ after) = subst (IsRun fresh fresh piece) begins (run-none fresh piece) in
     let run : IsRun comment comment after left =
-    run-comment comment (opens.Comment, taken) taken after left refl refl back inside in
+    run-comment comment taken after refl refl back inside in
     record {
-      run = run-more fresh fresh comment piece after left 35 first refl run;
-      shorter = omega (arith, ap length begins, run-length comment comment after left run);
+      run = run-more first refl run;
+      shorter = omega (arith, ap length begins, run-length run);
     }
 
-pub comment-ends : (piece : List ℕ) (end : ℕ) (behind rest : List ℕ) → IsCommentTo piece (end ∷ behind)
+pub comment-ends : {piece : List ℕ} {end : ℕ} {behind rest : List ℕ} → IsCommentTo piece (end ∷ behind)
     → IsEnd end behind rest → IsComment piece rest
-comment-ends piece end behind rest comment (inl e) =
+comment-ends {piece} {behind} comment (inl e) =
     let feed : IsCommentTo piece (10 ∷ behind) = subst (λ b. IsCommentTo piece (b ∷ behind)) e.0 comment in
     inl (subst (λ xs. IsCommentTo piece (10 ∷ xs)) (sym e.1) feed)
-comment-ends piece end behind rest comment (inr e) =
+comment-ends {piece} {behind} comment (inr e) =
     let return : IsCommentTo piece (13 ∷ behind) = subst (λ b. IsCommentTo piece (b ∷ behind)) e.0 comment in
     inr (subst (λ xs. IsCommentTo piece (13 ∷ xs)) e.1 return)
 
@@ -286,15 +273,13 @@ comment-read : (m : ℕ) (said : Said) (piece rest : List ℕ) → IsComment pie
     → after_bytes (resting (m + 1) said) rest ≡ after_bytes (resting m said) piece
 unfolding after_bytes next past_line release end_line close_as
 comment-read m said piece rest (inl comment) =
-    ran None false false m said fresh (record fresh { open_field = opens.Comment }) piece (10 ∷ rest) refl refl
-    comment.run comment.shorter
+    ran None false false m said refl refl comment.run comment.shorter
 comment-read m said piece rest (inr comment) =
-    ran None false false m said fresh (record fresh { open_field = opens.Comment }) piece (13 ∷ 10 ∷ rest) refl refl
-    comment.run comment.shorter
+    ran None false false m said refl refl comment.run comment.shorter
 
-pub heard-comment : (old new : ReaderState) (m : ℕ) (said : Said) (piece rest : List ℕ) → old ≡ resting m said
+pub heard-comment : {old new : ReaderState} (m : ℕ) (said : Said) (piece rest : List ℕ) → old ≡ resting m said
     → new ≡ record old { lines = m + 1 } → IsComment piece rest → after_bytes new rest ≡ after_bytes old piece
-heard-comment old new m said piece rest is counted comment =
+heard-comment m said piece rest is counted comment =
     ap (λ r. after_bytes r rest) (counted ∙ ap (λ (r : ReaderState). record r { lines = m + 1 }) is)
     ∙ comment-read m said piece rest comment ∙ ap (λ r. after_bytes r piece) (sym is)
 
@@ -303,9 +288,9 @@ comment-shorter piece rest (inl comment) = omega (arith, comment.shorter)
 comment-shorter piece rest (inr comment) = omega (arith, comment.shorter)
 
 -- a reader that has read one line more without a fault rests again
-pub still-rests : (old new : Scan) (said : Result Said InputFault) (m : ℕ) → Rests old
+pub still-rests : {old : Scan} (new : Scan) (said : Result Said InputFault) (m : ℕ) → Rests old
     → seen_scan new ≡ record (seen_scan old) { said = said; lines = m } → new.fault ≡ None → Rests new
-still-rests old new said m rests same going =
+still-rests new said m rests same going =
     let begun : new.begun ≡ false =
     ap (λ (r : ReaderState). r.begun) same ∙ ap (λ (r : ReaderState). r.begun) rests.seen in
     let held : new.held ≡ false =

@@ -31,6 +31,6 @@ digits-preserved c =
       within = omega arith;
       plain = plain-more piece taken within digit c.digits.invariant.plain;
       read = ap (λ d. Number (taken + 1) (10 * c.digits.number + d)) c.from.ensures
-          ∙ read-more piece taken c.digits.number within digit few small c.digits.invariant.read;
+          ∙ read-more piece within digit few small c.digits.invariant.read;
       small = still-small c.digits.number taken c.from.result c.digits.invariant.small low;
     }

@@ -6,17 +6,17 @@ use Rattle.net_reader.proofs.line_end.quiet_lanes.Goals as goal
 pub returns-then-marks-eq0-clause-inside : goal.returns-then-marks-eq0-clause-inside
 returns-then-marks-eq0-clause-inside c =
     let piece = c.args.piece.now in
-    quiet-all piece c.args.at _ c.requires (marks piece c.args.at c.requires)
+    quiet-all piece c.args.at c.requires (marks piece c.args.at c.requires)
     (grind (arith, nat_tests, c.if-marks-eq0.true))
 
 pub returns-else-marks-eq0-clause-few : goal.returns-else-marks-eq0-clause-few
 returns-else-marks-eq0-clause-few c =
     let piece = c.args.piece.now in
-    quiet-few piece c.args.at _ c.requires (marks piece c.args.at c.requires)
+    quiet-few piece c.args.at c.requires (marks piece c.args.at c.requires)
     (grind (arith, nat_tests, c.if-marks-eq0.false))
 
 pub returns-else-marks-eq0-clause-inside : goal.returns-else-marks-eq0-clause-inside
 returns-else-marks-eq0-clause-inside c =
     let piece = c.args.piece.now in
-    quiet-front piece c.args.at _ c.requires (marks piece c.args.at c.requires)
+    quiet-front piece c.args.at c.requires (marks piece c.args.at c.requires)
     (grind (arith, nat_tests, c.if-marks-eq0.false))

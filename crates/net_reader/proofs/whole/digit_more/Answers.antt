@@ -19,6 +19,6 @@ returns c =
     let piece = c.args.piece.now in
     let byte = get_or piece c.args.taken 0 in
     let is : c.from.result ≡ byte = c.from.ensures in
-    let digit = wrapped c.from.result c.from-2.result c.from.type_inv c.from-2.ensures c.if-digit-gt9.false in
-    digit-behind piece c.args.taken c.args.value _ c.requires.read c.requires.within c.requires.few
-    (subst (λ b. is_ascii_digit b ≡ true) is digit.0) (digit.1 ∙ ap (λ b. b - 48) is)
+    let digit = wrapped c.from.result c.from.type_inv c.from-2.ensures c.if-digit-gt9.false in
+    digit-behind c.requires.read c.requires.within c.requires.few (subst (λ b. is_ascii_digit b ≡ true) is digit.0)
+    (digit.1 ∙ ap (λ b. b - 48) is)

@@ -7,6 +7,5 @@ pub returns-in-Some-past_end : goal.returns-in-Some-past_end
 returns-in-Some-past_end c =
     let found = c.in-Some in
     let piece = c.args.piece.now in
-    last-read found.end found.value piece c.split_at.result.1.now c.in-Some-past_end.rest.now
-    (subst (λ (rest : List ℕ). IsNumberTo found.end found.value piece rest) (sym c.split_at.ensures.back)
+    last-read (subst (λ (rest : List ℕ). IsNumberTo found.end found.value piece rest) (sym c.split_at.ensures.back)
     found.ensures.number) c.in-Some-past_end.ensures

@@ -14,6 +14,5 @@ returns c =
     let begins : piece ≡ 35 ∷ after =
     first-byte piece (omega (arith, c.in-35.len_at_least)) ∙ ap (λ b. b ∷ after) mark in
     let cut : left ≡ end ∷ behind = first-byte left (omega (arith, c.in-len1-up.len_at_least)) in
-    comment-ends piece end behind c.in_ok-rest.rest.now
-    (comment-to piece after (end ∷ behind) c.rest_of_line.result begins (sym cut ∙ c.split_at.ensures.back)
+    comment-ends (comment-to c.rest_of_line.result begins (sym cut ∙ c.split_at.ensures.back)
     c.rest_of_line.ensures.inside) c.in_ok-rest.ensures

@@ -22,11 +22,9 @@ returns-then-end-ne32-clause-taken c =
     let at = c.numbers.at in
     let behind = c.in_ok-behind.behind.now in
     let less : found.number < c.args.limit = grind (arith, nat_tests, c.if-number-limit.false) in
-    written-last c.args.limit found.number c.numbers.count [] c.numbers.numbers piece (drop at piece) behind
-    c.numbers.invariant.taking (last-read found.end found.number (drop at piece) _ behind
-    (number-at found.end found.number at found.taken piece _ _ c.split_at.ensures.back
-    c.split_at-then-end-ne32.ensures.back found.ensures.number)
-    c.in_ok-behind.ensures) less (omega arith) (omega arith)
+    written-last found.number c.numbers.count c.numbers.numbers behind c.numbers.invariant.taking
+    (last-read (number-at at found.taken piece c.split_at.ensures.back c.split_at-then-end-ne32.ensures.back
+    found.ensures.number) c.in_ok-behind.ensures) less (omega arith) (omega arith)
 
 pub numbers-preserved : goal.numbers-preserved
 numbers-preserved c =
@@ -41,9 +39,8 @@ numbers-preserved c =
       most = omega (arith, length-set numbers c.numbers.count found.number);
       within = omega arith;
       room = omega (arith, found.ensures.few);
-      taking = written-more c.args.limit found.number c.numbers.count [] numbers piece (drop at piece)
-          (drop (at + found.taken) piece) c.numbers.invariant.taking
+      taking = written-more c.numbers.count numbers c.numbers.invariant.taking
           (subst (λ e. IsNumberTo e found.number (drop at piece) (drop (at + found.taken) piece)) ends
-          (number-at found.end found.number at found.taken piece _ _ c.split_at.ensures.back refl found.ensures.number))
-          less (omega arith) (omega arith);
+          (number-at at found.taken piece c.split_at.ensures.back refl found.ensures.number)) less (omega arith)
+          (omega arith);
     }

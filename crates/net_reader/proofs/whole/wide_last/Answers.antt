@@ -7,6 +7,5 @@ pub returns : goal.returns
 returns c =
     let found = c.in_ok-value in
     let piece = c.args.piece.now in
-    last-read found.end found.value piece c.split_at.result.1.now c.in_ok-rest.rest.now
-    (subst (λ (rest : List ℕ). IsNumberTo found.end found.value piece rest) (sym c.split_at.ensures.back)
+    last-read (subst (λ (rest : List ℕ). IsNumberTo found.end found.value piece rest) (sym c.split_at.ensures.back)
     found.ensures.number) c.in_ok-rest.ensures

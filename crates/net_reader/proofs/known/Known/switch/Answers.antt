@@ -1,6 +1,5 @@
-use Rattle.std.proofs.Common.{◌<◌, true, false, length, get_or, arith}
+use Rattle.std.proofs.Common.{◌<◌, length, get_or, arith}
 use Rattle.std.proofs.lemmas.Grind.{common_steps}
-use Rattle.net_reader.specs.declared.said.Call.TheVariants.{Off, On}
 use Rattle.net_reader.proofs.Standing.{Stands-off, Stands-on, Stands-switched}
 use Rattle.net_reader.proofs.known.Known.switch.Goals as goal
 use Rattle.net_reader.proofs.known.Known.switch.Goals.{then-off, else-off}
@@ -25,8 +24,8 @@ returns c =
         record {
           few = c.requires.few;
           few_callers = c.requires.few_callers;
-          stands = Stands-switched homes calls later places offs sub true off call Off w.if-off.true w.call-is
-              c.in_ok-push.ensures.items (Stands-off homes calls places offs sub stands below);
+          stands = Stands-switched calls offs sub w.if-off.true w.call-is c.in_ok-push.ensures.items
+              (Stands-off sub stands below);
         },
       )
       | else-off w ↦ (
@@ -34,8 +33,8 @@ returns c =
         record {
           few = c.requires.few;
           few_callers = c.requires.few_callers;
-          stands = Stands-switched homes calls later places offs sub false off call On w.if-off.false w.call-is
-              c.in_ok-push.ensures.items (Stands-on homes calls places offs sub stands below);
+          stands = Stands-switched calls offs sub w.if-off.false w.call-is c.in_ok-push.ensures.items
+              (Stands-on sub stands below);
         },
       )
     ]

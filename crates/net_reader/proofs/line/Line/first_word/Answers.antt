@@ -18,21 +18,19 @@ returns-then-is_blank c =
     let cut : behind ≡ blank ∷ rest = first-byte behind (omega (arith, c.in-len1-up.len_at_least)) in
     let middle = record line { open_field = Between; word = word.result.0 } in
     let first = put line c.args.byte in
-    let run = run-word-blank line piece rest c.args.byte blank word.result.0 word.result.1 c.requires.fresh
-    c.requires.begins (ne_eqb c.args.byte 35 c.requires.no_comment) (sym cut ∙ c.split_at.ensures.back)
-    word.ensures.plain
+    let run = run-word-blank line piece c.args.byte word.result.0 word.result.1 c.requires.fresh c.requires.begins
+    (ne_eqb c.args.byte 35 c.requires.no_comment) (sym cut ∙ c.split_at.ensures.back) word.ensures.plain
     (word.ensures.read ∙ ap (λ p. fold more (Word p) (take word.result.1 piece)) c.pack.ensures)
     (sym c.is_blank.ensures ∙ c.if-is_blank.true) in
     IfOk-weaker c.numbers.result (λ left. IsRun middle (seen_line c.numbers.new.self) rest left.now)
     (λ left. IsRun first (seen_line c.numbers.new.self) piece left.now)
-    (λ left more. run-join first middle (seen_line c.numbers.new.self) piece rest left.now run more) c.numbers.ensures
+    (λ left more. run-join run more) c.numbers.ensures
 
 pub returns : goal.returns
 returns c =
     let line = seen_line c.args.self.now in
     let piece = c.args.after.now in
     let word = c.word_run-packed in
-    run-word line piece c.split_at.result.1.now c.args.byte word.result.0 word.result.1 c.requires.fresh
-    c.requires.begins
+    run-word line piece c.args.byte word.result.0 word.result.1 c.requires.fresh c.requires.begins
     (ne_eqb c.args.byte 35 c.requires.no_comment) c.split_at.ensures.back word.ensures.plain
     (word.ensures.read ∙ ap (λ p. fold more (Word p) (take word.result.1 piece)) c.pack.ensures)

@@ -1,6 +1,5 @@
 use Rattle.std.proofs.Common.{refl}
 use Rattle.net_reader.specs.Seen.{seen_line}
-use Rattle.net_reader.specs.declared.line.Open.TheVariants.{Number, Word}
 use Rattle.net_reader.proofs.Running.{run-comment, run-plain, run-still, run-wrong}
 use Rattle.net_reader.proofs.line.Line.go_on.Goals as goal
 use Rattle.net_reader.proofs.line.Line.go_on.Goals.{in-Number, in-Word, in-Comment, in-Wrong, in_default}
@@ -14,18 +13,18 @@ returns c =
     elim c.match-self.branch [
       | in-Number w ↦
           let run = w.digit_run-count in
-          run-plain line (Number w.in-Number.count w.in-Number.value) (Number run.result.0 run.result.1) found
-          run.result.2 piece rest w.in-Number.is w.field-is c.split_at.ensures.back run.ensures.plain run.ensures.read
+          run-plain line run.result.2 piece w.in-Number.is w.field-is c.split_at.ensures.back run.ensures.plain
+          run.ensures.read
       | in-Word w ↦
           let run = w.word_run-packed in
-          run-plain line (Word w.in-Word.packed) (Word run.result.0) found run.result.1 piece rest w.in-Word.is
-          w.field-is c.split_at.ensures.back run.ensures.plain run.ensures.read
+          run-plain line run.result.1 piece w.in-Word.is w.field-is c.split_at.ensures.back run.ensures.plain
+          run.ensures.read
       | in-Comment w ↦
-          run-comment line found w.rest_of_line.result piece rest w.in-Comment.is w.field-is c.split_at.ensures.back
+          run-comment line w.rest_of_line.result piece w.in-Comment.is w.field-is c.split_at.ensures.back
           w.rest_of_line.ensures.inside
       | in-Wrong w ↦
-          run-wrong line found w.rest_of_line-in-Wrong.result piece rest w.in-Wrong.is w.field-is
-          c.split_at.ensures.back w.rest_of_line-in-Wrong.ensures.inside
+          run-wrong line w.rest_of_line-in-Wrong.result piece w.in-Wrong.is w.field-is c.split_at.ensures.back
+          w.rest_of_line-in-Wrong.ensures.inside
       | in_default w ↦
-          run-still line c.args.self.now.field found piece rest refl w.field-is c.split_at.ensures.back
+          run-still line piece refl w.field-is c.split_at.ensures.back
     ]

@@ -16,14 +16,13 @@ returns-then-is_blank c =
     let cut : behind ≡ b ∷ after = first-byte behind (omega (arith, c.in-len1-up.len_at_least)) in
     let some : 0 < run.result.1 = grind (arith, nat_tests, c.if-taken-eq0.false) in
     subst (λ l. IsRun line l piece after) (sym c.in_ok-keep.ensures)
-    (run-number-blank line piece after b run.result.1 run.result.0 run.result.1 c.requires some run.ensures.within
-    (sym cut ∙ c.split_at.ensures.back) run.ensures.plain run.ensures.read (sym c.is_blank.ensures
-    ∙ c.if-is_blank.true))
+    (run-number-blank line piece run.result.1 run.result.0 run.result.1 c.requires some run.ensures.within
+    (sym cut ∙ c.split_at.ensures.back) run.ensures.plain run.ensures.read
+    (sym c.is_blank.ensures ∙ c.if-is_blank.true))
 
 pub returns : goal.returns
 returns c =
     let run = c.leading_number-value in
     let some : 0 < run.result.1 = grind (arith, nat_tests, c.if-taken-eq0.false) in
-    run-number (seen_line c.args.self.now) c.args.piece.now c.split_at.result.1.now run.result.1 run.result.0
-    run.result.1
-    c.requires some run.ensures.within c.split_at.ensures.back run.ensures.plain run.ensures.read
+    run-number (seen_line c.args.self.now) c.args.piece.now run.result.1 run.result.0 run.result.1 c.requires some
+    run.ensures.within c.split_at.ensures.back run.ensures.plain run.ensures.read

@@ -14,5 +14,4 @@ bytes-preserved c =
     let cut : rest ≡ b ∷ after = first-byte rest (omega (arith, c.in-len1-up.len_at_least)) in
     let before : IsRun first line c.args.piece.now (b ∷ after) =
     subst (λ xs. IsRun first line c.args.piece.now xs) cut c.bytes.invariant in
-    run-more first line (seen_line c.read.new.self) c.args.piece.now after c.in_ok-rest.rest.now b before
-    (sym c.is_inside.ensures ∙ c.if-not-is_inside.false) c.in_ok-rest.ensures
+    run-more before (sym c.is_inside.ensures ∙ c.if-not-is_inside.false) c.in_ok-rest.ensures

@@ -1,7 +1,7 @@
 use Rattle.std.proofs.Common.{sym, ap, ◌∙◌, arith}
 use Rattle.net_reader.specs.declared.scan.Scan.{Scan}
 use Rattle.net_reader.specs.Steps.{after_bytes}
-use Rattle.net_reader.specs.Seen.{seen_known, seen_line, seen_scan}
+use Rattle.net_reader.specs.Seen.{seen_known, seen_scan}
 use Rattle.net_reader.proofs.Feeding.{ran}
 use Rattle.net_reader.proofs.Running.{run-length}
 use Rattle.net_reader.proofs.scan.Scan.skip.Goals as goal
@@ -11,14 +11,11 @@ returns-clause-read c =
     let self = c.args.self.now in
     let rest = c.in_ok-rest.rest.now in
     ap (λ (s : Scan). after_bytes (seen_scan s) rest) c.begin.ensures
-    ∙ ran self.fault self.begun self.held self.lines (seen_known self.known) (seen_line self.line)
-    (seen_line c.run.new.self) c.args.piece.now rest (sym c.is_some.ensures ∙ c.if-is_some.false) c.if-self.false
-    c.in_ok-rest.ensures
-    (omega (
+    ∙ ran self.fault self.begun self.held self.lines (seen_known self.known)
+    (sym c.is_some.ensures ∙ c.if-is_some.false) c.if-self.false c.in_ok-rest.ensures (omega (
       arith,
       c.if-rest-piece.false,
-      run-length (seen_line self.line) (seen_line c.run.new.self)
-          c.args.piece.now rest c.in_ok-rest.ensures,
+      run-length c.in_ok-rest.ensures,
     ))
 
 pub begin-requires : goal.begin-requires
@@ -27,6 +24,5 @@ begin-requires c =
       arith,
       c.requires.room,
       c.if-rest-piece.false,
-      run-length (seen_line c.args.self.now.line) (seen_line c.run.new.self)
-          c.args.piece.now c.in_ok-rest.rest.now c.in_ok-rest.ensures,
+      run-length c.in_ok-rest.ensures,
     )

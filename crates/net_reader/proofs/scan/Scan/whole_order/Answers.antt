@@ -1,7 +1,6 @@
 use Rattle.std.proofs.Common.{◌+◌, IfSome, Result, subst, ap, sym, ◌∙◌, arith}
 use Rattle.net_reader.specs.declared.fault.InputFault.{InputFault}
 use Rattle.net_reader.specs.declared.scan.Scan.{Scan}
-use Rattle.net_reader.specs.declared.word.Word.TheVariants.{Order}
 use Rattle.net_reader.specs.Said.{Said}
 use Rattle.net_reader.specs.Seen.{IsWell, said_or_fault, seen_known, seen_line, seen_scan}
 use Rattle.net_reader.specs.Steps.{fault_at}
@@ -20,13 +19,11 @@ returns-in-Some c =
     let heard : HearsOrder self.known known after rest =
     subst (λ o. IfSome o (λ rest. HearsOrder self.known known after rest.now)) c.in-Some.is c.in_ok-rest.ensures.heard
     in
-    let shorter = whole-shorter Order heard.numbers piece after rest c.requires.opens heard.ends in
+    let shorter = whole-shorter heard.numbers rest c.requires.opens heard.ends in
     let one_more = ap (λ (s : Scan). s.lines) c.count.ensures in
     record {
-      read = heard-whole (seen_scan self) (seen_scan c.count.new.self) self.lines (seen_known self.known) Order
-          heard.numbers piece after rest c.requires.rests.seen
-          (ap (λ (s : Scan). seen_scan s) c.count.ensures
-          ∙ ap (λ (said : Result Said InputFault). record {
+      read = heard-whole self.lines (seen_known self.known) heard.numbers rest c.requires.rests.seen
+          (ap (λ (s : Scan). seen_scan s) c.count.ensures ∙ ap (λ (said : Result Said InputFault). record {
             said = said;
             lines = self.lines + 1;
             begun = self.begun;
@@ -38,7 +35,7 @@ returns-in-Some c =
       lines = omega (arith, shorter, one_more);
       well = subst (λ (s : Scan). IsWell s.fault s.known) (sym c.count.ensures)
           (subst (λ f. IsWell f known) (sym going) c.in_ok-rest.ensures.kept);
-      rests = still-rests self c.count.new.self (said_or_fault self.fault (seen_known known)) (self.lines + 1)
+      rests = still-rests c.count.new.self (said_or_fault self.fault (seen_known known)) (self.lines + 1)
           c.requires.rests (ap (λ (s : Scan). seen_scan s) c.count.ensures)
           (ap (λ (s : Scan). s.fault) c.count.ensures ∙ going);
     }
