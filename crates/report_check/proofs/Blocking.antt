@@ -34,10 +34,10 @@ taken : (calls : List Done) (place : ℕ) → place < length calls → length (t
 taken calls place low = omega (arith, length-take place calls, low)
 
 -- a line more that doesn't count
-pub block-other : (counts : Done → Bool) (calls : List Done) (place : ℕ) (block : Block) (d : Done)
+pub block-other : {counts : Done → Bool} {calls : List Done} {place : ℕ} {block : Block} (d : Done)
     → place < length calls → IsSoFar counts calls place block → counts (get_or calls place d) ≡ false
     → IsSoFar counts calls (place + 1) block
-block-other counts calls place block d low is no-line =
+block-other {counts} {calls} {place} {block} d low is no-line =
     let more : drop block.end (take (place + 1) calls)
     ≡ drop block.end (take place calls) ++ get_or calls place d ∷ [] =
     ap (drop block.end) (take_more calls place d low)
@@ -61,11 +61,10 @@ nothing-behind counts calls place =
     (omega (arith, length-take (place + 1) calls)))
 
 -- a line more that counts
-grown-at : (counts : Done → Bool) (calls : List Done) (place : ℕ) (block : Block) (first : Bool)
-    → eqb block.end 0 ≡ first → IsSoFar counts calls place block
-    → IsSoFar counts calls (place + 1)
+grown-at : {counts : Done → Bool} {calls : List Done} {place : ℕ} {block : Block} (first : Bool)
+    → eqb block.end 0 ≡ first → IsSoFar counts calls place block → IsSoFar counts calls (place + 1)
     (cond first (record { start = place; end = place + 1 }) (record { start = block.start; end = place + 1 }))
-grown-at counts calls place block true e is =
+grown-at {counts} {calls} {place} {block} true e is =
     let none : block.end ≡ 0 = (Decides-eqb block.end 0).0 e in
     record {
       low = omega arith;
@@ -73,22 +72,22 @@ grown-at counts calls place block true e is =
       before = ap (λ n. list_any counts (drop n (take place calls))) (sym none) ∙ is.behind;
       behind = nothing-behind counts calls place;
     }
-grown-at counts calls place block false e is = record {
+grown-at {counts} {calls} {place} false e is = record {
   low = omega (arith, is.low, is.high);
   high = omega arith;
   before = is.before;
   behind = nothing-behind counts calls place;
 }
 
-pub block-line : (counts : Done → Bool) (calls : List Done) (place : ℕ) (block : Block)
+pub block-line : {counts : Done → Bool} {calls : List Done} {place : ℕ} {block : Block}
     → IsSoFar counts calls place block → IsSoFar counts calls (place + 1) (grown block place)
-block-line counts calls place block is =
+block-line {counts} {calls} {place} {block} is =
     subst (IsSoFar counts calls (place + 1)) refl (at (eqb block.end 0) refl)
   where
     at : (first : Bool) → eqb block.end 0 ≡ first → IsSoFar counts calls (place + 1) (grown block place)
     at first e = subst (λ (b : Bool). IsSoFar counts calls (place + 1)
         (cond b (record { start = place; end = place + 1 }) (record { start = block.start; end = place + 1 }))) (sym e)
-        (grown-at counts calls place block first e is)
+        (grown-at first e is)
 
 -- ---- what a block tells
 
@@ -120,10 +119,10 @@ tell-others actor ticket told (call ∷ calls) e =
     ap (λ t. fold (tell actor ticket) t calls) (tell-other actor ticket told call both.0)
     ∙ tell-others actor ticket told calls both.1
 
-pub tells-alike : (actor : ℕ) (calls : List Done) (block : Block) → IsBlock (is_of actor) calls block
-    → (ticket : ℕ) (told : Told)
-    → fold (tell actor ticket) told (between block.start block.end calls) ≡ fold (tell actor ticket) told calls
-tells-alike actor calls block is ticket told =
+pub tells-alike : (actor : ℕ) {calls : List Done} {block : Block} → IsBlock (is_of actor) calls block
+    → (ticket : ℕ) (told : Told) → fold (tell actor ticket) told (between block.start block.end calls) ≡ fold
+    (tell actor ticket) told calls
+tells-alike actor {calls} {block} is ticket told =
     let f = tell actor ticket in
     let a = take block.start calls in
     let b = between block.start block.end calls in
@@ -147,9 +146,9 @@ switch-others ticket (call ∷ calls) e =
     or_from (is_switch_at ticket call) (list_any (is_switch_at ticket) calls) (switch-other ticket call both.0)
     (switch-others ticket calls both.1)
 
-pub switches-alike : (calls : List Done) (block : Block) → IsBlock is_switched calls block → (ticket : ℕ)
+pub switches-alike : {calls : List Done} {block : Block} → IsBlock is_switched calls block → (ticket : ℕ)
     → list_any (is_switch_at ticket) (between block.start block.end calls) ≡ list_any (is_switch_at ticket) calls
-switches-alike calls block is ticket =
+switches-alike {calls} {block} is ticket =
     let p = is_switch_at ticket in
     let a = take block.start calls in
     let b = between block.start block.end calls in
@@ -159,9 +158,9 @@ switches-alike calls block is ticket =
     ∙ ap (λ t. list_any p b || t) (switch-others ticket c is.behind) ∙ or-false (list_any p b))
 
 -- one of the lines of a block counts where one of all does
-pub any-alike : (counts : Done → Bool) (calls : List Done) (block : Block) → IsBlock counts calls block
+pub any-alike : {counts : Done → Bool} {calls : List Done} {block : Block} → IsBlock counts calls block
     → list_any counts (between block.start block.end calls) ≡ list_any counts calls
-any-alike counts calls block is =
+any-alike {counts} {calls} {block} is =
     let a = take block.start calls in
     let b = between block.start block.end calls in
     let c = drop block.end calls in
@@ -177,38 +176,36 @@ between-map lines start end =
     sym (take-map done_of (end - start) (drop start lines)) ∙ ap (take (end - start))
     (sym (drop-map done_of start lines))
 
-pub switch-lines : (lines : List Line) (block : Block) → IsBlock is_switched (map done_of lines) block
+pub switch-lines : (lines : List Line) {block : Block} → IsBlock is_switched (map done_of lines) block
     → SwitchesAlike (map done_of lines) (map done_of (take (block.end - block.start) (drop block.start lines)))
-switch-lines lines block is ticket =
+switch-lines lines {block} is ticket =
     ap (list_any (is_switch_at ticket)) (between-map lines block.start block.end)
-    ∙ switches-alike (map done_of lines) block is ticket
+    ∙ switches-alike is ticket
 
-pub actor-lines : (lines : LinesByActor) (actor : ℕ) (block : Block) → AreBlocks lines → actor < length lines.blocks.now
-    → slice_index_or lines.blocks.now actor no_block ≡ block
-    → TellsAlike actor (map done_of lines.calls.now)
+pub actor-lines : {lines : LinesByActor} (actor : ℕ) (block : Block) → AreBlocks lines → actor < length lines.blocks.now
+    → slice_index_or lines.blocks.now actor no_block ≡ block → TellsAlike actor (map done_of lines.calls.now)
     (map done_of (take (block.end - block.start) (drop block.start lines.calls.now)))
-actor-lines lines actor block are low same ticket told =
+actor-lines {lines} actor block are low same ticket told =
     let is : IsBlock (is_of actor) (map done_of lines.calls.now) block =
     subst (IsBlock (is_of actor) (map done_of lines.calls.now)) same (are.actors actor low) in
     ap (fold (tell actor ticket) told) (between-map lines.calls.now block.start block.end)
-    ∙ tells-alike actor (map done_of lines.calls.now) block is ticket told
+    ∙ tells-alike actor is ticket told
 
-pub actor-any : (lines : LinesByActor) (actor : ℕ) (block : Block) → AreBlocks lines → actor < length lines.blocks.now
+pub actor-any : {lines : LinesByActor} (actor : ℕ) (block : Block) → AreBlocks lines → actor < length lines.blocks.now
     → slice_index_or lines.blocks.now actor no_block ≡ block
     → list_any (is_of actor) (map done_of (take (block.end - block.start) (drop block.start lines.calls.now)))
     ≡ list_any (is_of actor) (map done_of lines.calls.now)
-actor-any lines actor block are low same =
+actor-any {lines} actor block are low same =
     let is : IsBlock (is_of actor) (map done_of lines.calls.now) block =
     subst (IsBlock (is_of actor) (map done_of lines.calls.now)) same (are.actors actor low) in
     ap (list_any (is_of actor)) (between-map lines.calls.now block.start block.end)
-    ∙ any-alike (is_of actor) (map done_of lines.calls.now) block is
+    ∙ any-alike is
 
-pub line-other : (counts : Done → Bool) (lines : List Line) (place : ℕ) (block : Block) (d : Line)
+pub line-other : {counts : Done → Bool} (lines : List Line) {place : ℕ} {block : Block} (d : Line)
     → place < length lines → IsSoFar counts (map done_of lines) place block
     → counts (done_of (get_or lines place d)) ≡ false → IsSoFar counts (map done_of lines) (place + 1) block
-line-other counts lines place block d low is no-line =
-    block-other counts (map done_of lines) place block (done_of d)
-    (omega (arith, low, length-map lines done_of)) is
+line-other {counts} lines {place} d low is no-line =
+    block-other (done_of d) (omega (arith, low, length-map lines done_of)) is
     (ap counts (get_or-map done_of lines place d (done_of d) low) ∙ no-line)
 
 true-not-false : true ≡ false → ⊥
@@ -225,12 +222,12 @@ swapped a b e = at (eqb b a) refl
     at false s = refl
 
 -- the block of an actor more, where the line is this actor's
-pub blocks-line : (lines : List Line) (blocks blocks' : List Block) (place actor : ℕ) (d : Line)
+pub blocks-line : (lines : List Line) (blocks : List Block) {blocks' : List Block} {place actor : ℕ} (d : Line)
     → place < length lines → actor ≡ actor_of (done_of (get_or lines place d)) → actor < length blocks
     → blocks' ≡ set blocks actor (grown (get_or blocks actor no_block) place)
-    → ((a : ℕ) → a < length blocks → IsSoFar (is_of a) (map done_of lines) place (get_or blocks a no_block))
-    → (a : ℕ) → a < length blocks' → IsSoFar (is_of a) (map done_of lines) (place + 1) (get_or blocks' a no_block)
-blocks-line lines blocks blocks' place actor d low whose known same is a few = at (eqb a actor) refl
+    → ((a : ℕ) → a < length blocks → IsSoFar (is_of a) (map done_of lines) place (get_or blocks a no_block)) → (a : ℕ)
+    → a < length blocks' → IsSoFar (is_of a) (map done_of lines) (place + 1) (get_or blocks' a no_block)
+blocks-line lines blocks {blocks'} {place} {actor} d low whose known same is a few = at (eqb a actor) refl
   where
     count : length blocks' ≡ length blocks
     count = ap length same ∙ length-set blocks actor (grown (get_or blocks actor no_block) place)
@@ -244,23 +241,22 @@ blocks-line lines blocks blocks' place actor d low whose known same is a few = a
         ∙ ap (λ (x : ℕ). get_or (set blocks x (grown (get_or blocks x no_block) place)) a no_block) (sym own)
         ∙ get_or-set_same blocks a (grown (get_or blocks a no_block) place) no_block (omega (arith, few, count)) in
         subst (IsSoFar (is_of a) (map done_of lines) (place + 1)) (sym value)
-        (block-line (is_of a) (map done_of lines) place (get_or blocks a no_block) (is a (omega (arith, few, count))))
+        (block-line (is a (omega (arith, few, count))))
     at false e =
         let other : a ≢ actor = not-same a actor e in
         let value : get_or blocks' a no_block ≡ get_or blocks a no_block =
         ap (λ bs. get_or bs a no_block) same
         ∙ get_or-set_other blocks actor a (grown (get_or blocks actor no_block) place) no_block other in
         subst (IsSoFar (is_of a) (map done_of lines) (place + 1)) (sym value)
-        (line-other (is_of a) lines place (get_or blocks a no_block) d low (is a (omega (arith, few, count)))
-        (ap (λ x. eqb x a) (sym whose) ∙ swapped a actor e))
+        (line-other lines d low (is a (omega (arith, few, count))) (ap (λ x. eqb x a) (sym whose) ∙ swapped a actor e))
 
-pub blocks-other : (lines : List Line) (blocks : List Block) (place actor : ℕ) (d : Line)
-    → place < length lines → actor ≡ actor_of (done_of (get_or lines place d)) → length blocks ≤ actor
-    → ((a : ℕ) → a < length blocks → IsSoFar (is_of a) (map done_of lines) place (get_or blocks a no_block))
-    → (a : ℕ) → a < length blocks → IsSoFar (is_of a) (map done_of lines) (place + 1) (get_or blocks a no_block)
-blocks-other lines blocks place actor d low whose unknown is a few =
-    line-other (is_of a) lines place (get_or blocks a no_block) d low (is a few)
-    (ap (λ x. eqb x a) (sym whose) ∙ swapped a actor (apart a actor (omega (arith, few, unknown))))
+pub blocks-other : (lines : List Line) (blocks : List Block) {place actor : ℕ} (d : Line) → place < length lines
+    → actor ≡ actor_of (done_of (get_or lines place d)) → length blocks ≤ actor
+    → ((a : ℕ) → a < length blocks → IsSoFar (is_of a) (map done_of lines) place (get_or blocks a no_block)) → (a : ℕ)
+    → a < length blocks → IsSoFar (is_of a) (map done_of lines) (place + 1) (get_or blocks a no_block)
+blocks-other lines blocks {actor} d low whose unknown is a few =
+    line-other lines d low (is a few) (ap (λ x. eqb x a) (sym whose)
+    ∙ swapped a actor (apart a actor (omega (arith, few, unknown))))
   where
     apart : (x y : ℕ) → x < y → eqb x y ≡ false
     apart x y h = grind (arith, nat_tests)

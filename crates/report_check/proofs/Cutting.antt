@@ -34,19 +34,18 @@ begins-itself [] = refl
 begins-itself (b ∷ text) =
     ap (λ t. cond t (begins text text) false) ((Decides-eqb b b).1 refl) ∙ begins-itself text
 
-more-at : (same : Bool) (one other : Bool) (b c : ℕ) → eqb b c ≡ same → (one ≡ false → other ≡ false)
+more-at : (same : Bool) {one other : Bool} (b c : ℕ) → eqb b c ≡ same → (one ≡ false → other ≡ false)
     → cond (eqb b c) one false ≡ false → cond (eqb b c) other false ≡ false
-more-at true one other b c s later e =
+more-at true {one} {other} b c s later e =
     ap (λ t. cond t other false) s ∙ later (sym (ap (λ t. cond t one false) s) ∙ e)
-more-at false one other b c s later e = ap (λ t. cond t other false) s
+more-at false {other} b c s later e = ap (λ t. cond t other false) s
 
 -- what isn't begun with isn't so with more bytes
 begins-more : (front more text : List ℕ) → begins front text ≡ false → begins (front ++ more) text ≡ false
 begins-more [] more text e = cc
 begins-more (b ∷ front) more [] e = refl
 begins-more (b ∷ front) more (c ∷ text) e =
-    more-at (eqb b c) (begins front text) (begins (front ++ more) text) b c refl
-    (λ h. begins-more front more text h) e
+    more-at (eqb b c) b c refl (λ h. begins-more front more text h) e
 
 -- a word that the text doesn't begin with isn't the text
 not-word : (front text : List ℕ) → begins front text ≡ false → bytes_eq front text ≡ false
@@ -67,18 +66,17 @@ true-not-false : true ≡ false → ⊥
 true-not-false e = cc
 
 -- what holds in both cases of a test
-by-test : {A : Type 0} (test : Bool) (P : A → Type 0) (x y : A) → (test ≡ true → P x) → (test ≡ false → P y)
+by-test : {A : Type 0} (test : Bool) (P : A → Type 0) {x y : A} → (test ≡ true → P x) → (test ≡ false → P y)
     → P (cond test x y)
-by-test true P x y holds fails = holds refl
-by-test false P x y holds fails = fails refl
+by-test true P holds fails = holds refl
+by-test false P holds fails = fails refl
 
 -- a first field that `report` doesn't begin with
 off-word : (b : ℕ) (field text : List ℕ) → begins (b ∷ field) (codes "report") ≡ false
     → is_report_alone (fields_from (b ∷ field) text) ≡ false
 off-word b field [] e = not-word (b ∷ field) (codes "report") e
 off-word b field (c ∷ text) e =
-    by-test (is_blank c) (λ (fs : List (List ℕ)). is_report_alone fs ≡ false) ((b ∷ field) ∷ fields_from [] text)
-    (fields_from (b ∷ field ++ c ∷ []) text)
+    by-test (is_blank c) (λ (fs : List (List ℕ)). is_report_alone fs ≡ false)
     (λ s. not-alone (b ∷ field) (fields_from [] text) (not-word (b ∷ field) (codes "report") e))
     (λ s. off-word b (field ++ c ∷ []) text (begins-more (b ∷ field) (c ∷ []) (codes "report") e))
 
@@ -90,21 +88,21 @@ rest_alone (Some rest) = is_nil (behind_blanks rest)
 some-field : (b : ℕ) (field text : List ℕ) → is_nil (fields_from (b ∷ field) text) ≡ false
 some-field b field [] = refl
 some-field b field (c ∷ text) =
-    by-test (is_blank c) (λ (fs : List (List ℕ)). is_nil fs ≡ false) ((b ∷ field) ∷ fields_from [] text)
-    (fields_from (b ∷ field ++ c ∷ []) text) (λ s. refl) (λ s. some-field b (field ++ c ∷ []) text)
+    by-test (is_blank c) (λ (fs : List (List ℕ)). is_nil fs ≡ false) (λ s. refl)
+    (λ s. some-field b (field ++ c ∷ []) text)
 
 -- the same of two tests that are one
-by-same : {A B : Type 0} (test : Bool) (P : A → B → Type 0) (x y : A) (v w : B) → (test ≡ true → P x v)
+by-same : {A B : Type 0} (test : Bool) (P : A → B → Type 0) {x y : A} {v w : B} → (test ≡ true → P x v)
     → (test ≡ false → P y w) → P (cond test x y) (cond test v w)
-by-same true P x y v w holds fails = holds refl
-by-same false P x y v w holds fails = fails refl
+by-same true P holds fails = holds refl
+by-same false P holds fails = fails refl
 
 no-field : (text : List ℕ) → is_nil (fields_from [] text) ≡ is_nil (behind_blanks text)
 unfolding behind_blanks
 no-field [] = refl
 no-field (c ∷ text) =
-    by-same (is_blank c) (λ (fs : List (List ℕ)) (t : List ℕ). is_nil fs ≡ is_nil t) (fields_from [] text)
-    (fields_from (c ∷ []) text) (behind_blanks text) (c ∷ text) (λ s. no-field text) (λ s. some-field c [] text)
+    by-same (is_blank c) (λ (fs : List (List ℕ)) (t : List ℕ). is_nil fs ≡ is_nil t) (λ s. no-field text)
+    (λ s. some-field c [] text)
 
 -- behind the whole word
 whole-alone : (fields : List (List ℕ)) → is_report_alone (codes "report" ∷ fields) ≡ is_nil fields
@@ -116,20 +114,17 @@ unfolding behind_blanks
 word-whole [] = refl
 word-whole (c ∷ text) =
     by-same (is_blank c) (λ (fs : List (List ℕ)) (t : List ℕ). is_report_alone fs ≡ is_nil t)
-    (codes "report" ∷ fields_from [] text) (fields_from (codes "report" ++ c ∷ []) text) (behind_blanks text)
-    (c ∷ text) (λ s. whole-alone (fields_from [] text) ∙ no-field text)
+    (λ s. whole-alone (fields_from [] text) ∙ no-field text)
     (λ s. off-word 114 (101 ∷ 112 ∷ 111 ∷ 114 ∷ 116 ∷ c ∷ []) text refl)
 
 -- a blank isn't a byte of the word
 blank-other : (w c : ℕ) (ws text : List ℕ) → is_blank w ≡ false → is_blank c ≡ true
     → rest_alone (cond (eqb w c) (word_in ws text) None) ≡ false
 blank-other w c ws text plain blank =
-    by-test (eqb w c) (λ (o : Option (List ℕ)). rest_alone o ≡ false) (word_in ws text) None
-    (λ e.
+    by-test (eqb w c) (λ (o : Option (List ℕ)). rest_alone o ≡ false) (λ e.
     let is : w ≡ c = (Decides-eqb w c).0 e in
     let wrong : is_blank c ≡ false = subst (λ (x : ℕ). is_blank x ≡ false) is plain in
-    absurd (true-not-false (sym blank ∙ wrong)))
-    (λ e. refl)
+    absurd (true-not-false (sym blank ∙ wrong))) (λ e. refl)
 
 -- a byte of the word more
 word-more : (b : ℕ) (field : List ℕ) (w : ℕ) (ws : List ℕ)
@@ -141,22 +136,18 @@ word-more : (b : ℕ) (field : List ℕ) (w : ℕ) (ws : List ℕ)
 unfolding word_in
 word-more b field w ws short off plain next [] = short
 word-more b field w ws short off plain next (c ∷ text) =
-    by-test (is_blank c)
-    (λ (fs : List (List ℕ)). is_report_alone fs ≡ rest_alone (cond (eqb w c) (word_in ws text) None))
-    ((b ∷ field) ∷ fields_from [] text) (fields_from (b ∷ field ++ c ∷ []) text)
-    (λ s. not-alone (b ∷ field) (fields_from [] text) short ∙ sym (blank-other w c ws text plain s))
-    (λ s. by-test (eqb w c)
+    by-test (is_blank c) (λ (fs : List (List ℕ)). is_report_alone fs ≡ rest_alone
+    (cond (eqb w c) (word_in ws text) None)) (λ s. not-alone (b ∷ field) (fields_from [] text) short
+    ∙ sym (blank-other w c ws text plain s)) (λ s. by-test (eqb w c)
     (λ (o : Option (List ℕ)). is_report_alone (fields_from (b ∷ field ++ c ∷ []) text) ≡ rest_alone o)
-    (word_in ws text) None
     (λ e. subst (λ (x : ℕ). is_report_alone (fields_from (b ∷ field ++ x ∷ []) text) ≡ rest_alone (word_in ws text))
-    ((Decides-eqb w c).0 e) (next text))
-    (λ e. off-word b (field ++ c ∷ []) text (off c e)))
+    ((Decides-eqb w c).0 e) (next text)) (λ e. off-word b (field ++ c ∷ []) text (off c e)))
 
 -- which byte doesn't go on with the word
 other-byte : (w c : ℕ) (later : Bool) → eqb w c ≡ false → cond (eqb c w) later false ≡ false
 other-byte w c later e =
-    by-test (eqb c w) (λ (t : Bool). t ≡ false) later false
-    (λ s. absurd (true-not-false (sym ((Decides-eqb w c).1 (sym ((Decides-eqb c w).0 s))) ∙ e))) (λ s. refl)
+    by-test (eqb c w) (λ (t : Bool). t ≡ false) (λ s. absurd
+    (true-not-false (sym ((Decides-eqb w c).1 (sym ((Decides-eqb c w).0 s))) ∙ e))) (λ s. refl)
 
 from-repor : (text : List ℕ) → is_report_alone (fields_from (codes "repor") text)
     ≡ rest_alone (word_in (codes "t") text)
@@ -181,39 +172,34 @@ pub alone-is : (line : List ℕ) → is_report_alone (fields_from [] line)
 unfolding behind_blanks word_in
 alone-is [] = refl
 alone-is (c ∷ text) =
-    by-same (is_blank c)
-    (λ (fs : List (List ℕ)) (t : List ℕ). is_report_alone fs ≡ rest_alone (word_in (codes "report") t))
-    (fields_from [] text) (fields_from (c ∷ []) text) (behind_blanks text) (c ∷ text) (λ s. alone-is text)
-    (λ s. by-test (eqb 114 c)
+    by-same (is_blank c) (λ (fs : List (List ℕ)) (t : List ℕ). is_report_alone fs ≡ rest_alone
+    (word_in (codes "report") t)) (λ s. alone-is text) (λ s. by-test (eqb 114 c)
     (λ (o : Option (List ℕ)). is_report_alone (fields_from (c ∷ []) text) ≡ rest_alone o)
-    (word_in (codes "eport") text) None
     (λ e. subst (λ (x : ℕ). is_report_alone (fields_from (x ∷ []) text) ≡ rest_alone (word_in (codes "eport") text))
-    ((Decides-eqb 114 c).0 e) (from-r text))
-    (λ e. off-word c [] text (other-byte 114 c (begins [] (codes "eport")) e)))
+    ((Decides-eqb 114 c).0 e) (from-r text)) (λ e. off-word c [] text (other-byte 114 c (begins [] (codes "eport")) e)))
 
 -- the code's test
-pub cut-tested : (line text : List ℕ) (found : Option (List ℕ)) → text ≡ behind_blanks (without_return line)
+pub cut-tested : (line : List ℕ) {text : List ℕ} {found : Option (List ℕ)} → text ≡ behind_blanks (without_return line)
     → word_in (codes "report") text ≡ found → rest_alone found ≡ is_cut line
-cut-tested line text found is e =
+cut-tested line is e =
     sym (alone-is (without_return line) ∙ ap (λ t. rest_alone (word_in (codes "report") t)) (sym is) ∙ ap rest_alone e)
 
 nil-test : {A : Type 0} (xs : List A) → is_nil xs ≡ (length xs == 0)
 nil-test [] = refl
 nil-test (x ∷ xs) = grind (arith, nat_tests)
 
-pub cut-some : (o : Option (Unit {0})) (found empty : Bool) (line front rest : List ℕ) → found ≡ is_some o
-    → found ≡ true → IfSome o (λ done. word_in (codes "report") front ≡ Some rest)
-    → front ≡ behind_blanks (without_return line) → empty ≡ (length (behind_blanks rest) == 0)
-    → empty ≡ is_cut line
-cut-some None found empty line front rest is yes' word same e = absurd (true-not-false (sym yes' ∙ is))
-cut-some (Some done) found empty line front rest is yes' word same e =
-    e ∙ sym (nil-test (behind_blanks rest)) ∙ cut-tested line front (Some rest) same word
+pub cut-some : (o : Option (Unit {0})) {found empty : Bool} (line : List ℕ) {front : List ℕ} (rest : List ℕ)
+    → found ≡ is_some o → found ≡ true → IfSome o (λ done. word_in (codes "report") front ≡ Some rest)
+    → front ≡ behind_blanks (without_return line) → empty ≡ (length (behind_blanks rest) == 0) → empty ≡ is_cut line
+cut-some None line rest is yes' word same e = absurd (true-not-false (sym yes' ∙ is))
+cut-some (Some done) line rest is yes' word same e =
+    e ∙ sym (nil-test (behind_blanks rest)) ∙ cut-tested line same word
 
-pub cut-none : (o : Option (Unit {0})) (found : Bool) (line front : List ℕ) → found ≡ is_some o → found ≡ false
-    → IfNone o (word_in (codes "report") front ≡ None) → front ≡ behind_blanks (without_return line)
+pub cut-none : (o : Option (Unit {0})) {found : Bool} (line : List ℕ) {front : List ℕ} → found ≡ is_some o
+    → found ≡ false → IfNone o (word_in (codes "report") front ≡ None) → front ≡ behind_blanks (without_return line)
     → found ≡ is_cut line
-cut-none None found line front is none word same = none ∙ cut-tested line front None same word
-cut-none (Some done) found line front is none word same = absurd (true-not-false (sym is ∙ none))
+cut-none None line is none word same = none ∙ cut-tested line same word
+cut-none (Some done) line is none word same = absurd (true-not-false (sym is ∙ none))
 
 -- ---- the carriage return
 
@@ -225,8 +211,7 @@ return-dropped (a ∷ b ∷ front) = ap (λ t. a ∷ t) (return-dropped (b ∷ f
 pub return-kept : (line : List ℕ) → get_or line (length line - 1) 0 ≢ 13 → without_return line ≡ line
 return-kept [] other = refl
 return-kept (b ∷ []) other =
-    by-test (eqb b 13) (λ (t : List ℕ). t ≡ b ∷ []) [] (b ∷ []) (λ s. absurd (other ((Decides-eqb b 13).0 s)))
-    (λ s. refl)
+    by-test (eqb b 13) (λ (t : List ℕ). t ≡ b ∷ []) (λ s. absurd (other ((Decides-eqb b 13).0 s))) (λ s. refl)
 return-kept (a ∷ b ∷ line) other =
     let index : length (a ∷ b ∷ line) - 1 ≡ suc (length (b ∷ line) - 1) = omega arith in
     ap (λ t. a ∷ t)

@@ -23,10 +23,10 @@ last-none lines i d whole =
     ∙ ap (is_last (get_or (map done_of lines) i (done_of d)))
     (drop_all (i + 1) (map done_of lines) (omega (arith, whole, count))))
 
-pub last-next : (lines : List Line) (i : ℕ) (d : Line) (a b : ℕ) → i < length lines
-    → (i + 1 ≡ length lines → ⊥) → a ≡ actor_of (done_of (get_or lines (i + 1) d))
-    → b ≡ actor_of (done_of (get_or lines i d)) → not (eqb a b) ≡ is_last_at (map done_of lines) i
-last-next lines i d a b low inside is was =
+pub last-next : (lines : List Line) (i : ℕ) (d : Line) {a b : ℕ} → i < length lines → (i + 1 ≡ length lines → ⊥)
+    → a ≡ actor_of (done_of (get_or lines (i + 1) d)) → b ≡ actor_of (done_of (get_or lines i d))
+    → not (eqb a b) ≡ is_last_at (map done_of lines) i
+last-next lines i d {a} low inside is was =
     let count : length (map done_of lines) ≡ length lines = length-map lines done_of in
     let more : i + 1 < length lines = further (i + 1) (length lines) (omega (arith, low)) inside in
     let next : get_or (map done_of lines) (i + 1) (done_of d) ≡ done_of (get_or lines (i + 1) d) =
@@ -45,12 +45,12 @@ last-next lines i d a b low inside is was =
     further m n h e = grind (arith, h, e)
 
 pub line-bad : (plan : PlanData) (homes : List ℕ) (scripts : List (List Call)) (calls : List Done) (order : List ℕ)
-    (i : ℕ) (d : Done) (before : Option ℕ) (cause : Flaw) → i < length calls
+    (i : ℕ) (d : Done) (before : Option ℕ) {cause : Flaw} → i < length calls
     → flaw_of plan homes calls order before (is_last_at calls i) (get_or calls i d) ≡ Some cause
-    → verdict_from plan homes scripts (record { calls = calls; order = order }) i before (drop i calls)
-    ≡ Unsound (line_behind i) cause
+    → verdict_from plan homes scripts (record { calls = calls; order = order }) i before (drop i calls) ≡ Unsound
+    (line_behind i) cause
 unfolding verdict_from
-line-bad plan homes scripts calls order i d before cause low e =
+line-bad plan homes scripts calls order i d before low e =
     let cut : drop i calls ≡ get_or calls i d ∷ drop (i + 1) calls = drop_more calls i d low in
     ap (λ cs. verdict_from plan homes scripts (record { calls = calls; order = order }) i before cs) cut
     ∙ ap (λ o. or_flaw i o (verdict_from plan homes scripts (record { calls = calls; order = order }) (suc i)
@@ -76,50 +76,47 @@ line-good plan homes scripts calls order i d before low e =
     (cond (is_last_at calls i) None (Some (end_of (get_or calls i d)))) (drop (i + 1) calls)) (sym (add-one i))
 
 pub lines-done : (plan : PlanData) (homes : List ℕ) (scripts : List (List Call)) (calls : List Done) (order : List ℕ)
-    (i : ℕ) (before : Option ℕ) (n : ℕ) → length calls ≤ i → i ≡ n
-    → verdict_from plan homes scripts (record { calls = calls; order = order }) i before (drop i calls)
-    ≡ strangers scripts order n
+    {i : ℕ} (before : Option ℕ) {n : ℕ} → length calls ≤ i → i ≡ n
+    → verdict_from plan homes scripts (record { calls = calls; order = order }) i before (drop i calls) ≡ strangers
+    scripts order n
 unfolding verdict_from
-lines-done plan homes scripts calls order i before n high same =
+lines-done plan homes scripts calls order {i} before high same =
     ap (λ cs. verdict_from plan homes scripts (record { calls = calls; order = order }) i before cs)
     (drop_all i calls high)
     ∙ ap (strangers scripts order) same
 
-pub called : (scripts : List (List Call)) (order : List ℕ) (lines : ℕ) (b : Bool)
-    → b ≡ list_all (has_call scripts) order
-    → strangers scripts order lines ≡ cond b Sound (Unsound (line_behind lines) flaws.Tickets)
-called scripts order lines b e =
+pub called : (scripts : List (List Call)) (order : List ℕ) (lines : ℕ) {b : Bool}
+    → b ≡ list_all (has_call scripts) order → strangers scripts order lines ≡ cond b Sound
+    (Unsound (line_behind lines) flaws.Tickets)
+called scripts order lines e =
     ap (λ t. cond t Sound (Unsound (line_behind lines) flaws.Tickets)) (sym e)
 
 pub judge-bad : (plan : PlanData) (homes : List ℕ) (scripts : List (List Call)) (lines : List Line) (order : List ℕ)
-    (i : ℕ) (d : Line) (before : Option ℕ) (last : Bool) (cause : Flaw) (line : ℕ) (whole : Verdict)
-    → i < length lines → last ≡ is_last_at (map done_of lines) i
-    → Some cause ≡ flaw_of plan homes (map done_of lines) order before last (done_of (get_or lines i d))
-    → line ≡ line_behind i
+    (i : ℕ) (d : Line) (before : Option ℕ) {last : Bool} {cause : Flaw} {line : ℕ} {whole : Verdict} → i < length lines
+    → last ≡ is_last_at (map done_of lines) i → Some cause ≡ flaw_of plan homes (map done_of lines) order before last
+    (done_of (get_or lines i d)) → line ≡ line_behind i
     → verdict_from plan homes scripts (record { calls = map done_of lines; order = order }) i before
-    (drop i (map done_of lines)) ≡ whole
-    → Unsound line cause ≡ whole
-judge-bad plan homes scripts lines order i d before last cause line whole low ends broken at same =
+    (drop i (map done_of lines)) ≡ whole → Unsound line cause ≡ whole
+judge-bad plan homes scripts lines order i d before {last} {cause} low ends broken at same =
     let calls : List Done = map done_of lines in
     let this : get_or calls i (done_of d) ≡ done_of (get_or lines i d) = get_or-map done_of lines i d (done_of d) low in
     let flaw : flaw_of plan homes calls order before (is_last_at calls i) (get_or calls i (done_of d)) ≡ Some cause =
     ap (λ b. flaw_of plan homes calls order before b (get_or calls i (done_of d))) (sym ends)
     ∙ ap (λ c. flaw_of plan homes calls order before last c) this ∙ sym broken in
     ap (λ l. Unsound l cause) at
-    ∙ sym (line-bad plan homes scripts calls order i (done_of d) before cause
-    (omega (arith, low, length-map lines done_of)) flaw)
+    ∙ sym (line-bad plan homes scripts calls order i (done_of d) before (omega (arith, low, length-map lines done_of))
+    flaw)
     ∙ same
 
 pub judge-good : (plan : PlanData) (homes : List ℕ) (scripts : List (List Call)) (lines : List Line) (order : List ℕ)
-    (i : ℕ) (d : Line) (before now : Option ℕ) (last : Bool) (whole : Verdict)
-    → i < length lines → last ≡ is_last_at (map done_of lines) i
-    → None ≡ flaw_of plan homes (map done_of lines) order before last (done_of (get_or lines i d))
-    → now ≡ cond last None (Some (end_of (done_of (get_or lines i d))))
+    (i : ℕ) (d : Line) (before : Option ℕ) {now : Option ℕ} {last : Bool} {whole : Verdict} → i < length lines
+    → last ≡ is_last_at (map done_of lines) i → None ≡ flaw_of plan homes (map done_of lines) order before last
+    (done_of (get_or lines i d)) → now ≡ cond last None (Some (end_of (done_of (get_or lines i d))))
     → verdict_from plan homes scripts (record { calls = map done_of lines; order = order }) i before
     (drop i (map done_of lines)) ≡ whole
     → verdict_from plan homes scripts (record { calls = map done_of lines; order = order }) (i + 1) now
     (drop (i + 1) (map done_of lines)) ≡ whole
-judge-good plan homes scripts lines order i d before now last whole low ends fine is same =
+judge-good plan homes scripts lines order i d before {now} {last} low ends fine is same =
     let calls : List Done = map done_of lines in
     let this : get_or calls i (done_of d) ≡ done_of (get_or lines i d) = get_or-map done_of lines i d (done_of d) low in
     let none : flaw_of plan homes calls order before (is_last_at calls i) (get_or calls i (done_of d)) ≡ None =
@@ -135,14 +132,13 @@ judge-good plan homes scripts lines order i d before now last whole low ends fin
     ∙ same
 
 pub judge-done : (plan : PlanData) (homes : List ℕ) (scripts : List (List Call)) (lines : List Line) (order : List ℕ)
-    (i : ℕ) (before : Option ℕ) (all : Bool) (whole : Verdict)
-    → length lines ≤ i → i ≤ length lines → all ≡ list_all (has_call scripts) order
+    (i : ℕ) (before : Option ℕ) {all : Bool} {whole : Verdict} → length lines ≤ i → i ≤ length lines
+    → all ≡ list_all (has_call scripts) order
     → verdict_from plan homes scripts (record { calls = map done_of lines; order = order }) i before
-    (drop i (map done_of lines)) ≡ whole
-    → cond all Sound (Unsound (line_behind (length lines)) flaws.Tickets) ≡ whole
-judge-done plan homes scripts lines order i before all whole high low is same =
+    (drop i (map done_of lines)) ≡ whole → cond all Sound (Unsound (line_behind (length lines)) flaws.Tickets) ≡ whole
+judge-done plan homes scripts lines order i before high low is same =
     let at : i ≡ length lines = omega (arith, high, low) in
-    sym (called scripts order (length lines) all is)
-    ∙ sym (lines-done plan homes scripts (map done_of lines) order i before (length lines)
+    sym (called scripts order (length lines) is)
+    ∙ sym (lines-done plan homes scripts (map done_of lines) order before
     (omega (arith, high, length-map lines done_of)) at)
     ∙ same

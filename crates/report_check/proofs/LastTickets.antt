@@ -22,14 +22,14 @@ first-never actor ticket (other ∷ later) e =
     ap (λ b. cond b (Some ticket) (first_from actor (suc ticket) later)) both.0
     ∙ first-never actor (suc ticket) later both.1
 
-first-once : (actor ticket : ℕ) (later : List ℕ) (j d : ℕ) → j < length later → get_or later j d ≡ actor
+first-once : {actor : ℕ} (ticket : ℕ) (later : List ℕ) (j d : ℕ) → j < length later → get_or later j d ≡ actor
     → is_missing (first_from actor ticket later) ≡ false
 unfolding first_from
-first-once actor ticket [] j d low e = absurd (omega (arith, low))
-first-once actor ticket (other ∷ later) zero d low e =
+first-once ticket [] j d low e = absurd (omega (arith, low))
+first-once {actor} ticket (other ∷ later) zero d low e =
     ap (λ b. is_missing (cond b (Some ticket) (first_from actor (suc ticket) later))) ((Decides-eqb other actor).1 e)
-first-once actor ticket (other ∷ later) (suc j) d low e =
-    at (eqb other actor) (first-once actor (suc ticket) later j d (omega (arith, low)) e)
+first-once {actor} ticket (other ∷ later) (suc j) d low e =
+    at (eqb other actor) (first-once (suc ticket) later j d (omega (arith, low)) e)
   where
     at : (same : Bool) → is_missing (first_from actor (suc ticket) later) ≡ false
         → is_missing (cond same (Some ticket) (first_from actor (suc ticket) later)) ≡ false
@@ -43,9 +43,9 @@ pub record IsBehindSoFar (order : List ℕ) (ticket actor n : ℕ) : Type 0 wher
   pub none : list_any (λ other. eqb other actor) (drop n (take ticket order)) ≡ false
   pub last : n ≢ 0 → get_or order (n - 1) 0 ≡ actor
 
-behind-other : (order : List ℕ) (ticket actor n : ℕ) → ticket < length order → IsBehindSoFar order ticket actor n
+behind-other : {order : List ℕ} {ticket actor n : ℕ} → ticket < length order → IsBehindSoFar order ticket actor n
     → eqb (get_or order ticket 0) actor ≡ false → IsBehindSoFar order (ticket + 1) actor n
-behind-other order ticket actor n low is other =
+behind-other {order} {ticket} {actor} {n} low is other =
     let p : ℕ → Bool = λ x. eqb x actor in
     let more : drop n (take (ticket + 1) order) ≡ drop n (take ticket order) ++ get_or order ticket 0 ∷ [] =
     ap (drop n) (take_more order ticket 0 low)
@@ -59,9 +59,9 @@ behind-other order ticket actor n low is other =
       last = is.last;
     }
 
-behind-own : (order : List ℕ) (ticket actor : ℕ) → get_or order ticket 0 ≡ actor
+behind-own : (order : List ℕ) (ticket : ℕ) {actor : ℕ} → get_or order ticket 0 ≡ actor
     → IsBehindSoFar order (ticket + 1) actor (ticket + 1)
-behind-own order ticket actor own = record {
+behind-own order ticket {actor} own = record {
   few = omega arith;
   none = ap (list_any (λ other. eqb other actor)) (drop_all (ticket + 1) (take (ticket + 1) order)
       (omega (arith, length-take (ticket + 1) order)));
@@ -71,11 +71,11 @@ behind-own order ticket actor own = record {
     before : (t : ℕ) → t + 1 - 1 ≡ t
     before t = omega arith
 
-pub behind-more : (order behind behind' : List ℕ) (ticket actor : ℕ) → ticket < length order
+pub behind-more : {order : List ℕ} (behind : List ℕ) {behind' : List ℕ} {ticket actor : ℕ} → ticket < length order
     → actor ≡ get_or order ticket 0 → actor < length behind → behind' ≡ set behind actor (ticket + 1)
-    → ((a : ℕ) → a < length behind → IsBehindSoFar order ticket a (get_or behind a 0))
-    → (a : ℕ) → a < length behind' → IsBehindSoFar order (ticket + 1) a (get_or behind' a 0)
-behind-more order behind behind' ticket actor low whose known same is a few = at (eqb a actor) refl
+    → ((a : ℕ) → a < length behind → IsBehindSoFar order ticket a (get_or behind a 0)) → (a : ℕ) → a < length behind'
+    → IsBehindSoFar order (ticket + 1) a (get_or behind' a 0)
+behind-more {order} behind {behind'} {ticket} {actor} low whose known same is a few = at (eqb a actor) refl
   where
     count : length behind' ≡ length behind
     count = ap length same ∙ length-set behind actor (ticket + 1)
@@ -86,22 +86,21 @@ behind-more order behind behind' ticket actor low whose known same is a few = at
         let value : get_or behind' a 0 ≡ ticket + 1 =
         ap (λ bs. get_or bs a 0) same ∙ ap (λ (x : ℕ). get_or (set behind x (ticket + 1)) a 0) (sym own)
         ∙ get_or-set_same behind a (ticket + 1) 0 (omega (arith, few, count)) in
-        subst (IsBehindSoFar order (ticket + 1) a) (sym value) (behind-own order ticket a (sym whose ∙ sym own))
+        subst (IsBehindSoFar order (ticket + 1) a) (sym value) (behind-own order ticket (sym whose ∙ sym own))
     at false e =
         let value : get_or behind' a 0 ≡ get_or behind a 0 =
         ap (λ bs. get_or bs a 0) same ∙ get_or-set_other behind actor a (ticket + 1) 0 (not-same a actor e) in
         subst (IsBehindSoFar order (ticket + 1) a) (sym value)
-        (behind-other order ticket a (get_or behind a 0) low (is a (omega (arith, few, count)))
-        (ap (λ x. eqb x a) (sym whose) ∙ swapped a actor e))
+        (behind-other low (is a (omega (arith, few, count))) (ap (λ x. eqb x a) (sym whose) ∙ swapped a actor e))
 
 -- a ticket of an actor that isn't asked for
-pub behind-past : (order behind : List ℕ) (ticket actor : ℕ) → ticket < length order
+pub behind-past : {order : List ℕ} (behind : List ℕ) {ticket actor : ℕ} → ticket < length order
     → actor ≡ get_or order ticket 0 → length behind ≤ actor
-    → ((a : ℕ) → a < length behind → IsBehindSoFar order ticket a (get_or behind a 0))
-    → (a : ℕ) → a < length behind → IsBehindSoFar order (ticket + 1) a (get_or behind a 0)
-behind-past order behind ticket actor low whose unknown is a few =
-    behind-other order ticket a (get_or behind a 0) low (is a few)
-    (ap (λ x. eqb x a) (sym whose) ∙ swapped a actor (apart a actor (omega (arith, few, unknown))))
+    → ((a : ℕ) → a < length behind → IsBehindSoFar order ticket a (get_or behind a 0)) → (a : ℕ) → a < length behind
+    → IsBehindSoFar order (ticket + 1) a (get_or behind a 0)
+behind-past behind {actor} low whose unknown is a few =
+    behind-other low (is a few) (ap (λ x. eqb x a) (sym whose)
+    ∙ swapped a actor (apart a actor (omega (arith, few, unknown))))
   where
     apart : (x y : ℕ) → x < y → eqb x y ≡ false
     apart x y h = grind (arith, nat_tests)
@@ -118,9 +117,9 @@ any-behind p [] (suc k) e = e
 any-behind p (x ∷ xs) (suc k) e = any-behind p xs k (or_parts (p x) (list_any p xs) e).1
 
 -- the test of whether an actor has a ticket behind another
-pub none-behind : (order : List ℕ) (actor n end : ℕ) → IsBehind order actor n
+pub none-behind : {order : List ℕ} {actor n : ℕ} (end : ℕ) → IsBehind order actor n
     → leb n (suc end) ≡ is_missing (first_from actor (suc end) (drop (suc end) order))
-none-behind order actor n end is = at (leb n (suc end)) refl
+none-behind {order} {actor} {n} end is = at (leb n (suc end)) refl
   where
     same : n ≤ suc end → n + (suc end - n) ≡ suc end
     same h = omega (arith, h)
@@ -141,16 +140,16 @@ none-behind order actor n end is = at (leb n (suc end)) refl
         ∙ any-behind (λ other. eqb other actor) (drop n order) (suc end - n) is.none)))
     at false e =
         let high : suc end < n = over n (suc end) e in
-        sym (first-once actor (suc end) (drop (suc end) order) (n - 1 - suc end) 0
+        sym (first-once (suc end) (drop (suc end) order) (n - 1 - suc end) 0
         (omega (arith, high, is.few, length-drop (suc end) order))
-        (get_or-drop (suc end) order (n - 1 - suc end) 0
-        ∙ ap (λ (i : ℕ). get_or order i 0) (place high) ∙ is.last (some high)))
+        (get_or-drop (suc end) order (n - 1 - suc end) 0 ∙ ap (λ (i : ℕ). get_or order i 0) (place high)
+        ∙ is.last (some high)))
 
-pub none-line : (order behind : List ℕ) (call : Done) (actor end n : ℕ) (low : Bool) → AreBehind order behind
+pub none-line : (order behind : List ℕ) (call : Done) {actor end n : ℕ} {low : Bool} → AreBehind order behind
     → actor < length behind → n ≡ get_or behind actor 0 → actor ≡ actor_of call → end ≡ end_of call
     → low ≡ leb n (suc end) → low ≡ none_left order call
-none-line order behind call actor end n low are known value whose last is =
+none-line order behind call {actor} {end} {n} are known value whose last is =
     let its : IsBehind order actor n = subst (IsBehind order actor) (sym value) (are actor known) in
-    is ∙ none-behind order actor n end its
+    is ∙ none-behind end its
     ∙ ap (λ (a : ℕ). is_missing (first_from a (suc end) (drop (suc end) order))) whose
     ∙ ap (λ (e : ℕ). is_missing (first_from (actor_of call) (suc e) (drop (suc e) order))) last

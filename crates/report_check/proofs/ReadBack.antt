@@ -69,11 +69,11 @@ other-byte : (b : ℕ) (x y : Option (ℕ × List ℕ)) → 48 < b → cond (eqb
 other-byte b x y high = grind (arith, nat_tests)
 
 -- digits without leading zeros are read as their number
-some-digits : (limit n : ℕ) (ds rest : List ℕ) → 0 < length ds → 48 < get_or ds 0 0
+some-digits : (limit : ℕ) {n : ℕ} (ds rest : List ℕ) → 0 < length ds → 48 < get_or ds 0 0
     → list_all is_ascii_digit ds ≡ true → read_on 0 ds ≡ n → n < limit → starts_with_digit rest ≡ false
     → digits_of limit (ds ++ rest) ≡ Some (n, rest)
-some-digits limit n [] rest some high all is low stop = absurd (omega (arith, some))
-some-digits limit n (b ∷ ds) rest some high all is low stop =
+some-digits limit [] rest some high all is low stop = absurd (omega (arith, some))
+some-digits limit (b ∷ ds) rest some high all is low stop =
     other-byte b _ _ high
     ∙ ap (λ t. cond t (digits_from limit 0 (b ∷ ds ++ rest)) None)
     (and_parts (is_ascii_digit b) (list_all is_ascii_digit ds) all).0
@@ -93,7 +93,7 @@ decimal-reads limit zero rest low few stop =
     ∙ zero-reads limit rest (starts_with_digit rest) stop
 decimal-reads limit (suc m) rest low few stop =
     let small : suc m < 2 ^ 64 = omega (arith, low, few) in
-    some-digits limit (suc m) (decimal (suc m)) rest (decimal_nonempty (suc m) small)
+    some-digits limit (decimal (suc m)) rest (decimal_nonempty (suc m) small)
     (first_decimal (suc m) (omega arith) small) (digits_decimal reads_numerals (suc m) small)
     (digits_value-decimal reads_numerals (suc m) small) low stop
 
@@ -111,41 +111,40 @@ number-reads limit n rest low few stop =
 -- ---- one part after another
 
 -- where a word stands the reading goes on behind it
-pub word-then : {B : Type 0} (ws more rest : List ℕ) (f : List ℕ → Option B) (y : Option B) → f (more ++ rest) ≡ y
+pub word-then : {B : Type 0} (ws more rest : List ℕ) (f : List ℕ → Option B) {y : Option B} → f (more ++ rest) ≡ y
     → (word_in ws ((ws ++ more) ++ rest) >>= f) ≡ y
-word-then ws more rest f y h =
+word-then ws more rest f h =
     ap (λ xs. word_in ws xs >>= f) (append_assoc ws more rest)
     ∙ ap (λ o. o >>= f) (word-reads ws (more ++ rest)) ∙ h
 
 -- so it does behind a word and numbers
-given-then : {B : Type 0} (word numbers more rest : List ℕ) (f : List ℕ → Option B) (y : Option B)
+given-then : {B : Type 0} (word numbers more rest : List ℕ) (f : List ℕ → Option B) {y : Option B}
     → f (more ++ rest) ≡ y → (given_in word numbers ((word ++ (fields numbers ++ more)) ++ rest) >>= f) ≡ y
-given-then word numbers more rest f y h =
-    ap (λ o. o >>= f) (word-then word (fields numbers ++ more) rest (word_in (fields numbers)) (Some (more ++ rest))
+given-then word numbers more rest f h =
+    ap (λ o. o >>= f) (word-then word (fields numbers ++ more) rest (word_in (fields numbers))
     (ap (word_in (fields numbers)) (append_assoc (fields numbers) more rest)
     ∙ word-reads (fields numbers) (more ++ rest)))
     ∙ h
 
 -- and behind a word and one number
-one-then : {B : Type 0} (word : List ℕ) (n : ℕ) (more rest : List ℕ) (f : List ℕ → Option B) (y : Option B)
+one-then : {B : Type 0} (word : List ℕ) (n : ℕ) (more rest : List ℕ) (f : List ℕ → Option B) {y : Option B}
     → f (more ++ rest) ≡ y → (given_in word (n ∷ []) ((word ++ (field n ++ more)) ++ rest) >>= f) ≡ y
-one-then word n more rest f y h =
+one-then word n more rest f h =
     ap (λ (xs : List ℕ). given_in word (n ∷ []) ((word ++ (xs ++ more)) ++ rest) >>= f) (sym (append-nil (field n)))
-    ∙ given-then word (n ∷ []) more rest f y h
+    ∙ given-then word (n ∷ []) more rest f h
 
 -- and behind a label
 pub label-then : {B : Type 0} (label : List ℕ) (limit n : ℕ) (more rest : List ℕ) (f : ℕ × List ℕ → Option B)
-    (y : Option B) → n < limit → limit ≤ 2 ^ 63 → starts_with_digit (more ++ rest) ≡ false
-    → f (n, more ++ rest) ≡ y → (labelled_in label limit ((label ++ (field n ++ more)) ++ rest) >>= f) ≡ y
-label-then label limit n more rest f y low few stop h =
-    ap (λ o. o >>= f) (word-then label (field n ++ more) rest (number_in limit) (Some (n, more ++ rest))
+    {y : Option B} → n < limit → limit ≤ 2 ^ 63 → starts_with_digit (more ++ rest) ≡ false → f (n, more ++ rest) ≡ y
+    → (labelled_in label limit ((label ++ (field n ++ more)) ++ rest) >>= f) ≡ y
+label-then label limit n more rest f low few stop h =
+    ap (λ o. o >>= f) (word-then label (field n ++ more) rest (number_in limit)
     (ap (number_in limit) (append_assoc (field n) more rest) ∙ number-reads limit n (more ++ rest) low few stop))
     ∙ h
 
 -- and behind what was read
-bind-to : {A B : Type 0} (o : Option A) (x : A) (f : A → Option B) (y : Option B) → o ≡ Some x → f x ≡ y
-    → (o >>= f) ≡ y
-bind-to o x f y e h = ap (λ p. p >>= f) e ∙ h
+bind-to : {A B : Type 0} {o : Option A} {x : A} (f : A → Option B) {y : Option B} → o ≡ Some x → f x ≡ y → (o >>= f) ≡ y
+bind-to f e h = ap (λ p. p >>= f) e ∙ h
 
 high : most ≤ 2 ^ 63
 high = omega arith
@@ -154,7 +153,7 @@ high = omega arith
 pub closing-reads : (label : List ℕ) (n : ℕ) (rest : List ℕ) → n < most
     → closing_in label ((label ++ (field n ++ 10 ∷ [])) ++ rest) ≡ Some (n, rest)
 closing-reads label n rest low =
-    label-then label most n (10 ∷ []) rest _ _ low high refl (word-then (10 ∷ []) [] rest _ _ refl)
+    label-then label most n (10 ∷ []) rest _ low high refl (word-then (10 ∷ []) [] rest _ refl)
 
 -- ---- lines of calls
 
@@ -167,11 +166,11 @@ move-reads actor number from to weight first commit last rest w f c l =
     let commits : List ℕ = codes " commit" ++ (field commit ++ lasts) in
     let firsts : List ℕ = codes " first" ++ (field first ++ commits) in
     let weights : List ℕ = codes " weight" ++ (field weight ++ firsts) in
-    given-then (codes "move") (actor ∷ number ∷ from ∷ to ∷ []) weights rest _ _
-    (label-then (codes " weight") most weight firsts rest _ _ w high refl
-    (label-then (codes " first") most first commits rest _ _ f high refl
-    (label-then (codes " commit") most commit lasts rest _ _ c high refl
-    (bind-to _ (last, rest) _ _ (closing-reads (codes " last") last rest l) refl))))
+    given-then (codes "move") (actor ∷ number ∷ from ∷ to ∷ []) weights rest _
+    (label-then (codes " weight") most weight firsts rest _ w high refl
+    (label-then (codes " first") most first commits rest _ f high refl
+    (label-then (codes " commit") most commit lasts rest _ c high refl
+    (bind-to _ (closing-reads (codes " last") last rest l) refl))))
 
 switch-reads : (actor : ℕ) (off : Bool) (node number ticket : ℕ) (rest : List ℕ) → ticket < most
     → switch_in actor off node number (call_line (Switched actor off node number ticket) ++ rest)
@@ -180,10 +179,8 @@ switch-reads actor off node number ticket rest t =
     let tickets : List ℕ = codes " ticket" ++ (field ticket ++ 10 ∷ []) in
     let numbers : List ℕ = codes " number" ++ (field number ++ tickets) in
     let states : List ℕ = switch_field off ++ (field node ++ numbers) in
-    one-then (codes "switch") actor states rest _ _
-    (one-then (switch_field off) node numbers rest _ _
-    (one-then (codes " number") number tickets rest _ _
-    (bind-to _ (ticket, rest) _ _ (closing-reads (codes " ticket") ticket rest t) refl)))
+    one-then (codes "switch") actor states rest _ (one-then (switch_field off) node numbers rest _
+    (one-then (codes " number") number tickets rest _ (bind-to _ (closing-reads (codes " ticket") ticket rest t) refl)))
 
 visits-read : (weight first last : ℕ) (rest : List ℕ) → weight < most → first < most → last < most
     → visits_in (visit_fields weight first last ++ rest)
@@ -191,9 +188,9 @@ visits-read : (weight first last : ℕ) (rest : List ℕ) → weight < most → 
 visits-read weight first last rest w f l =
     let lasts : List ℕ = codes " last" ++ (field last ++ 10 ∷ []) in
     let firsts : List ℕ = codes " first" ++ (field first ++ lasts) in
-    label-then (codes " weight") most weight firsts rest _ _ w high refl
-    (label-then (codes " first") most first lasts rest _ _ f high refl
-    (bind-to _ (last, rest) _ _ (closing-reads (codes " last") last rest l) refl))
+    label-then (codes " weight") most weight firsts rest _ w high refl
+    (label-then (codes " first") most first lasts rest _ f high refl
+    (bind-to _ (closing-reads (codes " last") last rest l) refl))
 
 no-digits : (t : Bool) → ◌≡◌ {A = Option (ℕ × List ℕ)} (cond {A = Option (ℕ × List ℕ)} t None None) None
 no-digits true = refl
@@ -214,14 +211,12 @@ place-reads : (bounds : Bounds) (node number : ℕ) (level : Option ℕ) (rest :
     ≡ Some (record { node = node; number = number; level = level }, rest)
 place-reads bounds node number level rest few short n q l stop =
     let levels : List ℕ = codes " level" ++ level_field level in
-    label-then (codes " at") bounds.nodes node (codes " number" ++ (field number ++ levels)) rest _ _ n few refl
-    (label-then (codes " number") most number levels rest _ _ q high refl
-    (word-then (codes " level") (level_field level) rest _ _
-    (ap (λ o. o >>= (λ (found : Option ℕ × List ℕ). Some (
+    label-then (codes " at") bounds.nodes node (codes " number" ++ (field number ++ levels)) rest _ n few refl
+    (label-then (codes " number") most number levels rest _ q high refl
+    (word-then (codes " level") (level_field level) rest _ (ap (λ o. o >>= (λ (found : Option ℕ × List ℕ). Some (
       record { node = node; number = number; level = found.0 },
       found.1,
-    )))
-    (level-reads bounds.levels level rest short l stop))))
+    ))) (level-reads bounds.levels level rest short l stop))))
 
 why-reads : (bounds : Bounds) (why : Why) (rest : List ℕ) → bounds.nodes ≤ 2 ^ 63 → IsWhyBelow bounds.nodes why
     → starts_with_digit rest ≡ false → why_in bounds (why_field why ++ rest) ≡ Some (why, rest)
@@ -247,12 +242,10 @@ answer-reads : (bounds : Bounds) (off : Bool) (actor from sub node number : ℕ)
     ≡ Some (told_at off actor from sub node number level weight first last, rest)
 answer-reads bounds off actor from sub node number level weight first last rest few short place visits =
     let behind : List ℕ = visit_fields weight first last ++ rest in
-    word-then (fields (actor ∷ from ∷ sub ∷ [])) (place_fields node number level ++ visit_fields weight first last)
-    rest _ _
-    (bind-to _ _ _ _ (ap (place_in bounds) (append_assoc (place_fields node number level)
-    (visit_fields weight first last) rest)
-    ∙ place-reads bounds node number level behind few short place.0 place.1 place.2 refl)
-    (bind-to _ _ _ _ (visits-read weight first last rest visits.0 visits.1 visits.2) refl))
+    word-then (fields (actor ∷ from ∷ sub ∷ [])) (place_fields node number level ++ visit_fields weight first last) rest
+    _ (bind-to _ (ap (place_in bounds) (append_assoc (place_fields node number level) (visit_fields weight first last)
+    rest) ∙ place-reads bounds node number level behind few short place.0 place.1 place.2 refl)
+    (bind-to _ (visits-read weight first last rest visits.0 visits.1 visits.2) refl))
 
 again-reads : (bounds : Bounds) (actor from sub : ℕ) (why : Why) (weight first last : ℕ) (rest : List ℕ)
     → bounds.nodes ≤ 2 ^ 63 → IsWhyBelow bounds.nodes why → (weight < most) × (first < most) × (last < most)
@@ -261,10 +254,10 @@ again-reads : (bounds : Bounds) (actor from sub : ℕ) (why : Why) (weight first
     ≡ Some (Again actor from sub why weight first last, rest)
 again-reads bounds actor from sub why weight first last rest few low visits =
     let behind : List ℕ = visit_fields weight first last ++ rest in
-    word-then (fields (actor ∷ from ∷ sub ∷ [])) (why_field why ++ visit_fields weight first last) rest _ _
-    (bind-to _ _ _ _ (ap (why_in bounds) (append_assoc (why_field why) (visit_fields weight first last) rest)
-    ∙ why-reads bounds why behind few low refl)
-    (bind-to _ _ _ _ (visits-read weight first last rest visits.0 visits.1 visits.2) refl))
+    word-then (fields (actor ∷ from ∷ sub ∷ [])) (why_field why ++ visit_fields weight first last) rest _
+    (bind-to _ (ap (why_in bounds) (append_assoc (why_field why) (visit_fields weight first last) rest)
+    ∙ why-reads bounds why behind few low refl) (bind-to _
+    (visits-read weight first last rest visits.0 visits.1 visits.2) refl))
 
 -- the line of a call that can be written is read as the call
 pub call-reads : (bounds : Bounds) (call : Done) (rest : List ℕ) → bounds.nodes ≤ 2 ^ 63 → bounds.levels ≤ 2 ^ 63

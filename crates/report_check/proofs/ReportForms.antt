@@ -33,10 +33,10 @@ record AreCalls (bounds : Bounds) (before : List Done) (slots : List Slot) (text
   parts : text ≡ concat (map call_line calls) ++ found.1
 
 calls-read-back : (bounds : Bounds) (before : List Done) (slots : List Slot) (text : List ℕ)
-    (found : List Done × List ℕ) → bounds.nodes ≤ 2 ^ 63 → bounds.levels ≤ 2 ^ 63
+    {found : List Done × List ℕ} → bounds.nodes ≤ 2 ^ 63 → bounds.levels ≤ 2 ^ 63
     → calls_in bounds before slots text ≡ Ok found → AreCalls bounds before slots text found
 unfolding calls_in
-calls-read-back bounds before [] text found few short e =
+calls-read-back bounds before [] text {found} few short e =
     let same : (before, text) ≡ found = ok-is (before, text) found e in record {
       calls = [];
       all = sym (ap (λ (p : List Done × List ℕ). p.0) same) ∙ sym (append-nil before);
@@ -47,9 +47,9 @@ calls-read-back bounds before [] text found few short e =
   where
     ok-is : (x y : List Done × List ℕ) → ◌≡◌ {A = Result (List Done × List ℕ) ℕ} (Ok x) (Ok y) → x ≡ y
     ok-is x y e = cc
-calls-read-back bounds before (slot ∷ slots) text found few short e =
+calls-read-back bounds before (slot ∷ slots) text {found} few short e =
     at_call (call_in bounds slot text) refl e
-    (λ call rest. calls-read-back bounds (before ++ call ∷ []) slots rest found few short)
+    (λ call rest. calls-read-back bounds (before ++ call ∷ []) slots rest few short)
   where
     at_call : (o : Option (Done × List ℕ)) → call_in bounds slot text ≡ o
         → or_lines (length before) o (λ (line : Done × List ℕ). calls_in bounds (before ++ line.0 ∷ []) slots line.1)
@@ -80,15 +80,16 @@ record AreNumbers (room : ℕ) (before text : List ℕ) (found : List ℕ × Lis
   low : AreSmall numbers
   parts : text ≡ (fields numbers ++ 10 ∷ []) ++ found.1
 
-none-more : (room : ℕ) (before text mid : List ℕ) (found : List ℕ × List ℕ) → word_in (10 ∷ []) text ≡ Some mid
+none-more : (room : ℕ) (before text : List ℕ) {mid : List ℕ} (found : List ℕ × List ℕ)
+    → word_in (10 ∷ []) text ≡ Some mid
     → ◌≡◌ {A = Option (List ℕ × List ℕ)} (Some (before, mid)) (Some found) → AreNumbers room before text found
-none-more room before text mid found is e =
+none-more room before text {mid} found is e =
     let same : (before, mid) ≡ found = some-is (before, mid) found e in record {
       numbers = [];
       all = sym (ap (λ (p : List ℕ × List ℕ). p.0) same) ∙ sym (append-nil before);
       few = omega arith;
       low = All-nil (λ actor. actor < most);
-      parts = word-text (10 ∷ []) text mid is
+      parts = word-text (10 ∷ []) text is
           ∙ ap (λ (p : List ℕ × List ℕ). (10 ∷ []) ++ p.1) same;
     }
   where
@@ -108,14 +109,14 @@ one-more room n before text rest found is later = record {
       ∙ ap (λ (xs : List ℕ). xs ++ found.1) (sym (append_assoc (field n) (fields later.numbers) (10 ∷ [])));
 }
 
-numbers-read-back : (room : ℕ) (before text : List ℕ) (found : List ℕ × List ℕ)
+numbers-read-back : (room : ℕ) (before text : List ℕ) {found : List ℕ × List ℕ}
     → numbers_in room before text ≡ Some found → AreNumbers room before text found
 unfolding numbers_in
-numbers-read-back zero before text found e =
-    bind-elim (word_in (10 ∷ []) text) _ found e (λ mid em nm. none-more zero before text mid found em nm)
-numbers-read-back (suc room) before text found e =
+numbers-read-back zero before text {found} e =
+    bind-elim (word_in (10 ∷ []) text) _ e (λ mid em nm. none-more zero before text found em nm)
+numbers-read-back (suc room) before text {found} e =
     at_end (word_in (10 ∷ []) text) refl e
-    (λ n rest. numbers-read-back room (before ++ n ∷ []) rest found)
+    (λ n rest. numbers-read-back room (before ++ n ∷ []) rest)
   where
     at_end : (o : Option (List ℕ)) → word_in (10 ∷ []) text ≡ o
         → ended before o (number_in most text >>= (λ (number : ℕ × List ℕ).
@@ -123,26 +124,26 @@ numbers-read-back (suc room) before text found e =
         → ((n : ℕ) (rest : List ℕ) → numbers_in room (before ++ n ∷ []) rest ≡ Some found
         → AreNumbers room (before ++ n ∷ []) rest found)
         → AreNumbers (suc room) before text found
-    at_end (Some mid) is e deeper = none-more (suc room) before text mid found is e
+    at_end (Some mid) is e deeper = none-more (suc room) before text found is e
     at_end None is e deeper =
-        bind-elim (number_in most text) _ found e (λ number en nn.
-        one-more room number.0 before text number.1 found en (deeper number.0 number.1 nn))
+        bind-elim (number_in most text) _ e (λ number en nn. one-more room number.0 before text number.1 found en
+        (deeper number.0 number.1 nn))
 
-some-numbers : (room n : ℕ) (before text rest : List ℕ) (found : List ℕ × List ℕ)
+some-numbers : {room : ℕ} (n : ℕ) (before text : List ℕ) {rest : List ℕ} {found : List ℕ × List ℕ}
     (is : number_in most text ≡ Some (n, rest)) (later : AreNumbers room (before ++ n ∷ []) rest found)
     → 0 < length (one-more room n before text rest found is later).numbers
 unfolding one-more
-some-numbers room n before text rest found is later = omega arith
+some-numbers n before text is later = omega arith
 
 -- the numbers of a line, of which there is one at least
-order-read-back : (before text : List ℕ) (found : List ℕ × List ℕ) → order_in before text ≡ Some found
+order-read-back : (before text : List ℕ) {found : List ℕ × List ℕ} → order_in before text ≡ Some found
     → (line : AreNumbers 64 before text found) × (0 < length line.numbers)
-order-read-back before text found e =
-    bind-elim (number_in most text) _ found e (λ number en nn.
+order-read-back before text {found} e =
+    bind-elim (number_in most text) _ e (λ number en nn.
     let later : AreNumbers 63 (before ++ number.0 ∷ []) number.1 found =
-    numbers-read-back 63 (before ++ number.0 ∷ []) number.1 found nn in (
+    numbers-read-back 63 (before ++ number.0 ∷ []) number.1 nn in (
       one-more 63 number.0 before text number.1 found en later,
-      some-numbers 63 number.0 before text number.1 found en later,
+      some-numbers number.0 before text en later,
     ))
 
 -- what was read of the order
@@ -168,10 +169,9 @@ no-orders before text found e =
     ok-is x y e = cc
 
 -- a line in front of others is a piece of all numbers
-cut-front : (before line later : List ℕ) → length before % 64 ≡ 0 → 0 < length line → length line ≤ 64
-    → (length (before ++ line) % 64 ≡ 0) ⊎ (later ≡ [])
-    → pieces (line ++ later) ≡ line ∷ pieces later
-cut-front before line later full some few (inl next) =
+cut-front : (before line : List ℕ) {later : List ℕ} → length before % 64 ≡ 0 → 0 < length line → length line ≤ 64
+    → (length (before ++ line) % 64 ≡ 0) ⊎ (later ≡ []) → pieces (line ++ later) ≡ line ∷ pieces later
+cut-front before line {later} full some few (inl next) =
     let whole : length line ≡ 64 = omega (arith, full, some, few, next, length-append before line) in
     pieces-cut (line ++ later) (omega (arith, some, length-append line later))
     ∙ ap (λ xs. xs ∷ pieces (drop 64 (line ++ later))) (take-seam line later 64 whole)
@@ -182,19 +182,19 @@ cut-front before line later full some few (inl next) =
 
     drop-seam : (xs ys : List ℕ) (n : ℕ) → length xs ≡ n → drop n (xs ++ ys) ≡ ys
     drop-seam xs ys n e = ap (λ k. drop k (xs ++ ys)) (sym e) ∙ drop-append_seam xs ys
-cut-front before line later full some few (inr none) =
+cut-front before line full some few (inr none) =
     ap (λ (xs : List ℕ). pieces (line ++ xs)) none
     ∙ ap pieces (append-nil line)
     ∙ pieces-cut line some
     ∙ ap (λ xs. xs ∷ pieces (drop 64 line)) (take_all 64 line few)
     ∙ ap (λ (xs : List ℕ). line ∷ pieces xs) (drop_all 64 line few ∙ sym none)
 
-orders-read-back : (fuel : ℕ) (before text : List ℕ) (found : List ℕ × List ℕ)
-    → orders_in fuel before text ≡ Ok found → AreOrders before text found
+orders-read-back : (fuel : ℕ) (before text : List ℕ) {found : List ℕ × List ℕ} → orders_in fuel before text ≡ Ok found
+    → AreOrders before text found
 unfolding orders_in
-orders-read-back zero before text found e = no-orders before text found e
-orders-read-back (suc fuel) before text found e =
-    at_test (eqb (length before % 64) 0) refl e (λ now rest. orders-read-back fuel now rest found)
+orders-read-back zero before text {found} e = no-orders before text found e
+orders-read-back (suc fuel) before text {found} e =
+    at_test (eqb (length before % 64) 0) refl e (λ now rest. orders-read-back fuel now rest)
   where
     at_line : (length before % 64 ≡ 0) → (rest : List ℕ) → word_in (codes "order") text ≡ Some rest
         → (o : Option (List ℕ × List ℕ)) → order_in before rest ≡ o
@@ -203,17 +203,17 @@ orders-read-back (suc fuel) before text found e =
         → AreOrders before text found
     at_line full rest word None is e deeper = let bad : Err (order_line_count before) ≡ Ok found = e in cc
     at_line full rest word (Some line) is e deeper =
-        let read = order-read-back before rest line is in
+        let read = order-read-back before rest is in
         let numbers : List ℕ = read.0.numbers in
         let later : AreOrders line.0 line.1 found = deeper line.0 line.1 e in
         let cut : pieces (numbers ++ later.numbers) ≡ numbers ∷ pieces later.numbers =
-        cut-front before numbers later.numbers full read.1 read.0.few
+        cut-front before numbers full read.1 read.0.few
         (subst (λ (xs : List ℕ). (length xs % 64 ≡ 0) ⊎ (later.numbers ≡ [])) read.0.all later.full) in record {
           numbers = numbers ++ later.numbers;
           all = later.all ∙ ap (λ (xs : List ℕ). xs ++ later.numbers) read.0.all
               ∙ append_assoc before numbers later.numbers;
           low = All-append (λ actor. actor < most) numbers later.numbers read.0.low later.low;
-          parts = word-text (codes "order") text rest word
+          parts = word-text (codes "order") text word
               ∙ ap (λ (xs : List ℕ). codes "order" ++ xs) (read.0.parts
               ∙ ap (λ (xs : List ℕ). (fields numbers ++ 10 ∷ []) ++ xs) later.parts)
               ∙ sym (append_assoc (order_line numbers) (concat (map order_line (pieces later.numbers))) found.1)
@@ -251,8 +251,8 @@ record IsEnd (text : List ℕ) (n : ℕ) (rest : List ℕ) : Type 0 where
 end-parts : (text rest : List ℕ) (n : ℕ) → end_in text ≡ Some (n, rest) → IsEnd text n rest
 end-parts text rest n e =
     record {
-      low = closing-low (codes "end") text (n, rest) e;
-      parts = closing-front (codes "end") text (n, rest) rest e refl;
+      low = closing-low (codes "end") text e;
+      parts = closing-front (codes "end") text e refl;
     }
 
 -- an outcome whose last line was read
@@ -261,9 +261,9 @@ record IsWhole (text : List ℕ) (made outcome : Outcome) : Type 0 where
   low : length made.order < most
   parts : text ≡ last_line (length made.order) ++ []
 
-end-read-back : (lines : ℕ) (text : List ℕ) (made outcome : Outcome)
+end-read-back : (lines : ℕ) (text : List ℕ) (made : Outcome) {outcome : Outcome}
     → ends_with lines (end_in text) made ≡ Ok outcome → IsWhole text made outcome
-end-read-back lines text made outcome e = at_end (end_in text) refl e
+end-read-back lines text made {outcome} e = at_end (end_in text) refl e
   where
     at_rest : (n : ℕ) (rest : List ℕ) → n ≡ length made.order → IsEnd text n rest
         → nothing_behind lines rest made ≡ Ok outcome → IsWhole text made outcome
@@ -292,25 +292,25 @@ end-read-back lines text made outcome e = at_end (end_in text) refl e
 abbrev outcome_with : List Done → List ℕ → Outcome
 outcome_with calls order = record { calls = calls; order = order }
 
-then-elim : {A B P : Type 0} (r : Result A ℕ) (f : A → Result B ℕ) (y : B) → and_then r f ≡ Ok y
+then-elim : {A B P : Type 0} (r : Result A ℕ) (f : A → Result B ℕ) {y : B} → and_then r f ≡ Ok y
     → ((x : A) → r ≡ Ok x → f x ≡ Ok y → P) → P
-then-elim (Ok x) f y e go = go x refl e
-then-elim (Err lines) f y e go = let bad : Err lines ≡ Ok y = e in cc
+then-elim (Ok x) f e go = go x refl e
+then-elim (Err lines) f {y} e go = let bad : Err lines ≡ Ok y = e in cc
 
-more-is : {A : Type 0} (lines : ℕ) (r : Result A ℕ) (x : A) → lines_more lines r ≡ Ok x → r ≡ Ok x
-more-is lines (Ok found) x e = e
-more-is lines (Err more) x e = let bad : Err (lines + more) ≡ Ok x = e in cc
+more-is : {A : Type 0} (lines : ℕ) (r : Result A ℕ) {x : A} → lines_more lines r ≡ Ok x → r ≡ Ok x
+more-is lines (Ok found) e = e
+more-is lines (Err more) {x} e = let bad : Err (lines + more) ≡ Ok x = e in cc
 
 pub read-back : ReadReportsAreText
 read-back bounds slots text outcome few short e =
-    then-elim (calls_in bounds [] slots text) _ outcome e (λ calls ec nc.
-    then-elim (lines_more (length calls.0) (orders_in (length calls.1) [] calls.1)) _ outcome nc (λ order eo no.
-    let first : AreCalls bounds [] slots text calls = calls-read-back bounds [] slots text calls few short ec in
+    then-elim (calls_in bounds [] slots text) _ e (λ calls ec nc. then-elim
+    (lines_more (length calls.0) (orders_in (length calls.1) [] calls.1)) _ nc (λ order eo no.
+    let first : AreCalls bounds [] slots text calls = calls-read-back bounds [] slots text few short ec in
     let second : AreOrders [] calls.1 order =
-    orders-read-back (length calls.1) [] calls.1 order
-    (more-is (length calls.0) (orders_in (length calls.1) [] calls.1) order eo) in
+    orders-read-back (length calls.1) [] calls.1 (more-is (length calls.0) (orders_in (length calls.1) [] calls.1)
+    eo) in
     let made : Outcome = record { calls = calls.0; order = order.0 } in
-    let third : IsWhole order.1 made outcome = end-read-back (lines_before_end made) order.1 made outcome no in
+    let third : IsWhole order.1 made outcome = end-read-back (lines_before_end made) order.1 made no in
     let whole : Outcome = record { calls = first.calls; order = second.numbers } in
     let same : whole ≡ outcome =
     ap (λ (cs : List Done). outcome_with cs second.numbers) (sym first.all)
@@ -323,9 +323,7 @@ read-back bounds slots text outcome few short e =
         order = second.low;
         visits = omega (arith, third.low, count);
       },
-      first.parts
-          ∙ ap (λ (xs : List ℕ). concat (map call_line first.calls) ++ xs) (second.parts
-          ∙ ap (λ (xs : List ℕ). concat (map order_line (pieces second.numbers)) ++ xs)
-          (third.parts ∙ ap (λ k. last_line k ++ []) count))
-          ∙ sym (text-parts whole),
+      first.parts ∙ ap (λ (xs : List ℕ). concat (map call_line first.calls) ++ xs)
+          (second.parts ∙ ap (λ (xs : List ℕ). concat (map order_line (pieces second.numbers)) ++ xs)
+          (third.parts ∙ ap (λ k. last_line k ++ []) count)) ∙ sym (text-parts whole),
     )))

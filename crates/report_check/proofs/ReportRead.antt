@@ -97,10 +97,10 @@ order-goes fuel before n ns rest full few low =
     ∙ ap (λ o. or_lines (order_line_count before) o (λ (found : List ℕ × List ℕ). orders_in fuel found.0 found.1))
     (order-reads before n ns rest few low)
 
-either : (t : Bool) (before tail : List ℕ) (o : Option (List ℕ)) (next : List ℕ → Result (List ℕ × List ℕ) ℕ)
-    → o ≡ None → cond t (in_order before tail o next) (Ok (before, tail)) ≡ Ok (before, tail)
-either true before tail o next none = ap (λ p. in_order before tail p next) none
-either false before tail o next none = refl
+either : (t : Bool) (before tail : List ℕ) {o : Option (List ℕ)} (next : List ℕ → Result (List ℕ × List ℕ) ℕ) → o ≡ None
+    → cond t (in_order before tail o next) (Ok (before, tail)) ≡ Ok (before, tail)
+either true before tail next none = ap (λ p. in_order before tail p next) none
+either false before tail next none = refl
 
 -- the order has ended
 order-ends : (fuel : ℕ) (before tail : List ℕ) → word_in (codes "order") tail ≡ None
@@ -108,7 +108,7 @@ order-ends : (fuel : ℕ) (before tail : List ℕ) → word_in (codes "order") t
 unfolding orders_in
 order-ends zero before tail stop = refl
 order-ends (suc fuel) before tail stop =
-    either (eqb (length before % 64) 0) before tail (word_in (codes "order") tail) _ stop
+    either (eqb (length before % 64) 0) before tail _ stop
 
 -- the lines of numbers, cut into at most so many pieces
 abbrev pub lines_for : ℕ → List ℕ → List ℕ
@@ -161,16 +161,16 @@ orders-read (suc fuel) (suc room) before (n ∷ ns) tail few fits low (inl full)
 
 -- ---- the whole
 
-same-count : (lines n : ℕ) (outcome : Outcome) → n ≡ length outcome.order
+same-count : (lines : ℕ) {n : ℕ} (outcome : Outcome) → n ≡ length outcome.order
     → ends_with lines (Some (n, [])) outcome ≡ Ok outcome
-same-count lines n outcome same = grind (arith, nat_tests)
+same-count lines outcome same = grind (arith, nat_tests)
 
 end-reads : (outcome : Outcome) → length outcome.order < most
     → report_end outcome (last_line (length outcome.order) ++ []) ≡ Ok outcome
 end-reads outcome low =
     ap (λ o. ends_with (lines_before_end outcome) o outcome)
     (closing-reads (codes "end") (length outcome.order) [] low)
-    ∙ same-count (lines_before_end outcome) (length outcome.order) outcome refl
+    ∙ same-count (lines_before_end outcome) outcome refl
 
 pub text-parts : (outcome : Outcome)
     → report_of outcome ≡ concat (map call_line outcome.calls)

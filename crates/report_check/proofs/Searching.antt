@@ -148,18 +148,18 @@ pub record IsPlace (text : List ℕ) (start at : ℕ) : Type 0 where
   pub input : input_from [] text ≡ take start text ++ input_from (between start at text) (drop at text)
   pub report : report_from [] text ≡ report_from (between start at text) (drop at text)
 
-pub place-plain : (text : List ℕ) (start at : ℕ) → IsPlace text start at → at < length text → get_or text at 0 ≢ 10
+pub place-plain : {text : List ℕ} {start at : ℕ} → IsPlace text start at → at < length text → get_or text at 0 ≢ 10
     → IsPlace text start (at + 1)
-place-plain text start at is below other = record {
+place-plain {text} {start} {at} is below other = record {
   low = omega (arith, is.low);
   front = front-plain text start at is.low below is.front;
   input = is.input ∙ ap (λ t. take start text ++ t) (input-goes text start at is.low below other);
   report = is.report ∙ report-goes text start at is.low below other;
 }
 
-pub place-line : (text : List ℕ) (start at : ℕ) → IsPlace text start at → at < length text → get_or text at 0 ≡ 10
+pub place-line : {text : List ℕ} {start at : ℕ} → IsPlace text start at → at < length text → get_or text at 0 ≡ 10
     → is_cut (between start at text) ≡ false → IsPlace text (at + 1) (at + 1)
-place-line text start at is below same keeps = record {
+place-line {text} {start} {at} is below same keeps = record {
   low = omega arith;
   front = front-line text at;
   input = is.input ∙ input-line text start at below same keeps is.front;

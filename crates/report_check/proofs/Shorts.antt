@@ -54,25 +54,25 @@ digit-alone a b text digit other = at (eqb a 48) refl
         ∙ more 0 a (b ∷ text) (omega arith) digit ∙ stop (10 * 0 + (a - 48)) b text other
         ∙ ap (λ (n : ℕ). Some (n, b ∷ text)) first
 
-pub one-digit : (text : List ℕ) (n : ℕ) → 5 ≤ length text → get_or text 0 0 ≡ 32
-    → is_ascii_digit (get_or text 1 0) ≡ true → is_ascii_digit (get_or text 2 0) ≡ false
-    → n ≡ get_or text 1 0 - 48 → number_in most text ≡ Some (n, drop 2 text)
-one-digit [] n some blank digit other is = absurd (omega (arith, some))
-one-digit (x ∷ []) n some blank digit other is = absurd (omega (arith, some))
-one-digit (x ∷ a ∷ []) n some blank digit other is = absurd (omega (arith, some))
-one-digit (x ∷ a ∷ b ∷ text) n some blank digit other is =
+pub one-digit : (text : List ℕ) {n : ℕ} → 5 ≤ length text → get_or text 0 0 ≡ 32
+    → is_ascii_digit (get_or text 1 0) ≡ true → is_ascii_digit (get_or text 2 0) ≡ false → n ≡ get_or text 1 0 - 48
+    → number_in most text ≡ Some (n, drop 2 text)
+one-digit [] some blank digit other is = absurd (omega (arith, some))
+one-digit (x ∷ []) some blank digit other is = absurd (omega (arith, some))
+one-digit (x ∷ a ∷ []) some blank digit other is = absurd (omega (arith, some))
+one-digit (x ∷ a ∷ b ∷ text) some blank digit other is =
     ap (λ (y : ℕ). number_in most (y ∷ a ∷ b ∷ text)) blank ∙ blank-in (a ∷ b ∷ text)
     ∙ digit-alone a b text digit other ∙ ap (λ (m : ℕ). Some (m, b ∷ text)) (sym is)
 
-pub two-digits : (text : List ℕ) (m n : ℕ) → 5 ≤ length text → get_or text 0 0 ≡ 32
+pub two-digits : (text : List ℕ) {m n : ℕ} → 5 ≤ length text → get_or text 0 0 ≡ 32
     → is_ascii_digit (get_or text 1 0) ≡ true → is_ascii_digit (get_or text 2 0) ≡ true
     → is_ascii_digit (get_or text 3 0) ≡ false → get_or text 1 0 ≢ 48 → m ≡ get_or text 1 0 - 48
     → n ≡ get_or text 2 0 - 48 → number_in most text ≡ Some (10 * m + n, drop 3 text)
-two-digits [] m n some blank first second other nonzero is next = absurd (omega (arith, some))
-two-digits (x ∷ []) m n some blank first second other nonzero is next = absurd (omega (arith, some))
-two-digits (x ∷ a ∷ []) m n some blank first second other nonzero is next = absurd (omega (arith, some))
-two-digits (x ∷ a ∷ b ∷ []) m n some blank first second other nonzero is next = absurd (omega (arith, some))
-two-digits (x ∷ a ∷ b ∷ c ∷ text) m n some blank first second other nonzero is next =
+two-digits [] some blank first second other nonzero is next = absurd (omega (arith, some))
+two-digits (x ∷ []) some blank first second other nonzero is next = absurd (omega (arith, some))
+two-digits (x ∷ a ∷ []) some blank first second other nonzero is next = absurd (omega (arith, some))
+two-digits (x ∷ a ∷ b ∷ []) some blank first second other nonzero is next = absurd (omega (arith, some))
+two-digits (x ∷ a ∷ b ∷ c ∷ text) {m} some blank first second other nonzero is next =
     let one : 10 * 0 + (a - 48) ≡ m = omega (arith, is) in
     ap (λ (y : ℕ). number_in most (y ∷ a ∷ b ∷ c ∷ text)) blank ∙ blank-in (a ∷ b ∷ c ∷ text)
     ∙ digits-some a (b ∷ c ∷ text) first nonzero ∙ more 0 a (b ∷ c ∷ text) (omega arith) first
@@ -81,19 +81,19 @@ two-digits (x ∷ a ∷ b ∷ c ∷ text) m n some blank first second other nonz
     ∙ stop (10 * m + (b - 48)) c text other
     ∙ ap (λ (v : ℕ). Some (10 * m + v, c ∷ text)) (sym next)
 
-pub three-digits : (text : List ℕ) (m n o : ℕ) → 5 ≤ length text → get_or text 0 0 ≡ 32
+pub three-digits : (text : List ℕ) {m n o : ℕ} → 5 ≤ length text → get_or text 0 0 ≡ 32
     → is_ascii_digit (get_or text 1 0) ≡ true → is_ascii_digit (get_or text 2 0) ≡ true
-    → is_ascii_digit (get_or text 3 0) ≡ true → is_ascii_digit (get_or text 4 0) ≡ false
-    → get_or text 1 0 ≢ 48 → m ≡ get_or text 1 0 - 48 → n ≡ get_or text 2 0 - 48 → o ≡ get_or text 3 0 - 48
+    → is_ascii_digit (get_or text 3 0) ≡ true → is_ascii_digit (get_or text 4 0) ≡ false → get_or text 1 0 ≢ 48
+    → m ≡ get_or text 1 0 - 48 → n ≡ get_or text 2 0 - 48 → o ≡ get_or text 3 0 - 48
     → number_in most text ≡ Some (10 * (10 * m + n) + o, drop 4 text)
-three-digits [] m n o some blank first second third other nonzero is next last = absurd (omega (arith, some))
-three-digits (x ∷ []) m n o some blank first second third other nonzero is next last = absurd (omega (arith, some))
-three-digits (x ∷ a ∷ []) m n o some blank first second third other nonzero is next last = absurd (omega (arith, some))
-three-digits (x ∷ a ∷ b ∷ []) m n o some blank first second third other nonzero is next last =
+three-digits [] some blank first second third other nonzero is next last = absurd (omega (arith, some))
+three-digits (x ∷ []) some blank first second third other nonzero is next last = absurd (omega (arith, some))
+three-digits (x ∷ a ∷ []) some blank first second third other nonzero is next last = absurd (omega (arith, some))
+three-digits (x ∷ a ∷ b ∷ []) some blank first second third other nonzero is next last =
     absurd (omega (arith, some))
-three-digits (x ∷ a ∷ b ∷ c ∷ []) m n o some blank first second third other nonzero is next last =
+three-digits (x ∷ a ∷ b ∷ c ∷ []) some blank first second third other nonzero is next last =
     absurd (omega (arith, some))
-three-digits (x ∷ a ∷ b ∷ c ∷ d ∷ text) m n o some blank first second third other nonzero is next last =
+three-digits (x ∷ a ∷ b ∷ c ∷ d ∷ text) {m} {n} some blank first second third other nonzero is next last =
     let one : 10 * 0 + (a - 48) ≡ m = omega (arith, is) in
     let two : 10 * m + (b - 48) ≡ 10 * m + n = omega (arith, next) in
     ap (λ (y : ℕ). number_in most (y ∷ a ∷ b ∷ c ∷ d ∷ text)) blank ∙ blank-in (a ∷ b ∷ c ∷ d ∷ text)

@@ -18,8 +18,8 @@ unfolding word_in
 word-ended ws i [] low none = ap (λ xs. word_in xs []) (drop_more ws i 0 low)
 word-ended ws i (b ∷ text) low none = absurd (omega (arith, none))
 
-compare : (w b : ℕ) (some : Option (List ℕ)) → b ≡ w → cond (eqb w b) some None ≡ some
-compare w b some e = grind (arith, nat_tests)
+compare : {w b : ℕ} (some : Option (List ℕ)) → b ≡ w → cond (eqb w b) some None ≡ some
+compare some e = grind (arith, nat_tests)
 
 differ : (w b : ℕ) (some : Option (List ℕ)) → w ≢ b → cond (eqb w b) some None ≡ None
 differ w b some e = grind (arith, nat_tests)
@@ -30,7 +30,7 @@ unfolding word_in
 word-goes ws i [] low some same = absurd (omega (arith, some))
 word-goes ws i (b ∷ text) low some same =
     ap (λ xs. word_in xs (b ∷ text)) (drop_more ws i 0 low)
-    ∙ compare (get_or ws i 0) b (word_in (drop (i + 1) ws) text) same
+    ∙ compare (word_in (drop (i + 1) ws) text) same
 
 pub word-differs : (ws : List ℕ) (i : ℕ) (text : List ℕ) → i < length ws → 1 ≤ length text
     → get_or ws i 0 ≢ get_or text 0 0 → word_in (drop i ws) text ≡ None
@@ -88,15 +88,15 @@ number-few n (calls.Find from sub) = omega arith
 number-few n calls.Off = omega arith
 number-few n calls.On = omega arith
 
-pub number-step : (n m : ℕ) (call : Call) (i : ℕ) → n ≤ i → m ≡ number_after n call → m ≤ i + 1
-number-step n m call i few is = omega (arith, few, is, number-few n call)
+pub number-step : (n : ℕ) {m : ℕ} (call : Call) (i : ℕ) → n ≤ i → m ≡ number_after n call → m ≤ i + 1
+number-step n call i few is = omega (arith, few, is, number-few n call)
 
-pub slots-step : (before now whole : List Slot) (slot : Slot) (a p n q m : ℕ) (script : List Call) (i : ℕ) (d : Call)
-    → i < length script → now ≡ before ++ slot ∷ [] → slot ≡ slot_of a p n (get_or script i d)
+pub slots-step : (before : List Slot) {now whole : List Slot} {slot : Slot} (a p n : ℕ) {q m : ℕ} (script : List Call)
+    (i : ℕ) (d : Call) → i < length script → now ≡ before ++ slot ∷ [] → slot ≡ slot_of a p n (get_or script i d)
     → q ≡ place_after p (get_or script i d) → m ≡ number_after n (get_or script i d)
     → before ++ slots_in a p n (drop i script) ≡ whole → now ++ slots_in a q m (drop (i + 1) script) ≡ whole
 unfolding slots_in
-slots-step before now whole slot a p n q m script i d low grown is place number same =
+slots-step before {slot} a p n {q} {m} script i d low grown is place number same =
     let more : slots_in a p n (drop i script)
     ≡ slot_of a p n (get_or script i d)
     ∷ slots_in a (place_after p (get_or script i d)) (number_after n (get_or script i d)) (drop (i + 1) script) =
@@ -110,21 +110,19 @@ slots-step before now whole slot a p n q m script i d low grown is place number 
     ∙ ap (λ (ys : List Slot). before ++ ys) (sym more)
     ∙ same
 
-pub slots-done : (before whole : List Slot) (a p n : ℕ) (script : List Call) (i : ℕ) → length script ≤ i
+pub slots-done : (before : List Slot) {whole : List Slot} (a p n : ℕ) (script : List Call) (i : ℕ) → length script ≤ i
     → before ++ slots_in a p n (drop i script) ≡ whole → before ≡ whole
 unfolding slots_in
-slots-done before whole a p n script i high same =
+slots-done before a p n script i high same =
     sym (append-nil before) ∙ ap (λ (ys : List Slot). before ++ ys) (sym (ap (slots_in a p n) (drop_all i script high)))
     ∙ same
 
-pub scripts-step : (homes : List ℕ) (before now whole : List Slot) (a : ℕ) (scripts : List (List Call))
-    (script : List Call)
-    → a < length scripts → get_or scripts a [] ≡ script
-    → now ≡ before ++ slots_in a (get_or homes a 0) 0 script
-    → before ++ slots_from homes a (drop a scripts) ≡ whole → now ++ slots_from homes (a + 1) (drop (a + 1) scripts)
-    ≡ whole
+pub scripts-step : (homes : List ℕ) (before : List Slot) {now whole : List Slot} (a : ℕ) (scripts : List (List Call))
+    {script : List Call} → a < length scripts → get_or scripts a [] ≡ script
+    → now ≡ before ++ slots_in a (get_or homes a 0) 0 script → before ++ slots_from homes a (drop a scripts) ≡ whole
+    → now ++ slots_from homes (a + 1) (drop (a + 1) scripts) ≡ whole
 unfolding slots_from
-scripts-step homes before now whole a scripts script low is grown same =
+scripts-step homes before a scripts {script} low is grown same =
     let more : slots_from homes a (drop a scripts)
     ≡ slots_in a (get_or homes a 0) 0 (get_or scripts a []) ++ slots_from homes (a + 1) (drop (a + 1) scripts) =
     ap (slots_from homes a) (drop_more scripts a [] low)
@@ -137,10 +135,10 @@ scripts-step homes before now whole a scripts script low is grown same =
     ∙ ap (λ (ys : List Slot). before ++ ys) (sym more)
     ∙ same
 
-pub scripts-done : (homes : List ℕ) (before whole : List Slot) (a : ℕ) (scripts : List (List Call)) → length scripts ≤ a
-    → before ++ slots_from homes a (drop a scripts) ≡ whole → before ≡ whole
+pub scripts-done : (homes : List ℕ) (before : List Slot) {whole : List Slot} (a : ℕ) (scripts : List (List Call))
+    → length scripts ≤ a → before ++ slots_from homes a (drop a scripts) ≡ whole → before ≡ whole
 unfolding slots_from
-scripts-done homes before whole a scripts high same =
+scripts-done homes before a scripts high same =
     sym (append-nil before)
     ∙ ap (λ (ys : List Slot). before ++ ys) (sym (ap (slots_from homes a) (drop_all a scripts high)))
     ∙ same
@@ -149,10 +147,10 @@ pub pass-none : {A : Type 0} {P : Type 0} (o : Option A) → P → IfNone o P
 pass-none None p = p
 pass-none (Some x) p = tt
 
-chosen : (w b : ℕ) (xs ys text mid : List ℕ) → cond (eqb w b) (word_in xs text) None ≡ Some mid
+chosen : (w b : ℕ) (xs ys text : List ℕ) {mid : List ℕ} → cond (eqb w b) (word_in xs text) None ≡ Some mid
     → (word_in xs text ≡ Some mid → word_in (xs ++ ys) text ≡ word_in ys mid)
     → cond (eqb w b) (word_in (xs ++ ys) text) None ≡ word_in ys mid
-chosen w b xs ys text mid e go = by (eqb w b) refl
+chosen w b xs ys text {mid} e go = by (eqb w b) refl
   where
     by : (t : Bool) → eqb w b ≡ t → cond (eqb w b) (word_in (xs ++ ys) text) None ≡ word_in ys mid
     by true is =
@@ -176,18 +174,19 @@ first-of : List ℕ → Option (List ℕ) → Option (List ℕ)
 first-of ys None = None
 first-of ys (Some text) = word_in ys text
 
-pick-yes : {A : Type 0} (x y : ℕ) (a b : A) → x ≡ y → cond (eqb x y) a b ≡ a
-pick-yes x y a b e = grind (arith, nat_tests)
+pick-yes : {A : Type 0} {x y : ℕ} (a b : A) → x ≡ y → cond (eqb x y) a b ≡ a
+pick-yes a b e = grind (arith, nat_tests)
 
 pick-no : {A : Type 0} (x y : ℕ) (a b : A) → x ≢ y → cond (eqb x y) a b ≡ b
 pick-no x y a b e = grind (arith, nat_tests)
 
 -- two texts, one behind the other
-pub word-then : (xs ys text mid : List ℕ) → word_in xs text ≡ Some mid → word_in (xs ++ ys) text ≡ word_in ys mid
+pub word-then : (xs ys text : List ℕ) {mid : List ℕ} → word_in xs text ≡ Some mid
+    → word_in (xs ++ ys) text ≡ word_in ys mid
 unfolding word_in first-of
-word-then [] ys text mid e = ap (λ (o : Option (List ℕ)). first-of ys o) e
-word-then (x ∷ xs) ys [] mid e = cc
-word-then (x ∷ xs) ys (b ∷ text) mid e = chosen x b xs ys text mid e (word-then xs ys text mid)
+word-then [] ys text e = ap (λ (o : Option (List ℕ)). first-of ys o) e
+word-then (x ∷ xs) ys [] e = cc
+word-then (x ∷ xs) ys (b ∷ text) e = chosen x b xs ys text e (word-then xs ys text)
 
 pub word-missing : (xs ys text : List ℕ) → word_in xs text ≡ None → word_in (xs ++ ys) text ≡ None
 unfolding word_in
@@ -195,12 +194,12 @@ word-missing [] ys text e = let bad : Some text ≡ None = e in cc
 word-missing (x ∷ xs) ys [] e = refl
 word-missing (x ∷ xs) ys (b ∷ text) e = left-out x b xs ys text e (word-missing xs ys text)
 
-pub fields-step : (numbers : List ℕ) (i : ℕ) (text mid : List ℕ) → i < length numbers
-    → word_in (field (get_or numbers i 0)) text ≡ Some mid
-    → word_in (fields (drop i numbers)) text ≡ word_in (fields (drop (i + 1) numbers)) mid
-fields-step numbers i text mid low e =
+pub fields-step : (numbers : List ℕ) (i : ℕ) (text : List ℕ) {mid : List ℕ} → i < length numbers
+    → word_in (field (get_or numbers i 0)) text ≡ Some mid → word_in (fields (drop i numbers)) text ≡ word_in
+    (fields (drop (i + 1) numbers)) mid
+fields-step numbers i text low e =
     ap (λ ns. word_in (fields ns) text) (drop_more numbers i 0 low)
-    ∙ word-then (field (get_or numbers i 0)) (fields (drop (i + 1) numbers)) text mid e
+    ∙ word-then (field (get_or numbers i 0)) (fields (drop (i + 1) numbers)) text e
 
 pub fields-missing : (numbers : List ℕ) (i : ℕ) (text : List ℕ) → i < length numbers
     → word_in (field (get_or numbers i 0)) text ≡ None → word_in (fields (drop i numbers)) text ≡ None
@@ -216,12 +215,12 @@ first-step order a t low other =
     ∙ pick-no (get_or order t 0) a (Some t) (first_from a (suc t) (drop (t + 1) order)) other
     ∙ ap (λ k. first_from a k (drop (t + 1) order)) (sym (add-one t))
 
-pub first-found : (order : List ℕ) (a t : ℕ) → t < length order → get_or order t 0 ≡ a
+pub first-found : (order : List ℕ) {a : ℕ} (t : ℕ) → t < length order → get_or order t 0 ≡ a
     → first_from a t (drop t order) ≡ Some t
 unfolding first_from
-first-found order a t low same =
+first-found order {a} t low same =
     ap (first_from a t) (drop_more order t 0 low)
-    ∙ pick-yes (get_or order t 0) a (Some t) (first_from a (suc t) (drop (t + 1) order)) same
+    ∙ pick-yes (Some t) (first_from a (suc t) (drop (t + 1) order)) same
 
 pub first-none : (order : List ℕ) (a t : ℕ) → length order ≤ t → first_from a t (drop t order) ≡ None
 unfolding first_from

@@ -10,25 +10,25 @@ use Rattle.report_check.proofs.ReadBack.{read_on, reads_numerals}
 use Rattle.report_check.specs.Reading.{◌>>=◌, digits_from, digits_in, digits_of, number_in, starts_with_digit, word_in}
 
 -- how a reading that goes on went so far
-pub bind-inv : {A B : Type 0} (o : Option A) (f : A → Option B) (y : B) → (o >>= f) ≡ Some y
+pub bind-inv : {A B : Type 0} (o : Option A) (f : A → Option B) {y : B} → (o >>= f) ≡ Some y
     → (x : A) × (o ≡ Some x) × (f x ≡ Some y)
-bind-inv None f y e = let bad : None ≡ Some y = e in cc
-bind-inv (Some x) f y e = (x, refl, e)
+bind-inv None f {y} e = let bad : None ≡ Some y = e in cc
+bind-inv (Some x) f e = (x, refl, e)
 
-same-byte : (w b : ℕ) (ws text rest : List ℕ) (t : Bool) → eqb w b ≡ t
+same-byte : (w b : ℕ) (ws : List ℕ) {text rest : List ℕ} (t : Bool) → eqb w b ≡ t
     → cond t (word_in ws text) None ≡ Some rest → (word_in ws text ≡ Some rest → text ≡ ws ++ rest)
     → b ∷ text ≡ (w ∷ ws) ++ rest
-same-byte w b ws text rest true is e go =
+same-byte w b ws {text} true is e go =
     let same : b ≡ w = grind (arith, nat_tests) in
     ap (λ c. c ∷ text) same ∙ ap (λ (xs : List ℕ). w ∷ xs) (go e)
-same-byte w b ws text rest false is e go = let bad : None ≡ Some rest = e in cc
+same-byte w b ws {rest} false is e go = let bad : None ≡ Some rest = e in cc
 
 -- a word is read where it stands
-pub word-text : (ws text rest : List ℕ) → word_in ws text ≡ Some rest → text ≡ ws ++ rest
+pub word-text : (ws text : List ℕ) {rest : List ℕ} → word_in ws text ≡ Some rest → text ≡ ws ++ rest
 unfolding word_in
-word-text [] text rest e = let same : Some text ≡ Some rest = e in cc
-word-text (w ∷ ws) [] rest e = let bad : None ≡ Some rest = e in cc
-word-text (w ∷ ws) (b ∷ text) rest e = same-byte w b ws text rest (eqb w b) refl e (word-text ws text rest)
+word-text [] text {rest} e = let same : Some text ≡ Some rest = e in cc
+word-text (w ∷ ws) [] {rest} e = let bad : None ≡ Some rest = e in cc
+word-text (w ∷ ws) (b ∷ text) e = same-byte w b ws (eqb w b) refl e (word-text ws text)
 
 -- digits that were read
 record IsRun (limit value : ℕ) (text : List ℕ) (n : ℕ) (rest : List ℕ) : Type 0 where
@@ -51,16 +51,13 @@ none-read value n text rest e = (ap (λ o. first o) e, ap (λ o. second o) e)
     second None = []
     second (Some p) = p.1
 
-run-step : (limit value b n : ℕ) (text rest : List ℕ) (t u : Bool) → is_ascii_digit b ≡ t
+run-step : {limit : ℕ} (value b : ℕ) {n : ℕ} {text rest : List ℕ} (t u : Bool) → is_ascii_digit b ≡ t
     → ltb (10 * value + (b - 48)) limit ≡ u
     → ◌≡◌ {A = Option (ℕ × List ℕ)}
     (cond {A = Option (ℕ × List ℕ)} t (cond u (digits_from limit (10 * value + (b - 48)) text) None)
-    (Some (value, b ∷ text)))
-    (Some (n, rest))
-    → (digits_from limit (10 * value + (b - 48)) text ≡ Some (n, rest)
-    → IsRun limit (10 * value + (b - 48)) text n rest)
-    → IsRun limit value (b ∷ text) n rest
-run-step limit value b n text rest true true digit small e go =
+    (Some (value, b ∷ text))) (Some (n, rest)) → (digits_from limit (10 * value + (b - 48)) text ≡ Some (n, rest)
+    → IsRun limit (10 * value + (b - 48)) text n rest) → IsRun limit value (b ∷ text) n rest
+run-step {limit} value b true true digit small e go =
     let run = go e in
     let below : 10 * value + (b - 48) < limit = grind (arith, nat_tests) in record {
       ds = b ∷ run.ds;
@@ -70,8 +67,8 @@ run-step limit value b n text rest true true digit small e go =
       low = λ h. run.low below;
       stop = run.stop;
     }
-run-step limit value b n text rest true false digit small e go = let bad : None ≡ Some (n, rest) = e in cc
-run-step limit value b n text rest false u digit small e go =
+run-step value b {n} {rest} true false digit small e go = let bad : None ≡ Some (n, rest) = e in cc
+run-step {limit} value b {n} {text} {rest} false u digit small e go =
     let both : (value ≡ n) × (b ∷ text ≡ rest) = none-read value n (b ∷ text) rest e in record {
       ds = [];
       parts = both.1;
@@ -94,7 +91,7 @@ digits-run limit value [] n rest e =
       stop = sym (ap starts_with_digit both.1);
     }
 digits-run limit value (b ∷ text) n rest e =
-    run-step limit value b n text rest (is_ascii_digit b) (ltb (10 * value + (b - 48)) limit) refl refl e
+    run-step value b (is_ascii_digit b) (ltb (10 * value + (b - 48)) limit) refl refl e
     (digits-run limit (10 * value + (b - 48)) text n rest)
 
 first-digit : (limit b n : ℕ) (text rest : List ℕ) (u : Bool) → limit ≤ 2 ^ 63 → b ≢ 48 → is_ascii_digit b ≡ true
@@ -156,8 +153,8 @@ pub number-text : (limit n : ℕ) (text rest : List ℕ) → limit ≤ 2 ^ 63 �
     → text ≡ field n ++ rest
 number-text limit n text rest high e =
     let went : (mid : List ℕ) × (word_in (codes " ") text ≡ Some mid) × (digits_in limit mid ≡ Some (n, rest)) =
-    bind-inv (word_in (codes " ") text) (digits_in limit) (n, rest) e in
-    word-text (codes " ") text went.0 went.1
+    bind-inv (word_in (codes " ") text) (digits_in limit) e in
+    word-text (codes " ") text went.1
     ∙ ap (λ (xs : List ℕ). 32 ∷ xs) (digits-read limit n went.0 rest (ltb 0 limit) high went.2)
 
 -- a number that is read is below its limit
@@ -188,7 +185,7 @@ digits-low limit n text rest false is e = let bad : None ≡ Some (n, rest) = e 
 pub number-low : (limit n : ℕ) (text rest : List ℕ) → number_in limit text ≡ Some (n, rest) → n < limit
 number-low limit n text rest e =
     let went : (mid : List ℕ) × (word_in (codes " ") text ≡ Some mid) × (digits_in limit mid ≡ Some (n, rest)) =
-    bind-inv (word_in (codes " ") text) (digits_in limit) (n, rest) e in
+    bind-inv (word_in (codes " ") text) (digits_in limit) e in
     digits-low limit n went.0 rest (ltb 0 limit) refl went.2
 
 -- no digit stands behind a number that is read
@@ -218,5 +215,5 @@ pub number-stops : (limit n : ℕ) (text rest : List ℕ) → number_in limit te
     → starts_with_digit rest ≡ false
 number-stops limit n text rest e =
     let went : (mid : List ℕ) × (word_in (codes " ") text ≡ Some mid) × (digits_in limit mid ≡ Some (n, rest)) =
-    bind-inv (word_in (codes " ") text) (digits_in limit) (n, rest) e in
+    bind-inv (word_in (codes " ") text) (digits_in limit) e in
     digits-stop limit n went.0 rest (ltb 0 limit) went.2

@@ -37,10 +37,10 @@ left n i low = omega (arith, low)
 none-left : (n i : ℕ) → n ≤ i → n - i ≡ 0
 none-left n i high = omega (arith, high)
 
-pub numbers-ended : (room i : ℕ) (before text rest : List ℕ) → i < room → word_in (10 ∷ []) text ≡ Some rest
+pub numbers-ended : (room i : ℕ) (before text : List ℕ) {rest : List ℕ} → i < room → word_in (10 ∷ []) text ≡ Some rest
     → numbers_in (room - i) before text ≡ Some (before, rest)
 unfolding numbers_in
-numbers-ended room i before text rest low e =
+numbers-ended room i before text low e =
     ap (λ n. numbers_in n before text) (left room i low)
     ∙ ap (λ o. ended before o (number_in most text >>= (λ number.
     numbers_in (room - (i + 1)) (before ++ number.0 ∷ []) number.1))) e
@@ -80,36 +80,36 @@ orders-short n i before text low short =
     otherwise : {A : Type 0} (k : ℕ) (x y : A) → k ≢ 0 → cond (eqb k 0) x y ≡ y
     otherwise k x y e = grind (arith, nat_tests)
 
-full : {A : Type 0} (k : ℕ) (x y : A) → k ≡ 0 → cond (eqb k 0) x y ≡ x
-full k x y e = grind (arith, nat_tests)
+full : {A : Type 0} {k : ℕ} (x y : A) → k ≡ 0 → cond (eqb k 0) x y ≡ x
+full x y e = grind (arith, nat_tests)
 
 pub orders-none : (n i : ℕ) (before text : List ℕ) → i < n → length before % 64 ≡ 0
     → word_in (codes "order") text ≡ None → orders_in (n - i) before text ≡ Ok (before, text)
 unfolding orders_in
 orders-none n i before text low whole none =
     ap (λ k. orders_in k before text) (left n i low)
-    ∙ full (length before % 64) _ _ whole
+    ∙ full _ _ whole
     ∙ ap (λ o. in_order before text o (λ rest. or_lines (order_line_count before) (order_in before rest)
     (λ found. orders_in (n - (i + 1)) found.0 found.1))) none
 
-pub orders-bad : (n i : ℕ) (before text rest : List ℕ) → i < n → length before % 64 ≡ 0
+pub orders-bad : (n i : ℕ) (before text : List ℕ) {rest : List ℕ} → i < n → length before % 64 ≡ 0
     → word_in (codes "order") text ≡ Some rest → order_in before rest ≡ None
     → orders_in (n - i) before text ≡ Err (order_line_count before)
 unfolding orders_in
-orders-bad n i before text rest low whole some none =
+orders-bad n i before text {rest} low whole some none =
     ap (λ k. orders_in k before text) (left n i low)
-    ∙ full (length before % 64) _ _ whole
+    ∙ full _ _ whole
     ∙ ap (λ o. in_order before text o (λ rest. or_lines (order_line_count before) (order_in before rest)
     (λ found. orders_in (n - (i + 1)) found.0 found.1))) some
     ∙ ap (λ o. or_lines (order_line_count before) o (λ found. orders_in (n - (i + 1)) found.0 found.1)) none
 
-pub orders-more : (n i : ℕ) (before text rest now later : List ℕ) → i < n → length before % 64 ≡ 0
+pub orders-more : (n i : ℕ) (before text : List ℕ) {rest : List ℕ} (now later : List ℕ) → i < n → length before % 64 ≡ 0
     → word_in (codes "order") text ≡ Some rest → order_in before rest ≡ Some (now, later)
     → orders_in (n - i) before text ≡ orders_in (n - (i + 1)) now later
 unfolding orders_in
-orders-more n i before text rest now later low whole some found =
+orders-more n i before text {rest} now later low whole some found =
     ap (λ k. orders_in k before text) (left n i low)
-    ∙ full (length before % 64) _ _ whole
+    ∙ full _ _ whole
     ∙ ap (λ o. in_order before text o (λ rest. or_lines (order_line_count before) (order_in before rest)
     (λ found. orders_in (n - (i + 1)) found.0 found.1))) some
     ∙ ap (λ o. or_lines (order_line_count before) o (λ found. orders_in (n - (i + 1)) found.0 found.1)) found
@@ -138,14 +138,13 @@ read-some found None numbers rest there is = let bad : false ≡ true = there in
 read-some found (Some x) numbers rest there is = is
 
 -- the last byte of a line, read as a line
-pub last-read : (room i : ℕ) (before text rest : List ℕ) (whole : Option (List ℕ × List ℕ)) (o : Option (Unit {0}))
-    → room ≤ i → whole ≡ numbers_in (room - i) before text
-    → IfSome o (λ done. word_in (10 ∷ []) text ≡ Some rest) → IfNone o (word_in (10 ∷ []) text ≡ None)
-    → IsReadLine whole o before rest
-last-read room i before text rest whole None high is some none =
+pub last-read : (room i : ℕ) (before text rest : List ℕ) {whole : Option (List ℕ × List ℕ)} (o : Option (Unit {0}))
+    → room ≤ i → whole ≡ numbers_in (room - i) before text → IfSome o (λ done. word_in (10 ∷ []) text ≡ Some rest)
+    → IfNone o (word_in (10 ∷ []) text ≡ None) → IsReadLine whole o before rest
+last-read room i before text rest None high is some none =
     is ∙ numbers-last room i before text high ∙ ap (λ (t : Option (List ℕ)). t >>= (λ rest. Some (before, rest))) none
-last-read room i before text rest whole (Some x) high is some none =
+last-read room i before text rest (Some x) high is some none =
     is ∙ numbers-last room i before text high ∙ ap (λ (t : Option (List ℕ)). t >>= (λ rest. Some (before, rest))) some
 
-pub full-too : (n m : ℕ) → n ≡ m → m % 64 ≡ 0 → n % 64 ≡ 0
-full-too n m e h = ap (λ k. k % 64) e ∙ h
+pub full-too : {n m : ℕ} → n ≡ m → m % 64 ≡ 0 → n % 64 ≡ 0
+full-too e h = ap (λ k. k % 64) e ∙ h

@@ -11,12 +11,11 @@ tickets-preserved c =
     let actor = get_or order ticket 0 in
     elim c.if-actor-len.branch [
       | then-actor-len w ↦
-          behind-more order behind c.if-actor-len.behind.items ticket actor c.tickets-test.true refl
-          (omega (arith, w.if-actor-len.true, c.len.ensures)) (ap (λ (v : Vec ℕ Global). v.items) w.behind-is)
-          c.tickets.invariant
+          behind-more behind c.tickets-test.true refl (omega (arith, w.if-actor-len.true, c.len.ensures))
+          (ap (λ (v : Vec ℕ Global). v.items) w.behind-is) c.tickets.invariant
       | else-actor-len w ↦
           subst (λ (v : Vec ℕ Global). (a : ℕ) → a < length v.items
           → IsBehindSoFar order (ticket + 1) a (get_or v.items a 0)) (sym w.behind-is)
-          (behind-past order behind ticket actor c.tickets-test.true refl
-          (omega (arith, w.if-actor-len.false, c.len.ensures)) c.tickets.invariant)
+          (behind-past behind c.tickets-test.true refl (omega (arith, w.if-actor-len.false, c.len.ensures))
+          c.tickets.invariant)
     ]

@@ -22,11 +22,11 @@ lines-preserved c =
           let same : c.if-actor-len.blocks.items ≡ set blocks actor (grown (get_or blocks actor no_block) place) =
           ap (λ (v : Vec Block Global). v.items) w.blocks-is
           ∙ ap (set blocks actor) (w.with_line.ensures ∙ ap (λ b. grown b place) block) in
-          blocks-line c.args.calls.now blocks c.if-actor-len.blocks.items place actor (Move 0 0 0 0 0 0 0 0)
-          c.lines-test.true c.actor_of-actor.ensures known same c.lines.invariant
+          blocks-line c.args.calls.now blocks (Move 0 0 0 0 0 0 0 0) c.lines-test.true c.actor_of-actor.ensures known
+          same c.lines.invariant
       | else-actor-len w ↦
           subst (λ (v : Vec Block Global). (a : ℕ) → a < length v.items
           → IsSoFar (is_of a) (map done_of c.args.calls.now) (place + 1) (get_or v.items a no_block)) (sym w.blocks-is)
-          (blocks-other c.args.calls.now blocks place actor (Move 0 0 0 0 0 0 0 0) c.lines-test.true
-          c.actor_of-actor.ensures (omega (arith, w.if-actor-len.false, c.len.ensures)) c.lines.invariant)
+          (blocks-other c.args.calls.now blocks (Move 0 0 0 0 0 0 0 0) c.lines-test.true c.actor_of-actor.ensures
+          (omega (arith, w.if-actor-len.false, c.len.ensures)) c.lines.invariant)
     ]

@@ -13,9 +13,9 @@ lines-preserved c =
           (sym w.block-is)
           (subst (IsSoFar is_switched (map done_of c.args.calls.now) (c.lines.place + 1))
           (sym w.with_line-block.ensures)
-          (block-line is_switched (map done_of c.args.calls.now) c.lines.place c.lines.block c.lines.invariant))
+          (block-line c.lines.invariant))
       | else-is_switched w ↦ subst (IsSoFar is_switched (map done_of c.args.calls.now) (c.lines.place + 1))
           (sym w.block-is)
-          (line-other is_switched c.args.calls.now c.lines.place c.lines.block (Move 0 0 0 0 0 0 0 0) c.lines-test.true
-          c.lines.invariant (sym c.is_switched.ensures ∙ w.if-is_switched.false))
+          (line-other c.args.calls.now (Move 0 0 0 0 0 0 0 0) c.lines-test.true c.lines.invariant
+          (sym c.is_switched.ensures ∙ w.if-is_switched.false))
     ]

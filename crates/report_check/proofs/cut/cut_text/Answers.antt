@@ -22,11 +22,10 @@ pub bytes-preserved : goal.bytes-preserved
 bytes-preserved c =
     elim c.if-text-at-eq10.branch [
       | then-text-at-eq10+else-is_cut w ↦ subst (λ (s : ℕ). IsPlace c.args.text.now s (c.bytes.at + 1)) (sym w.start-is)
-          (place-line c.args.text.now c.bytes.start c.bytes.at c.bytes.invariant c.bytes-test.true
-          w.if-text-at-eq10.true (sym w.is_cut.ensures ∙ w.if-is_cut.false))
+          (place-line c.bytes.invariant c.bytes-test.true w.if-text-at-eq10.true
+          (sym w.is_cut.ensures ∙ w.if-is_cut.false))
       | else-text-at-eq10 w ↦ subst (λ (s : ℕ). IsPlace c.args.text.now s (c.bytes.at + 1)) (sym w.start-is)
-          (place-plain c.args.text.now c.bytes.start c.bytes.at c.bytes.invariant c.bytes-test.true
-          w.if-text-at-eq10.false)
+          (place-plain c.bytes.invariant c.bytes-test.true w.if-text-at-eq10.false)
     ]
 
 pub returns-then-is_cut-2-clause-input : goal.returns-then-is_cut-2-clause-input

@@ -6,12 +6,11 @@ use Rattle.report_check.proofs.cut.is_cut.Goals as goal
 
 pub returns-then-is_some : goal.returns-then-is_some
 returns-then-is_some c =
-    cut-some c.word.result c.is_some.result c.is_empty.result c.args.line.now c.behind_blanks.result.now
-    c.word.new.self.rest.now c.is_some.ensures c.if-is_some.true c.word.ensures.some
-    (c.behind_blanks.ensures ∙ ap behind_blanks c.without_return.ensures)
+    cut-some c.word.result c.args.line.now c.word.new.self.rest.now c.is_some.ensures c.if-is_some.true
+    c.word.ensures.some (c.behind_blanks.ensures ∙ ap behind_blanks c.without_return.ensures)
     (c.is_empty.ensures ∙ ap (λ t. length t == 0) c.behind_blanks-then-is_some.ensures)
 
 pub returns-else-is_some : goal.returns-else-is_some
 returns-else-is_some c =
-    cut-none c.word.result c.is_some.result c.args.line.now c.behind_blanks.result.now c.is_some.ensures
-    c.if-is_some.false c.word.ensures.none (c.behind_blanks.ensures ∙ ap behind_blanks c.without_return.ensures)
+    cut-none c.word.result c.args.line.now c.is_some.ensures c.if-is_some.false c.word.ensures.none
+    (c.behind_blanks.ensures ∙ ap behind_blanks c.without_return.ensures)

@@ -8,5 +8,4 @@ returns-then-index-calls c = last-none c.args.calls.now c.args.index (Switch 0 f
 
 pub returns : goal.returns
 returns c =
-    last-next c.args.calls.now c.args.index _ c.actor_of.result c.actor_of-2.result c.requires c.if-index-calls.false
-    c.actor_of.ensures c.actor_of-2.ensures
+    last-next c.args.calls.now c.args.index _ c.requires c.if-index-calls.false c.actor_of.ensures c.actor_of-2.ensures

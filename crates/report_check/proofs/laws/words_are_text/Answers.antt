@@ -5,4 +5,4 @@ use Rattle.report_check.proofs.Texts.{word-text}
 use Rattle.report_check.proofs.laws.words_are_text.Goals as goal
 
 pub returns : goal.returns
-returns c word text rest = (word-text word text rest, λ is. ap (word_in word) is ∙ word-reads word rest)
+returns c word text rest = (word-text word text, λ is. ap (word_in word) is ∙ word-reads word rest)

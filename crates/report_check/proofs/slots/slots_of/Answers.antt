@@ -25,27 +25,19 @@ actors-preserved c =
     ∙ ap (λ s. s.items) (sym c.index.ensures) ∙ sym c.deref-in-actors.ensures.value in
     let home : c.home_of-home.result ≡ get_or c.args.input.now.homes.items c.actors.actor 0 =
     c.home_of-home.ensures ∙ ap (λ homes. get_or homes c.actors.actor 0) c.deref.ensures.value in
-    scripts-step c.args.input.now.homes.items _ _ _ c.actors.actor (seen_input c.args.input.now).scripts
-    c.deref-in-actors.result.now
-    (omega (
+    scripts-step c.args.input.now.homes.items _ c.actors.actor (seen_input c.args.input.now).scripts (omega (
       arith,
       c.actors-test.true,
       c.len-actor-end.ensures,
-      length-map c.args.input.now.scripts.items
-          (λ s. s.items),
-    ))
-    script (c.in_ok-push_slots.ensures
-    ∙ ap (λ h. c.actors.slots.items ++ slots_in c.actors.actor h 0 c.deref-in-actors.result.now) home)
-    c.actors.invariant
+      length-map c.args.input.now.scripts.items (λ s. s.items),
+    )) script (c.in_ok-push_slots.ensures ∙ ap (λ h. c.actors.slots.items ++ slots_in c.actors.actor h 0
+    c.deref-in-actors.result.now) home) c.actors.invariant
 
 pub returns : goal.returns
 returns c =
-    scripts-done c.args.input.now.homes.items _ _ c.actors.actor (seen_input c.args.input.now).scripts
-    (omega (
+    scripts-done c.args.input.now.homes.items _ c.actors.actor (seen_input c.args.input.now).scripts (omega (
       arith,
       c.actors-test.false,
       c.len-actor-end.ensures,
-      length-map c.args.input.now.scripts.items
-          (λ s. s.items),
-    ))
-    c.actors.invariant
+      length-map c.args.input.now.scripts.items (λ s. s.items),
+    )) c.actors.invariant

@@ -4,8 +4,8 @@ use Rattle.report_check.proofs.told.first_from.Goals as goal
 
 pub returns-then-order-ticket : goal.returns-then-order-ticket
 returns-then-order-ticket c =
-    sym (first-found c.args.order.now c.args.actor c.tickets.ticket c.tickets-test.true
-    (c.if-order-ticket.true ∙ c.from.ensures)) ∙ c.tickets.invariant
+    sym (first-found c.args.order.now c.tickets.ticket c.tickets-test.true (c.if-order-ticket.true ∙ c.from.ensures))
+    ∙ c.tickets.invariant
 
 pub tickets-preserved : goal.tickets-preserved
 tickets-preserved c =

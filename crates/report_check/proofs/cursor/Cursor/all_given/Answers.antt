@@ -14,8 +14,8 @@ returns-in_err-given-clause-none c =
 pub numbers-preserved : goal.numbers-preserved
 numbers-preserved c =
     c.numbers.invariant
-    ∙ fields-step c.args.numbers.now c.numbers.number-index c.numbers.self.rest.now c.given.new.self.rest.now
-    c.numbers-test.true c.in_ok-given.ensures.some
+    ∙ fields-step c.args.numbers.now c.numbers.number-index c.numbers.self.rest.now c.numbers-test.true
+    c.in_ok-given.ensures.some
 
 pub returns-clause-some : goal.returns-clause-some
 returns-clause-some c =

@@ -15,8 +15,7 @@ returns-clause-some c =
     let digits : c.as_bytes.result.now ≡ decimal c.args.number = c.as_bytes.ensures.value ∙ c.format.ensures.text in
     let same : word_in (field c.args.number) c.args.self.now.rest.now
     ≡ word_in c.as_bytes.result.now c.word.new.self.rest.now =
-    word-then (32 ∷ []) (decimal c.args.number) c.args.self.now.rest.now c.word.new.self.rest.now
-    c.in_ok-word.ensures.some
+    word-then (32 ∷ []) (decimal c.args.number) c.args.self.now.rest.now c.in_ok-word.ensures.some
     ∙ ap (λ ds. word_in ds c.word.new.self.rest.now) (sym digits) in
     subst (λ (o : Option (List ℕ)). IfSome c.bytes.result (λ done. o ≡ Some c.bytes.new.self.rest.now)) (sym same)
     c.bytes.ensures.some
@@ -26,7 +25,6 @@ returns-clause-none c =
     let digits : c.as_bytes.result.now ≡ decimal c.args.number = c.as_bytes.ensures.value ∙ c.format.ensures.text in
     let same : word_in (field c.args.number) c.args.self.now.rest.now
     ≡ word_in c.as_bytes.result.now c.word.new.self.rest.now =
-    word-then (32 ∷ []) (decimal c.args.number) c.args.self.now.rest.now c.word.new.self.rest.now
-    c.in_ok-word.ensures.some
+    word-then (32 ∷ []) (decimal c.args.number) c.args.self.now.rest.now c.in_ok-word.ensures.some
     ∙ ap (λ ds. word_in ds c.word.new.self.rest.now) (sym digits) in
     subst (λ (o : Option (List ℕ)). IfNone c.bytes.result (o ≡ None)) (sym same) c.bytes.ensures.none

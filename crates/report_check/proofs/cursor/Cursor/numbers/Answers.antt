@@ -6,8 +6,7 @@ use Rattle.report_check.proofs.cursor.Cursor.numbers.Goals as goal
 pub returns-then-is_some : goal.returns-then-is_some
 returns-then-is_some c =
     c.numbers.invariant
-    ∙ numbers-ended c.args.room c.numbers._number c.numbers.order.items c.numbers.self.rest.now
-    c.line_end.new.self.rest.now c.numbers-test.true
+    ∙ numbers-ended c.args.room c.numbers._number c.numbers.order.items c.numbers.self.rest.now c.numbers-test.true
     (if-some c.line_end.result (sym c.if-is_some.ensures) c.line_end.ensures.some)
 
 pub returns-in-None : goal.returns-in-None
@@ -33,7 +32,5 @@ numbers-preserved c =
 
 pub returns : goal.returns
 returns c =
-    last-read c.args.room c.numbers._number c.numbers.order.items c.numbers.self.rest.now
-    c.line_end-2.new.self.rest.now _ c.line_end-2.result c.numbers-test.false c.numbers.invariant
-    c.line_end-2.ensures.some
-    c.line_end-2.ensures.none
+    last-read c.args.room c.numbers._number c.numbers.order.items c.numbers.self.rest.now c.line_end-2.new.self.rest.now
+    c.line_end-2.result c.numbers-test.false c.numbers.invariant c.line_end-2.ensures.some c.line_end-2.ensures.none

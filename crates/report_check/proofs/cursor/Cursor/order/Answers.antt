@@ -17,8 +17,7 @@ returns-then-is_none-clause-read c =
     if-none c.word.result c.if-is_none.ensures c.word.ensures.still in
     c.lines.invariant
     ∙ orders-none (length c.args.self.now.rest.now) c.lines._line c.lines.order.items c.lines.self.rest.now
-    c.lines-test.true (full-too (length c.lines.order.items) c.len.result (omega (arith, c.len.ensures))
-    c.if-len-ne0.false)
+    c.lines-test.true (full-too (omega (arith, c.len.ensures)) c.if-len-ne0.false)
     (if-none c.word.result c.if-is_none.ensures c.word.ensures.none)
     ∙ ap (λ (text : List ℕ). Ok (c.lines.order.items, text)) (sym same)
 
@@ -26,8 +25,7 @@ pub returns-then-is_none-2-clause-read : goal.returns-then-is_none-2-clause-read
 returns-then-is_none-2-clause-read c =
     c.lines.invariant
     ∙ orders-bad (length c.args.self.now.rest.now) c.lines._line c.lines.order.items c.lines.self.rest.now
-    c.word.new.self.rest.now c.lines-test.true (full-too (length c.lines.order.items) c.len.result
-    (omega (arith, c.len.ensures)) c.if-len-ne0.false)
+    c.lines-test.true (full-too (omega (arith, c.len.ensures)) c.if-len-ne0.false)
     (if-some c.word.result c.if-is_none.ensures c.word.ensures.some)
     (read-none _ c.in_ok-order_line.field-0 _ _ c.if-is_none-2.ensures c.in_ok-order_line.ensures)
     ∙ ap Err (ap order_line_count (sym c.deref.ensures.value) ∙ sym c.line_count-lines.ensures.count)
@@ -36,8 +34,8 @@ pub lines-preserved : goal.lines-preserved
 lines-preserved c =
     c.lines.invariant
     ∙ orders-more (length c.args.self.now.rest.now) c.lines._line c.lines.order.items c.lines.self.rest.now
-    c.word.new.self.rest.now c.order_line.new.order.items c.order_line.new.self.rest.now c.lines-test.true
-    (full-too (length c.lines.order.items) c.len.result (omega (arith, c.len.ensures)) c.if-len-ne0.false)
+    c.order_line.new.order.items c.order_line.new.self.rest.now c.lines-test.true
+    (full-too (omega (arith, c.len.ensures)) c.if-len-ne0.false)
     (if-some c.word.result c.if-is_none.ensures c.word.ensures.some)
     (read-some _ c.in_ok-order_line.field-0 _ _ c.if-is_none-2.ensures c.in_ok-order_line.ensures)
 
