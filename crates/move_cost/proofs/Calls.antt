@@ -30,15 +30,15 @@ unfolding MaySteps
 may-at setting course [] step later may = may.0
 may-at setting course (s ∷ before) step later may = may-at setting (after_step setting course s) before step later may.1
 
-pub may-begin : (plan : PlanData) (starts : List ℕ) (sub : ℕ) (handset : HandsetData) (steps : List Step) (made : ℕ)
+pub may-begin : (plan : PlanData) (starts : List ℕ) {sub : ℕ} {handset : HandsetData} {steps : List Step} {made : ℕ}
     (call : Call) → IsRestAfter (setting_of plan starts) sub handset steps made → IsStep call
     → MayStep (setting_of plan starts) (course_of (setting_of plan starts) sub steps) (step_of call)
     → MayBegin plan handset call
-may-begin plan starts sub handset steps made (calls.Move to) at its may =
+may-begin plan starts (calls.Move to) at its may =
     (may.inside, λ same. may.moving (same ∙ at.place), at.is_off ∙ may.is_on, omega (arith, may.few, at.number))
-may-begin plan starts sub handset steps made (calls.Find from found) at its may = absurd its
-may-begin plan starts sub handset steps made calls.Off at its may = at.is_off ∙ may
-may-begin plan starts sub handset steps made calls.On at its may = at.is_off ∙ may
+may-begin plan starts (calls.Find from found) at its may = absurd its
+may-begin plan starts calls.Off at its may = at.is_off ∙ may
+may-begin plan starts calls.On at its may = at.is_off ∙ may
 
 -- what is known of the call at a place of a subscriber's script
 pub record IsNextCall (input : Contents) (plan : PlanData) (sub place : ℕ) (call : Call) : Type 0 where
@@ -47,12 +47,11 @@ pub record IsNextCall (input : Contents) (plan : PlanData) (sub place : ℕ) (ca
   pub may : MayStep (setting_of plan input.homes)
       (course_of (setting_of plan input.homes) sub (first_steps input sub place)) (step_of call)
 
-pub next-call : ScriptsAreValid → (input : Contents) (plan : PlanData) (distances : DistanceTable) (sub place : ℕ)
-    (call : Call) → GoTogether input plan distances → sub < length input.homes
-    → place < length (steps_of (scripts_of input) sub)
-    → call ≡ get_or (get_or input.scripts sub []) place call
+pub next-call : ScriptsAreValid → {input : Contents} {plan : PlanData} {distances : DistanceTable} (sub place : ℕ)
+    {call : Call} → GoTogether input plan distances → sub < length input.homes
+    → place < length (steps_of (scripts_of input) sub) → call ≡ get_or (get_or input.scripts sub []) place call
     → IsNextCall input plan sub place call
-next-call scripts input plan distances sub place call together low short same =
+next-call scripts {input} {plan} sub place {call} together low short same =
     let setting : Setting = setting_of plan input.homes in
     let script : List Call = get_or input.scripts sub [] in
     let steps : List Step = steps_of (scripts_of input) sub in

@@ -64,9 +64,9 @@ module _ (marks : MarksUnpack) (entries : EntriesUnpack) (plan : PlanData) (few 
   purge-act sub (entry_at level cluster address) fit = refl
 
 -- the weights inside clusters are small
-pub inside-small : (plan : PlanData) (i c v : ℕ) → IsKept plan → IsWithinReach plan → i < levels_of plan
+pub inside-small : {plan : PlanData} (i c v : ℕ) → IsKept plan → IsWithinReach plan → i < levels_of plan
     → c < clusters_of plan i → has v (members_of plan i c) ≡ true → inside plan i c v ≤ 17 * 2 ^ 30
-inside-small plan i c v kept reached low cluster member =
+inside-small {plan} i c v kept reached low cluster member =
     let some : 0 < 2 = omega arith in
     let exponent : (level_at plan i).exponent ≤ 30 = (kept.levels i no_level low).exponent in
     let power : 2 ^ (level_at plan i).exponent ≤ 2 ^ 30 = pow-le-pow_right some exponent in

@@ -26,9 +26,9 @@ use Rattle.move_cost.proofs.Fitting.{fit-act, purge-act, weight-act}
 abbrev pub count_left : PlanData → HandsetData → ℕ
 count_left plan handset = length (left_at (setting_of plan []) handset handset.stage)
 
-pub left-count : (plan : PlanData) (starts : List ℕ) (handset : HandsetData) (steps : List Step) (made : ℕ)
-    (later : List Write) → IsLeft plan starts handset steps made later → length later ≡ count_left plan handset
-left-count plan starts handset steps made later its = omega (
+pub left-count : {plan : PlanData} {starts : List ℕ} {handset : HandsetData} {steps : List Step} {made : ℕ}
+    {later : List Write} → IsLeft plan starts handset steps made later → length later ≡ count_left plan handset
+left-count {plan} {starts} {handset} {later} its = omega (
   arith,
   ap length (sym its.left ∙ its.stands.left),
   length-map later (visit_of handset.sub),
@@ -43,18 +43,18 @@ record IsFirst (sub : ℕ) (visits : List Visit) (made : ℕ) (later : List Writ
   pub same : visit ≡ visit_of sub write
   pub left : drop (suc made) visits ≡ map (visit_of sub) rest
 
-first-is : (sub : ℕ) (visits : List Visit) (made : ℕ) (later : List Write) (visit : Visit)
+first-is : (sub : ℕ) (visits : List Visit) (made : ℕ) (later : List Write) {visit : Visit}
     → drop made visits ≡ map (visit_of sub) later → slice_get visits made ≡ Some visit
     → IsFirst sub visits made later visit
-first-is sub [] made later visit left here = cc
-first-is sub (v ∷ vs) zero [] visit left here = cc
-first-is sub (v ∷ vs) zero (write ∷ rest) visit left here =
+first-is sub [] made later left here = cc
+first-is sub (v ∷ vs) zero [] left here = cc
+first-is sub (v ∷ vs) zero (write ∷ rest) {visit} left here =
     let first : v ≡ visit_of sub write = cc in
     let tails : vs ≡ map (visit_of sub) rest = cc in
     let it : v ≡ visit = cc in
     record { write = write; rest = rest; are = refl; same = sym it ∙ first; left = tails }
-first-is sub (v ∷ vs) (suc made) later visit left here =
-    let deep : IsFirst sub vs made later visit = first-is sub vs made later visit left here in
+first-is sub (v ∷ vs) (suc made) later {visit} left here =
+    let deep : IsFirst sub vs made later visit = first-is sub vs made later left here in
     record { write = deep.write; rest = deep.rest; are = deep.are; same = deep.same; left = deep.left }
 
 none-left : (sub : ℕ) (visits : List Visit) (made : ℕ) (later : List Write)
@@ -76,14 +76,13 @@ pub record IsStep (plan : PlanData) (starts : List ℕ) (old new : HandsetData) 
   pub fit : IsFit plan write
   pub left : IsLeft plan starts new steps (suc made) rest
 
-pub step-left : (plan : PlanData) (starts : List ℕ) (old new : HandsetData) (steps : List Step) (made : ℕ)
-    (later : List Write) (visit : Visit) → IsLeft plan starts old steps made later
-    → Some visit ≡ slice_get (visits (setting_of plan starts) old.sub steps) made
-    → new.sub ≡ old.sub → StandsForSteps (setting_of plan starts) new steps (suc made)
-    → IsStep plan starts old new steps made later visit
-step-left plan starts old new steps made later visit its next same stands =
+pub step-left : {plan : PlanData} {starts : List ℕ} {old : HandsetData} (new : HandsetData) {steps : List Step}
+    {made : ℕ} {later : List Write} {visit : Visit} → IsLeft plan starts old steps made later
+    → Some visit ≡ slice_get (visits (setting_of plan starts) old.sub steps) made → new.sub ≡ old.sub
+    → StandsForSteps (setting_of plan starts) new steps (suc made) → IsStep plan starts old new steps made later visit
+step-left {plan} {starts} {old} new {steps} {made} {later} {visit} its next same stands =
     let first : IsFirst old.sub (visits (setting_of plan starts) old.sub steps) made later visit =
-    first-is old.sub (visits (setting_of plan starts) old.sub steps) made later visit its.left (sym next) in
+    first-is old.sub (visits (setting_of plan starts) old.sub steps) made later its.left (sym next) in
     let fit : All (IsFit plan) (first.write ∷ first.rest) = subst (All (IsFit plan)) first.are its.fit in
     record {
       write = first.write;
@@ -180,8 +179,8 @@ module _ (marks : MarksUnpack) (entries : EntriesUnpack) (plan : PlanData) (few 
   follows-on node old first handset new line visit w p makes cost before starts steps made later its =
       let at : IsFollowed plan starts node steps made later first handset line = before starts steps made later its in
       let step : IsStep plan starts handset new steps at.now at.rest visit =
-      step-left plan starts handset new steps at.now at.rest visit at.left
-      (makes.next starts steps at.now at.left.stands) makes.same (makes.stands starts steps at.now at.left.stands) in
+      step-left new at.left (makes.next starts steps at.now at.left.stands) makes.same
+      (makes.stands starts steps at.now at.left.stands) in
       let count : length at.rest ≡ suc (length step.rest) = ap length step.are in
       let weights : length at.rest * most_weight ≡ most_weight + length step.rest * most_weight =
       ap (λ n. n * most_weight) count ∙ omega arith in
@@ -200,8 +199,7 @@ module _ (marks : MarksUnpack) (entries : EntriesUnpack) (plan : PlanData) (few 
       → HasRoom plan handset line → HasRoom plan new (with_cost line w p)
   room-on node handset new line visit w p makes cost room =
       let step : IsStep plan room.starts handset new room.steps room.made room.later visit =
-      step-left plan room.starts handset new room.steps room.made room.later visit room.left
-      (makes.next room.starts room.steps room.made room.left.stands) makes.same
+      step-left new room.left (makes.next room.starts room.steps room.made room.left.stands) makes.same
       (makes.stands room.starts room.steps room.made room.left.stands) in
       let count : length room.later ≡ suc (length step.rest) = ap length step.are in
       let weights : length room.later * most_weight ≡ most_weight + length step.rest * most_weight =
@@ -225,14 +223,13 @@ module _ (marks : MarksUnpack) (entries : EntriesUnpack) (plan : PlanData) (few 
       → HasRoom plan handset line → count_left plan new < count_left plan handset
   left-falls handset new line visit makes room =
       let step : IsStep plan room.starts handset new room.steps room.made room.later visit =
-      step-left plan room.starts handset new room.steps room.made room.later visit room.left
-      (makes.next room.starts room.steps room.made room.left.stands) makes.same
+      step-left new room.left (makes.next room.starts room.steps room.made room.left.stands) makes.same
       (makes.stands room.starts room.steps room.made room.left.stands) in
       omega (
         arith,
         ap length step.are,
-        left-count plan room.starts handset room.steps room.made room.later room.left,
-        left-count plan room.starts new room.steps (suc room.made) step.rest step.left,
+        left-count room.left,
+        left-count step.left,
       )
 
   -- the write that comes next fits, and there is room for it
@@ -246,7 +243,7 @@ module _ (marks : MarksUnpack) (entries : EntriesUnpack) (plan : PlanData) (few 
   next-fits node handset line visit next room =
       let first : IsFirst handset.sub (visits (setting_of plan room.starts) handset.sub room.steps) room.made room.later
       visit =
-      first-is handset.sub (visits (setting_of plan room.starts) handset.sub room.steps) room.made room.later visit
+      first-is handset.sub (visits (setting_of plan room.starts) handset.sub room.steps) room.made room.later
       room.left.left (sym (next room.starts room.steps room.made room.left.stands)) in
       let count : length room.later ≡ suc (length first.rest) = ap length first.are in
       let weights : length room.later * most_weight ≡ most_weight + length first.rest * most_weight =
@@ -288,13 +285,13 @@ pub record IsFinished (plan : PlanData) (starts : List ℕ) (node : ℕ) (steps 
   pub told : line ≡ with_writes (setting_of plan starts) node first later
   pub few : line.written ≤ first.written + length later * most_weight
 
-pub finished : (plan : PlanData) (starts : List ℕ) (node : ℕ) (steps : List Step) (made : ℕ) (later : List Write)
-    (old : HandsetData) (first : CostLine) (handset : HandsetData) (line : CostLine)
+pub finished : {plan : PlanData} {starts : List ℕ} {node : ℕ} {steps : List Step} {made : ℕ} {later : List Write}
+    {old : HandsetData} {first : CostLine} {handset : HandsetData} {line : CostLine}
     → Follows plan node old first handset line → IsLeft plan starts old steps made later
     → ((now : ℕ) → StandsForSteps (setting_of plan starts) handset steps now
     → None ≡ slice_get (visits (setting_of plan starts) handset.sub steps) now)
     → IsFinished plan starts node steps made later first handset line
-finished plan starts node steps made later old first handset line follows its none =
+finished {plan} {starts} {node} {steps} {made} {later} {first} {handset} {line} follows its none =
     let at : IsFollowed plan starts node steps made later first handset line = follows starts steps made later its in
     let over : at.rest ≡ [] =
     none-left handset.sub (visits (setting_of plan starts) handset.sub steps) at.now at.rest at.left.left

@@ -34,12 +34,11 @@ use Rattle.move_cost.proofs.Fitting.{all-sifted}
 abbrev pub no_cost : ℕ → CostLine
 no_cost sub = record { sub = sub; moves = 0; moved = 0; written = 0; purged = 0 }
 
-pub opened : (input : Contents) (plan : PlanData) (sub home : ℕ) (handset : HandsetData)
-    → handset ≡ handset_at plan sub home → GoesWith plan handset
-    → StandsForSteps (setting_of plan input.homes) handset [] 0
-    → IsCounted input plan sub 0 handset (no_cost sub)
+pub opened : (input : Contents) {plan : PlanData} (sub home : ℕ) {handset : HandsetData}
+    → handset ≡ handset_at plan sub home → GoesWith plan handset → StandsForSteps (setting_of plan input.homes) handset
+    [] 0 → IsCounted input plan sub 0 handset (no_cost sub)
 unfolding weight_of_steps writes
-opened input plan sub home handset is goes stands = record {
+opened input {plan} sub home is goes stands = record {
   goes = goes;
   its = ap (λ h. h.sub) is;
   rests = ap (λ h. due (setting_of plan []) h) is;
@@ -49,10 +48,10 @@ opened input plan sub home handset is goes stands = record {
 }
 
 -- a script has as many steps as calls
-pub script-length : (input : Input) (sub : ℕ) (held : Vec Call Global) → IsValid (seen_input input)
+pub script-length : (input : Input) (sub : ℕ) {held : Vec Call Global} → IsValid (seen_input input)
     → sub < length input.homes.items → held ≡ get_or input.scripts.items sub held
     → length (steps_of (scripts_of (seen_input input)) sub) ≡ length held.items
-script-length input sub held valid low reads =
+script-length input sub {held} valid low reads =
     let known : sub < length input.scripts.items =
     omega (arith, low, valid.scripts, length-map input.scripts.items (λ (s : Vec Call Global). s.items)) in
     let script : held.items ≡ get_or (seen_input input).scripts sub [] =
@@ -62,10 +61,10 @@ script-length input sub held valid low reads =
     ∙ (length-map (get_or (seen_input input).scripts sub []) step_of ∙ ap length (sym script))
 
 -- at its end a line says what all steps cost
-pub closed : (input : Contents) (plan : PlanData) (sub count : ℕ) (handset : HandsetData) (line : CostLine)
+pub closed : {input : Contents} {plan : PlanData} {sub count : ℕ} {handset : HandsetData} {line : CostLine}
     → IsCounted input plan sub count handset line → length (steps_of (scripts_of input) sub) ≤ count
     → line ≡ cost_line (setting_of plan input.homes) sub (steps_of (scripts_of input) sub)
-closed input plan sub count handset line its all =
+closed {input} {plan} {sub} {count} its all =
     its.told ∙ ap (cost_line (setting_of plan input.homes) sub)
     (take_all count (steps_of (scripts_of input) sub) all)
 
@@ -77,10 +76,10 @@ map-push : {A B : Type 0} (f : A → B) (xs : List A) (x : A) → map f (xs ++ x
 map-push f [] x = refl
 map-push f (y ∷ xs) x = ap (λ zs. f y ∷ zs) (map-push f xs x)
 
-pub line-pushed : (setting : Setting) (scripts : Scripts) (sub : ℕ) (before after : List CostLine) (line : CostLine)
+pub line-pushed : (setting : Setting) (scripts : Scripts) (sub : ℕ) {before after : List CostLine} {line : CostLine}
     → before ≡ first_lines setting scripts sub → line ≡ cost_line setting sub (steps_of scripts sub)
     → after ≡ before ++ line ∷ [] → after ≡ first_lines setting scripts (sub + 1)
-line-pushed setting scripts sub before after line is told more =
+line-pushed setting scripts sub {line} is told more =
     let f : ℕ → CostLine = λ s. cost_line setting s (steps_of scripts s) in
     more
     ∙ (ap (λ ls. ls ++ line ∷ []) is

@@ -262,9 +262,9 @@ module _ (setting : Setting) (width spent : ℕ) (course : Course) (node : ℕ)
           )
 
 -- before any step nothing is written and nothing is gathered
-none-paid : (setting : Setting) (width node : ℕ) → IsPaced setting width → node < setting.nodes
+none-paid : {setting : Setting} {width : ℕ} (node : ℕ) → IsPaced setting width → node < setting.nodes
     → IsPaid setting width 0 (course_at node)
-none-paid setting width node paced inside = record {
+none-paid {setting} {width} node paced inside = record {
   inside = inside;
   placed = λ i. inside;
   near = λ i. omega (arith, paced.metric.none node inside);
@@ -278,10 +278,10 @@ none-paid setting width node paced inside = record {
 }
 
 -- a switch changes nothing of it
-still-paid : (setting : Setting) (width spent weight : ℕ) (course : Course) (off : Bool) → weight ≡ 0
+still-paid : {setting : Setting} {width spent weight : ℕ} {course : Course} (off : Bool) → weight ≡ 0
     → IsPaid setting width spent course
     → IsPaid setting width (spent + weight) (record course { is_off = off })
-still-paid setting width spent weight course off none before = record {
+still-paid off none before = record {
   inside = before.inside;
   placed = before.placed;
   near = before.near;
@@ -294,18 +294,18 @@ RenewsAfter = (setting : Setting) (first : ℕ) (steps : List Step) (node : ℕ)
     → Renews setting (after_steps setting (course_at first) steps) node
 
 -- one step more
-step-paid : MoveWeighs → RenewsAfter → (setting : Setting) (width first spent : ℕ) (done : List Step) (step : Step)
-    → IsPaced setting width → MayStep setting (after_steps setting (course_at first) done) step
+step-paid : MoveWeighs → RenewsAfter → {setting : Setting} {width : ℕ} (first : ℕ) {spent : ℕ} (done : List Step)
+    (step : Step) → IsPaced setting width → MayStep setting (after_steps setting (course_at first) done) step
     → IsPaid setting width spent (after_steps setting (course_at first) done)
     → IsPaid setting width (spent + step_weight setting (after_steps setting (course_at first) done) step)
     (after_step setting (after_steps setting (course_at first) done) step)
-step-paid weighs renews setting width first spent done (move_to node) paced may before =
+step-paid weighs renews {setting} {width} first {spent} done (move_to node) paced may before =
     move-paid setting width spent (after_steps setting (course_at first) done) node paced may
     (renews setting first done node) before weighs
-step-paid weighs renews setting width first spent done switch_off paced may before =
-    still-paid setting width spent _ (after_steps setting (course_at first) done) true (omega arith) before
-step-paid weighs renews setting width first spent done switch_on paced may before =
-    still-paid setting width spent _ (after_steps setting (course_at first) done) false (omega arith) before
+step-paid weighs renews first done switch_off paced may before =
+    still-paid true (omega arith) before
+step-paid weighs renews first done switch_on paced may before =
+    still-paid false (omega arith) before
 
 -- the weight of one step more
 pub weights-more : (setting : Setting) (course : Course) (steps : List Step) (step : Step)
@@ -317,30 +317,28 @@ weights-more setting course (x ∷ steps) step =
     omega (arith, weights-more setting (after_step setting course x) steps step)
 
 -- all steps
-steps-paid : MoveWeighs → RenewsAfter → (setting : Setting) (width first : ℕ) (done later : List Step)
+steps-paid : MoveWeighs → RenewsAfter → {setting : Setting} {width : ℕ} (first : ℕ) (done later : List Step)
     → IsPaced setting width → MaySteps setting (after_steps setting (course_at first) done) later
-    → IsPaid setting width (weight_of_steps setting (course_at first) done)
-    (after_steps setting (course_at first) done)
+    → IsPaid setting width (weight_of_steps setting (course_at first) done) (after_steps setting (course_at first) done)
     → IsPaid setting width (weight_of_steps setting (course_at first) (done ++ later))
     (after_steps setting (course_at first) (done ++ later))
 unfolding MaySteps
-steps-paid weighs renews setting width first done [] paced may before =
+steps-paid weighs renews {setting} {width} first done [] paced may before =
     subst (λ ss. IsPaid setting width (weight_of_steps setting (course_at first) ss)
     (after_steps setting (course_at first) ss)) (sym (append-nil done)) before
-steps-paid weighs renews setting width first done (step ∷ later) paced may before =
+steps-paid weighs renews {setting} {width} first done (step ∷ later) paced may before =
     let next : after_steps setting (course_at first) (done ++ step ∷ [])
     ≡ after_step setting (after_steps setting (course_at first) done) step =
     fold-append (after_step setting) (course_at first) done (step ∷ []) in
     subst (λ ss. IsPaid setting width (weight_of_steps setting (course_at first) ss)
     (after_steps setting (course_at first) ss)) (append_assoc done (step ∷ []) later)
-    (steps-paid weighs renews setting width first (done ++ step ∷ []) later paced
+    (steps-paid weighs renews first (done ++ step ∷ []) later paced
     (subst (λ c. MaySteps setting c later) (sym next) may.1)
     (subst (λ n. IsPaid setting width n (after_steps setting (course_at first) (done ++ step ∷ [])))
     (sym (weights-more setting (course_at first) done step))
-    (subst (IsPaid setting width (weight_of_steps setting (course_at first) done
-    + step_weight setting (after_steps setting (course_at first) done) step)) (sym next)
-    (step-paid weighs renews setting width first (weight_of_steps setting (course_at first) done) done step paced may.0
-    before))))
+    (subst (IsPaid setting width (weight_of_steps setting (course_at first) done + step_weight setting
+    (after_steps setting (course_at first) done) step)) (sym next)
+    (step-paid weighs renews first done step paced may.0 before))))
 
 -- what is written is within the rate
 pub written-bounded : MoveWeighs → RenewsAfter → WrittenIsBounded
@@ -349,8 +347,7 @@ written-bounded weighs renews setting width sub steps paced script =
     let first : ℕ = start setting sub in
     let all : IsPaid setting width (weight_of_steps setting (course_at first) steps)
     (after_steps setting (course_at first) steps) =
-    steps-paid weighs renews setting width first [] steps paced script.allowed
-    (none-paid setting width first paced script.begins) in
+    steps-paid weighs renews first [] steps paced script.allowed (none-paid first paced script.begins) in
     rounded (levels setting) (way (after_steps setting (course_at first) steps)) (omega arith)
     (omega (arith, all.paid))
   where

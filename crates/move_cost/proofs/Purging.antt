@@ -88,11 +88,10 @@ abbrev pub BaseAfter : Type 0
 BaseAfter = (level : ℕ) (moves : List Move) (move : Move) → base level (moves ++ move ∷ [])
     ≡ cond (nat_le level move.renewed) move.number (base level moves)
 
-move-purged : BaseAfter → (setting : Setting) (count : ℕ) (course : Course) (node : ℕ)
-    → IsPurged setting count course
+move-purged : BaseAfter → {setting : Setting} {count : ℕ} {course : Course} (node : ℕ) → IsPurged setting count course
     → IsPurged setting (count + length (purge_writes setting course (next_move setting course node)))
     (after_step setting course (move_to node))
-move-purged base_law setting count course node before =
+move-purged base_law {setting} {course} node before =
     elim (cases move.renewed setting.top (highest-low _ setting.top)) [
       | inl (same, reached) ↦
           let marks : length (purge_writes setting course move) ≤ length (trail setting course move) =
@@ -151,42 +150,39 @@ purges-more setting course steps step =
     ∙ sum_by-append (λ w. cond (is_purge w) 1 0) (writes setting course steps)
     (step_writes setting (after_steps setting course steps) step)
 
-step-purged : PurgesAreCounted → BaseAfter → (setting : Setting) (count : ℕ) (course : Course) (step : Step)
-    → IsPurged setting count course
-    → IsPurged setting (count + count_by is_purge (step_writes setting course step))
+step-purged : PurgesAreCounted → BaseAfter → {setting : Setting} {count : ℕ} {course : Course} (step : Step)
+    → IsPurged setting count course → IsPurged setting (count + count_by is_purge (step_writes setting course step))
     (after_step setting course step)
-step-purged counted base_law setting count course (move_to node) before =
+step-purged counted base_law {setting} {count} {course} (move_to node) before =
     subst (λ n. IsPurged setting (count + n) (after_step setting course (move_to node)))
-    (sym (counted setting course node)) (move-purged base_law setting count course node before)
-step-purged counted base_law setting count course switch_off before =
+    (sym (counted setting course node)) (move-purged base_law node before)
+step-purged counted base_law switch_off before =
     record { few = omega (arith, before.few); low = before.low }
-step-purged counted base_law setting count course switch_on before =
+step-purged counted base_law switch_on before =
     record { few = omega (arith, before.few); low = before.low }
 
-steps-purged : PurgesAreCounted → BaseAfter → (setting : Setting) (start : Course) (done later : List Step)
+steps-purged : PurgesAreCounted → BaseAfter → {setting : Setting} (start : Course) (done later : List Step)
     → IsPurged setting (count_by is_purge (writes setting start done)) (after_steps setting start done)
     → IsPurged setting (count_by is_purge (writes setting start (done ++ later)))
     (after_steps setting start (done ++ later))
-steps-purged counted base_law setting start done [] before =
+steps-purged counted base_law {setting} start done [] before =
     subst (λ ss. IsPurged setting (count_by is_purge (writes setting start ss)) (after_steps setting start ss))
     (sym (append-nil done)) before
-steps-purged counted base_law setting start done (step ∷ later) before =
+steps-purged counted base_law {setting} start done (step ∷ later) before =
     subst (λ ss. IsPurged setting (count_by is_purge (writes setting start ss)) (after_steps setting start ss))
     (append_assoc done (step ∷ []) later)
-    (steps-purged counted base_law setting start (done ++ step ∷ []) later
+    (steps-purged counted base_law start (done ++ step ∷ []) later
     (subst (λ n. IsPurged setting n (after_steps setting start (done ++ step ∷ [])))
-    (sym (purges-more setting start done step))
-    (subst (IsPurged setting (count_by is_purge (writes setting start done)
-    + count_by is_purge (step_writes setting (after_steps setting start done) step)))
-    (sym (fold-append (after_step setting) start done (step ∷ [])))
-    (step-purged counted base_law setting (count_by is_purge (writes setting start done))
-    (after_steps setting start done) step before))))
+    (sym (purges-more setting start done step)) (subst (IsPurged setting
+    (count_by is_purge (writes setting start done) + count_by is_purge
+    (step_writes setting (after_steps setting start done) step)))
+    (sym (fold-append (after_step setting) start done (step ∷ []))) (step-purged counted base_law step before))))
 
 pub purged-bounded : PurgesAreCounted → BaseAfter → PurgedIsBounded
 unfolding writes
 purged-bounded counted base_law setting sub steps =
     let all : IsPurged setting (count_by is_purge (writes setting (course_at (start setting sub)) steps))
     (after_steps setting (course_at (start setting sub)) steps) =
-    steps-purged counted base_law setting (course_at (start setting sub)) [] steps
+    steps-purged counted base_law (course_at (start setting sub)) [] steps
     (record { few = omega arith; low = omega arith }) in
     omega (arith, all.few, all.low)

@@ -1,6 +1,6 @@
 -- A subscriber's next step: its writes fit, and the line grows by what it costs.
 use Rattle.std.proofs.Common.{◌≡◌, inl, inr, length-append, ℕ, suc, ◌+◌, ◌*◌, ◌^◌, ◌<◌, ◌≤◌, cond, List, [], ◌∷◌, ◌++◌, length, map, drop, get_or, refl, sym, ap, ◌∙◌, subst, arith, Vec, Global}
-use Rattle.std.specs.Prelude.{◌&&◌, All, None, count_by, nat_lt, sum_by}
+use Rattle.std.specs.Prelude.{◌&&◌, All, None, nat_lt, sum_by}
 use Rattle.std.proofs.lemmas.Bool.{lt-ltb}
 use Rattle.std.proofs.lemmas.List.{append-nil, get_or-map, length-map, length_push, map-append}
 use Rattle.std.proofs.lemmas.List.Sums.{count_by-le-length, fold-append, sum_by_push}
@@ -32,7 +32,7 @@ use Rattle.scripts.specs.Laws.{ScriptsAreValid}
 use Rattle.scripts.specs.Scripts.{scripts_of, step_of}
 use Rattle.scripts.specs.ScriptLaws.{IsStep, script-few, steps-are}
 use Rattle.move_cost.specs.declared.line.CostLine.{CostLine}
-use Rattle.move_cost.specs.Costs.{cost_line, is_purge, weight_of_steps, write_weight}
+use Rattle.move_cost.specs.Costs.{cost_line, is_purge, write_weight}
 use Rattle.move_cost.specs.Counting.{HasRoom, IsCounted, IsFit, IsLeft, MayBegin, first_steps, most_weight, node_after, with_call, with_writes}
 use Rattle.move_cost.specs.Plans.{GoTogether}
 use Rattle.move_cost.proofs.Fitting.{fit-step}
@@ -56,12 +56,12 @@ visits-more setting sub steps step =
     (step_writes setting (course_of setting sub steps) step)
 
 -- two lines that say the same are the same
-line-same : (sub moves moved written purged other_moves other_moved other_written other_purged : ℕ)
+line-same : (sub : ℕ) {moves moved written purged other_moves other_moved other_written other_purged : ℕ}
     → moves ≡ other_moves → moved ≡ other_moved → written ≡ other_written → purged ≡ other_purged
     → ◌≡◌ {A = CostLine}
     (record { sub = sub; moves = moves; moved = moved; written = written; purged = purged })
     (record { sub = sub; moves = other_moves; moved = other_moved; written = other_written; purged = other_purged })
-line-same sub moves moved written purged other_moves other_moved other_written other_purged a b c d =
+line-same sub {moves} {moved} {written} {purged} {other_moves} {other_moved} {other_written} a b c d =
     ap (λ n. record { sub = sub; moves = n; moved = moved; written = written; purged = purged }) a
     ∙ (ap (λ n. record { sub = sub; moves = other_moves; moved = n; written = written; purged = purged }) b
     ∙ (ap (λ n. record { sub = sub; moves = other_moves; moved = other_moved; written = n; purged = purged }) c
@@ -101,14 +101,7 @@ module _ (plan : PlanData) (starts : List ℕ) (sub : ℕ) (handset : HandsetDat
   told step node moves moved to count way =
       let next : course_of setting sub (steps ++ step ∷ []) ≡ after_step setting course step =
       fold-append (after_step setting) (course_at (start setting sub)) steps (step ∷ []) in
-      line-same sub moves moved
-      (so_far.written + sum_by (write_weight setting node) (step_writes setting course step))
-      (so_far.purged + count_by is_purge (step_writes setting course step))
-      (length (course_of setting sub (steps ++ step ∷ [])).moves)
-      (sum_by (λ (move : Move). move.weight) (course_of setting sub (steps ++ step ∷ [])).moves)
-      (weight_of_steps setting (course_at (start setting sub)) (steps ++ step ∷ []))
-      (count_by is_purge (writes setting (course_at (start setting sub)) (steps ++ step ∷ [])))
-      (sym (ap (λ (c : Course). length c.moves) next ∙ count))
+      line-same sub (sym (ap (λ (c : Course). length c.moves) next ∙ count))
       (sym (ap (λ (c : Course). sum_by (λ (move : Move). move.weight) c.moves) next ∙ way))
       (ap (λ n. so_far.written + sum_by (write_weight setting n) (step_writes setting course step)) (sym to)
       ∙ sym (weights-more setting (course_at (start setting sub)) steps step))
@@ -131,17 +124,17 @@ module _ (plan : PlanData) (starts : List ℕ) (sub : ℕ) (handset : HandsetDat
   call-told calls.On its may = told switch_on handset.place so_far.moves so_far.moved (sym at.place) refl refl
 
 -- no step has more writes
-short-step : MovesAreShort → (plan : PlanData) (starts : List ℕ) (course : Course) (step : Step) → IsKept plan
+short-step : MovesAreShort → {plan : PlanData} (starts : List ℕ) (course : Course) (step : Step) → IsKept plan
     → length (step_writes (setting_of plan starts) course step) ≤ 2 ^ 11
-short-step short plan starts course (move_to node) kept =
+short-step short {plan} starts course (move_to node) kept =
     omega (arith, short (setting_of plan starts) course node, kept.some, kept.few, kept.metric.few)
-short-step short plan starts course switch_off kept = omega arith
-short-step short plan starts course switch_on kept = omega arith
+short-step short starts course switch_off kept = omega arith
+short-step short starts course switch_on kept = omega arith
 
 -- a script is short
-few-steps : (input : Contents) (sub : ℕ) → IsValid input → sub < length input.homes
+few-steps : {input : Contents} (sub : ℕ) → IsValid input → sub < length input.homes
     → length (steps_of (scripts_of input) sub) ≤ 16384
-few-steps input sub valid low =
+few-steps {input} sub valid low =
     let are : length (steps_of (scripts_of input) sub) ≡ length (get_or input.scripts sub []) =
     ap length (steps-are input sub valid low) ∙ length-map (get_or input.scripts sub []) step_of in
     elim valid.format as (λ _. length (steps_of (scripts_of input) sub) ≤ 16384) [
@@ -185,20 +178,18 @@ pub record IsReady (input : Contents) (plan : PlanData) (sub place : ℕ) (hands
       (course_of (setting_of plan input.homes) sub (first_steps input sub place)) (step_of call))
       ≡ cost_line (setting_of plan input.homes) sub (first_steps input sub (suc place))
 
-pub ready : ScriptsAreValid → MovesAreShort → (input : Contents) (plan : PlanData) (distances : DistanceTable)
-    (sub place : ℕ) (handset : HandsetData) (line : CostLine) (call : Call) → IsKept plan → IsMatched plan
-    → GoTogether input plan distances → sub < length input.homes
-    → place < length (steps_of (scripts_of input) sub)
-    → call ≡ get_or (get_or input.scripts sub []) place call
-    → IsCounted input plan sub place handset line
+pub ready : ScriptsAreValid → MovesAreShort → {input : Contents} {plan : PlanData} {distances : DistanceTable}
+    {sub place : ℕ} {handset : HandsetData} {line : CostLine} {call : Call} → IsKept plan → IsMatched plan
+    → GoTogether input plan distances → sub < length input.homes → place < length (steps_of (scripts_of input) sub)
+    → call ≡ get_or (get_or input.scripts sub []) place call → IsCounted input plan sub place handset line
     → IsReady input plan sub place handset line call
-ready scripts moves input plan distances sub place handset line call kept matched together low short same counted =
+ready scripts moves {input} {plan} {sub} {place} {handset} {call} kept matched together low short same counted =
     let setting : Setting = setting_of plan input.homes in
     let steps : List Step = first_steps input sub place in
     let course : Course = course_of setting sub steps in
     let made : ℕ = length (visits setting sub steps) in
     let its : IsNextCall input plan sub place call =
-    next-call scripts input plan distances sub place call together low short same in
+    next-call scripts sub place together low short same in
     let resting : handset.stage ≡ Resting = stage-rests (setting_of plan []) handset counted.rests in
     let at : IsRestAfter setting sub handset steps made =
     subst (λ s. IsRestAfter setting s handset steps made) counted.its
@@ -222,13 +213,13 @@ ready scripts moves input plan distances sub place handset line call kept matche
       ap (λ stage. begun_at stage handset.number) resting,
     ) in
     let may : MayBegin plan handset call =
-    may-begin plan input.homes sub handset steps made call at its.step its.may in
+    may-begin plan input.homes call at its.step its.may in
     record {
       may = may;
       node = goes-inside call may;
       more = its.more;
-      short = omega (arith, short, few-steps input sub together.valid low);
-      count = short-step moves plan input.homes course (step_of call) kept;
+      short = omega (arith, short, few-steps sub together.valid low);
+      count = short-step moves input.homes course (step_of call) kept;
       fit = fit-step plan input.homes course matched here placed few (step_of call) its.may;
       told = subst (λ l. with_writes setting (node_after handset call) (with_call plan handset l call)
           (step_writes setting course (step_of call)) ≡ cost_line setting sub (first_steps input sub (suc place)))
@@ -244,14 +235,13 @@ ready scripts moves input plan distances sub place handset line call kept matche
     goes-inside calls.On may = counted.goes.place
 
 -- so it is known of the call that the code reads
-pub ready-here : ScriptsAreValid → MovesAreShort → (input : Input) (plan : PlanData) (distances : DistanceTable)
-    (sub place : ℕ) (handset : HandsetData) (line : CostLine) (held : Vec Call Global) (call : Call) → IsKept plan
+pub ready-here : ScriptsAreValid → MovesAreShort → (input : Input) {plan : PlanData} {distances : DistanceTable}
+    {sub place : ℕ} {handset : HandsetData} {line : CostLine} {held : Vec Call Global} {call : Call} → IsKept plan
     → IsMatched plan → GoTogether (seen_input input) plan distances → sub < length input.homes.items
-    → place < length (steps_of (scripts_of (seen_input input)) sub)
-    → held ≡ get_or input.scripts.items sub held → call ≡ get_or held.items place call
-    → IsCounted (seen_input input) plan sub place handset line
+    → place < length (steps_of (scripts_of (seen_input input)) sub) → held ≡ get_or input.scripts.items sub held
+    → call ≡ get_or held.items place call → IsCounted (seen_input input) plan sub place handset line
     → IsReady (seen_input input) plan sub place handset line call
-ready-here scripts moves input plan distances sub place handset line held call kept matched together low short reads
+ready-here scripts moves input {sub} {place} {held} {call} kept matched together low short reads
     same counted =
     let known : sub < length input.scripts.items =
     omega (
@@ -263,20 +253,19 @@ ready-here scripts moves input plan distances sub place handset line held call k
     let script : held.items ≡ get_or (seen_input input).scripts sub [] =
     ap (λ (s : Vec Call Global). s.items) reads
     ∙ sym (get_or-map (λ (s : Vec Call Global). s.items) input.scripts.items sub held [] known) in
-    ready scripts moves (seen_input input) plan distances sub place handset line call kept matched together low short
-    (same ∙ ap (λ s. get_or s place call) script) counted
+    ready scripts moves kept matched together low short (same ∙ ap (λ s. get_or s place call) script) counted
 
 -- what is left of the step that was begun
-pub left-of-step : (input : Contents) (plan : PlanData) (sub place : ℕ) (handset new : HandsetData) (line : CostLine)
-    (call : Call) → IsCounted input plan sub place handset line
+pub left-of-step : {input : Contents} {plan : PlanData} {sub place : ℕ} {handset : HandsetData} (new : HandsetData)
+    {line : CostLine} {call : Call} → IsCounted input plan sub place handset line
     → IsReady input plan sub place handset line call → new.sub ≡ handset.sub
     → StandsForSteps (setting_of plan input.homes) new (first_steps input sub place ++ step_of call ∷ [])
     (length (visits (setting_of plan input.homes) sub (first_steps input sub place)))
     → IsLeft plan input.homes new (first_steps input sub place ++ step_of call ∷ [])
     (length (visits (setting_of plan input.homes) sub (first_steps input sub place)))
-    (step_writes (setting_of plan input.homes)
-    (course_of (setting_of plan input.homes) sub (first_steps input sub place)) (step_of call))
-left-of-step input plan sub place handset new line call counted is same stands =
+    (step_writes (setting_of plan input.homes) (course_of (setting_of plan input.homes) sub
+    (first_steps input sub place)) (step_of call))
+left-of-step {input} {plan} {sub} {place} new {call} counted is same stands =
     let setting : Setting = setting_of plan input.homes in
     let steps : List Step = first_steps input sub place in
     let later : List Write = step_writes setting (course_of setting sub steps) (step_of call) in
@@ -290,14 +279,12 @@ left-of-step input plan sub place handset new line call counted is same stands =
     }
 
 -- there is room for it
-pub room-for-step : (input : Contents) (plan : PlanData) (sub place : ℕ) (handset new : HandsetData)
-    (line after : CostLine) (call : Call) → IsCounted input plan sub place handset line
-    → IsReady input plan sub place handset line call → after ≡ with_call plan handset line call
-    → new.sub ≡ handset.sub
+pub room-for-step : {input : Contents} {plan : PlanData} {sub place : ℕ} {handset : HandsetData} (new : HandsetData)
+    {line after : CostLine} {call : Call} → IsCounted input plan sub place handset line
+    → IsReady input plan sub place handset line call → after ≡ with_call plan handset line call → new.sub ≡ handset.sub
     → StandsForSteps (setting_of plan input.homes) new (first_steps input sub place ++ step_of call ∷ [])
-    (length (visits (setting_of plan input.homes) sub (first_steps input sub place)))
-    → HasRoom plan new after
-room-for-step input plan sub place handset new line after call counted is grown same stands =
+    (length (visits (setting_of plan input.homes) sub (first_steps input sub place))) → HasRoom plan new after
+room-for-step {input} {plan} {sub} {place} {handset} new {line} {call} counted is grown same stands =
     let small = call-small plan handset line call in
     record {
       starts = input.homes;
@@ -305,7 +292,7 @@ room-for-step input plan sub place handset new line after call counted is grown 
       made = length (visits (setting_of plan input.homes) sub (first_steps input sub place));
       later = step_writes (setting_of plan input.homes)
           (course_of (setting_of plan input.homes) sub (first_steps input sub place)) (step_of call);
-      left = left-of-step input plan sub place handset new line call counted is same stands;
+      left = left-of-step new counted is same stands;
       written = omega (
         arith,
         ap (λ (l : CostLine). l.written) grown,
@@ -325,23 +312,21 @@ room-for-step input plan sub place handset new line after call counted is grown 
     }
 
 -- and then one step more is counted
-pub counted-more : (input : Contents) (plan : PlanData) (sub place : ℕ) (handset begun new : HandsetData)
-    (line after end : CostLine) (call : Call) (node : ℕ) → IsCounted input plan sub place handset line
-    → IsReady input plan sub place handset line call → node ≡ node_after handset call
-    → after ≡ with_call plan handset line call
-    → after.moved ≤ line.moved + 2 ^ 30 → begun.sub ≡ handset.sub → new.sub ≡ begun.sub
-    → GoesWith plan new → due (setting_of plan []) new ≡ None
+pub counted-more : {input : Contents} {plan : PlanData} {sub place : ℕ} {handset : HandsetData} (begun : HandsetData)
+    {new : HandsetData} {line after end : CostLine} {call : Call} {node : ℕ}
+    → IsCounted input plan sub place handset line → IsReady input plan sub place handset line call
+    → node ≡ node_after handset call → after ≡ with_call plan handset line call → after.moved ≤ line.moved + 2 ^ 30
+    → begun.sub ≡ handset.sub → new.sub ≡ begun.sub → GoesWith plan new → due (setting_of plan []) new ≡ None
     → StandsForSteps (setting_of plan input.homes) new (first_steps input sub place ++ step_of call ∷ [])
-    (length (visits (setting_of plan input.homes) sub (first_steps input sub place))
-    + length (step_writes (setting_of plan input.homes)
-    (course_of (setting_of plan input.homes) sub (first_steps input sub place)) (step_of call)))
-    → end ≡ with_writes (setting_of plan input.homes) node after
-    (step_writes (setting_of plan input.homes)
-    (course_of (setting_of plan input.homes) sub (first_steps input sub place)) (step_of call))
-    → end.written ≤ after.written + length (step_writes (setting_of plan input.homes)
-    (course_of (setting_of plan input.homes) sub (first_steps input sub place)) (step_of call)) * most_weight
-    → IsCounted input plan sub (place + 1) new end
-counted-more input plan sub place handset begun new line after end call node counted is to grown far same still goes
+    (length (visits (setting_of plan input.homes) sub (first_steps input sub place)) + length
+    (step_writes (setting_of plan input.homes) (course_of (setting_of plan input.homes) sub
+    (first_steps input sub place)) (step_of call))) → end ≡ with_writes (setting_of plan input.homes) node after
+    (step_writes (setting_of plan input.homes) (course_of (setting_of plan input.homes) sub
+    (first_steps input sub place)) (step_of call)) → end.written ≤ after.written + length
+    (step_writes (setting_of plan input.homes) (course_of (setting_of plan input.homes) sub
+    (first_steps input sub place)) (step_of call)) * most_weight → IsCounted input plan sub (place + 1) new end
+counted-more {input} {plan} {sub} {place} {handset} begun {new} {line} {after} {end} {call} counted is to grown far same
+    still goes
     rests stands told light =
     let setting : Setting = setting_of plan input.homes in
     let steps : List Step = first_steps input sub place in

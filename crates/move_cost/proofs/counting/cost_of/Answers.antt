@@ -6,9 +6,8 @@ use Rattle.move_cost.proofs.counting.cost_of.Goals as goal
 
 pub calls-init : goal.calls-init
 calls-init c =
-    opened (seen_input c.args.input.now) c.args.plan.now c.args.sub c.index-2.result.now c.in_ok-handset.handset
-    c.in_ok-handset.ensures.exact c.in_ok-handset.ensures.goes
-    (c.in_ok-handset.ensures.stands c.args.input.now.homes.items
+    opened (seen_input c.args.input.now) c.args.sub c.index-2.result.now c.in_ok-handset.ensures.exact
+    c.in_ok-handset.ensures.goes (c.in_ok-handset.ensures.stands c.args.input.now.homes.items
     (get_or_default c.args.input.now.homes.items c.args.sub 0 c.index-2.result.now c.requires.known
     ∙ sym c.index-2.ensures))
 
@@ -17,18 +16,14 @@ count_step-requires-clause-short c = omega (
   arith,
   c.calls-test.true,
   ap length c.as_slice-script.ensures.value,
-  script-length c.args.input.now c.args.sub c.index.result.now c.requires.together.valid c.requires.known
-      c.index.ensures,
+  script-length c.args.input.now c.args.sub c.requires.together.valid c.requires.known c.index.ensures,
 )
 
 pub returns : goal.returns
 returns c =
-    closed (seen_input c.args.input.now) c.args.plan.now c.args.sub c.calls.place c.calls.handset c.calls.line
-    c.calls.invariant
-    (omega (
+    closed c.calls.invariant (omega (
       arith,
       c.calls-test.false,
       ap length c.as_slice-script.ensures.value,
-      script-length c.args.input.now c.args.sub c.index.result.now c.requires.together.valid c.requires.known
-          c.index.ensures,
+      script-length c.args.input.now c.args.sub c.requires.together.valid c.requires.known c.index.ensures,
     ))

@@ -10,8 +10,7 @@ use Rattle.move_cost.proofs.counting.costs.Goals as goal
 pub loop-sub-preserved : goal.loop-sub-preserved
 loop-sub-preserved c =
     line-pushed (setting_of c.args.plan.now c.args.input.now.homes.items) (scripts_of (seen_input c.args.input.now))
-    c.loop-sub.sub c.loop-sub.lines.items c.push.new.self.items c.in_ok-cost_of.field-0 c.loop-sub.invariant
-    c.in_ok-cost_of.ensures c.in_ok-push.ensures.items
+    c.loop-sub.sub c.loop-sub.invariant c.in_ok-cost_of.ensures c.in_ok-push.ensures.items
 
 pub returns-clause-lines : goal.returns-clause-lines
 returns-clause-lines c =

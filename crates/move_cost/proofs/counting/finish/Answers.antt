@@ -52,18 +52,15 @@ writes-preserved c = record {
 
 pub returns-clause-stands : goal.returns-clause-stands
 returns-clause-stands c = λ starts steps made later its.
-    (finished c.args.plan.now starts c.args.node steps made later c.args.handset.now c.args.line.now
-    c.writes.handset c.writes.line c.writes.invariant.follows its
-    (λ now stands. sym c.in_default.is ∙ c.next.ensures.stands starts steps now stands)).stands
+    (finished c.writes.invariant.follows its (λ now stands. sym c.in_default.is
+    ∙ c.next.ensures.stands starts steps now stands)).stands
 
 pub returns-clause-line : goal.returns-clause-line
 returns-clause-line c = λ starts steps made later its.
-    (finished c.args.plan.now starts c.args.node steps made later c.args.handset.now c.args.line.now
-    c.writes.handset c.writes.line c.writes.invariant.follows its
-    (λ now stands. sym c.in_default.is ∙ c.next.ensures.stands starts steps now stands)).told
+    (finished c.writes.invariant.follows its (λ now stands. sym c.in_default.is
+    ∙ c.next.ensures.stands starts steps now stands)).told
 
 pub returns-clause-small : goal.returns-clause-small
 returns-clause-small c = λ starts steps made later its.
-    (finished c.args.plan.now starts c.args.node steps made later c.args.handset.now c.args.line.now
-    c.writes.handset c.writes.line c.writes.invariant.follows its
-    (λ now stands. sym c.in_default.is ∙ c.next.ensures.stands starts steps now stands)).few
+    (finished c.writes.invariant.follows its (λ now stands. sym c.in_default.is
+    ∙ c.next.ensures.stands starts steps now stands)).few

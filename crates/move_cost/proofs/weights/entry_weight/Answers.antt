@@ -11,7 +11,7 @@ is-small c =
     omega (
       arith,
       c.weight_inside.ensures ∙ ap (inside c.args.plan.now c.args.level c.args.cluster) c.from.ensures,
-      inside-small c.args.plan.now c.args.level c.args.cluster c.in-Some.address.node c.plan_is_sound.ensures.sound
+      inside-small c.args.level c.args.cluster c.in-Some.address.node c.plan_is_sound.ensures.sound
           c.plan_is_sound.ensures.reached c.requires.level c.requires.cluster fit.2,
     )
 
