@@ -20,23 +20,22 @@ use Rattle.net_graph.specs.WalkLaws.{join_edge, least_weight_one}
 -- ---- what is tested is there
 
 -- one step in front of a walk
-step_first : (edges : List Edge) (inside : ℕ → Bool) (u x v w m : ℕ) → inside u ≡ true → Joins edges u x w → w ≤ m
-    → IsWalkWeight edges inside x v (m - w) → IsWalkWeight edges inside u v m
-step_first edges inside u x v w m is_inside joined le rest = record {
+step_first : {edges : List Edge} {inside : ℕ → Bool} (u : ℕ) {x v : ℕ} (w m : ℕ) → inside u ≡ true → Joins edges u x w
+    → w ≤ m → IsWalkWeight edges inside x v (m - w) → IsWalkWeight edges inside u v m
+step_first u {x} w m is_inside joined le rest = record {
   steps = record { node = x; weight = w } ∷ rest.steps;
   walk = (is_inside, joined, rest.walk);
   sum = omega (arith, rest.sum);
 }
 
-leads : (edges : List Edge) (inside : ℕ → Bool) (v k m u from to w : ℕ)
-    → ((n x : ℕ) → reaches edges inside v k n x ≡ true → IsWalkWeight edges inside x v n)
-    → inside u ≡ true → Joins edges from to w → leads_on (reaches edges inside v k) m u from to w ≡ true
-    → IsWalkWeight edges inside u v m
-leads edges inside v k m u from to w there is_inside joined e =
+leads : {edges : List Edge} {inside : ℕ → Bool} {v : ℕ} (k m u from to w : ℕ)
+    → ((n x : ℕ) → reaches edges inside v k n x ≡ true → IsWalkWeight edges inside x v n) → inside u ≡ true
+    → Joins edges from to w → leads_on (reaches edges inside v k) m u from to w ≡ true → IsWalkWeight edges inside u v m
+leads {edges} {inside} {v} k m u from to w there is_inside joined e =
     let first = and_parts (from == u) (nat_le w m && reaches edges inside v k (m - w) to) e in
     let second = and_parts (nat_le w m) (reaches edges inside v k (m - w) to) first.1 in
     let le : w ≤ m = grind (arith, nat_tests, second.0) in
-    step_first edges inside u to v w m is_inside (subst (λ x. Joins edges x to w) (eqb-true from u first.0) joined) le
+    step_first u w m is_inside (subst (λ x. Joins edges x to w) (eqb-true from u first.0) joined) le
     (there (m - w) to second.1)
 
 reached_here : (edges : List Edge) (inside : ℕ → Bool) (u v m : ℕ) → inside u ≡ true → (m == 0 && u == v) ≡ true
@@ -61,37 +60,37 @@ reaches-sound edges inside v (suc k) m u e =
           let edge = found.1 in
           elim (or_cases (leads_on goes m u edge.a edge.b edge.weight) (leads_on goes m u edge.b edge.a edge.weight)
           found.4) [
-            | inl on ↦ leads edges inside v k m u edge.a edge.b edge.weight (reaches-sound edges inside v k) outer.0
+            | inl on ↦ leads k m u edge.a edge.b edge.weight (reaches-sound edges inside v k) outer.0
                 (inl (found.0, found.2, found.3)) on
-            | inr back ↦ leads edges inside v k m u edge.b edge.a edge.weight (reaches-sound edges inside v k) outer.0
+            | inr back ↦ leads k m u edge.b edge.a edge.weight (reaches-sound edges inside v k) outer.0
                 (inr (found.0, found.2, found.3)) back
           ]
     ]
 
 -- ---- what is there is tested
 
-leads_on-true : (goes : ℕ → ℕ → Bool) (m u to w rest : ℕ) → m ≡ w + rest → goes rest to ≡ true
+leads_on-true : (goes : ℕ → ℕ → Bool) {m : ℕ} (u to w rest : ℕ) → m ≡ w + rest → goes rest to ≡ true
     → leads_on goes m u u to w ≡ true
-leads_on-true goes m u to w rest sum e =
+leads_on-true goes {m} u to w rest sum e =
     let le : nat_le w m ≡ true = grind (arith, nat_tests) in
     let left : m - w ≡ rest = omega arith in
     and_from (u == u) (nat_le w m && goes (m - w) to) (eq-eqb u u refl)
     (and_from (nat_le w m) (goes (m - w) to) le (rw left e))
 
 -- an edge of the list that joins the nodes passes the test
-edge_passes : (edges : List Edge) (goes : ℕ → ℕ → Bool) (m u x w rest : ℕ) → Joins edges u x w → m ≡ w + rest
-    → goes rest x ≡ true
-    → list_any (λ e. leads_on goes m u e.a e.b e.weight || leads_on goes m u e.b e.a e.weight) edges ≡ true
-edge_passes edges goes m u x w rest (inl h) sum e =
+edge_passes : (edges : List Edge) (goes : ℕ → ℕ → Bool) {m : ℕ} (u x w rest : ℕ) → Joins edges u x w → m ≡ w + rest
+    → goes rest x ≡ true → list_any (λ e. leads_on goes m u e.a e.b e.weight || leads_on goes m u e.b e.a e.weight)
+    edges ≡ true
+edge_passes edges goes {m} u x w rest (inl h) sum e =
     list_any_at (λ e. leads_on goes m u e.a e.b e.weight || leads_on goes m u e.b e.a e.weight) edges h.0
     (make_edge u x w) h.1
     (subst (λ (d : Edge). (leads_on goes m u d.a d.b d.weight || leads_on goes m u d.b d.a d.weight) ≡ true) (sym h.2)
-    (or_left (leads_on goes m u u x w) (leads_on goes m u x u w) (leads_on-true goes m u x w rest sum e)))
-edge_passes edges goes m u x w rest (inr h) sum e =
+    (or_left (leads_on goes m u u x w) (leads_on goes m u x u w) (leads_on-true goes u x w rest sum e)))
+edge_passes edges goes {m} u x w rest (inr h) sum e =
     list_any_at (λ e. leads_on goes m u e.a e.b e.weight || leads_on goes m u e.b e.a e.weight) edges h.0
     (make_edge x u w) h.1
     (subst (λ (d : Edge). (leads_on goes m u d.a d.b d.weight || leads_on goes m u d.b d.a d.weight) ≡ true) (sym h.2)
-    (or_right (leads_on goes m u x u w) (leads_on goes m u u x w) (leads_on-true goes m u x w rest sum e)))
+    (or_right (leads_on goes m u x u w) (leads_on goes m u u x w) (leads_on-true goes u x w rest sum e)))
 
 reaches-whole : (edges : List Edge) (inside : ℕ → Bool) (u : ℕ) (steps : List Step) (v k : ℕ)
     → IsWalk edges inside u steps v → length steps < k
@@ -105,7 +104,7 @@ reaches-whole edges inside u (step ∷ steps) v (suc k) walk lt =
     let goes = reaches edges inside v k in
     let m = step.weight + weight_of steps in
     and_from (inside u) _ walk.0 (or_right (m == 0 && u == v) _
-    (edge_passes edges goes m u step.node step.weight (weight_of steps) walk.1 refl
+    (edge_passes edges goes u step.node step.weight (weight_of steps) walk.1 refl
     (reaches-whole edges inside step.node steps v k walk.2 (omega arith))))
 
 -- each step weighs something, so a walk has no more steps than weight
@@ -146,9 +145,9 @@ passes_test n edges inside u v all steps walk =
     reaches-whole edges inside u steps v (weight_of steps + 1) walk
     (omega (arith, few_steps n edges inside u steps v all walk))
 
-least_of_first : (n : ℕ) (edges : List Edge) (inside : ℕ → Bool) (u v w : ℕ) → All (IsEdge n) edges
+least_of_first : (n : ℕ) (edges : List Edge) (inside : ℕ → Bool) (u v : ℕ) {w : ℕ} → All (IsEdge n) edges
     → IsFirst (walk_weighs edges inside u v) w → IsLeastWeight edges inside u v w
-least_of_first n edges inside u v w all is = record {
+least_of_first n edges inside u v {w} all is = record {
   attained = reaches-sound edges inside v (w + 1) w u is.passes;
   least = λ steps walk. elim (cases_lt (weight_of steps) w) [
     | inr le ↦ le
@@ -161,8 +160,7 @@ least_within : (n : ℕ) (edges : List Edge) (inside : ℕ → Bool) (u v tries 
     → (steps : List Step) → IsWalk edges inside u steps v → weight_of steps < tries
     → IsLeastWeight edges inside u v (first_passing (walk_weighs edges inside u v) tries 0)
 least_within n edges inside u v tries all steps walk lt =
-    least_of_first n edges inside u v (first_passing (walk_weighs edges inside u v) tries 0) all
-    (first_found (walk_weighs edges inside u v) tries 0 (weight_of steps)
+    least_of_first n edges inside u v all (first_found (walk_weighs edges inside u v) tries 0 (weight_of steps)
     (passes_test n edges inside u v all steps walk) (omega arith) (omega arith) (λ x h. absurd (omega arith)))
 
 -- ---- the numbers below n at which a function is below t

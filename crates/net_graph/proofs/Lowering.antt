@@ -22,6 +22,6 @@ lowered_keeps (Some x) w y h = omega arith
 some_or_other : (x y : ℕ) → (min x y ≡ x) ⊎ (min x y ≡ y)
 some_or_other x y = elim (cases_lt x y) [ inl less ↦ inl (omega arith) | inr more ↦ inr (omega arith) ]
 
-pub lowered_cause : (c : Option ℕ) (w x : ℕ) → lesser_of c w ≡ Some x → (c ≡ Some x) ⊎ (w ≡ x)
-lowered_cause None w x h = inr (cc)
-lowered_cause (Some y) w x h = elim (some_or_other y w) [ inl first ↦ inl (cc) | inr second ↦ inr (cc) ]
+pub lowered_cause : (c : Option ℕ) (w : ℕ) {x : ℕ} → lesser_of c w ≡ Some x → (c ≡ Some x) ⊎ (w ≡ x)
+lowered_cause None w h = inr (cc)
+lowered_cause (Some y) w h = elim (some_or_other y w) [ inl first ↦ inl (cc) | inr second ↦ inr (cc) ]

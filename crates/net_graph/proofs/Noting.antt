@@ -31,16 +31,15 @@ row-short u (x ∷ xs) = elim (cases_Bool (x.from == u)) [
   | inr is ↦ rw is (omega (arith, row-short u xs))
 ]
 
-pub row-at : (u : ℕ) (note : Note) (rest : List Note) → u ≡ note.from
-    → row_of u (note ∷ rest) ≡ note.arc ∷ row_of u rest
-row-at u note rest is = rw (eq-eqb note.from u (sym is)) refl
+pub row-at : {u : ℕ} (note : Note) (rest : List Note) → u ≡ note.from → row_of u (note ∷ rest) ≡ note.arc ∷ row_of u
+    rest
+row-at {u} note rest is = rw (eq-eqb note.from u (sym is)) refl
 
 pub row-own : (note : Note) (rest : List Note) → row_of note.from (note ∷ rest) ≡ note.arc ∷ row_of note.from rest
-row-own note rest = row-at note.from note rest refl
+row-own note rest = row-at note rest refl
 
-pub row-other : (u : ℕ) (note : Note) (rest : List Note) → (u ≡ note.from → ⊥)
-    → row_of u (note ∷ rest) ≡ row_of u rest
-row-other u note rest other = rw (ne_eqb note.from u (λ same. other (sym same))) refl
+pub row-other : {u : ℕ} (note : Note) (rest : List Note) → (u ≡ note.from → ⊥) → row_of u (note ∷ rest) ≡ row_of u rest
+row-other {u} note rest other = rw (ne_eqb note.from u (λ same. other (sym same))) refl
 
 -- ---- the notes of edges
 
@@ -59,16 +58,15 @@ few-arcs u edge = elim (cases_eq edge.a edge.b) [
     | inl here ↦
         omega (
           arith,
-          ap (length {A = Arc}) (row-at u (note_of edge.a edge.b edge.weight)
-              (note_of edge.b edge.a edge.weight ∷ []) here),
-          ap (length {A = Arc}) (row-other u (note_of edge.b edge.a edge.weight) []
-              (λ same. apart (sym here ∙ same))),
+          ap (length {A = Arc}) (row-at (note_of edge.a edge.b edge.weight) (note_of edge.b edge.a edge.weight ∷ [])
+              here),
+          ap (length {A = Arc}) (row-other (note_of edge.b edge.a edge.weight) [] (λ same. apart (sym here ∙ same))),
         )
     | inr away ↦
         omega (
           arith,
-          ap (length {A = Arc}) (row-other u (note_of edge.a edge.b edge.weight)
-              (note_of edge.b edge.a edge.weight ∷ []) away),
+          ap (length {A = Arc}) (row-other (note_of edge.a edge.b edge.weight) (note_of edge.b edge.a edge.weight ∷ [])
+              away),
           row-short u (note_of edge.b edge.a edge.weight ∷ []),
         )
   ])
@@ -91,8 +89,8 @@ IsBetween edge u v w = (edge ≡ make_edge u v w) ⊎ (edge ≡ make_edge v u w)
 nothing_there : {R : Type 0} (x : Arc) → Contains [] x → R
 nothing_there x (k, below, here) = absurd (omega arith)
 
-edge_parts : (edge : Edge) (a b w : ℕ) → edge.a ≡ a → edge.b ≡ b → edge.weight ≡ w → edge ≡ make_edge a b w
-edge_parts edge a b w a_is b_is w_is =
+edge_parts : (edge : Edge) {a b w : ℕ} → edge.a ≡ a → edge.b ≡ b → edge.weight ≡ w → edge ≡ make_edge a b w
+edge_parts edge {a} {b} a_is b_is w_is =
     ap (λ i. make_edge i edge.b edge.weight) a_is ∙ ap (λ i. make_edge a i edge.weight) b_is
     ∙ ap (λ i. make_edge a b i) w_is
 
@@ -110,56 +108,55 @@ row_has edge u v w has = elim (cases_eq edge.a edge.b) [
         | inl here ↦
             let there : Contains (make_arc edge.b edge.weight ∷ row_of u (note_of edge.b edge.a edge.weight ∷ []))
             (make_arc v w) =
-            subst (λ xs. Contains xs (make_arc v w)) (row-at u (note_of edge.a edge.b edge.weight)
+            subst (λ xs. Contains xs (make_arc v w)) (row-at (note_of edge.a edge.b edge.weight)
             (note_of edge.b edge.a edge.weight ∷ []) here) near in
             elim (first_or_later (make_arc v w) (make_arc edge.b edge.weight)
             (row_of u (note_of edge.b edge.a edge.weight ∷ [])) there) [
               | inl is ↦
                   let target_is : edge.b ≡ v = ap (λ (x : Arc). x.target) is in (
                     (λ same. apart (sym here ∙ same ∙ sym target_is)),
-                    inl (edge_parts edge u v w (sym here) target_is (ap (λ (x : Arc). x.weight) is)),
+                    inl (edge_parts edge (sym here) target_is (ap (λ (x : Arc). x.weight) is)),
                   )
               | inr behind ↦ nothing_there (make_arc v w) (subst (λ xs. Contains xs (make_arc v w))
-                  (row-other u (note_of edge.b edge.a edge.weight) [] (λ same. apart (sym here ∙ same))) behind)
+                  (row-other (note_of edge.b edge.a edge.weight) [] (λ same. apart (sym here ∙ same))) behind)
             ]
         | inr away ↦
             let there : Contains (row_of u (note_of edge.b edge.a edge.weight ∷ [])) (make_arc v w) =
-            subst (λ xs. Contains xs (make_arc v w)) (row-other u (note_of edge.a edge.b edge.weight)
+            subst (λ xs. Contains xs (make_arc v w)) (row-other (note_of edge.a edge.b edge.weight)
             (note_of edge.b edge.a edge.weight ∷ []) away) near in
             elim (cases_eq u edge.b) [
               | inl here ↦
                   let last : Contains (make_arc edge.a edge.weight ∷ []) (make_arc v w) =
-                  subst (λ xs. Contains xs (make_arc v w)) (row-at u (note_of edge.b edge.a edge.weight) [] here)
+                  subst (λ xs. Contains xs (make_arc v w)) (row-at (note_of edge.b edge.a edge.weight) [] here)
                   there in
                   elim (first_or_later (make_arc v w) (make_arc edge.a edge.weight) [] last) [
                     | inl is ↦
                         let target_is : edge.a ≡ v = ap (λ (x : Arc). x.target) is in (
                           (λ same. away (same ∙ sym target_is)),
-                          inr (edge_parts edge v u w target_is (sym here) (ap (λ (x : Arc). x.weight) is)),
+                          inr (edge_parts edge target_is (sym here) (ap (λ (x : Arc). x.weight) is)),
                         )
                     | inr behind ↦ nothing_there (make_arc v w) behind
                   ]
               | inr off ↦ nothing_there (make_arc v w) (subst (λ xs. Contains xs (make_arc v w))
-                  (row-other u (note_of edge.b edge.a edge.weight) [] off) there)
+                  (row-other (note_of edge.b edge.a edge.weight) [] off) there)
             ]
       ]
 ]
 
 -- an edge that joins two nodes stands in the row of each
-has_row : (edge : Edge) (u v w : ℕ) → u ≢ v → IsBetween edge u v w
-    → Contains (row_of u (notes_by edge)) (make_arc v w)
+has_row : (edge : Edge) {u v w : ℕ} → u ≢ v → IsBetween edge u v w → Contains (row_of u (notes_by edge)) (make_arc v w)
 unfolding IsBetween
-has_row edge u v w apart (inl is) =
+has_row edge {u} {v} {w} apart (inl is) =
     subst (λ e. Contains (row_of u (notes_by e)) (make_arc v w)) (sym is)
     (subst (λ xs. Contains (row_of u xs) (make_arc v w)) (sym (edge-notes (make_edge u v w) apart))
     (subst (λ xs. Contains xs (make_arc v w)) (sym (row-own (note_of u v w) (note_of v u w ∷ [])))
     (first (make_arc v w) (row_of u (note_of v u w ∷ [])))))
-has_row edge u v w apart (inr is) =
+has_row edge {u} {v} {w} apart (inr is) =
     subst (λ e. Contains (row_of u (notes_by e)) (make_arc v w)) (sym is)
     (subst (λ xs. Contains (row_of u xs) (make_arc v w))
     (sym (edge-notes (make_edge v u w) (λ same. apart (sym same))))
     (subst (λ xs. Contains xs (make_arc v w))
-    (sym (row-other u (note_of v u w) (note_of u v w ∷ []) apart ∙ row-own (note_of u v w) []))
+    (sym (row-other (note_of v u w) (note_of u v w ∷ []) apart ∙ row-own (note_of u v w) []))
     (first (make_arc v w) [])))
 
 -- ---- the row of a node has the arcs by which it is joined
@@ -169,8 +166,8 @@ row-cons : (u : ℕ) (edge : Edge) (edges : List Edge) → row_of u (notes_of (e
 row-cons u edge edges =
     ap (row_of u) (flat_map-cons notes_by edge edges) ∙ row-append u (notes_by edge) (notes_of edges)
 
-at_head : (edge x : Edge) (edges : List Edge) → edge ≡ x → Contains (edge ∷ edges) x
-at_head edge x edges is = (0, omega arith, is)
+at_head : {edge x : Edge} (edges : List Edge) → edge ≡ x → Contains (edge ∷ edges) x
+at_head edges is = (0, omega arith, is)
 
 joined : (edges : List Edge) (u v w : ℕ) → Contains (row_of u (notes_of edges)) (make_arc v w)
     → JoinsOther edges u v w
@@ -180,8 +177,8 @@ joined (edge ∷ edges) u v w has =
     elim (Contains-append_cases (row_of u (notes_by edge)) (row_of u (notes_of edges)) (make_arc v w)
     (subst (λ xs. Contains xs (make_arc v w)) (row-cons u edge edges) has)) [
       | inl here ↦ let is = row_has edge u v w here in elim is.1 [
-        | inl way ↦ (is.0, inl (at_head edge (make_edge u v w) edges way))
-        | inr way ↦ (is.0, inr (at_head edge (make_edge v u w) edges way))
+        | inl way ↦ (is.0, inl (at_head edges way))
+        | inr way ↦ (is.0, inr (at_head edges way))
       ]
       | inr there ↦ let is = joined edges u v w there in elim is.1 [
         | inl way ↦ (is.0, inl (later (make_edge u v w) edge edges way))
@@ -208,7 +205,7 @@ one_more edge edges u v w apart rest_has way =
     here : IsBetween edge u v w
         → Contains (row_of u (notes_by edge) ++ row_of u (notes_of edges)) (make_arc v w)
     here is = Contains-append_left (row_of u (notes_by edge)) (row_of u (notes_of edges)) (make_arc v w)
-        (has_row edge u v w apart is)
+        (has_row edge apart is)
 
     there : Joins edges u v w
         → Contains (row_of u (notes_by edge) ++ row_of u (notes_of edges)) (make_arc v w)

@@ -15,15 +15,14 @@ use Rattle.net_graph.specs.Parents.{MakesUp, IsLeastTarget, IsLeastNeighbour, Ar
 use Rattle.net_graph.specs.WalkLaws.{join_turned, join_edge, walk_begins, walk_ends, walk_further}
 use Rattle.net_graph.proofs.Lowering.{lowered_light, lowered_keeps, lowered_cause}
 
-pub target_taken : (arcs : List Arc) (i : ℕ) (d : Arc) (weights : List (Option ℕ)) (weight least next : Option ℕ)
-    → i < length arcs
-    → MakesUp weights (get_or arcs i d).target (get_or arcs i d).weight weight
-    → next ≡ lesser_of least (get_or arcs i d).target
-    → IsLeastTarget (take i arcs) weights weight least → IsLeastTarget (take (i + 1) arcs) weights weight next
-target_taken arcs i d weights weight least next below makes is so_far =
+pub target_taken : (arcs : List Arc) (i : ℕ) (d : Arc) {weights : List (Option ℕ)} {weight least next : Option ℕ}
+    → i < length arcs → MakesUp weights (get_or arcs i d).target (get_or arcs i d).weight weight
+    → next ≡ lesser_of least (get_or arcs i d).target → IsLeastTarget (take i arcs) weights weight least
+    → IsLeastTarget (take (i + 1) arcs) weights weight next
+target_taken arcs i d {weights} {weight} {least} below makes is so_far =
     let arc : Arc = get_or arcs i d in
     rw (take_more arcs i d below, is) (record {
-      cause = λ p some. elim (lowered_cause least arc.target p some) [
+      cause = λ p some. elim (lowered_cause least arc.target some) [
         | inl old ↦ let r = so_far.cause p old in
             (r.0, Contains-append_left (take i arcs) (arc ∷ []) (make_arc p r.0) r.1, r.2)
         | inr new ↦ (
@@ -39,11 +38,10 @@ target_taken arcs i d weights weight least next below makes is so_far =
       ];
     })
 
-pub target_left : (arcs : List Arc) (i : ℕ) (d : Arc) (weights : List (Option ℕ)) (weight least : Option ℕ)
-    → i < length arcs
-    → (MakesUp weights (get_or arcs i d).target (get_or arcs i d).weight weight → ⊥)
+pub target_left : (arcs : List Arc) (i : ℕ) (d : Arc) {weights : List (Option ℕ)} {weight least : Option ℕ}
+    → i < length arcs → (MakesUp weights (get_or arcs i d).target (get_or arcs i d).weight weight → ⊥)
     → IsLeastTarget (take i arcs) weights weight least → IsLeastTarget (take (i + 1) arcs) weights weight least
-target_left arcs i d weights weight least below fails so_far =
+target_left arcs i d {weights} {weight} below fails so_far =
     let arc : Arc = get_or arcs i d in
     rw (take_more arcs i d below) (record {
       cause = λ p some. let r = so_far.cause p some in
@@ -54,20 +52,19 @@ target_left arcs i d weights weight least below fails so_far =
       ];
     })
 
-neighbour : (n : ℕ) (edges : List Edge) (v : ℕ) (arcs : List Arc) (weights : List (Option ℕ)) (least : Option ℕ)
+neighbour : {n : ℕ} {edges : List Edge} {v : ℕ} {arcs : List Arc} {weights : List (Option ℕ)} {least : Option ℕ}
     → AreArcsOf n edges v arcs → IsLeastTarget arcs weights (at_node weights v) least
     → IsLeastNeighbour edges weights v least
-neighbour n edges v arcs weights least of_node found = record {
+neighbour of_node found = record {
   cause = λ p some. let r = found.cause p some in (r.0, of_node.sound p r.0 r.1, r.2);
   whole = λ q c joined makes. found.whole q c (of_node.whole q c joined) makes;
 }
 
-pub more_neighbours : (n : ℕ) (edges : List Edge) (v : ℕ) (arcs : List Arc) (weights parents next : List (Option ℕ))
-    (least : Option ℕ)
-    → AreArcsOf n edges v arcs → IsLeastTarget arcs weights (at_node weights v) least
+pub more_neighbours : {n : ℕ} {edges : List Edge} {v : ℕ} {arcs : List Arc} {weights parents next : List (Option ℕ)}
+    {least : Option ℕ} → AreArcsOf n edges v arcs → IsLeastTarget arcs weights (at_node weights v) least
     → AreLeastNeighbours edges weights v parents → next ≡ parents ++ least ∷ []
     → AreLeastNeighbours edges weights (v + 1) next
-more_neighbours n edges v arcs weights parents next least of_node found so_far is =
+more_neighbours {edges} {v} {weights} {parents} {least} of_node found so_far is =
     subst (λ xs. AreLeastNeighbours edges weights (v + 1) xs) (sym is) (record {
       count = omega (arith, length_push parents least, so_far.count);
       each = λ u below. elim (cases_lt u v) [
@@ -76,7 +73,7 @@ more_neighbours n edges v arcs weights parents next least of_node found so_far i
         | inr more ↦ let same : v ≡ u = omega arith in
             subst (λ i. IsLeastNeighbour edges weights i (at_node (parents ++ least ∷ []) i)) same
             (subst (λ o. IsLeastNeighbour edges weights v o) (sym (get_or_push parents least None v so_far.count))
-            (neighbour n edges v arcs weights least of_node found))
+            (neighbour of_node found))
       ];
     })
 

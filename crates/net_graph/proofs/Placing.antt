@@ -18,17 +18,17 @@ use Rattle.net_graph.specs.StartLaws.{places_made, places_within, places_apart, 
 
 -- ---- counts
 
-row-push : (u : ℕ) (notes : List Note) (note : Note) → u ≡ note.from
-    → length (row_of u (notes ++ note ∷ [])) ≡ length (row_of u notes) + 1
-row-push u notes note is =
+row-push : {u : ℕ} (notes : List Note) (note : Note) → u ≡ note.from → length (row_of u (notes ++ note ∷ [])) ≡ length
+    (row_of u notes) + 1
+row-push {u} notes note is =
     ap (length {A = Arc}) (row-append u notes (note ∷ [])
     ∙ ap (λ arcs. row_of u notes ++ arcs) (ap (λ v. row_of v (note ∷ [])) is ∙ row-own note []))
     ∙ length-append (row_of u notes) (note.arc ∷ [])
 
-row-passed : (u : ℕ) (notes : List Note) (note : Note) → (u ≡ note.from → ⊥)
+row-passed : {u : ℕ} (notes : List Note) (note : Note) → (u ≡ note.from → ⊥)
     → row_of u (notes ++ note ∷ []) ≡ row_of u notes
-row-passed u notes note other =
-    row-append u notes (note ∷ []) ∙ ap (λ arcs. row_of u notes ++ arcs) (row-other u note [] other)
+row-passed {u} notes note other =
+    row-append u notes (note ∷ []) ∙ ap (λ arcs. row_of u notes ++ arcs) (row-other note [] other)
     ∙ append-nil (row_of u notes)
 
 -- one note more is counted
@@ -41,10 +41,10 @@ one_counted notes note counts below before v short =
           ap (λ u. get_or (set counts note.from (get_or counts note.from 0 + 1)) u 0) same
           ∙ get_or-set_same counts note.from (get_or counts note.from 0 + 1) 0 below
           ∙ ap (λ n. n + 1) (ap (λ u. get_or counts u 0) (sym same) ∙ before v old)
-          ∙ sym (row-push v notes note same)
+          ∙ sym (row-push notes note same)
       | inr other ↦
           get_or-set_other counts note.from v (get_or counts note.from 0 + 1) 0 other ∙ before v old
-          ∙ ap (length {A = Arc}) (sym (row-passed v notes note other))
+          ∙ ap (length {A = Arc}) (sym (row-passed notes note other))
     ]
 
 -- the notes of an edge that is no loop, one behind the other
@@ -66,9 +66,10 @@ none_more edges i d below same =
     ∙ ap (λ xs. notes_of (take i edges) ++ xs) (loop-notes (get_or edges i d) same)
     ∙ append-nil (notes_of (take i edges))
 
-pub room_made : (n : ℕ) (notes : List Note) (counts starts : List ℕ) → length counts ≡ n → AreCounts notes counts
+pub room_made : {n : ℕ} (notes : List Note) {counts starts : List ℕ} → length counts ≡ n → AreCounts notes counts
     → AreStarts counts starts → HaveRoom n notes starts
-room_made n notes counts starts whole counted sums = places_made n (λ v. length (row_of v notes)) counts starts whole
+room_made {n} notes {counts} {starts} whole counted sums = places_made n (λ v. length (row_of v notes)) counts starts
+    whole
     counted sums
 
 -- ---- places

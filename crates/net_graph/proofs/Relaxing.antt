@@ -108,11 +108,11 @@ module _ (arc : Arc) (x : ℕ) (unsettled : List Bool) (old : List (Option ℕ))
   }
 
 -- one more arc
-relaxed_more : (arcs : List Arc) (arc : Arc) (x : ℕ) (unsettled : List Bool) (old mid new : List (Option ℕ))
-    (waited between waiting : List Waiting) → IsRelaxed arcs x unsettled old mid waited between
-    → IsRelaxed (arc ∷ []) x unsettled mid new between waiting
-    → IsRelaxed (arcs ++ arc ∷ []) x unsettled old new waited waiting
-relaxed_more arcs arc x unsettled old mid new waited between waiting p q = record {
+relaxed_more : {arcs : List Arc} {arc : Arc} {x : ℕ} {unsettled : List Bool} {old mid new : List (Option ℕ)}
+    {waited between waiting : List Waiting} → IsRelaxed arcs x unsettled old mid waited between
+    → IsRelaxed (arc ∷ []) x unsettled mid new between waiting → IsRelaxed (arcs ++ arc ∷ []) x unsettled old new waited
+    waiting
+relaxed_more {arcs} {arc} {x} p q = record {
   count = q.count ∙ p.count;
   kept = λ v settled. q.kept v settled ∙ p.kept v settled;
   cause = λ v w here. elim (q.cause v w here) [
@@ -149,11 +149,10 @@ relaxed_more arcs arc x unsettled old mid new waited between waiting p q = recor
 }
 
 -- one more arc of a list
-pub relaxed_next : (arcs : List Arc) (i : ℕ) (d : Arc) (x : ℕ) (unsettled : List Bool) (old mid new : List (Option ℕ))
-    (waited between waiting : List Waiting) → i < length arcs
-    → IsRelaxed (take i arcs) x unsettled old mid waited between
-    → IsRelaxed (get_or arcs i d ∷ []) x unsettled mid new between waiting
+pub relaxed_next : (arcs : List Arc) (i : ℕ) (d : Arc) {x : ℕ} {unsettled : List Bool} {old mid new : List (Option ℕ)}
+    {waited between waiting : List Waiting} → i < length arcs → IsRelaxed (take i arcs) x unsettled old mid waited
+    between → IsRelaxed (get_or arcs i d ∷ []) x unsettled mid new between waiting
     → IsRelaxed (take (i + 1) arcs) x unsettled old new waited waiting
-relaxed_next arcs i d x unsettled old mid new waited between waiting below p q =
+relaxed_next arcs i d below p q =
     rw (take_more arcs i d below)
-    (relaxed_more (take i arcs) (get_or arcs i d) x unsettled old mid new waited between waiting p q)
+    (relaxed_more p q)

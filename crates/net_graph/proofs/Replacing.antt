@@ -20,9 +20,9 @@ least_of_step edges inside u v w x at_u at_v joined p =
 abbrev pub Covers : List Edge → List Edge → Type 0
 Covers old new = (u v w : ℕ) → u ≢ v → Joins old u v w → (x : ℕ) × Joins new u v x × (x ≤ w)
 
-walk_skipped : (edges : List Edge) (inside : ℕ → Bool) (u y v w c : ℕ) → u ≡ y → IsNoHeavier edges inside y v w
+walk_skipped : {edges : List Edge} {inside : ℕ → Bool} {u y v w : ℕ} (c : ℕ) → u ≡ y → IsNoHeavier edges inside y v w
     → IsNoHeavier edges inside u v (c + w)
-walk_skipped edges inside u y v w c e rest =
+walk_skipped {edges} {inside} {v} c e rest =
     record {
       steps = rest.steps;
       walk = subst (λ z. IsWalk edges inside z rest.steps v) (sym e) rest.walk;
@@ -30,9 +30,9 @@ walk_skipped edges inside u y v w c e rest =
           omega (arith, rest.light);
     }
 
-walk_replaced : (edges : List Edge) (inside : ℕ → Bool) (u y v w c x : ℕ) → inside u ≡ true → Joins edges u y x → x ≤ c
-    → IsNoHeavier edges inside y v w → IsNoHeavier edges inside u v (c + w)
-walk_replaced edges inside u y v w c x at_u joined light rest =
+walk_replaced : {edges : List Edge} {inside : ℕ → Bool} (u : ℕ) {y v w : ℕ} (c x : ℕ) → inside u ≡ true
+    → Joins edges u y x → x ≤ c → IsNoHeavier edges inside y v w → IsNoHeavier edges inside u v (c + w)
+walk_replaced u {y} c x at_u joined light rest =
     record {
       steps = record { node = y; weight = x } ∷ rest.steps;
       walk =
@@ -46,15 +46,15 @@ walk_covered old new covers inside u [] v walk = record { steps = []; walk = wal
 walk_covered old new covers inside u (step ∷ steps) v walk =
     let rest = walk_covered old new covers inside step.node steps v walk.2 in
     elim (cases_eq u step.node) [
-      | inl same ↦ walk_skipped new inside u step.node v (weight_of steps) step.weight same rest
+      | inl same ↦ walk_skipped step.weight same rest
       | inr other ↦
           let found = covers u step.node step.weight other walk.1 in
-          walk_replaced new inside u step.node v (weight_of steps) step.weight found.0 walk.0 found.1 found.2 rest
+          walk_replaced u step.weight found.0 walk.0 found.1 found.2 rest
     ]
 
-least_kept : (old new : List Edge) → Covers old new → Covers new old → (inside : ℕ → Bool) (u v w : ℕ)
+least_kept : {old : List Edge} (new : List Edge) → Covers old new → Covers new old → {inside : ℕ → Bool} {u v w : ℕ}
     → IsLeastWeight old inside u v w → IsLeastWeight new inside u v w
-least_kept old new there back inside u v w p =
+least_kept {old} new there back {inside} {u} {v} p =
     let found = walk_covered old new there inside u p.attained.steps v p.attained.walk in
     let again = walk_covered new old back inside u found.steps v found.walk in
     record {
@@ -68,9 +68,9 @@ least_kept old new there back inside u v w p =
           omega (arith, p.least over.steps over.walk, over.light);
     }
 
-reached_kept : (old new : List Edge) → Covers old new → (inside : ℕ → Bool) (u v : ℕ)
+reached_kept : {old : List Edge} (new : List Edge) → Covers old new → {inside : ℕ → Bool} {u v : ℕ}
     → IsReached old inside u v → IsReached new inside u v
-reached_kept old new there inside u v p =
+reached_kept {old} new there {inside} {u} {v} p =
     let found = walk_covered old new there inside u p.steps v p.walk in
     record { steps = found.steps; walk = found.walk }
 
@@ -81,7 +81,7 @@ unreached_kept old new back inside u v none steps walk =
 
 pub same_walks : (old new : List Edge) → Covers old new → Covers new old → SameWalks old new
 same_walks old new there back = record {
-  least = λ inside u v w. (least_kept old new there back inside u v w, least_kept new old back there inside u v w);
-  reached = λ inside u v. (reached_kept old new there inside u v, reached_kept new old back inside u v);
+  least = λ inside u v w. (least_kept new there back, least_kept old back there);
+  reached = λ inside u v. (reached_kept new there, reached_kept old back);
   unreached = λ inside u v. (unreached_kept old new back inside u v, unreached_kept new old there inside u v);
 }

@@ -69,9 +69,9 @@ row_limits n starts arcs u all =
     All-take (IsArc n) (get_or starts (u + 1) 0 - get_or starts u 0) (drop (get_or starts u 0) arcs)
     (All-drop (IsArc n) (get_or starts u 0) arcs all)
 
-pub laid_out_limits : (n : ℕ) (starts : List ℕ) (arcs : List Arc) → IsLaidOut n starts arcs
+pub laid_out_limits : {n : ℕ} {starts : List ℕ} {arcs : List Arc} → IsLaidOut n starts arcs
     → IsInLimits (record { nodes = n; edges = edges_from starts arcs n })
-laid_out_limits n starts arcs laid = record {
+laid_out_limits {n} {starts} {arcs} laid = record {
   positive = laid.positive;
   few = laid.few;
   edges = λ k d below.
@@ -82,27 +82,29 @@ laid_out_limits n starts arcs laid = record {
       record { a_below = r.0; b_below = arc.below; positive = arc.positive; light = arc.light };
 }
 
-whole_row : (n : ℕ) (starts : List ℕ) (arcs : List Arc) (u : ℕ) → IsLaidOut n starts arcs
-    → (v w : ℕ) → Joins (edges_from starts arcs n) u v w → Contains (row starts arcs u) (make_arc v w)
-whole_row n starts arcs u laid v w (inl h) = (row_has_edge starts arcs n u v w h).1
-whole_row n starts arcs u laid v w (inr h) = let r = row_has_edge starts arcs n v u w h in laid.turned v u w r.0 r.1
+whole_row : {n : ℕ} {starts : List ℕ} {arcs : List Arc} (u : ℕ) → IsLaidOut n starts arcs → (v w : ℕ)
+    → Joins (edges_from starts arcs n) u v w → Contains (row starts arcs u) (make_arc v w)
+whole_row {n} {starts} {arcs} u laid v w (inl h) = (row_has_edge starts arcs n u v w h).1
+whole_row {n} {starts} {arcs} u laid v w (inr h) = let r = row_has_edge starts arcs n v u w h in laid.turned v u w r.0
+    r.1
 
-pub row_arcs : (n : ℕ) (starts : List ℕ) (arcs : List Arc) (u : ℕ) → IsLaidOut n starts arcs → u < n
+pub row_arcs : {n : ℕ} {starts : List ℕ} {arcs : List Arc} (u : ℕ) → IsLaidOut n starts arcs → u < n
     → AreArcsOf n (edges_from starts arcs n) u (row starts arcs u)
-row_arcs n starts arcs u laid below = record {
+row_arcs {n} {starts} {arcs} u laid below = record {
   sound = λ v w has. inl (edges_have_row starts arcs n u v w below has);
-  whole = whole_row n starts arcs u laid;
+  whole = whole_row u laid;
   limits = row_limits n starts arcs u laid.limits;
 }
 
 -- the arcs of a node, as they are read
-pub read_row : (n : ℕ) (starts : List ℕ) (arcs : List Arc) (network : Network) (u first next : ℕ) (list : List Arc)
+pub read_row : {n : ℕ} {starts : List ℕ} {arcs : List Arc} {network : Network} (u : ℕ) {first next : ℕ}
+    {list : List Arc}
     → IsLaidOut n starts arcs → record { nodes = n; edges = edges_from starts arcs n } ≡ network → u < network.nodes
     → first ≡ get_or starts u first → next ≡ get_or starts (u + 1) next → list ≡ arcs
     → AreArcsOf network.nodes network.edges u (slice_range list first next)
-read_row n starts arcs network u first next list laid view below at_first at_next whole =
+read_row {n} {starts} u {first} {next} {list} laid view below at_first at_next whole =
     let short : u < n = subst (λ (k : ℕ). u < k) (sym (ap (λ (x : Network). x.nodes) view)) below in
     let begins : first ≡ get_or starts u 0 = get_or_read starts u first (omega (arith, laid.count)) at_first 0 in
     let ends : next ≡ get_or starts (u + 1) 0 = get_or_read starts (u + 1) next (omega (arith, laid.count)) at_next 0 in
     subst (λ (x : Network). AreArcsOf x.nodes x.edges u (slice_range list first next)) view
-    (rw (begins, ends, whole) (row_arcs n starts arcs u laid short))
+    (rw (begins, ends, whole) (row_arcs u laid short))

@@ -57,19 +57,19 @@ pub record IsQueue (unsettled : List Bool) (weights : List (Option ℕ)) (waitin
   pub light : (w v : ℕ) → Contains waiting (make_waiting w v) → among unsettled v ≡ true
       → IsAtMost (at_node weights v) w
 
-true_is_not_false : (b : Bool) → b ≡ true → b ≡ false → ⊥
-true_is_not_false b h k = let both : true ≡ false = sym h ∙ k in cc
+true_is_not_false : {b : Bool} → b ≡ true → b ≡ false → ⊥
+true_is_not_false h k = let both : true ≡ false = sym h ∙ k in cc
 
-none_there : (n v w : ℕ) → get_or (replicate n None) v None ≡ Some w → ⊥
-none_there n v w here = elim (cases_lt v n) [
+none_there : (n v : ℕ) {w : ℕ} → get_or (replicate n None) v None ≡ Some w → ⊥
+none_there n v {w} here = elim (cases_lt v n) [
   | inl below ↦ none-some w (sym (get_or-replicate n v None None below) ∙ here)
   | inr past ↦ none-some w (sym (get_or_past (replicate n None) v None
       (omega (arith, length-replicate {A = Option ℕ} n None))) ∙ here)
 ]
 
 -- the beginning, where the root alone has a weight
-only_root : (n root v w : ℕ) → at_node (set (replicate n None) root (Some 0)) v ≡ Some w → (v ≡ root) × (w ≡ 0)
-only_root n root v w here = elim (cases_lt root n) [
+only_root : (n root v : ℕ) {w : ℕ} → at_node (set (replicate n None) root (Some 0)) v ≡ Some w → (v ≡ root) × (w ≡ 0)
+only_root n root v {w} here = elim (cases_lt root n) [
   | inl below ↦ elim (cases_eq v root) [
     | inl same ↦ (
       same,
@@ -78,8 +78,7 @@ only_root n root v w here = elim (cases_lt root n) [
           (omega (arith, length-replicate {A = Option ℕ} n None)))
           ∙ sym (ap (at_node (set (replicate n None) root (Some 0))) same) ∙ here)),
     )
-    | inr other ↦ absurd (none_there n v w (sym (get_or-set_other (replicate n None) root v (Some 0) None other)
-        ∙ here))
+    | inr other ↦ absurd (none_there n v (sym (get_or-set_other (replicate n None) root v (Some 0) None other) ∙ here))
   ]
   | inr past ↦ elim (cases_eq v root) [
     | inl same ↦ absurd (none-some w (sym (get_or_past (set (replicate n None) root (Some 0)) v None
@@ -89,8 +88,7 @@ only_root n root v w here = elim (cases_lt root n) [
           length-replicate {A = Option ℕ} n
               None,
         ))) ∙ here))
-    | inr other ↦ absurd (none_there n v w (sym (get_or-set_other (replicate n None) root v (Some 0) None other)
-        ∙ here))
+    | inr other ↦ absurd (none_there n v (sym (get_or-set_other (replicate n None) root v (Some 0) None other) ∙ here))
   ]
 ]
 
@@ -109,15 +107,15 @@ search_begins network allowed root positive count at_root =
       start = subst (λ c. IsAtMost c 0) (sym (get_or-set_same (replicate n None) root (Some 0) None below))
           (omega arith);
       inner = λ v h. h;
-      settled = λ v h k. absurd (true_is_not_false (among allowed v) h k);
-      sound = λ v w here. let r = only_root n root v w here in
+      settled = λ v h k. absurd (true_is_not_false h k);
+      sound = λ v w here. let r = only_root n root v here in
           record { steps = []; walk = (at_root, sym r.0); sum = sym r.1 };
-      closed = λ u v w c is_settled here h joined. let r = only_root n root u w here in
-          absurd (true_is_not_false (among allowed root) at_root (sym (ap (among allowed) r.0) ∙ is_settled));
-      lightest = λ u v x y is_settled here waits there. let r = only_root n root u x here in
-          absurd (true_is_not_false (among allowed root) at_root (sym (ap (among allowed) r.0) ∙ is_settled));
-      slack = λ v w here. let r = only_root n root v w here in omega (arith, r.1, few);
-      bounded = λ v w here. let r = only_root n root v w here in omega (arith, r.1);
+      closed = λ u v w c is_settled here h joined. let r = only_root n root u here in
+          absurd (true_is_not_false at_root (sym (ap (among allowed) r.0) ∙ is_settled));
+      lightest = λ u v x y is_settled here waits there. let r = only_root n root u here in
+          absurd (true_is_not_false at_root (sym (ap (among allowed) r.0) ∙ is_settled));
+      slack = λ v w here. let r = only_root n root v here in omega (arith, r.1, few);
+      bounded = λ v w here. let r = only_root n root v here in omega (arith, r.1);
     }
 
 -- settling a node
@@ -131,8 +129,8 @@ settled_now unsettled x v h = elim (cases_eq v x) [
 unsettled_still : (unsettled : List Bool) (x v : ℕ) → x < length unsettled → among (set unsettled x false) v ≡ true
     → (v ≢ x) × (among unsettled v ≡ true)
 unsettled_still unsettled x v below h =
-    let other : v ≢ x = λ same. true_is_not_false (among (set unsettled x false) x)
-    (sym (ap (among (set unsettled x false)) same) ∙ h) (get_or-set_same unsettled x false false below) in
+    let other : v ≢ x = λ same. true_is_not_false (sym (ap (among (set unsettled x false)) same) ∙ h)
+    (get_or-set_same unsettled x false false below) in
     (other, sym (get_or-set_other unsettled x v false false other) ∙ h)
 
 count_falls : (unsettled : List Bool) (x : ℕ) → among unsettled x ≡ true
@@ -301,13 +299,12 @@ module _ (unsettled : List Bool) (weights : List (Option ℕ)) (waiting rest : L
   }
 
 -- the queue at the beginning
-pub queue_begins : (n : ℕ) (allowed : List Bool) (root : ℕ) (waiting : List Waiting) → length allowed ≡ n
-    → among allowed root ≡ true
-    → IsPermutation (make_waiting 0 root ∷ []) waiting
+pub queue_begins : {n : ℕ} (allowed : List Bool) (root : ℕ) {waiting : List Waiting} → length allowed ≡ n
+    → among allowed root ≡ true → IsPermutation (make_waiting 0 root ∷ []) waiting
     → IsQueue allowed (set (replicate n None) root (Some 0)) waiting
-queue_begins n allowed root waiting count at_root pushed = record {
+queue_begins {n} allowed root {waiting} count at_root pushed = record {
   below = λ w v has. let r = only w v has in omega (arith, among_below allowed root at_root, r.1);
-  whole = λ v w waits here. let r = only_root n root v w here in
+  whole = λ v w waits here. let r = only_root n root v here in
       subst (λ i. Contains waiting (make_waiting i v)) (sym r.1)
       (subst (λ i. Contains waiting (make_waiting 0 i)) (sym r.0)
       (Contains-permutation (make_waiting 0 root ∷ []) waiting (make_waiting 0 root) pushed (0, omega arith, refl)));
@@ -333,15 +330,15 @@ pub record IsUnderWay (network : Network) (inside : ℕ → Bool) (root : ℕ) (
   pub queue : IsQueue unsettled weights waiting
 
 -- one round, on a part of a longer list of weights
-pub search_settles : (network : Network) (inside : ℕ → Bool) (root : ℕ) (unsettled : List Bool)
-    (weights : List (Option ℕ))
-    (waiting remaining after : List Waiting) → IsUnderWay network inside root unsettled weights waiting
-    → (best : Candidate) → IsNextUnsettled unsettled waiting remaining best
-    → (arcs : List Arc) → AreArcsOf network.nodes network.edges best.node arcs
-    → (new rest : List (Option ℕ)) (k : ℕ)
+pub search_settles : {network : Network} {inside : ℕ → Bool} {root : ℕ} {unsettled : List Bool}
+    {weights : List (Option ℕ)} {waiting remaining after : List Waiting}
+    → IsUnderWay network inside root unsettled weights waiting → {best : Candidate}
+    → IsNextUnsettled unsettled waiting remaining best → {arcs : List Arc}
+    → AreArcsOf network.nodes network.edges best.node arcs → {new : List (Option ℕ)} (rest : List (Option ℕ)) {k : ℕ}
     → IsRelaxed arcs best.weight (set unsettled best.node false) weights new remaining after → length new ≡ k
     → IsUnderWay network inside root (set unsettled best.node false) (take k (new ++ rest)) after
-search_settles network inside root unsettled weights waiting remaining after so_far best next arcs of_node new rest k r
+search_settles {network} {inside} {root} {unsettled} {weights} {waiting} {remaining} {after} so_far {best} next {arcs}
+    of_node {new} rest {k} r
     count =
     rw (take_at new rest k count)
     (record {

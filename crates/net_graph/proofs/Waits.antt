@@ -87,6 +87,6 @@ module _ (unsettled : List Bool) (old now rest : List Waiting) (so_far : StillWa
   }
 
 -- none is left that waits
-pub none_waits : (unsettled : List Bool) (old now : List Waiting) → StillWait unsettled old now → length now ≡ 0
+pub none_waits : {unsettled : List Bool} {old now : List Waiting} → StillWait unsettled old now → length now ≡ 0
     → AreSettled unsettled old
-none_waits unsettled old now so_far none w v has waits = absurd (omega (arith, (so_far.kept w v has waits).1))
+none_waits so_far none w v has waits = absurd (omega (arith, (so_far.kept w v has waits).1))

@@ -7,17 +7,13 @@ use Rattle.net_graph.proofs.parents.least_target.Goals.{then-makes_up, else-make
 pub loop-arc-preserved : goal.loop-arc-preserved
 loop-arc-preserved c = elim c.if-makes_up.branch [
   | then-makes_up w ↦
-      target_taken c.args.arcs.now c.loop-arc.arc-index (record { target = 0; weight = 0 }) c.args.weights.now
-      c.args.weight
-      c.loop-arc.least c.if-makes_up.least c.loop-arc-test.true (c.makes_up.ensures.0 w.if-makes_up.true)
-      (w.least-is ∙ w.lower.ensures) c.loop-arc.invariant
+      target_taken c.args.arcs.now c.loop-arc.arc-index (record { target = 0; weight = 0 }) c.loop-arc-test.true
+      (c.makes_up.ensures.0 w.if-makes_up.true) (w.least-is ∙ w.lower.ensures) c.loop-arc.invariant
   | else-makes_up w ↦
       subst (λ (least : Option ℕ). IsLeastTarget (take (c.loop-arc.arc-index + 1) c.args.arcs.now) c.args.weights.now
       c.args.weight least)
       (sym w.least-is)
-      (target_left c.args.arcs.now c.loop-arc.arc-index (record { target = 0; weight = 0 }) c.args.weights.now
-      c.args.weight
-      c.loop-arc.least c.loop-arc-test.true
+      (target_left c.args.arcs.now c.loop-arc.arc-index (record { target = 0; weight = 0 }) c.loop-arc-test.true
       (λ makes. let both : true ≡ false = sym (c.makes_up.ensures.1 makes) ∙ w.if-makes_up.false in cc)
       c.loop-arc.invariant)
 ]

@@ -1,11 +1,7 @@
-use Rattle.std.specs.BinaryHeap.{heap_items}
 use Rattle.net_graph.proofs.Relaxing.{relaxed_next}
 use Rattle.net_graph.proofs.search.relax.Goals as goal
 
 pub loop-arc-preserved : goal.loop-arc-preserved
 loop-arc-preserved c =
-    relaxed_next c.args.arcs.now c.loop-arc.arc-index (record { target = 0; weight = 0 }) c.args.weight
-    c.args.unsettled.now
-    c.args.weights.now c.loop-arc.weights c.relax_arc.new.weights
-    (heap_items c.args.queue.now.heap) (heap_items c.loop-arc.queue.heap) (heap_items c.relax_arc.new.queue.heap)
-    c.loop-arc-test.true c.loop-arc.invariant c.in_ok-relax_arc.ensures
+    relaxed_next c.args.arcs.now c.loop-arc.arc-index (record { target = 0; weight = 0 }) c.loop-arc-test.true
+    c.loop-arc.invariant c.in_ok-relax_arc.ensures

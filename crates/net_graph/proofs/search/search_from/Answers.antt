@@ -16,11 +16,9 @@ loop-lightest-init c =
     (record {
       found = search_begins c.args.neighbours.now c.args.allowed.now c.args.root c.nodes.ensures.limits.positive
           c.requires.count c.requires.root;
-      queue = queue_begins c.args.neighbours.now.nodes c.args.allowed.now c.args.root (heap_items c.push.new.self.heap)
-          c.requires.count c.requires.root
+      queue = queue_begins c.args.allowed.now c.args.root c.requires.count c.requires.root
           (subst (λ (xs : List Waiting). IsPermutation (make_waiting 0 c.args.root ∷ xs)
-          (heap_items c.push.new.self.heap))
-          c.new-queue.ensures c.in_ok-push.ensures);
+          (heap_items c.push.new.self.heap)) c.new-queue.ensures c.in_ok-push.ensures);
     })
 
 pub next_unsettled-requires : goal.next_unsettled-requires
@@ -38,12 +36,8 @@ relax-requires-clause-weight c =
 
 pub loop-lightest-preserved : goal.loop-lightest-preserved
 loop-lightest-preserved c =
-    search_settles c.args.neighbours.now (among c.args.allowed.now) c.args.root c.loop-lightest.unsettled.items
-    c.loop-lightest.weights.items (heap_items c.loop-lightest.queue.heap) (heap_items c.next_unsettled.new.self.heap)
-    (heap_items c.relax.new.queue.heap) c.loop-lightest.invariant c.in-Some.lightest
-    (rw c.deref.ensures.value at c.in-Some.ensures.next)
-    c.arcs_of-arcs.result.now c.arcs_of-arcs.ensures c.relax.new.weights
-    (drop (length c.relax.new.weights) c.loop-lightest.weights.items) c.loop-lightest.weights.len
+    search_settles c.loop-lightest.invariant (rw c.deref.ensures.value at c.in-Some.ensures.next) c.arcs_of-arcs.ensures
+    (drop (length c.relax.new.weights) c.loop-lightest.weights.items)
     (rw (c.deref-in-Some.ensures.value, c.deref_mut.ensures.value) at c.in_ok-relax.ensures)
     (omega (arith, c.relax.auto.weights, c.deref_mut.ensures.len))
 

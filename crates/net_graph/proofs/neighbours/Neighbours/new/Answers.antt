@@ -22,10 +22,8 @@ fill_arcs-requires-clause-room c =
     ) in
     subst (λ (xs : List ℕ). HaveRoom (length c.deref_mut-2.result.now) (notes_of c.args.edges.now) xs)
     (sym c.deref-2.ensures.value)
-    (room_made (length c.deref_mut-2.result.now) (notes_of c.args.edges.now) c.deref.result.now
-    c.in_ok-starts.starts.items whole
-    (subst (λ (xs : List ℕ). AreCounts (notes_of c.args.edges.now) xs) (sym counts) c.count_arcs.ensures)
-    c.in_ok-starts.ensures)
+    (room_made (notes_of c.args.edges.now) whole (subst (λ (xs : List ℕ). AreCounts (notes_of c.args.edges.now) xs)
+    (sym counts) c.count_arcs.ensures) c.in_ok-starts.ensures)
   where
     counts : c.deref.result.now ≡ c.count_arcs.new.counts
     counts = c.deref.ensures.value
@@ -76,8 +74,6 @@ returns-clause-same c =
 
 pub returns-clause-limits : goal.returns-clause-limits
 returns-clause-limits c =
-    laid_out_limits c.args.n c.in_ok-starts.starts.items
-    (take c.in_ok-arcs.arcs.len (c.fill_arcs.new.arcs ++ drop (length c.fill_arcs.new.arcs) c.in_ok-arcs.arcs.items))
-    (all_rows c.args.n c.args.edges.now c.requires.edges c.in_ok-starts.starts.items
+    laid_out_limits (all_rows c.args.n c.args.edges.now c.requires.edges c.in_ok-starts.starts.items
     (take c.in_ok-arcs.arcs.len (c.fill_arcs.new.arcs ++ drop (length c.fill_arcs.new.arcs) c.in_ok-arcs.arcs.items))
     c.requires.positive c.requires.few (made c.before.before))

@@ -6,4 +6,4 @@ use Rattle.net_graph.proofs.neighbours.Neighbours.nodes.Goals as goal
 pub returns-clause-limits : goal.returns-clause-limits
 returns-clause-limits c =
     subst (λ (x : Network). IsInLimits x) c.self.view_is
-    (laid_out_limits c.self.inside.nodes c.self.inside.starts.items c.self.inside.arcs.items c.self.invariant)
+    (laid_out_limits c.self.invariant)

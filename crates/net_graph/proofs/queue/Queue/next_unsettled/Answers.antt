@@ -31,6 +31,4 @@ loop-weight-preserved c =
 
 pub returns-clause-none : goal.returns-clause-none
 returns-clause-none c =
-    none_waits c.args.unsettled.now (heap_items c.args.self.now.heap)
-    (heap_items c.loop-weight.self.heap) c.loop-weight.invariant
-    (omega (arith, c.in_default.ensures.none))
+    none_waits c.loop-weight.invariant (omega (arith, c.in_default.ensures.none))
