@@ -32,8 +32,8 @@ most-within format = at (format == 2)
     at false = omega arith
 
 -- the network of a valid input is one within the limits
-pub network-valid : (contents : Contents) → IsValid contents → IsNetwork (network_of contents)
-network-valid contents valid = record {
+pub network-valid : {contents : Contents} → IsValid contents → IsNetwork (network_of contents)
+network-valid {contents} valid = record {
   limits = record {
     positive = valid.some;
     few = omega (arith, valid.few, most-within contents.format);
@@ -43,33 +43,33 @@ network-valid contents valid = record {
 }
 
 -- it has as many nodes as the input
-pub plan-nodes : PlansMean → (contents : Contents) → IsValid contents → nodes_of (plan_for contents) ≡ contents.nodes
-plan-nodes means contents valid =
-    (means (network_of contents) contents.k (network-valid contents valid) valid.k_some).distances.nodes
+pub plan-nodes : PlansMean → {contents : Contents} → IsValid contents → nodes_of (plan_for contents) ≡ contents.nodes
+plan-nodes means {contents} valid =
+    (means (network_of contents) contents.k (network-valid valid) valid.k_some).distances.nodes
 
 -- the plan of a graph is the plan of the edges that it was made of
-pub plan_of_graph : PlansOfSameWalks → (contents : Contents) (network : Network) → IsValid contents
+pub plan_of_graph : PlansOfSameWalks → {contents : Contents} {network : Network} → IsValid contents
     → IsGraphOf contents.nodes contents.edges network → plan_of network contents.k ≡ plan_for contents
-plan_of_graph same contents network valid graph =
-    same network (network_of contents) contents.k graph.sound (network-valid contents valid) graph.nodes graph.same
+plan_of_graph same {contents} {network} valid graph =
+    same network (network_of contents) contents.k graph.sound (network-valid valid) graph.nodes graph.same
     valid.k_some
 
 -- the same of the plan over any covering
-pub covered-nodes : CoveredPlansMean → (covering : Covering) (contents : Contents) → IsValid contents
+pub covered-nodes : CoveredPlansMean → (covering : Covering) {contents : Contents} → IsValid contents
     → 1 ≤ trade_off_of covering → nodes_of (covered_plan covering (network_of contents)) ≡ contents.nodes
-covered-nodes means covering contents valid low =
-    (means covering (network_of contents) (network-valid contents valid) low).distances.nodes
+covered-nodes means covering {contents} valid low =
+    (means covering (network_of contents) (network-valid valid) low).distances.nodes
 
-pub covered_of_graph : CoveredPlansOfSameWalks → (covering : Covering) (contents : Contents) (network : Network)
+pub covered_of_graph : CoveredPlansOfSameWalks → (covering : Covering) {contents : Contents} {network : Network}
     → IsValid contents → IsGraphOf contents.nodes contents.edges network → 1 ≤ trade_off_of covering
     → covered_plan covering network ≡ covered_plan covering (network_of contents)
-covered_of_graph same covering contents network valid graph low =
-    same covering network (network_of contents) graph.sound (network-valid contents valid) graph.nodes graph.same low
+covered_of_graph same covering {contents} {network} valid graph low =
+    same covering network (network_of contents) graph.sound (network-valid valid) graph.nodes graph.same low
 
 -- a network that is connected isn't apart
-pub not_apart : (n : ℕ) (edges given : List Edge) (node : ℕ) → given ≡ edges
+pub not_apart : {n : ℕ} {edges given : List Edge} {node : ℕ} → given ≡ edges
     → ((v : ℕ) → v < n → IsReached edges everywhere 0 v) → IsFirstApart n given node → ⊥
-not_apart n edges given node same connected apart =
+not_apart {n} {edges} {node} same connected apart =
     let is : IsFirstApart n edges node = subst (λ (es : List Edge). IsFirstApart n es node) same apart in
     let reached = connected node is.below in
     is.apart reached.steps reached.walk

@@ -25,10 +25,10 @@ use Rattle.track.specs.declared.stop.WriteStop.{WriteStop}
 use Rattle.track.specs.declared.stop.WriteStop.TheVariants as writing
 
 -- what holds of all bytes that were read holds of what was left
-of_left : (P : List ℕ → Type 0) (before now : Option (List ℕ)) (bytes : List ℕ) → before ≡ prepend_known bytes now
-    → IsAtEnd now → P bytes → IfSome before P
-of_left P before None bytes e end p = subst (λ (o : Option (List ℕ)). IfSome o P) (sym e) tt
-of_left P before (Some rest) bytes e end p =
+of_left : (P : List ℕ → Type 0) {before : Option (List ℕ)} (now : Option (List ℕ)) {bytes : List ℕ}
+    → before ≡ prepend_known bytes now → IsAtEnd now → P bytes → IfSome before P
+of_left P None e end p = subst (λ (o : Option (List ℕ)). IfSome o P) (sym e) tt
+of_left P (Some rest) {bytes} e end p =
     let whole : bytes ≡ bytes ++ rest = sym (ap (λ (xs : List ℕ). bytes ++ xs) end ∙ append-nil bytes) in
     subst (λ (o : Option (List ℕ)). IfSome o P) (sym e) (subst P whole p)
 
@@ -41,13 +41,13 @@ status_of_answer : (command : Command) (input : Result Contents InputFault) (sta
 status_of_answer command (Ok contents) status text h = inl h.0
 status_of_answer command (Err fault) status text h = inr (inl h.0)
 
-status_of_verdict : (verdict : Verdict) (status : Status) → status ≡ verdict_status verdict → IsTold status
-status_of_verdict verdicts.Sound status is = inl is
-status_of_verdict (verdicts.Unsound line cause) status is = inr (inr is)
+status_of_verdict : (verdict : Verdict) {status : Status} → status ≡ verdict_status verdict → IsTold status
+status_of_verdict verdicts.Sound is = inl is
+status_of_verdict (verdicts.Unsound line cause) is = inr (inr is)
 
 status_of_judged : (report : List ℕ) (input : Result Contents InputFault) (status : Status) (text : List ℕ)
     → IsRightVerdict report input status text → IsTold status
-status_of_judged report (Ok contents) status text h = status_of_verdict (verdict_for contents report) status h.0
+status_of_judged report (Ok contents) status text h = status_of_verdict (verdict_for contents report) h.0
 status_of_judged report (Err fault) status text h = inr (inl h.0)
 
 status_of_made : (made : List ℕ) (input : Result Contents InputFault) (status : Status) (text : List ℕ)
@@ -84,88 +84,88 @@ is_plain command alike = record { short = λ bytes is. is; text = λ bytes statu
 pub is_plain_run : IsPlain commands.Run
 is_plain_run = record { short = λ bytes is. is; text = λ bytes status text is. is }
 
-told : (command : Command) (status : Status) (before now : Streams) → IsTold status
-    → EndsDone command status before now → EndsAs command status before now
-told command status before now (inl e) h =
+told : (command : Command) {status : Status} (before now : Streams) → IsTold status → EndsDone command status before now
+    → EndsAs command status before now
+told command before now (inl e) h =
     subst (λ (s : Status). EndsAs command s before now) (sym e)
     (subst (λ (s : Status). EndsDone command s before now) e h)
-told command status before now (inr (inl e)) h =
+told command before now (inr (inl e)) h =
     subst (λ (s : Status). EndsAs command s before now) (sym e)
     (subst (λ (s : Status). EndsDone command s before now) e h)
-told command status before now (inr (inr e)) h =
+told command before now (inr (inr e)) h =
     subst (λ (s : Status). EndsAs command s before now) (sym e)
     (subst (λ (s : Status). EndsDone command s before now) e h)
 
 -- the text of all bytes that were left was written
-done-bytes : (command : Command) (status : Status) (text bytes : List ℕ) (left left' : Option (List ℕ))
-    (rf rf' : ℕ) (written written' : Option (List ℕ)) (wf wf' : ℕ) → left ≡ prepend_known bytes left'
-    → IsAtEnd left' → rf' ≡ rf → IsShort command bytes → IsText command bytes status text
-    → written' ≡ append_known written text → wf' ≡ wf
+done-bytes : (command : Command) (status : Status) (text bytes : List ℕ) {left : Option (List ℕ)}
+    (left' : Option (List ℕ)) {rf rf' : ℕ} (written : Option (List ℕ)) {written' : Option (List ℕ)} {wf wf' : ℕ}
+    → left ≡ prepend_known bytes left' → IsAtEnd left' → rf' ≡ rf → IsShort command bytes
+    → IsText command bytes status text → written' ≡ append_known written text → wf' ≡ wf
     → EndsAs command status (streams left rf written wf) (streams left' rf' written' wf')
-done-bytes command status text bytes left left' rf rf' written written' wf wf' parts end calm short right w f =
+done-bytes command status text bytes {left} left' {rf} {rf'} written {written'} {wf} {wf'} parts end calm short right w
+    f =
     let whole : IsTextWritten command status bytes written written' =
     record { short = short; text = text; right = right; written = w } in
-    told command status (streams left rf written wf) (streams left' rf' written' wf')
+    told command (streams left rf written wf) (streams left' rf' written' wf')
     (status_of_text command bytes status text right) (
-      of_left (λ bytes. IsTextWritten command status bytes written written') left left' bytes parts end whole,
+      of_left (λ bytes. IsTextWritten command status bytes written written') left' parts end whole,
       end,
       calm,
       f,
     )
 
 -- a front of it was written
-begun-bytes : (command : Command) (status : Status) (stop : WriteStop) (text bytes : List ℕ)
-    (left left' : Option (List ℕ)) (rf rf' : ℕ) (written written' : Option (List ℕ)) (wf wf' : ℕ)
+begun-bytes : (command : Command) (status : Status) (stop : WriteStop) (text bytes : List ℕ) {left : Option (List ℕ)}
+    (left' : Option (List ℕ)) {rf rf' : ℕ} (written written' : Option (List ℕ)) (wf wf' : ℕ)
     → left ≡ prepend_known bytes left' → IsAtEnd left' → rf' ≡ rf → IsShort command bytes
     → IsText command bytes status text → StopsWriting stop text written written' wf wf'
     → EndsAs command (write_status stop) (streams left rf written wf) (streams left' rf' written' wf')
-begun-bytes command status writing.OutOfMemory text bytes left left' rf rf' written written' wf wf' parts end calm short
+begun-bytes command status writing.OutOfMemory text bytes left' written written' wf wf' parts end calm short
     right h = ((h.0, h.1), calm)
-begun-bytes command status writing.Failed text bytes left left' rf rf' written written' wf wf' parts end calm short
+begun-bytes command status writing.Failed text bytes left' written written' wf wf' parts end calm short
     right h =
     let is : IsBegun command bytes written written' =
     record { short = short; status = status; text = text; right = right; part = h.1 } in (
       h.0,
-      of_left (λ bytes. IsBegun command bytes written written') left left' bytes parts end is,
+      of_left (λ bytes. IsBegun command bytes written written') left' parts end is,
       end,
       calm,
     )
 
 -- an answer that is right for all bytes that were left was written, or not whole
 ended-bytes : (command : Command) (answer : Result Answer AllocError) (status : Status) (bytes : List ℕ)
-    (left left' : Option (List ℕ)) (rf rf' : ℕ) (written written' : Option (List ℕ)) (wf wf' : ℕ)
+    {left : Option (List ℕ)} (left' : Option (List ℕ)) {rf rf' : ℕ} (written written' : Option (List ℕ)) (wf wf' : ℕ)
     → left ≡ prepend_known bytes left' → IsAtEnd left' → rf' ≡ rf → IsShort command bytes
     → IfOk answer (λ answer. IsText command bytes answer.status (text_of answer.body))
-    → IsEnded answer status written written' wf wf'
-    → EndsAs command status (streams left rf written wf) (streams left' rf' written' wf')
-ended-bytes command (Ok answer) status bytes left left' rf rf' written written' wf wf' parts end calm short right
+    → IsEnded answer status written written' wf wf' → EndsAs command status (streams left rf written wf)
+    (streams left' rf' written' wf')
+ended-bytes command (Ok answer) status bytes {left} left' {rf} {rf'} written written' wf wf' parts end calm short right
     (inl whole) =
     subst (λ (s : Status). EndsAs command s (streams left rf written wf) (streams left' rf' written' wf'))
     (sym whole.0)
-    (done-bytes command answer.status (text_of answer.body) bytes left left' rf rf' written written' wf wf' parts end
-    calm short right whole.1 whole.2)
-ended-bytes command (Ok answer) status bytes left left' rf rf' written written' wf wf' parts end calm short right
+    (done-bytes command answer.status (text_of answer.body) bytes left' written parts end calm short right whole.1
+    whole.2)
+ended-bytes command (Ok answer) status bytes {left} left' {rf} {rf'} written written' wf wf' parts end calm short right
     (inr begun) =
     subst (λ (s : Status). EndsAs command s (streams left rf written wf) (streams left' rf' written' wf'))
     (sym begun.1)
-    (begun-bytes command answer.status begun.0 (text_of answer.body) bytes left left' rf rf' written written' wf wf'
-    parts end calm short right begun.2)
-ended-bytes command (Err fault) status bytes left left' rf rf' written written' wf wf' parts end calm short right h =
+    (begun-bytes command answer.status begun.0 (text_of answer.body) bytes left' written written' wf wf' parts end calm
+    short right begun.2)
+ended-bytes command (Err fault) status bytes {left} left' {rf} {rf'} written written' wf wf' parts end calm short right
+    h =
     subst (λ (s : Status). EndsAs command s (streams left rf written wf) (streams left' rf' written' wf'))
     (sym h.0) ((h.1, h.2), calm)
 
 -- an answer to the bytes that a reader stands for
-pub ended : (command : Command) → IsPlain command → (answer : Result Answer AllocError) (status : Status)
-    (reader : ReaderValue) (left left' : Option (List ℕ)) (rf rf' : ℕ) (written written' : Option (List ℕ))
-    (wf wf' : ℕ) → IsAllRead reader left left' rf rf'
-    → IfOk answer (λ answer. (bytes : List ℕ) → StandsFor reader bytes
-    → IsInputText command bytes answer.status (text_of answer.body))
-    → IsEnded answer status written written' wf wf'
+pub ended : {command : Command} → IsPlain command → (answer : Result Answer AllocError) (status : Status)
+    {reader : ReaderValue} {left left' : Option (List ℕ)} {rf rf' : ℕ} (written written' : Option (List ℕ)) (wf wf' : ℕ)
+    → IsAllRead reader left left' rf rf' → IfOk answer (λ answer. (bytes : List ℕ) → StandsFor reader bytes
+    → IsInputText command bytes answer.status (text_of answer.body)) → IsEnded answer status written written' wf wf'
     → EndsAs command status (streams left rf written wf) (streams left' rf' written' wf')
-ended command plain answer status reader left left' rf rf' written written' wf wf' all right is =
-    ended-bytes command answer status all.bytes left left' rf rf' written written' wf wf' all.parts all.end all.no_fault
-    (plain.short all.bytes all.short)
-    (IfOk-weaker answer (λ answer. (bytes : List ℕ) → StandsFor reader bytes
+ended {command} plain answer status {reader} {left'} written written' wf wf' all right is =
+    ended-bytes command answer status all.bytes left' written written' wf wf' all.parts all.end all.no_fault
+    (plain.short all.bytes all.short) (IfOk-weaker answer
+    (λ answer. (bytes : List ℕ) → StandsFor reader bytes
     → IsInputText command bytes answer.status (text_of answer.body))
     (λ answer. IsText command all.bytes answer.status (text_of answer.body))
     (λ answer right. plain.text all.bytes answer.status (text_of answer.body) (right all.bytes all.stands)) right) is
@@ -173,38 +173,36 @@ ended command plain answer status reader left left' rf rf' written written' wf w
 -- ---- a text that has a report
 
 -- the parts of the text that was read may be so long
-part-short : (bytes part : List ℕ) → part ≡ input_part bytes → length part ≤ most_bytes
+part-short : (bytes : List ℕ) {part : List ℕ} → part ≡ input_part bytes → length part ≤ most_bytes
     → length bytes ≤ most_text_bytes → IsShort commands.Check bytes
-part-short bytes part same short all = (all, subst (λ (t : List ℕ). length t ≤ most_bytes) same short)
+part-short bytes same short all = (all, subst (λ (t : List ℕ). length t ≤ most_bytes) same short)
 
-judged-text : (bytes part report : List ℕ) (status : Status) (text : List ℕ) → part ≡ input_part bytes
+judged-text : (bytes : List ℕ) {part report : List ℕ} {status : Status} {text : List ℕ} → part ≡ input_part bytes
     → report ≡ report_part bytes → IsJudged part report status text → IsText commands.Check bytes status text
-judged-text bytes part report status text p r h =
+judged-text bytes {report} {status} {text} p r h =
     subst (λ (t : List ℕ). IsJudged (input_part bytes) t status text) r
     (subst (λ (t : List ℕ). IsJudged t report status text) p h)
 
-pub ended-check : (answer : Result Answer AllocError) (status : Status) (bytes part report : List ℕ)
-    (left left' : Option (List ℕ)) (rf rf' : ℕ) (written written' : Option (List ℕ)) (wf wf' : ℕ)
+pub ended-check : (answer : Result Answer AllocError) (status : Status) {bytes part report : List ℕ}
+    {left left' : Option (List ℕ)} {rf rf' : ℕ} (written written' : Option (List ℕ)) (wf wf' : ℕ)
     → IsTextRead most_text_bytes bytes left left' rf rf' → part ≡ input_part bytes → report ≡ report_part bytes
-    → length part ≤ most_bytes
-    → IfOk answer (λ answer. IsJudged part report answer.status (text_of answer.body))
-    → IsEnded answer status written written' wf wf'
-    → EndsAs commands.Check status (streams left rf written wf) (streams left' rf' written' wf')
-ended-check answer status bytes part report left left' rf rf' written written' wf wf' all p r short right is =
-    ended-bytes commands.Check answer status bytes left left' rf rf' written written' wf wf' all.parts all.end
-    all.no_fault (part-short bytes part p short all.short)
-    (IfOk-weaker answer (λ answer. IsJudged part report answer.status (text_of answer.body))
-    (λ answer. IsText commands.Check bytes answer.status (text_of answer.body))
-    (λ answer. judged-text bytes part report answer.status (text_of answer.body) p r) right) is
+    → length part ≤ most_bytes → IfOk answer (λ answer. IsJudged part report answer.status (text_of answer.body))
+    → IsEnded answer status written written' wf wf' → EndsAs commands.Check status (streams left rf written wf)
+    (streams left' rf' written' wf')
+ended-check answer status {bytes} {part} {report} {left'} written written' wf wf' all p r short right is =
+    ended-bytes commands.Check answer status bytes left' written written' wf wf' all.parts all.end all.no_fault
+    (part-short bytes p short all.short) (IfOk-weaker answer
+    (λ answer. IsJudged part report answer.status (text_of answer.body))
+    (λ answer. IsText commands.Check bytes answer.status (text_of answer.body)) (λ answer. judged-text bytes p r) right)
+    is
 
 -- ---- JSON
 
-pub ended-json : (answer : Result Answer AllocError) (status : Status) (bytes : List ℕ)
-    (left left' : Option (List ℕ)) (rf rf' : ℕ) (written written' : Option (List ℕ)) (wf wf' : ℕ)
-    → IsTextRead most_bytes bytes left left' rf rf'
+pub ended-json : (answer : Result Answer AllocError) (status : Status) {bytes : List ℕ} {left left' : Option (List ℕ)}
+    {rf rf' : ℕ} (written written' : Option (List ℕ)) (wf wf' : ℕ) → IsTextRead most_bytes bytes left left' rf rf'
     → IfOk answer (λ answer. IsJsonAnswer bytes answer.status (text_of answer.body))
-    → IsEnded answer status written written' wf wf'
-    → EndsAs commands.FromJson status (streams left rf written wf) (streams left' rf' written' wf')
-ended-json answer status bytes left left' rf rf' written written' wf wf' all right is =
-    ended-bytes commands.FromJson answer status bytes left left' rf rf' written written' wf wf' all.parts all.end
-    all.no_fault all.short right is
+    → IsEnded answer status written written' wf wf' → EndsAs commands.FromJson status (streams left rf written wf)
+    (streams left' rf' written' wf')
+ended-json answer status {bytes} {left'} written written' wf wf' all right is =
+    ended-bytes commands.FromJson answer status bytes left' written written' wf wf' all.parts all.end all.no_fault
+    all.short right is

@@ -42,10 +42,10 @@ same_answer command (Ok contents) s t one other served p q = (
 )
 same_answer command (Err fault) s t one other served p q = (p.0 ∙ sym q.0, p.1 ∙ sym q.1)
 
-one_input_text : TextSaysOne → (command : Command) (bytes : List ℕ) (s t : Status) (one other : List ℕ)
+one_input_text : TextSaysOne → {command : Command} {bytes : List ℕ} {s t : Status} {one other : List ℕ}
     → is_served false command ≡ true → IsInputText command bytes s one → IsInputText command bytes t other
     → (s ≡ t) × (one ≡ other)
-one_input_text says command bytes s t one other served p q =
+one_input_text says {command} {bytes} {s} {t} {one} {other} served p q =
     let same = says bytes p.input q.input p.says q.says in
     same_answer command q.input s t one other served
     (subst (λ (input : Result Contents InputFault). IsRightAnswer command
@@ -57,9 +57,9 @@ same_verdict : (report : List ℕ) (input : Result Contents InputFault) (s t : S
 same_verdict report (Ok contents) s t one other p q = (p.0 ∙ sym q.0, p.1 ∙ sym q.1)
 same_verdict report (Err fault) s t one other p q = (p.0 ∙ sym q.0, p.1 ∙ sym q.1)
 
-one_verdict : TextSaysOne → (part report : List ℕ) (s t : Status) (one other : List ℕ)
-    → IsJudged part report s one → IsJudged part report t other → (s ≡ t) × (one ≡ other)
-one_verdict says part report s t one other p q =
+one_verdict : TextSaysOne → {part report : List ℕ} {s t : Status} {one other : List ℕ} → IsJudged part report s one
+    → IsJudged part report t other → (s ≡ t) × (one ≡ other)
+one_verdict says {part} {report} {s} {t} {one} {other} p q =
     same_verdict report q.input s t one other
     (subst (λ (input : Result Contents InputFault). IsRightVerdict report input s one)
     (says part p.input q.input p.says q.says) p.answer) q.answer
@@ -75,9 +75,9 @@ same_made : (made : List ℕ) (input : Result Contents InputFault) (s t : Status
 same_made made (Ok contents) s t one other p q = (p.0 ∙ sym q.0, p.1 ∙ sym q.1)
 same_made made (Err fault) s t one other p q = (p.0 ∙ sym q.0, p.1 ∙ sym q.1)
 
-one_made : TextSaysOne → (made : List ℕ) (s t : Status) (one other : List ℕ)
-    → IsMadeBy made s one → IsMadeBy made t other → (s ≡ t) × (one ≡ other)
-one_made says made s t one other p q =
+one_made : TextSaysOne → {made : List ℕ} {s t : Status} {one other : List ℕ} → IsMadeBy made s one
+    → IsMadeBy made t other → (s ≡ t) × (one ≡ other)
+one_made says {made} {s} {t} {one} {other} p q =
     same_made made q.input s t one other
     (subst (λ (input : Result Contents InputFault). IsMade made input s one)
     (says made p.input q.input p.says q.says) p.answer) q.answer
@@ -85,8 +85,7 @@ one_made says made s t one other p q =
 one_json : TextSaysOne → JsonIsOne → (bytes : List ℕ) (s t : Status) (one other : List ℕ)
     → IsJsonAnswer bytes s one → IsJsonAnswer bytes t other → (s ≡ t) × (one ≡ other)
 one_json says json bytes s t one other (inl p) (inl q) =
-    one_made says (listing_text q.listing) s t one other
-    (subst (λ (l : ListingValue). IsMadeBy (listing_text l) s one)
+    one_made says (subst (λ (l : ListingValue). IsMadeBy (listing_text l) s one)
     (json.listing bytes p.listing q.listing p.listed q.listed) p.made) q.made
 one_json says json bytes s t one other (inl p) (inr (inl q)) = absurd ((json.right bytes p.listing p.listed).1 q.0)
 one_json says json bytes s t one other (inl p) (inr (inr q)) = absurd ((json.right bytes p.listing p.listed).0 q.0)
@@ -99,42 +98,42 @@ one_json says json bytes s t one other (inr (inr p)) (inr (inr q)) = (p.1 ∙ sy
 
 pub one_text : TextSaysOne → JsonIsOne → BytesHaveOneText
 one_text says json commands.Check bytes s t one other served p q =
-    one_verdict says (input_part bytes) (report_part bytes) s t one other p q
+    one_verdict says p q
 one_text says json commands.FromJson bytes s t one other served p q = one_json says json bytes s t one other p q
 one_text says json command bytes s t one other served p q =
-    one_input_text says command bytes s t one other served p q
+    one_input_text says served p q
 
-of_some : (P : List ℕ → Type 0) (o : Option (List ℕ)) (bytes : List ℕ) → o ≡ Some bytes → IfSome o P → P bytes
-of_some P o bytes e h = subst (λ (x : Option (List ℕ)). IfSome x P) e h
+of_some : (P : List ℕ → Type 0) {o : Option (List ℕ)} {bytes : List ℕ} → o ≡ Some bytes → IfSome o P → P bytes
+of_some P e h = subst (λ (x : Option (List ℕ)). IfSome x P) e h
 
-done_input : (command : Command) (input : Result Contents InputFault) (contents : Contents) (status : Status)
+done_input : (command : Command) (input : Result Contents InputFault) {contents : Contents} (status : Status)
     (text : List ℕ) → input ≡ Ok contents → IsRightAnswer command input status text → status ≡ statuses.Done
-done_input command (Ok other) contents status text e h = h.0
-done_input command (Err fault) contents status text e h = cc
+done_input command (Ok other) status text e h = h.0
+done_input command (Err fault) status text e h = cc
 
-judged_input : (report : List ℕ) (input : Result Contents InputFault) (contents : Contents) (status : Status)
+judged_input : (report : List ℕ) (input : Result Contents InputFault) {contents : Contents} (status : Status)
     (text : List ℕ) → input ≡ Ok contents → IsRightVerdict report input status text
     → status ≡ verdict_status (verdict_for contents report)
-judged_input report (Ok other) contents status text e h =
+judged_input report (Ok other) {contents} status text e h =
     let same : other ≡ contents = cc in
     h.0 ∙ ap (λ (c : Contents). verdict_status (verdict_for c report)) same
-judged_input report (Err fault) contents status text e h = cc
+judged_input report (Err fault) status text e h = cc
 
-made_input : (made : List ℕ) (input : Result Contents InputFault) (contents : Contents) (status : Status)
+made_input : (made : List ℕ) (input : Result Contents InputFault) {contents : Contents} (status : Status)
     (text : List ℕ) → input ≡ Ok contents → IsMade made input status text → status ≡ statuses.Done
-made_input made (Ok other) contents status text e h = h.0
-made_input made (Err fault) contents status text e h = cc
+made_input made (Ok other) status text e h = h.0
+made_input made (Err fault) status text e h = cc
 
-remade_input : TextSaysOne → JsonIsOne → (bytes : List ℕ) (status : Status) (text : List ℕ) (contents : Contents)
+remade_input : TextSaysOne → JsonIsOne → {bytes : List ℕ} (status : Status) (text : List ℕ) {contents : Contents}
     → IsJsonAnswer bytes status text → SaysByJson bytes contents → status ≡ statuses.Done
-remade_input says json bytes status text contents (inl h) input =
+remade_input says json {bytes} status text {contents} (inl h) input =
     let same = json.listing bytes input.listing h.listing input.listed h.listed in
-    made_input (listing_text h.listing) h.made.input contents status text
+    made_input (listing_text h.listing) h.made.input status text
     (says (listing_text h.listing) h.made.input (Ok contents) h.made.says
     (subst (λ (l : ListingValue). IsInput (listing_text l) (Ok contents)) same input.says)) h.made.answer
-remade_input says json bytes status text contents (inr (inl h)) input =
+remade_input says json {bytes} status text (inr (inl h)) input =
     absurd ((json.right bytes input.listing input.listed).1 h.0)
-remade_input says json bytes status text contents (inr (inr h)) input =
+remade_input says json {bytes} status text (inr (inr h)) input =
     absurd ((json.right bytes input.listing input.listed).0 h.0)
 
 -- the status of bytes that say an input to a command
@@ -143,22 +142,19 @@ status_is : TextSaysOne → JsonIsOne → (command : Command) (bytes : List ℕ)
     → IsText command bytes status text → SaysInput command bytes contents
     → status ≡ whole_status command bytes contents
 status_is says json commands.Check bytes status text contents right input =
-    judged_input (report_part bytes) right.input contents status text
+    judged_input (report_part bytes) right.input status text
     (says (input_part bytes) right.input (Ok contents) right.says input) right.answer
 status_is says json commands.FromJson bytes status text contents right input =
-    remade_input says json bytes status text contents right input
+    remade_input says json status text right input
 status_is says json command bytes status text contents right input =
-    done_input command right.input contents status text (says bytes right.input (Ok contents) right.says input)
-    right.answer
+    done_input command right.input status text (says bytes right.input (Ok contents) right.says input) right.answer
 
 -- what was written whole has that status
-whole_is : TextSaysOne → JsonIsOne → (command : Command) (status : Status) (before now : Streams) (bytes : List ℕ)
-    (contents
-    : Contents) → EndsDone command status before now → before.left ≡ Some bytes → SaysInput command bytes contents
-    → status ≡ whole_status command bytes contents
-whole_is says json command status before now bytes contents h left input =
-    let written = of_some (λ bytes. IsTextWritten command status bytes before.written now.written) before.left bytes
-    left h.0 in
+whole_is : TextSaysOne → JsonIsOne → (command : Command) (status : Status) (before now : Streams) {bytes : List ℕ}
+    (contents : Contents) → EndsDone command status before now → before.left ≡ Some bytes
+    → SaysInput command bytes contents → status ≡ whole_status command bytes contents
+whole_is says json command status before now {bytes} contents h left input =
+    let written = of_some (λ bytes. IsTextWritten command status bytes before.written now.written) left h.0 in
     status_is says json command bytes status written.text contents written.right input
 
 -- the bytes of a command aren't both too many and not too many
@@ -175,17 +171,17 @@ pub is_complete : TextSaysOne → JsonIsOne → (command : Command) (status : St
     → (HasFaulted before.read_faults now.read_faults → ⊥) → (HasFaulted before.write_faults now.write_faults → ⊥)
     → (status ≡ whole_status command bytes contents) ⊎ (status ≡ statuses.OutOfMemory)
 is_complete says json command statuses.Done before now bytes contents h left short input r w =
-    inl (whole_is says json command statuses.Done before now bytes contents h left input)
+    inl (whole_is says json command statuses.Done before now contents h left input)
 is_complete says json command statuses.Refused before now bytes contents h left short input r w =
-    inl (whole_is says json command statuses.Refused before now bytes contents h left input)
+    inl (whole_is says json command statuses.Refused before now contents h left input)
 is_complete says json command statuses.Unsound before now bytes contents h left short input r w =
-    inl (whole_is says json command statuses.Unsound before now bytes contents h left input)
+    inl (whole_is says json command statuses.Unsound before now contents h left input)
 is_complete says json command statuses.BadWords before now bytes contents h left short input r w = absurd h
 is_complete says json command statuses.OutOfMemory before now bytes contents h left short input r w = inr refl
 is_complete says json command statuses.ReadFailed before now bytes contents h left short input r w = absurd (r h.1.0)
 is_complete says json command statuses.WriteFailed before now bytes contents h left short input r w = absurd (w h.0.0)
 is_complete says json command statuses.TooLong before now bytes contents h left short input r w =
-    absurd (short_or_long command bytes short (of_some (λ bytes. IsLong command bytes) before.left bytes left h.2))
+    absurd (short_or_long command bytes short (of_some (λ bytes. IsLong command bytes) left h.2))
 
 pub is_complete_alone : IsCompleteAlone
 is_complete_alone text statuses.Done before now h w = inl refl
@@ -198,31 +194,30 @@ is_complete_alone text statuses.WriteFailed before now h w = absurd (w h.0.0)
 is_complete_alone text statuses.TooLong before now h w = absurd h
 
 -- the right answer to a run of an input is a report of one order
-run_report : (input : Result Contents InputFault) (contents : Contents) (status : Status) (text : List ℕ)
+run_report : (input : Result Contents InputFault) {contents : Contents} (status : Status) (text : List ℕ)
     → input ≡ Ok contents → IsRightAnswer commands.Run input status text → IsRunReport contents text
-run_report (Ok other) contents status text e h =
+run_report (Ok other) {contents} status text e h =
     let same : other ≡ contents = cc in
     subst (λ (c : Contents). IsRunReport c text) same h.1
-run_report (Err fault) contents status text e h = cc
+run_report (Err fault) status text e h = cc
 
 -- and to a replay of it that of its own order
-replay_report : (input : Result Contents InputFault) (contents : Contents) (status : Status) (text : List ℕ)
-    → input ≡ Ok contents → IsRightAnswer commands.Replay input status text
-    → text ≡ report_of (outcome_for contents)
-replay_report (Ok other) contents status text e h =
+replay_report : (input : Result Contents InputFault) {contents : Contents} (status : Status) (text : List ℕ)
+    → input ≡ Ok contents → IsRightAnswer commands.Replay input status text → text ≡ report_of (outcome_for contents)
+replay_report (Ok other) {contents} status text e h =
     let same : other ≡ contents = cc in
     subst (λ (c : Contents). text ≡ report_of (outcome_for c)) same h.1.over.text_is
-replay_report (Err fault) contents status text e h = cc
+replay_report (Err fault) status text e h = cc
 
 pub replayed : TextSaysOne → RunsAreReplayed
 replayed says bytes contents status text input right =
-    let run = run_report right.input contents status text (says bytes right.input (Ok contents) right.says input)
+    let run = run_report right.input status text (says bytes right.input (Ok contents) right.says input)
     right.answer in (
       run.order,
       run.report.over.text_is,
       run.printed,
       λ others other again same answer.
-          replay_report answer.input (in_order contents run.order) other again
-          (says others answer.input (Ok (in_order contents run.order)) answer.says same) answer.answer
+          replay_report answer.input other again (says others answer.input (Ok (in_order contents run.order))
+          answer.says same) answer.answer
           ∙ sym run.report.over.text_is,
     )

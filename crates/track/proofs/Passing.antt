@@ -13,19 +13,19 @@ none-more None = refl
 none-more (Some bytes) = ap (λ (b : List ℕ). Some b) (sym (append-nil bytes))
 
 -- all that waited was written, and a piece behind it
-pub long-moved : {E : Type 0} (result : Result (Unit {0}) E) (before mid now : Option (List ℕ))
-    (old piece waiting : List ℕ) → mid ≡ append_known before old → waiting ≡ []
+pub long-moved : {E : Type 0} (result : Result (Unit {0}) E) (before : Option (List ℕ)) {mid : Option (List ℕ)}
+    (now : Option (List ℕ)) (old piece : List ℕ) {waiting : List ℕ} → mid ≡ append_known before old → waiting ≡ []
     → OnOk result (now ≡ append_known mid piece) → OnOk result (IsOnItsWay before now (old ++ piece) waiting)
-long-moved (Ok done) before mid now old piece waiting flushed none is = record {
+long-moved (Ok done) before now old piece flushed none is = record {
   front = old ++ piece;
   parts = sym (append-nil (old ++ piece)) ∙ ap (λ w. (old ++ piece) ++ w) (sym none);
   written = is ∙ ap (λ o. append_known o piece) flushed ∙ sym (append_known-append before old piece);
 }
-long-moved (Err fault) before mid now old piece waiting flushed none is = tt
+long-moved (Err fault) before now old piece flushed none is = tt
 
-pub long-part : (before mid now : Option (List ℕ)) (old piece : List ℕ) → mid ≡ append_known before old
-    → IsWrittenPart piece mid now → IsWrittenPart (old ++ piece) before now
-long-part before mid now old piece flushed part = record {
+pub long-part : (before : Option (List ℕ)) {mid now : Option (List ℕ)} (old : List ℕ) {piece : List ℕ}
+    → mid ≡ append_known before old → IsWrittenPart piece mid now → IsWrittenPart (old ++ piece) before now
+long-part before old flushed part = record {
   front = old ++ part.front;
   back = part.back;
   parts = ap (λ t. old ++ t) part.parts ∙ sym (append_assoc old part.front part.back);
@@ -34,9 +34,10 @@ long-part before mid now old piece flushed part = record {
 }
 
 -- one piece more is on its way
-pub onward : (before mid now : Option (List ℕ)) (text waiting piece left : List ℕ) → IsOnItsWay before mid text waiting
-    → IsOnItsWay mid now (waiting ++ piece) left → IsOnItsWay before now (text ++ piece) left
-onward before mid now text waiting piece left one two = record {
+pub onward : {before mid now : Option (List ℕ)} {text waiting : List ℕ} (piece : List ℕ) {left : List ℕ}
+    → IsOnItsWay before mid text waiting → IsOnItsWay mid now (waiting ++ piece) left
+    → IsOnItsWay before now (text ++ piece) left
+onward {before} {waiting} piece {left} one two = record {
   front = one.front ++ two.front;
   parts = ap (λ t. t ++ piece) one.parts ∙ append_assoc one.front waiting piece
       ∙ ap (λ t. one.front ++ t) two.parts ∙ sym (append_assoc one.front two.front left);
@@ -45,10 +46,10 @@ onward before mid now text waiting piece left one two = record {
 }
 
 -- what was written begins the whole text
-begins : (before mid now : Option (List ℕ)) (total text waiting piece rest : List ℕ)
-    → IsOnItsWay before mid text waiting → IsWrittenPart (waiting ++ piece) mid now
-    → total ≡ text ++ (piece ++ rest) → IsWrittenPart total before now
-begins before mid now total text waiting piece rest one part whole = record {
+begins : {before mid now : Option (List ℕ)} {total text waiting : List ℕ} (piece rest : List ℕ)
+    → IsOnItsWay before mid text waiting → IsWrittenPart (waiting ++ piece) mid now → total ≡ text ++ (piece ++ rest)
+    → IsWrittenPart total before now
+begins {before} {waiting} piece rest one part whole = record {
   front = one.front ++ part.front;
   back = part.back ++ rest;
   parts = whole ∙ ap (λ t. t ++ (piece ++ rest)) one.parts ∙ append_assoc one.front waiting (piece ++ rest)
@@ -59,41 +60,39 @@ begins before mid now total text waiting piece rest one part whole = record {
       ∙ sym (append_known-append before one.front part.front);
 }
 
-pub stopped-writing : (stop : WriteStop) (before mid now : Option (List ℕ)) (total text waiting piece rest : List ℕ)
-    (f g h : ℕ) → (stop ≡ Failed) × HasFaultedOnce g h → g ≡ f → IsOnItsWay before mid text waiting
-    → IsWrittenPart (waiting ++ piece) mid now → total ≡ text ++ (piece ++ rest)
+pub stopped-writing : {stop : WriteStop} {before mid now : Option (List ℕ)} {total text waiting : List ℕ}
+    (piece rest : List ℕ) {f g : ℕ} (h : ℕ) → (stop ≡ Failed) × HasFaultedOnce g h → g ≡ f
+    → IsOnItsWay before mid text waiting → IsWrittenPart (waiting ++ piece) mid now → total ≡ text ++ (piece ++ rest)
     → StopsWriting stop total before now f h
-stopped-writing stop before mid now total text waiting piece rest f g h failed same one part whole =
+stopped-writing {before} {now} {total} piece rest {f} h failed same one part whole =
     subst (λ (s : WriteStop). StopsWriting s total before now f h) (sym failed.0) (
       subst (λ (x : ℕ). HasFaultedOnce x h) same failed.1,
-      begins before mid now total text waiting piece rest one part whole,
+      begins piece rest one part whole,
     )
 
-pub err-then : (result : Result (Unit {0}) WriteStop) (P Q : WriteStop → Type 0) → IsErrAnd result P
-    → ((stop : WriteStop) → P stop → Q stop) → IfErr result Q
-err-then (Ok done) P Q h on = tt
-err-then (Err stop) P Q h on = on stop h
+pub err-then : (result : Result (Unit {0}) WriteStop) {P : WriteStop → Type 0} (Q : WriteStop → Type 0)
+    → IsErrAnd result P → ((stop : WriteStop) → P stop → Q stop) → IfErr result Q
+err-then (Ok done) Q h on = tt
+err-then (Err stop) Q h on = on stop h
 
-pub ends-stopped : (result : Result (Unit {0}) WriteStop) (before mid now : Option (List ℕ))
-    (total text waiting : List ℕ) (f g h : ℕ)
-    → IfErr result (λ stop. (stop ≡ Failed) × HasFaultedOnce g h) → g ≡ f
-    → IsOnItsWay before mid text waiting → IsWrittenPart waiting mid now → total ≡ text
+pub ends-stopped : (result : Result (Unit {0}) WriteStop) {before mid now : Option (List ℕ)}
+    {total text waiting : List ℕ} {f g : ℕ} (h : ℕ) → IfErr result (λ stop. (stop ≡ Failed) × HasFaultedOnce g h)
+    → g ≡ f → IsOnItsWay before mid text waiting → IsWrittenPart waiting mid now → total ≡ text
     → IfErr result (λ stop. StopsWriting stop total before now f h)
-ends-stopped (Ok done) before mid now total text waiting f g h failed same one part whole = tt
-ends-stopped (Err stop) before mid now total text waiting f g h failed same one part whole =
-    stopped-writing stop before mid now total text waiting [] [] f g h failed same one
-    (subst (λ t. IsWrittenPart t mid now) (sym (append-nil waiting)) part)
+ends-stopped (Ok done) h failed same one part whole = tt
+ends-stopped (Err stop) {mid} {now} {text} {waiting} h failed same one part whole =
+    stopped-writing [] [] h failed same one (subst (λ t. IsWrittenPart t mid now) (sym (append-nil waiting)) part)
     (whole ∙ sym (append-nil text))
 
 -- a part more of what is left
-pub part-more : (total text part left rest : List ℕ) → total ≡ text ++ left → left ≡ part ++ rest
-    → total ≡ (text ++ part) ++ rest
-part-more total text part left rest whole first =
+pub part-more : {total : List ℕ} (text part : List ℕ) {left : List ℕ} (rest : List ℕ) → total ≡ text ++ left
+    → left ≡ part ++ rest → total ≡ (text ++ part) ++ rest
+part-more text part rest whole first =
     whole ∙ ap (λ t. text ++ t) first ∙ sym (append_assoc text part rest)
 
-pub part-first : (total text part left rest : List ℕ) → total ≡ text ++ left → left ≡ part ++ rest
-    → total ≡ text ++ (part ++ rest)
-part-first total text part left rest whole first = whole ∙ ap (λ t. text ++ t) first
+pub part-first : {total : List ℕ} (text part : List ℕ) {left : List ℕ} (rest : List ℕ) → total ≡ text ++ left
+    → left ≡ part ++ rest → total ≡ text ++ (part ++ rest)
+part-first text part rest whole first = whole ∙ ap (λ t. text ++ t) first
 
-pub no-parts : (total text left : List ℕ) → total ≡ text ++ left → left ≡ [] → total ≡ text
-no-parts total text left whole none = whole ∙ ap (λ t. text ++ t) none ∙ append-nil text
+pub no-parts : {total : List ℕ} (text : List ℕ) {left : List ℕ} → total ≡ text ++ left → left ≡ [] → total ≡ text
+no-parts text whole none = whole ∙ ap (λ t. text ++ t) none ∙ append-nil text

@@ -21,24 +21,24 @@ of_same P old new same p =
     (sym same.1) p)
 
 -- the same of the machine behind its turns
-pub play-over : (old new : Machine) (order : List ℕ) → IsSame old new
+pub play-over : (old : Machine) {new : Machine} (order : List ℕ) → IsSame old new
     → HasHistory new (after_turns (setting_at old) (scripts_at old) [] order)
     → HasHistory new (after_turns (setting_at new) (scripts_at new) [] order)
-play-over old new order same goes =
+play-over old {new} order same goes =
     of_same (λ setting scripts. HasHistory new (after_turns setting scripts [] order)) old new same goes
 
 -- the end of an order
-pub play-ended : (old new : Machine) (order : List ℕ) → IsSame old new
+pub play-ended : (old : Machine) {new : Machine} (order : List ℕ) → IsSame old new
     → HasHistory new (history_of (setting_at old) (scripts_at old) order)
     → HasHistory new (history_of (setting_at new) (scripts_at new) order)
-play-ended old new order same goes =
+play-ended old {new} order same goes =
     of_same (λ setting scripts. HasHistory new (history_of setting scripts order)) old new same goes
 
 -- what becomes of the calls, told by the input and the plan
-pub play-outcome : (machine : Machine) (input : Input) (plan : PlanData) → machine.input.now ≡ input
-    → machine.plan.now ≡ plan
-    → outcome_of (setting_at machine) (scripts_at machine) input.order.items ≡ outcome_over plan (seen_input input)
-play-outcome machine input plan same_input same_plan =
+pub play-outcome : (machine : Machine) {input : Input} {plan : PlanData} → machine.input.now ≡ input
+    → machine.plan.now ≡ plan → outcome_of (setting_at machine) (scripts_at machine) input.order.items ≡ outcome_over
+    plan (seen_input input)
+play-outcome machine {input} same_input same_plan =
     ap (λ i. outcome_of (setting_of machine.plan.now (seen_input i).homes) (scripts_of (seen_input i))
     input.order.items)
     same_input
@@ -46,9 +46,9 @@ play-outcome machine input plan same_input same_plan =
     same_plan
 
 -- the same of the machine before
-pub play-began : (old new last : Machine) (order : List ℕ) → IsSame old new
+pub play-began : (old new : Machine) {last : Machine} (order : List ℕ) → IsSame old new
     → HasHistory last (history_of (setting_at new) (scripts_at new) order)
     → HasHistory last (history_of (setting_at old) (scripts_at old) order)
-play-began old new last order same goes =
+play-began old new {last} order same goes =
     of_same (λ setting scripts. HasHistory last (history_of setting scripts order)) new old
     (sym same.0, sym same.1, sym same.2) goes

@@ -34,17 +34,16 @@ use Rattle.scripts.specs.ScriptLaws.{few-nodes}
 use Rattle.stretch_laws.specs.Plans.{PlansTrack}
 
 -- the checker finds no flaw in the report of a valid input, under whatever order
-pub sound-text : OwnReportsAreSound → (contents : Contents) (order : List ℕ) (text : List ℕ) → IsValid contents
+pub sound-text : OwnReportsAreSound → {contents : Contents} (order : List ℕ) {text : List ℕ} → IsValid contents
     → text ≡ report_of (outcome_for (in_order contents order)) → verdict_for contents text ≡ Sound
-sound-text own contents order text valid text_is = ap (verdict_for contents) text_is ∙ own contents order valid
+sound-text own {contents} order valid text_is = ap (verdict_for contents) text_is ∙ own contents order valid
 
-pub report-says : (plan : PlanData) (contents : Contents) (order : List ℕ)
-    → TellInTurn (outcome_over plan (in_order contents order)).calls
-    → OutcomesAreRight → NumbersRise → PlansTrack → PlanOutcomesAreNear → ScriptsAreValid
-    → (text : List ℕ) → IsValid contents → nodes_of plan ≡ contents.nodes
+pub report-says : {plan : PlanData} {contents : Contents} (order : List ℕ)
+    → TellInTurn (outcome_over plan (in_order contents order)).calls → OutcomesAreRight → NumbersRise → PlansTrack
+    → PlanOutcomesAreNear → ScriptsAreValid → {text : List ℕ} → IsValid contents → nodes_of plan ≡ contents.nodes
     → BoundsFinds plan → text ≡ report_of (outcome_over plan (in_order contents order))
     → IsReportOver plan (in_order contents order) text
-report-says plan contents order turn right rise track near scripts text valid nodes bounds text_is =
+report-says {plan} {contents} order turn right rise track near scripts valid nodes bounds text_is =
     let few : nodes_of plan ≤ 2 ^ 16 = omega (arith, nodes, few-nodes contents valid) in
     let valid_scripts = scripts contents (plan_setting plan contents) valid (record { nodes = nodes; starts = refl }) in
     record {
@@ -57,11 +56,10 @@ report-says plan contents order turn right rise track near scripts text valid no
     }
 
 -- the census by the scripts of a valid input is that of its calls' history
-pub census-says : CensusesEndByScripts → CensusesEndRight → ScriptsAreValid → PlansMean → (contents : Contents)
-    → (text : List ℕ) → IsValid contents
-    → text ≡ census_text_of (who_ends_at contents.homes (scripts_of contents)) contents.nodes
-    → IsCensusText contents text
-census-says listed right scripts means contents text valid text_is =
+pub census-says : CensusesEndByScripts → CensusesEndRight → ScriptsAreValid → PlansMean → {contents : Contents}
+    → {text : List ℕ} → IsValid contents → text ≡ census_text_of (who_ends_at contents.homes (scripts_of contents))
+    contents.nodes → IsCensusText contents text
+census-says listed right scripts means {contents} valid text_is =
     record {
       text_is = text_is ∙ sym (texts-same (census (setting_for contents) (history_for contents))
           (who_ends_at contents.homes (scripts_of contents)) contents.nodes lists);
@@ -71,7 +69,7 @@ census-says listed right scripts means contents text valid text_is =
     }
   where
     nodes : nodes_of (plan_for contents) ≡ contents.nodes
-    nodes = plan-nodes means contents valid
+    nodes = plan-nodes means valid
 
     few : nodes_of (plan_for contents) ≤ 2 ^ 16
     few = omega (arith, nodes, few-nodes contents valid)
@@ -93,26 +91,26 @@ place-on node place = at_state place.is_off
     at_state true = refl
     at_state false = refl
 
-who-same : (contents : Contents) (places : List (Option ℕ)) → AreLastPlaces contents places → (node : ℕ)
+who-same : {contents : Contents} {places : List (Option ℕ)} → AreLastPlaces contents places → (node : ℕ)
     → who_at places node ≡ who_ends_at contents.homes (scripts_of contents) node
-who-same contents places are node =
+who-same {contents} {places} are node =
     ap (sift (λ sub. is_place node (slice_index_or places sub None)) 0) are.count
     ∙ passing_same _ _ 0 (length contents.homes) (λ sub from below.
     ap (is_place node) (are.each sub (omega (arith, below)))
     ∙ place-on node (place_at_end (slice_index contents.homes sub) (steps_of (scripts_of contents) sub)))
 
-pub text-of_places : (contents : Contents) (places : List (Option ℕ)) → AreLastPlaces contents places
-    → census_text_of (who_at places) contents.nodes
-    ≡ census_text_of (who_ends_at contents.homes (scripts_of contents)) contents.nodes
-text-of_places contents places are =
+pub text-of_places : {contents : Contents} {places : List (Option ℕ)} → AreLastPlaces contents places
+    → census_text_of (who_at places) contents.nodes ≡ census_text_of (who_ends_at contents.homes (scripts_of contents))
+    contents.nodes
+text-of_places {contents} {places} are =
     texts-same (who_at places) (who_ends_at contents.homes (scripts_of contents)) contents.nodes
-    (λ node below. who-same contents places are node)
+    (λ node below. who-same are node)
 
 -- one place more at the end of those that were told
-pub place-more : (told : ℕ → Option ℕ) (places : List (Option ℕ)) (n : ℕ) (place : Option ℕ) → length places ≡ n
-    → ((sub : ℕ) → sub < n → slice_index_or places sub None ≡ told sub) → place ≡ told n
-    → (sub : ℕ) → sub < n + 1 → slice_index_or (places ++ place ∷ []) sub None ≡ told sub
-place-more told places n place long each here =
+pub place-more : (told : ℕ → Option ℕ) (places : List (Option ℕ)) {n : ℕ} {place : Option ℕ} → length places ≡ n
+    → ((sub : ℕ) → sub < n → slice_index_or places sub None ≡ told sub) → place ≡ told n → (sub : ℕ) → sub < n + 1
+    → slice_index_or (places ++ place ∷ []) sub None ≡ told sub
+place-more told places {n} {place} long each here =
     below_more (λ sub. slice_index_or (places ++ place ∷ []) sub None ≡ told sub) n
     (λ sub below. get_or-append places (place ∷ []) None sub (omega (arith, long, below)) ∙ each sub below)
     (subst (λ k. slice_index_or (places ++ place ∷ []) k None ≡ place) long

@@ -12,6 +12,6 @@ returns c =
     let contents = seen_input c.args.input.now in
     IfOk-weaker c.build_by.result (λ (plan : PlanData). plan ≡ covered_plan c.args.covering c.args.graph.now)
     (λ (plan : PlanData). plan ≡ covered_plan c.args.covering (network_of contents))
-    (λ plan is. is ∙ covered_of_graph c.covered_plan_of_same_walks.ensures c.args.covering contents c.args.graph.now
-    c.requires.valid c.requires.graph (omega (arith, c.requires.trade_off, c.requires.valid.k_some)))
+    (λ plan is. is ∙ covered_of_graph c.covered_plan_of_same_walks.ensures c.args.covering c.requires.valid
+    c.requires.graph (omega (arith, c.requires.trade_off, c.requires.valid.k_some)))
     c.build_by.ensures.plan

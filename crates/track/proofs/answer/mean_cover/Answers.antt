@@ -11,7 +11,7 @@ use Rattle.track.proofs.answer.mean_cover.Goals as goal
 pub returns : goal.returns
 returns c =
     let contents = seen_input c.args.input.now in
-    let sound = network-valid contents c.requires.valid in
+    let sound = network-valid c.requires.valid in
     IfOk-weaker c.cover.result (λ (plan : PlanData). plan ≡ mean_plan_for contents)
     (λ (plan : PlanData). IsMeanPlanText contents (plan_text_of plan))
     (λ plan is. record {

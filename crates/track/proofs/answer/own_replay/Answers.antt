@@ -13,6 +13,5 @@ returns-clause-report c =
     (λ made. IsReport contents (report_of (result_of made)))
     (λ made over. record {
       over = over;
-      sound = sound-text c.own_reports_are_sound.ensures contents contents.order (report_of (result_of made))
-          c.requires.valid over.text_is;
+      sound = sound-text c.own_reports_are_sound.ensures contents.order c.requires.valid over.text_is;
     }) c.replay.ensures.report

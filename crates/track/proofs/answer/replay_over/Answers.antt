@@ -9,7 +9,7 @@ pub outcome-requires : goal.outcome-requires
 outcome-requires c = record {
   stands = (
     history_of (setting_at c.play.new.machine) (scripts_at c.play.new.machine) c.deref.result.now,
-    play-ended c.in_ok-machine.machine c.play.new.machine c.deref.result.now c.play.ensures.same c.play.ensures.stands,
+    play-ended c.in_ok-machine.machine c.deref.result.now c.play.ensures.same c.play.ensures.stands,
     c.all_scripts_done.ensures.done (setting_at c.play.new.machine) (scripts_at c.play.new.machine)
         c.deref.result.now,
   );
@@ -21,12 +21,11 @@ returns c =
     let order = c.deref.result.now in
     let history = history_of (setting_at last) (scripts_at last) order in
     let stands : HasHistory last history =
-    play-ended c.in_ok-machine.machine last order c.play.ensures.same c.play.ensures.stands in
+    play-ended c.in_ok-machine.machine order c.play.ensures.same c.play.ensures.stands in
     let done = c.all_scripts_done.ensures.done (setting_at last) (scripts_at last) order in (
       c.outcome.ensures.result history stands done
           ∙ (ap (λ xs. outcome_of (setting_at last) (scripts_at last) xs) c.deref.ensures.value
-          ∙ play-outcome last c.args.input.now c.args.plan.now
-          (c.play.ensures.same.0 ∙ c.in_ok-machine.ensures.made.0)
+          ∙ play-outcome last (c.play.ensures.same.0 ∙ c.in_ok-machine.ensures.made.0)
           (c.play.ensures.same.1 ∙ c.in_ok-machine.ensures.made.1)),
       c.outcome.ensures.in_turn history stands done,
     )

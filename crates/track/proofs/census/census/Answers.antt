@@ -16,6 +16,5 @@ returns c =
     (λ text. text.items ≡ census_text_of (who_at c.deref.result.now) contents.nodes)
     (λ text. IsCensusText contents text.items)
     (λ text is. census-says c.censuses_are_right.ensures.scripts c.censuses_are_right.ensures.ends
-    c.scripts_are_valid.ensures c.plan_means.ensures contents text.items c.requires.valid
-    (is ∙ text-of_places contents c.deref.result.now are))
+    c.scripts_are_valid.ensures c.plan_means.ensures c.requires.valid (is ∙ text-of_places are))
     c.census_of_places.ensures

@@ -21,6 +21,5 @@ loop-sub-preserved c =
       count = omega (arith, ap length grown, length-append old (c.last_place.result ∷ []), c.loop-sub.invariant.count);
       each = subst (λ (places : List (Option ℕ)). (sub : ℕ) → sub < c.loop-sub.sub + 1
           → slice_index_or places sub None ≡ told sub) (sym grown)
-          (place-more told old c.loop-sub.sub c.last_place.result c.loop-sub.invariant.count
-          c.loop-sub.invariant.each here);
+          (place-more told old c.loop-sub.invariant.count c.loop-sub.invariant.each here);
     }

@@ -16,15 +16,15 @@ returns c =
     let contents = seen_input c.args.input.now in
     let plan = c.in_ok-plan.plan in
     let same : plan ≡ plan_for contents = c.in_ok-plan.ensures.plan
-    ∙ plan_of_graph c.plan_of_same_walks.ensures contents c.args.graph.now c.requires.valid c.requires.graph in
+    ∙ plan_of_graph c.plan_of_same_walks.ensures c.requires.valid c.requires.graph in
     let scripts : AreValid (setting_for contents) (scripts_of contents) =
     c.scripts_are_valid.ensures contents (setting_for contents) c.requires.valid (record {
-      nodes = plan-nodes c.plan_means.ensures contents c.requires.valid;
+      nodes = plan-nodes c.plan_means.ensures c.requires.valid;
       starts = refl;
     }) in
     IfOk-weaker c.cost_text_over.result _ _ (λ text is. record {
       text_is = is ∙ ap (λ (p : PlanData). costs_text_of (cost_lines (setting_of p contents.homes)
           (scripts_of contents))) same;
       within = c.network_lines_are_within_rate.ensures (network_of contents) contents.k contents.homes
-          (scripts_of contents) (network-valid contents c.requires.valid) c.requires.valid.k_some scripts;
+          (scripts_of contents) (network-valid c.requires.valid) c.requires.valid.k_some scripts;
     }) c.cost_text_over.ensures

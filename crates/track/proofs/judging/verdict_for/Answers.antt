@@ -14,7 +14,7 @@ returns c =
     let plan = c.in_ok-plan.plan in
     let report = c.args.report.now in
     let same : plan ≡ plan_for contents = c.in_ok-plan.ensures.plan
-    ∙ plan_of_graph c.plan_of_same_walks.ensures contents c.args.graph.now c.requires.valid c.requires.graph in
+    ∙ plan_of_graph c.plan_of_same_walks.ensures c.requires.valid c.requires.graph in
     IfOk-weaker c.check.result (λ (verdict : Verdict). verdict ≡ verdict_of plan contents report)
     (λ (verdict : Verdict). verdict ≡ verdict_for contents report)
     (λ verdict is. is ∙ ap (λ (p : PlanData). verdict_of p contents report) same) c.check.ensures

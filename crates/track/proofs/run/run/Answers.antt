@@ -20,7 +20,7 @@ returns g c =
     let contents = seen_input c.args.input.now in
     let plan = c.in_ok-plan.plan in
     let same : plan ≡ plan_for contents = c.in_ok-plan.ensures.plan
-    ∙ plan_of_graph c.plan_of_same_walks.ensures contents c.args.graph.now c.requires.valid c.requires.graph in
+    ∙ plan_of_graph c.plan_of_same_walks.ensures c.requires.valid c.requires.graph in
     let bounds : BoundsFinds (plan_for contents) =
     subst (λ (p : PlanData). BoundsFinds p) same c.in_ok-plan.ensures.bounding in
     IfOk-weaker c.run_workers.result
@@ -36,15 +36,12 @@ returns g c =
     record {
       order = its.order;
       report = record {
-        over = report-says (plan_for contents) contents its.order turn c.outcomes_are_right.ensures.lines
-            c.outcomes_are_right.ensures.numbers c.plans_track.ensures c.plan_outcomes_are_near.ensures
-            c.scripts_are_valid.ensures (report_of (result_of made)) c.requires.valid
-            (plan-nodes c.plan_means.ensures contents c.requires.valid) bounds (ap report_of its.is);
-        sound = sound-text c.own_reports_are_sound.ensures contents its.order (report_of (result_of made))
-            c.requires.valid (ap report_of its.is);
+        over = report-says its.order turn c.outcomes_are_right.ensures.lines c.outcomes_are_right.ensures.numbers
+            c.plans_track.ensures c.plan_outcomes_are_near.ensures c.scripts_are_valid.ensures c.requires.valid
+            (plan-nodes c.plan_means.ensures c.requires.valid) bounds (ap report_of its.is);
+        sound = sound-text c.own_reports_are_sound.ensures its.order c.requires.valid (ap report_of its.is);
       };
       printed = sym (ap (λ (o : Outcome). o.order) its.is) ∙ its.printed;
-      sound = sound-text c.own_reports_are_sound.ensures contents its.order (report_of (result_of made))
-          c.requires.valid (ap report_of its.is);
+      sound = sound-text c.own_reports_are_sound.ensures its.order c.requires.valid (ap report_of its.is);
     })
     c.run_workers.ensures.outcome

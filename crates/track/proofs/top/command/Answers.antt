@@ -9,20 +9,20 @@ use Rattle.track.proofs.top.command.Goals as goal
 
 pub returns-in-Ok-clause-told : goal.returns-in-Ok-clause-told
 returns-in-Ok-clause-told g c =
-    at_some false (command_of (bytes_of c.args.words.now)) c.read_words.result refusals.Refused c.in-Ok.command
-    c.serve.result c.from.result _ _ c.read_words.ensures c.in-Ok.is c.from.ensures c.serve.ensures.ends
+    at_some false (command_of (bytes_of c.args.words.now)) refusals.Refused c.serve.result _ _ c.read_words.ensures
+    c.in-Ok.is c.from.ensures c.serve.ensures.ends
 
 pub returns-in-Ok-clause-unread : goal.returns-in-Ok-clause-unread
 returns-in-Ok-clause-unread g c = λ alone. c.serve.ensures.unread
     (told_of (λ (command : Command). IsSome (text_alone command)) (command_of (bytes_of c.args.words.now))
-    c.read_words.result refusals.Refused c.in-Ok.command c.read_words.ensures c.in-Ok.is alone)
+    refusals.Refused c.read_words.ensures c.in-Ok.is alone)
 
 pub returns-in-Err-clause-told : goal.returns-in-Err-clause-told
 returns-in-Err-clause-told g c =
-    at_none false (command_of (bytes_of c.args.words.now)) c.read_words.result refusals.Refused c.in-Err.field-0
-    c.from-in-Err.result _ c.read_words.ensures c.in-Err.is c.from-in-Err.ensures
+    at_none false (command_of (bytes_of c.args.words.now)) refusals.Refused _ c.read_words.ensures c.in-Err.is
+    c.from-in-Err.ensures
 
 pub serve-requires : goal.serve-requires
 serve-requires g c =
-    has_load c.words_are_loads.ensures (bytes_of c.args.words.now) c.read_words.result refusals.Refused c.in-Ok.command
-    c.read_words.ensures c.in-Ok.is
+    has_load c.words_are_loads.ensures (bytes_of c.args.words.now) refusals.Refused c.in-Ok.command c.read_words.ensures
+    c.in-Ok.is

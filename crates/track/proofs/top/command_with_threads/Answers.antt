@@ -9,21 +9,20 @@ use Rattle.track.proofs.top.command_with_threads.Goals as goal
 
 pub returns-in-Ok-clause-told : goal.returns-in-Ok-clause-told
 returns-in-Ok-clause-told g c =
-    at_some true (command_of (bytes_of c.args.words.now)) c.read_words.result refusals.Refused c.in-Ok.command
-    c.serve_by_threads-status.result c.from.result _ _ c.read_words.ensures c.in-Ok.is c.from.ensures
-    c.serve_by_threads-status.ensures.ends
+    at_some true (command_of (bytes_of c.args.words.now)) refusals.Refused c.serve_by_threads-status.result _ _
+    c.read_words.ensures c.in-Ok.is c.from.ensures c.serve_by_threads-status.ensures.ends
 
 pub returns-in-Ok-clause-unread : goal.returns-in-Ok-clause-unread
 returns-in-Ok-clause-unread g c = λ alone. c.serve_by_threads-status.ensures.unread
     (told_of (λ (command : Command). IsSome (text_alone command)) (command_of (bytes_of c.args.words.now))
-    c.read_words.result refusals.Refused c.in-Ok.command c.read_words.ensures c.in-Ok.is alone)
+    refusals.Refused c.read_words.ensures c.in-Ok.is alone)
 
 pub returns-in-Err-clause-told : goal.returns-in-Err-clause-told
 returns-in-Err-clause-told g c =
-    at_none true (command_of (bytes_of c.args.words.now)) c.read_words.result refusals.Refused c.in-Err.field-0
-    c.from-in-Err.result _ c.read_words.ensures c.in-Err.is c.from-in-Err.ensures
+    at_none true (command_of (bytes_of c.args.words.now)) refusals.Refused _ c.read_words.ensures c.in-Err.is
+    c.from-in-Err.ensures
 
 pub serve_by_threads-status-requires-after_bounds : goal.serve_by_threads-status-requires-after_bounds
 serve_by_threads-status-requires-after_bounds g c = λ bounds lives.
-    has_load c.words_are_loads.ensures (bytes_of c.args.words.now) c.read_words.result refusals.Refused c.in-Ok.command
-    c.read_words.ensures c.in-Ok.is
+    has_load c.words_are_loads.ensures (bytes_of c.args.words.now) refusals.Refused c.in-Ok.command c.read_words.ensures
+    c.in-Ok.is

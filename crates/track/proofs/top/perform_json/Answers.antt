@@ -7,12 +7,8 @@ use Rattle.track.proofs.top.perform_json.Goals as goal
 
 pub returns-in-Ok-clause-ends : goal.returns-in-Ok-clause-ends
 returns-in-Ok-clause-ends g c =
-    ended-json c.answer_json.result c.write_answer.result c.in-Ok.text.items (g.S.Source.left c.args.source.now)
-    (g.S.Source.left c.read_text.new.source) (g.S.Source.faults c.args.source.now)
-    (g.S.Source.faults c.read_text.new.source)
-    (g.K.Sink.written c.args.sink.now) (g.K.Sink.written c.write_answer.new.sink) (g.K.Sink.faults c.args.sink.now)
-    (g.K.Sink.faults c.write_answer.new.sink)
-    c.in-Ok.ensures.all
+    ended-json c.answer_json.result c.write_answer.result (g.K.Sink.written c.args.sink.now)
+    (g.K.Sink.written c.write_answer.new.sink) (g.K.Sink.faults c.args.sink.now)
+    (g.K.Sink.faults c.write_answer.new.sink) c.in-Ok.ensures.all
     (subst (λ (t : List ℕ). IfOk c.answer_json.result (λ answer. IsJsonAnswer t answer.status (text_of answer.body)))
-    c.deref.ensures.value c.answer_json.ensures)
-    c.write_answer.ensures
+    c.deref.ensures.value c.answer_json.ensures) c.write_answer.ensures

@@ -19,7 +19,5 @@ pub unreachable-requires : goal.unreachable-requires
 unreachable-requires c =
     let valid : IsValid (seen_input c.in_ok-input.input) =
     subst IsValid (sym c.in_ok-input.ensures) (c.loads_are_valid.ensures c.args.load c.requires) in
-    not_apart c.in_ok-input.input.nodes c.in_ok-input.input.edges.items c.deref.result.now c.in-Err-Apart.field-0-0
-    c.deref.ensures.value valid.connected
-    (subst (IsGraphFault c.in_ok-input.input.nodes c.deref.result.now) c.in-Err-Apart.field-0-is
-    c.in-Err-Apart.ensures.fault)
+    not_apart c.deref.ensures.value valid.connected (subst (IsGraphFault c.in_ok-input.input.nodes c.deref.result.now)
+    c.in-Err-Apart.field-0-is c.in-Err-Apart.ensures.fault)

@@ -10,10 +10,8 @@ pieces-preserved g c =
     let left = g.P.Pieces.left in
     record {
       text = w.text ++ piece;
-      on = onward (g.K.Sink.written c.args.sink.now) (g.K.Sink.written c.pieces.sink)
-          (g.K.Sink.written c.pass_on.new.sink) w.text c.pieces.outlet piece c.pass_on.new.self w.on
-          c.in_ok-pass_on.ensures.moved;
-      parts = part-more (left c.args.pieces.now) w.text piece (left c.pieces.pieces) (left c.make_next.new.self) w.parts
+      on = onward piece w.on c.in_ok-pass_on.ensures.moved;
+      parts = part-more w.text piece (left c.make_next.new.self) w.parts
           (c.pieces-test.ensures.more refl ∙ ap (λ t. t ++ left c.make_next.new.self) (sym c.made.ensures));
       no_fault = c.in_ok-pass_on.ensures.no_fault ∙ w.no_fault;
     }
@@ -21,12 +19,8 @@ pieces-preserved g c =
 pub returns-clause-stops : goal.returns-clause-stops
 returns-clause-stops g c =
     let w = c.pieces.invariant in
-    ends-stopped c.flush.result (g.K.Sink.written c.args.sink.now) (g.K.Sink.written c.pieces.sink)
-    (g.K.Sink.written c.flush.new.sink) (g.P.Pieces.left c.args.pieces.now) w.text c.pieces.outlet
-    (g.K.Sink.faults c.args.sink.now) (g.K.Sink.faults c.pieces.sink) (g.K.Sink.faults c.flush.new.sink)
-    c.flush.ensures.stops w.no_fault w.on c.flush.ensures.part
-    (no-parts (g.P.Pieces.left c.args.pieces.now) w.text (g.P.Pieces.left c.pieces.pieces) w.parts
-    (c.pieces-test.ensures.none refl))
+    ends-stopped c.flush.result (g.K.Sink.faults c.flush.new.sink) c.flush.ensures.stops w.no_fault w.on
+    c.flush.ensures.part (no-parts w.text w.parts (c.pieces-test.ensures.none refl))
 
 pub returns-in_err-pass_on-clause-stops : goal.returns-in_err-pass_on-clause-stops
 returns-in_err-pass_on-clause-stops g c =
@@ -39,8 +33,7 @@ returns-in_err-pass_on-clause-stops g c =
     let f = g.K.Sink.faults c.args.sink.now in
     let h = g.K.Sink.faults c.pass_on.new.sink in
     let failed = c.in_err-pass_on.ensures.stops in
-    err-then c.from_residual.result _ (λ stop. StopsWriting stop total before now f h) c.from_residual.ensures.1
-    (λ stop is. stopped-writing stop before (g.K.Sink.written c.pieces.sink) now total w.text c.pieces.outlet piece
-    (left c.make_next.new.self) f (g.K.Sink.faults c.pieces.sink) h (is ∙ failed.0, failed.1) w.no_fault w.on
-    c.pass_on.ensures.part (part-first total w.text piece (left c.pieces.pieces) (left c.make_next.new.self) w.parts
+    err-then c.from_residual.result (λ stop. StopsWriting stop total before now f h) c.from_residual.ensures.1
+    (λ stop is. stopped-writing piece (left c.make_next.new.self) h (is ∙ failed.0, failed.1) w.no_fault w.on
+    c.pass_on.ensures.part (part-first w.text piece (left c.make_next.new.self) w.parts
     (c.pieces-test.ensures.more refl ∙ ap (λ t. t ++ left c.make_next.new.self) (sym c.made.ensures))))

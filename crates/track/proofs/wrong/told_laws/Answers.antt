@@ -1,9 +1,8 @@
 use Rattle.std.proofs.Common.{◌≡◌, ◌⊎◌, [], Some, refl, ap, ◌∙◌, inl, inr, arith}
 use Rattle.outside.specs.Calls.{HasFaulted}
-use Rattle.report_check.specs.Cuts.{report_part}
 use Rattle.word_line.specs.declared.command.Command.TheVariants.{Census, Check, Cover}
 use Rattle.track.specs.Ends.{streams}
-use Rattle.track.specs.Results.{verdict_for, verdict_status}
+use Rattle.track.specs.Results.{verdict_status}
 use Rattle.track.specs.declared.status.Status.{Status}
 use Rattle.track.specs.declared.status.Status.TheVariants.{Done, OutOfMemory, Refused}
 use Rattle.track.proofs.wrong.told_laws.Goals as goal
@@ -13,10 +12,10 @@ calm (inl less) = omega (arith, less)
 calm (inr end) = omega (arith, end)
 
 -- with memory, the status is the other one
-with-memory : (status whole : Status) → (status ≡ whole) ⊎ (status ≡ OutOfMemory)
-    → (status ≡ OutOfMemory → ⊥) → status ≡ whole
-with-memory status whole (inl is) enough = is
-with-memory status whole (inr wants) enough = absurd (enough wants)
+with-memory : {status whole : Status} → (status ≡ whole) ⊎ (status ≡ OutOfMemory) → (status ≡ OutOfMemory → ⊥)
+    → status ≡ whole
+with-memory (inl is) enough = is
+with-memory (inr wants) enough = absurd (enough wants)
 
 done-refused : ◌≡◌ {A = Status} Done Refused → ⊥
 done-refused e = cc
@@ -30,20 +29,17 @@ returns-clause-refused c = λ law bytes one other a b.
 
 pub returns-clause-done : goal.returns-clause-done
 returns-clause-done c = λ law bytes contents status left written ends short input enough.
-    with-memory status Done
-    (law Census status (streams (Some bytes) 0 (Some []) 0) (streams left 0 written 0) bytes contents
-    ends refl short input calm calm) enough
+    with-memory (law Census status (streams (Some bytes) 0 (Some []) 0) (streams left 0 written 0) bytes contents ends
+    refl short input calm calm) enough
 
 pub returns-clause-checked : goal.returns-clause-checked
 returns-clause-checked c = λ law bytes contents status left written line flaw ends short input flawed enough.
-    with-memory status (verdict_status (verdict_for contents (report_part bytes)))
-    (law Check status (streams (Some bytes) 0 (Some []) 0) (streams left 0 written 0) bytes contents
-    ends refl short input calm calm) enough ∙ ap verdict_status flawed
+    with-memory (law Check status (streams (Some bytes) 0 (Some []) 0) (streams left 0 written 0) bytes contents ends
+    refl short input calm calm) enough ∙ ap verdict_status flawed
 
 pub returns-clause-alone : goal.returns-clause-alone
 returns-clause-alone c = λ law text status left written ends enough.
-    with-memory status Done
-    (law text status (streams left 0 (Some []) 0) (streams left 0 written 0) ends calm) enough
+    with-memory (law text status (streams left 0 (Some []) 0) (streams left 0 written 0) ends calm) enough
 
 pub returns-clause-printed : goal.returns-clause-printed
 returns-clause-printed c = λ law bytes contents status text input is printed.

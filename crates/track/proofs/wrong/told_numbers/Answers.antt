@@ -7,15 +7,15 @@ use Rattle.track.proofs.wrong.told_numbers.Goals as goal
 pub returns-clause-numbers : goal.returns-clause-numbers
 returns-clause-numbers c = refl
 
-two-only : (number : ℕ) (status : Status) → number ≡ status_number status → status ≡ BadWords → number ≡ 2
-two-only number status is bad = is ∙ ap status_number bad
+two-only : {number : ℕ} {status : Status} → number ≡ status_number status → status ≡ BadWords → number ≡ 2
+two-only is bad = is ∙ ap status_number bad
 
 pub returns-clause-bad_words : goal.returns-clause-bad_words
-returns-clause-bad_words c = λ threads before now number tells. two-only number tells.status tells.is tells.ends.0
+returns-clause-bad_words c = λ threads before now number tells. two-only tells.is tells.ends.0
 
 pub returns-clause-no_form : goal.returns-clause-no_form
 returns-clause-no_form c = λ before now tells.
-    let e : ◌≡◌ {A = ℕ} 0 2 = two-only 0 tells.status tells.is tells.ends.0 in omega (arith, e)
+    let e : ◌≡◌ {A = ℕ} 0 2 = two-only tells.is tells.ends.0 in omega (arith, e)
 
 some-no : ◌≡◌ {A = Option (List ℕ)} (Some (1 ∷ [])) (Some []) → ⊥
 some-no e = cc

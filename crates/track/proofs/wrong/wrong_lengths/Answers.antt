@@ -26,14 +26,14 @@ count-in : Option (List ℕ) → ℕ
 count-in None = 0
 count-in (Some bytes) = length bytes
 
-read-whole : (limit : ℕ) (bytes : List ℕ) → IsReadWithin limit (Some bytes) (Some []) → length bytes ≤ limit
+read-whole : {limit : ℕ} {bytes : List ℕ} → IsReadWithin limit (Some bytes) (Some []) → length bytes ≤ limit
 unfolding count-in
-read-whole limit bytes within =
+read-whole {bytes} within =
     let same : length bytes ≡ length within.bytes = ap count-in within.parts ∙ ap length (append-nil within.bytes) in
     omega (arith, same, within.short)
 
 pub returns-clause-read_failed : goal.returns-clause-read_failed
-returns-clause-read_failed c = λ bytes long r. omega (arith, long, read-whole _ bytes r.2)
+returns-clause-read_failed c = λ bytes long r. omega (arith, long, read-whole r.2)
 
 pub returns-clause-check_failed : goal.returns-clause-check_failed
-returns-clause-check_failed c = λ bytes long r. omega (arith, long, read-whole _ bytes r.2)
+returns-clause-check_failed c = λ bytes long r. omega (arith, long, read-whole r.2)
