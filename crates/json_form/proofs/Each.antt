@@ -13,8 +13,8 @@ abbrev or-else : {A : Type 0} → A → Option A → A
 or-else a None = a
 or-else a (Some b) = b
 
-pub some-injective : {A : Type 0} (a b : A) → Some a ≡ Some b → a ≡ b
-some-injective a b e = ap (or-else a) e
+pub some-injective : {A : Type 0} {a b : A} → Some a ≡ Some b → a ≡ b
+some-injective {a} e = ap (or-else a) e
 
 -- two lists, where both are read
 abbrev pub both : {A : Type 0} → Option (List A) → Option (List A) → Option (List A)
@@ -43,11 +43,11 @@ cons-both (Some x) None zs = refl
 cons-both (Some x) (Some ys) None = refl
 cons-both (Some x) (Some ys) (Some zs) = refl
 
-cons-length : {A : Type 0} (x : Option A) (ys : Option (List A)) (xs : List A) (n : ℕ)
+cons-length : {A : Type 0} (x : Option A) (ys : Option (List A)) {xs : List A} {n : ℕ}
     → ((zs : List A) → ys ≡ Some zs → length zs ≡ n) → cons x ys ≡ Some xs → length xs ≡ suc n
-cons-length None ys xs n count e = absurd cc
-cons-length (Some x) None xs n count e = absurd cc
-cons-length (Some x) (Some ys) xs n count e = ap length (sym (some-injective (x ∷ ys) xs e)) ∙ ap suc (count ys refl)
+cons-length None ys count e = absurd cc
+cons-length (Some x) None count e = absurd cc
+cons-length (Some x) (Some ys) count e = ap length (sym (some-injective e)) ∙ ap suc (count ys refl)
 
 none-at : {A : Type 0} (o : Option A) → ((a : A) → o ≡ Some a → ⊥) → o ≡ None
 none-at None never = refl
@@ -94,9 +94,9 @@ module _ {A : Type 0} (read : Data → Option A) where
 
   -- as many are read as there are items
   pub each-length : (vs : List Value) (xs : List A) → each_in read (items_view vs) ≡ Some xs → length xs ≡ length vs
-  each-length [] xs is = ap length (sym (some-injective [] xs is))
+  each-length [] xs is = ap length (sym (some-injective is))
   each-length (v ∷ vs) xs is =
-      cons-length (read (view v)) (each_in read (items_view vs)) xs (length vs) (λ ys e. each-length vs ys e)
+      cons-length (read (view v)) (each_in read (items_view vs)) (λ ys e. each-length vs ys e)
       (sym (cons-is (read (view v)) (each_in read (items_view vs))) ∙ is)
 
   -- items of which no list is read
@@ -106,10 +106,10 @@ module _ {A : Type 0} (read : Data → Option A) where
   none-by-count vs differs = none-at (each_in read (items_view vs)) (λ xs e. differs xs e (each-length vs xs e))
 
 -- what was read, written: how many lines, and which
-pub option-map-some : {A B : Type 0} (f : A → B) (o : Option A) (b : B) → option_map f o ≡ Some b
+pub option-map-some : {A B : Type 0} (f : A → B) (o : Option A) {b : B} → option_map f o ≡ Some b
     → (a : A) × (o ≡ Some a) × (f a ≡ b)
-option-map-some f None b e = absurd cc
-option-map-some f (Some a) b e = (a, refl, some-injective (f a) b e)
+option-map-some f None e = absurd cc
+option-map-some f (Some a) e = (a, refl, some-injective e)
 
 map-cons : {A B : Type 0} (f : A → B) (x : Option A) (ys : Option (List A))
     → cons (option_map f x) (option_map (map f) ys) ≡ option_map (map f) (cons x ys)

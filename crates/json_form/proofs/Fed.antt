@@ -91,8 +91,8 @@ unfolding lex
 feed-is = refl
 
 -- the tokens are the same
-pub tokens-fed : (ts : List Token) → ArePrintable ts → tokens (print ts ++ 10 ∷ []) ≡ ts
-tokens-fed ts h =
+pub tokens-fed : {ts : List Token} → ArePrintable ts → tokens (print ts ++ 10 ∷ []) ≡ ts
+tokens-fed {ts} h =
     ap (punctuate fresh)
     (lex-print false ts (10 ∷ []) h refl ∙ ap (λ l. lexemes false ts ++ l) feed-is ∙ sym (lex-print false ts [] h refl)
     ∙ ap (lex between) (append-nil (print ts)))

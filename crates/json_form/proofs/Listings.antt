@@ -24,18 +24,18 @@ list-map-at read f None = refl
 list-map-at read f (Some items) = each-map read f items
 
 -- the lines of the items of a list
-pub lines-known : (kind : Kind) (value : Data) (pieces : List (List ℕ)) → list_in (line_in kind) value ≡ Some pieces
+pub lines-known : (kind : Kind) (value : Data) {pieces : List (List ℕ)} → list_in (line_in kind) value ≡ Some pieces
     → HasLines kind value (concat pieces)
-lines-known kinds.Edge value pieces is =
-    let back = option-map-some (map edge_line) (list_in edge_in value) pieces
+lines-known kinds.Edge value is =
+    let back = option-map-some (map edge_line) (list_in edge_in value)
     (sym (list-map-at edge_in edge_line (as_array value)) ∙ is) in
     (back.0, back.1, ap concat (sym back.2))
-lines-known kinds.Sub value pieces is =
-    let back = option-map-some (map home_line) (list_in number_in value) pieces
+lines-known kinds.Sub value is =
+    let back = option-map-some (map home_line) (list_in number_in value)
     (sym (list-map-at number_in home_line (as_array value)) ∙ is) in
     (back.0, back.1, ap concat (sym back.2))
-lines-known kinds.Call value pieces is =
-    let back = option-map-some (map call_line) (list_in call_in value) pieces
+lines-known kinds.Call value is =
+    let back = option-map-some (map call_line) (list_in call_in value)
     (sym (list-map-at call_in call_line (as_array value)) ∙ is) in
     (back.0, back.1, ap concat (sym back.2))
 
@@ -85,28 +85,27 @@ pub text-behind : (text : List ℕ) (listing : ListingValue)
     → grown text (text_pieces listing) ≡ text ++ listing_text listing
 text-behind text listing = grown-is text (text_pieces listing) ∙ ap (λ (l : List ℕ). text ++ l) (text-is listing)
 
-listing-from : (o : Option Members) (values : InputValues) → option_and_then values_of o ≡ Some values
+listing-from : (o : Option Members) {values : InputValues} → option_and_then values_of o ≡ Some values
     → (o >>= (λ members. values_of members >>= listing_of_values)) ≡ listing_of_values values
-listing-from None values is = absurd cc
-listing-from (Some members) values is = rw is refl
+listing-from None is = absurd cc
+listing-from (Some members) is = rw is refl
 
 -- what is answered where the keys are right
-pub answer-is : (bytes : List ℕ) (value : Data) (values : InputValues) (answer : Result (Vec ℕ Global) JsonFault)
+pub answer-is : {bytes : List ℕ} {value : Data} {values : InputValues} (answer : Result (Vec ℕ Global) JsonFault)
     → IsJson bytes value → option_and_then values_of (as_object value) ≡ Some values
     → IfOk answer (λ text. option_map listing_text (listing_of_values values) ≡ Some text.items)
-    → IfErr answer (λ fault. (fault ≡ faults.OutOfMemory)
-    ⊎ ((fault ≡ faults.Shape) × (listing_of_values values ≡ None)))
-    → IsJsonText bytes answer
-answer-is bytes value values (Ok text) json keys ok err =
-    let back = option-map-some listing_text (listing_of_values values) text.items ok in
+    → IfErr answer (λ fault. (fault ≡ faults.OutOfMemory) ⊎
+    ((fault ≡ faults.Shape) × (listing_of_values values ≡ None))) → IsJsonText bytes answer
+answer-is {value} {values} (Ok text) json keys ok err =
+    let back = option-map-some listing_text (listing_of_values values) ok in
     record {
       listing = back.0;
-      listed = record { value = value; json = json; shape = listing-from (as_object value) values keys ∙ back.1 };
+      listed = record { value = value; json = json; shape = listing-from (as_object value) keys ∙ back.1 };
       is = sym back.2;
     }
-answer-is bytes value values (Err faults.Json) json keys ok (inl e) = absurd cc
-answer-is bytes value values (Err faults.Json) json keys ok (inr e) = let wrong = e.0 in absurd cc
-answer-is bytes value values (Err faults.Shape) json keys ok (inl e) = absurd cc
-answer-is bytes value values (Err faults.Shape) json keys ok (inr e) =
-    record { value = value; json = json; shape = listing-from (as_object value) values keys ∙ e.1 }
-answer-is bytes value values (Err faults.OutOfMemory) json keys ok err = tt
+answer-is (Err faults.Json) json keys ok (inl e) = absurd cc
+answer-is (Err faults.Json) json keys ok (inr e) = let wrong = e.0 in absurd cc
+answer-is (Err faults.Shape) json keys ok (inl e) = absurd cc
+answer-is {value} (Err faults.Shape) json keys ok (inr e) =
+    record { value = value; json = json; shape = listing-from (as_object value) keys ∙ e.1 }
+answer-is (Err faults.OutOfMemory) json keys ok err = tt

@@ -24,9 +24,9 @@ pub record HasWritten (items left : List Value) (start text line : List ℕ) : T
   pub clear : line ≡ []
 
 -- the first line, where it is full or the last
-first-line : (ns more : List ℕ) → 0 < length ns → length ns ≤ 64 → (length ns ≡ 64) ⊎ (more ≡ [])
+first-line : (ns : List ℕ) {more : List ℕ} → 0 < length ns → length ns ≤ 64 → (length ns ≡ 64) ⊎ (more ≡ [])
     → order_lines (ns ++ more) ≡ order_line ns ∷ order_lines more
-first-line ns more some few (inl full) =
+first-line ns {more} some few (inl full) =
     let front : take 64 (ns ++ more) ≡ ns =
     ap (λ (k : ℕ). take k (ns ++ more)) (sym full) ∙ take-append_seam ns more in
     let back : drop 64 (ns ++ more) ≡ more =
@@ -35,7 +35,7 @@ first-line ns more some few (inl full) =
     (pieces-cut (ns ++ more) (omega (arith, length-append ns more)))
     ∙ ap (λ (l : List ℕ). order_line l ∷ order_lines (drop 64 (ns ++ more))) front
     ∙ ap (λ (l : List ℕ). order_line ns ∷ order_lines l) back
-first-line ns more some few (inr none) =
+first-line ns some few (inr none) =
     let front : take 64 ns ≡ ns = take_all 64 ns few in
     let back : drop 64 ns ≡ [] = drop_of_length-le ns {i = 64} few in
     ap (λ (l : List ℕ). order_lines (ns ++ l)) none
@@ -45,8 +45,9 @@ first-line ns more some few (inr none) =
     ∙ ap (λ (l : List ℕ). order_line ns ∷ order_lines l) (back ∙ sym none)
 
 -- nothing is written yet
-pub none-written : (items : List Value) (text line : List ℕ) → line ≡ [] → HasWritten items items text text line
-none-written items text line clear = record {
+pub none-written : (items : List Value) (text : List ℕ) {line : List ℕ} → line ≡ []
+    → HasWritten items items text text line
+none-written items text clear = record {
   done = [];
   ns = [];
   parts = refl;
@@ -55,17 +56,16 @@ none-written items text line clear = record {
   clear = clear;
 }
 
-no-more : (xs : List Value) (more : List ℕ) → xs ≡ [] → length more ≡ length xs → more ≡ []
-no-more xs [] none count = refl
-no-more xs (n ∷ more) none count = absurd (omega (arith, count, ap length none))
+no-more : {xs : List Value} (more : List ℕ) → xs ≡ [] → length more ≡ length xs → more ≡ []
+no-more [] none count = refl
+no-more (n ∷ more) none count = absurd (omega (arith, count, ap length none))
 
 -- one line more
-pub line-written : (items left now later : List Value) (start text line grown cleared : List ℕ) (ns : List ℕ) (m : ℕ)
-    → HasWritten items left start text line → 0 < length left → m ≤ 64 → (m ≡ 64) ⊎ (m ≡ length left)
-    → m ≤ length left → now ≡ take m left → later ≡ drop m left
-    → each_in number_in (items_view now) ≡ Some ns → length now ≡ m
+pub line-written : {items left now later : List Value} {start text line grown cleared : List ℕ} {ns : List ℕ} {m : ℕ}
+    → HasWritten items left start text line → 0 < length left → m ≤ 64 → (m ≡ 64) ⊎ (m ≡ length left) → m ≤ length left
+    → now ≡ take m left → later ≡ drop m left → each_in number_in (items_view now) ≡ Some ns → length now ≡ m
     → grown ≡ text ++ order_line ns → cleared ≡ [] → HasWritten items later start grown cleared
-line-written items left now later start text line grown cleared ns m h some few full within front back is count written
+line-written {left} {now} {later} {start} {text} {ns} {m} h some few full within front back is count written
     clear =
     let cut : left ≡ now ++ later =
     sym (take-append-drop m left) ∙ ap (λ (l : List Value). l ++ drop m left) (sym front)
@@ -78,9 +78,10 @@ line-written items left now later start text line grown cleared ns m h some few 
       numbers = each-append number_in h.done now ∙ rw (h.numbers, is);
       lines = λ more as_many.
           let first : order_lines (ns ++ more) ≡ order_line ns ∷ order_lines more =
-          first-line ns more (omega (arith, sized, some, full)) (omega (arith, sized, few)) (elim full [
+          first-line ns (omega (arith, sized, some, full)) (omega (arith, sized, few))
+          (elim full [
             | inl e ↦ inl (sized ∙ e)
-            | inr e ↦ inr (no-more later more (back ∙ drop_of_length-le left {i = m} (omega (arith, e))) as_many)
+            | inr e ↦ inr (no-more more (back ∙ drop_of_length-le left {i = m} (omega (arith, e))) as_many)
           ]) in
           ap (λ (l : List ℕ). start ++ concat (order_lines l)) (append_assoc h.ns ns more)
           ∙ h.lines (ns ++ more) (omega (
@@ -99,10 +100,10 @@ line-written items left now later start text line grown cleared ns m h some few 
     }
 
 -- all lines
-pub all-written : (items left : List Value) (start text line : List ℕ) → HasWritten items left start text line
+pub all-written : {items left : List Value} {start text line : List ℕ} → HasWritten items left start text line
     → left ≡ [] → (ns : List ℕ) × (each_in number_in (items_view items) ≡ Some ns)
     × (text ≡ start ++ concat (order_lines ns))
-all-written items left start text line h none = (
+all-written {start} {text} h none = (
   h.ns,
   ap (λ l. each_in number_in (items_view l)) (h.parts ∙ ap (λ l. h.done ++ l) none ∙ append-nil h.done) ∙ h.numbers,
   sym (ap (λ (l : List ℕ). start ++ concat (order_lines l)) (sym (append-nil h.ns)) ∙ h.lines [] (sym (ap length none))
@@ -110,10 +111,10 @@ all-written items left start text line h none = (
 )
 
 -- items that aren't all numbers
-pub some-stuck : (items left now later : List Value) (start text line : List ℕ) (m : ℕ)
+pub some-stuck : {items left now later : List Value} {start text line : List ℕ} (m : ℕ)
     → HasWritten items left start text line → now ≡ take m left → later ≡ drop m left
     → each_in number_in (items_view now) ≡ None → each_in number_in (items_view items) ≡ None
-some-stuck items left now later start text line m h front back none =
+some-stuck {left} {now} {later} m h front back none =
     let cut : left ≡ now ++ later =
     sym (take-append-drop m left) ∙ ap (λ (l : List Value). l ++ drop m left) (sym front)
     ∙ ap (λ (l : List Value). now ++ l) (sym back) in
@@ -126,8 +127,8 @@ empty-list [] e = refl
 empty-list (x ∷ xs) e = absurd (omega (arith, e))
 
 -- the least of a length and 64
-pub min-is : (n m : ℕ) → m ≡ min n 64 → (m ≤ 64) × ((m ≡ 64) ⊎ (m ≡ n)) × (m ≤ n)
-min-is n m e = elim (cases_lt n 64) [
+pub min-is : (n : ℕ) {m : ℕ} → m ≡ min n 64 → (m ≤ 64) × ((m ≡ 64) ⊎ (m ≡ n)) × (m ≤ n)
+min-is n e = elim (cases_lt n 64) [
   | inl less ↦ (omega (arith, e), inr (omega (arith, e)), omega (arith, e))
   | inr more ↦ (omega (arith, e), inl (omega (arith, e)), omega (arith, e))
 ]

@@ -32,16 +32,15 @@ numbers-more (x ∷ xs) ys =
     (sym (append_assoc (decimal x) (flat_map (λ n. 44 ∷ decimal n) xs) (list_left true whole ys)))
 
 -- some numbers of a list
-pub numbers-step : (begun : Bool) (numbers front others now later empty line last : List ℕ) (n byte m : ℕ)
-    → 0 < length numbers → front ≡ take 1 numbers → others ≡ drop 1 numbers → n ≡ get_or front 0 0
+pub numbers-step : (begun : Bool) (numbers : List ℕ) {front others now later empty line last : List ℕ} {n byte : ℕ}
+    (m : ℕ) → 0 < length numbers → front ≡ take 1 numbers → others ≡ drop 1 numbers → n ≡ get_or front 0 0
     → opening begun ≡ byte ∷ [] → empty ≡ [] → line ≡ empty ++ byte ∷ decimal n → now ≡ take m others
     → later ≡ drop m others → last ≡ line ++ flat_map (λ n. 44 ∷ decimal n) now
     → list_left begun whole numbers ≡ last ++ list_left true whole later
-numbers-step begun [] front others now later empty line last n byte m some fronts rests is opens none first some_now
-    after
+numbers-step begun [] m some fronts rests is opens none first some_now after
     all = absurd (omega arith)
-numbers-step begun (x ∷ xs) front others now later empty line last n byte m some fronts rests is opens none first
-    some_now after
+numbers-step begun (x ∷ xs) {others} {now} {later} {last} {n} {byte} m some fronts rests is opens none first some_now
+    after
     all =
     let commas = flat_map (λ n. 44 ∷ decimal n) now in
     let tail = list_left true whole later in
@@ -62,9 +61,9 @@ numbers-step begun (x ∷ xs) front others now later empty line last n byte m so
     ∙ ap (λ (l : List ℕ). l ++ tail) (sym written)
 
 -- the numbers of a row, and its last bracket
-pub row-end : (ns line with_numbers last : List ℕ) → with_numbers ≡ line ++ flat_map (λ n. 44 ∷ decimal n) ns
+pub row-end : (ns line : List ℕ) {with_numbers last : List ℕ} → with_numbers ≡ line ++ flat_map (λ n. 44 ∷ decimal n) ns
     → last ≡ with_numbers ++ codes "]" → last ≡ line ++ list_left true whole ns
-row-end ns line with_numbers last numbers end =
+row-end ns line numbers end =
     end
     ∙ ap (λ (l : List ℕ). l ++ codes "]") numbers
     ∙ append_assoc line (flat_map (λ n. 44 ∷ decimal n) ns) (codes "]")

@@ -42,8 +42,8 @@ whole-readable k n small = record {
   shallow = omega arith;
 }
 
-pub word-readable : (k : ℕ) (s : List ℕ) → IsUtf8 s → IsReadable k (string s)
-word-readable k s u = record { numbers = tt; same = refl; utf8 = IsUtf8-quoted s u; shallow = omega arith }
+pub word-readable : (k : ℕ) {s : List ℕ} → IsUtf8 s → IsReadable k (string s)
+word-readable k {s} u = record { numbers = tt; same = refl; utf8 = IsUtf8-quoted s u; shallow = omega arith }
 
 pub none-readable : (k : ℕ) → AreReadable k no_items
 none-readable k = record {
@@ -53,8 +53,8 @@ none-readable k = record {
   shallow = omega arith;
 }
 
-pub more-readable : (k : ℕ) (d : Data) (ds : Items) → IsReadable k d → AreReadable k ds → AreReadable k (item d ds)
-more-readable k d ds one others = record {
+pub more-readable : {k : ℕ} {d : Data} {ds : Items} → IsReadable k d → AreReadable k ds → AreReadable k (item d ds)
+more-readable {d} {ds} one others = record {
   numbers = (one.numbers, others.numbers);
   same = rw (one.same, others.same) refl;
   utf8 = λ later. IsUtf8-append (comma_if later) (compact_text d ++ items_text true ds) (comma-utf8 later)
@@ -62,8 +62,8 @@ more-readable k d ds one others = record {
   shallow = omega (arith, one.shallow, others.shallow);
 }
 
-pub array-readable : (k : ℕ) (ds : Items) → AreReadable k ds → IsReadable (suc k) (array ds)
-array-readable k ds all = record {
+pub array-readable : {k : ℕ} {ds : Items} → AreReadable k ds → IsReadable (suc k) (array ds)
+array-readable {ds} all = record {
   numbers = all.numbers;
   same = rw all.same refl;
   utf8 = IsUtf8-append (91 ∷ []) (items_text false ds) (IsUtf8-are_ascii (91 ∷ []) refl) (all.utf8 false);
@@ -71,15 +71,15 @@ array-readable k ds all = record {
 }
 
 -- the line of such a value is read as the value
-pub line-read : (k : ℕ) (d : Data) → IsReadable k d → k ≤ 127 → read (line_of_value d) ≡ Some d
-line-read k d is shallow =
+pub line-read : {k : ℕ} {d : Data} → IsReadable k d → k ≤ 127 → read (line_of_value d) ≡ Some d
+line-read {d} is shallow =
     let ts = tree.json_tokens (outline d) in
     let same : tokens (line_of_value d) ≡ ts ++ [] =
     ap (λ (t : List ℕ). tokens (t ++ 10 ∷ [])) (sym (print-outline d))
-    ∙ tokens-fed ts (ArePrintable-json_tokens (outline d) is.numbers) ∙ sym (append-nil ts) in
+    ∙ tokens-fed (ArePrintable-json_tokens (outline d) is.numbers) ∙ sym (append-nil ts) in
     ap (λ o. option_and_then of_json (option_and_then (λ p. json.if_last p.0 p.1) o))
     (ap (json.value max_depth) same ∙ value-json_tokens (outline d) max_depth [] (omega (arith, is.shallow, shallow)))
     ∙ is.same
 
-pub line-utf8 : (k : ℕ) (d : Data) → IsReadable k d → IsUtf8 (line_of_value d)
-line-utf8 k d is = IsUtf8-append (compact_text d) (10 ∷ []) is.utf8 (IsUtf8-are_ascii (10 ∷ []) refl)
+pub line-utf8 : {k : ℕ} {d : Data} → IsReadable k d → IsUtf8 (line_of_value d)
+line-utf8 {d} is = IsUtf8-append (compact_text d) (10 ∷ []) is.utf8 (IsUtf8-are_ascii (10 ∷ []) refl)

@@ -5,11 +5,11 @@ use Rattle.net_reader.specs.declared.said.Call.TheVariants as calls
 use Rattle.json_form.specs.Shapes.{call_of, edge_of, find_of, move_of, switch_of}
 
 -- nothing is made of numbers whose count is wrong
-pub none-of : {A : Type 0} (f : List ℕ → Option A) (o : Option (List ℕ)) (count : ℕ)
-    → ((ns : List ℕ) → o ≡ Some ns → length ns ≡ count → ⊥)
-    → ((ns : List ℕ) → (length ns ≡ count → ⊥) → f ns ≡ None) → option_and_then f o ≡ None
-none-of f None count differs none = refl
-none-of f (Some ns) count differs none = none ns (differs ns refl)
+pub none-of : {A : Type 0} (f : List ℕ → Option A) (o : Option (List ℕ)) {count : ℕ}
+    → ((ns : List ℕ) → o ≡ Some ns → length ns ≡ count → ⊥) → ((ns : List ℕ) → (length ns ≡ count → ⊥) → f ns ≡ None)
+    → option_and_then f o ≡ None
+none-of f None differs none = refl
+none-of f (Some ns) differs none = none ns (differs ns refl)
 
 pub edge-none : (ns : List ℕ) → (length ns ≡ 3 → ⊥) → edge_of ns ≡ None
 edge-none [] differs = refl

@@ -34,15 +34,15 @@ each-map : {A : Type 0} (P Q : A → Type 0) (xs : List A) → ((x : A) → P x 
 each-map P Q [] f all = tt
 each-map P Q (x ∷ xs) f all = (f x all.0, each-map P Q xs f all.1)
 
-shape-back : (listing : ListingValue) → IsSmallListing listing → listing_in (listing_value listing) ≡ Some listing
-shape-back listing small = rw (
-  small-number listing.format small.format,
-  small-number listing.nodes small.nodes,
-  small-number listing.k small.k,
+shape-back : {listing : ListingValue} → IsSmallListing listing → listing_in (listing_value listing) ≡ Some listing
+shape-back {listing} small = rw (
+  small-number small.format,
+  small-number small.nodes,
+  small-number small.k,
   list-back edge_in edge_value listing.edges
       (each-map IsSmallEdge (λ x. edge_in (edge_value x) ≡ Some x) listing.edges edge-back small.edges),
   numbers-back listing.homes small.homes,
-  small-number listing.callers small.callers,
+  small-number small.callers,
   list-back call_in call_value listing.calls
       (each-map IsSmallSpoken (λ x. call_in (call_value x) ≡ Some x) listing.calls call-back small.spoken),
   numbers-back listing.order small.order,
@@ -56,17 +56,17 @@ member-utf8 later k d ms key value others =
     (IsUtf8-append (58 ∷ []) (compact_text d ++ members_text true ms) (IsUtf8-are_ascii (58 ∷ []) refl)
     (IsUtf8-append (compact_text d) (members_text true ms) value others)))
 
-listing-readable : (listing : ListingValue) → IsSmallListing listing → IsReadable 3 (listing_value listing)
-listing-readable listing small =
+listing-readable : {listing : ListingValue} → IsSmallListing listing → IsReadable 3 (listing_value listing)
+listing-readable {listing} small =
     let callers = whole-readable 2 listing.callers (omega (arith, small.callers)) in
-    let spoken = array-readable 1 _ (list-readable 1 call_value listing.calls
+    let spoken = array-readable (list-readable 1 call_value listing.calls
     (each-map IsSmallSpoken (λ x. IsReadable 1 (call_value x)) listing.calls (call-readable 0) small.spoken)) in
-    let edges = array-readable 1 _ (list-readable 1 edge_value listing.edges
+    let edges = array-readable (list-readable 1 edge_value listing.edges
     (each-map IsSmallEdge (λ x. IsReadable 1 (edge_value x)) listing.edges (edge-readable 0) small.edges)) in
     let k = whole-readable 2 listing.k (omega (arith, small.k)) in
     let nodes = whole-readable 2 listing.nodes (omega (arith, small.nodes)) in
-    let order = array-readable 1 _ (numbers-readable 1 listing.order small.order) in
-    let homes = array-readable 1 _ (numbers-readable 1 listing.homes small.homes) in
+    let order = array-readable (numbers-readable 1 listing.order small.order) in
+    let homes = array-readable (numbers-readable 1 listing.homes small.homes) in
     let format = whole-readable 2 listing.format (omega (arith, small.format)) in
     let from_track : Members = member (codes "track") (whole listing.format) no_members in
     let from_subs : Members = member (codes "subs") (wholes listing.homes) from_track in
@@ -133,35 +133,35 @@ listing-readable listing small =
 
 -- ---- the numbers of a valid input
 
-course-small : (format n here : ℕ) (off : Bool) (script : List Call) → n ≤ 1024 → IsCourse format n here off script
-    → Each IsSmallCall script
-course-small format n here off [] few course = tt
-course-small format n here off (calls.Move to ∷ script) few course =
-    (omega (arith, few, course.1), course-small format n to off script few course.3)
-course-small format n here off (calls.Find from sub ∷ script) few course = absurd course
-course-small format n here off (calls.Off ∷ script) few course =
-    (tt, course-small format n here true script few course.2)
-course-small format n here off (calls.On ∷ script) few course =
-    (tt, course-small format n here false script few course.2)
+course-small : (format : ℕ) {n : ℕ} (here : ℕ) (off : Bool) (script : List Call) → n ≤ 1024
+    → IsCourse format n here off script → Each IsSmallCall script
+course-small format here off [] few course = tt
+course-small format here off (calls.Move to ∷ script) few course =
+    (omega (arith, few, course.1), course-small format to off script few course.3)
+course-small format here off (calls.Find from sub ∷ script) few course = absurd course
+course-small format here off (calls.Off ∷ script) few course =
+    (tt, course-small format here true script few course.2)
+course-small format here off (calls.On ∷ script) few course =
+    (tt, course-small format here false script few course.2)
 
-search-small : (n subs : ℕ) (call : Call) → n ≤ 1024 → subs ≤ 1024 → IsSearch n subs call → IsSmallCall call
-search-small n subs (calls.Move to) few some search = absurd search
-search-small n subs (calls.Find from sub) few some search = (
+search-small : {n subs : ℕ} (call : Call) → n ≤ 1024 → subs ≤ 1024 → IsSearch n subs call → IsSmallCall call
+search-small (calls.Move to) few some search = absurd search
+search-small (calls.Find from sub) few some search = (
   omega (arith, few, search.0),
   omega
       (arith, some, search.1),
 )
-search-small n subs calls.Off few some search = absurd search
-search-small n subs calls.On few some search = absurd search
+search-small calls.Off few some search = absurd search
+search-small calls.On few some search = absurd search
 
 each-append : {A : Type 0} (P : A → Type 0) (xs ys : List A) → Each P xs → Each P ys → Each P (xs ++ ys)
 each-append P [] ys all more = more
 each-append P (x ∷ xs) ys all more = (all.0, each-append P xs ys all.1 more)
 
-own-small : (actor : ℕ) (script : List Call) → IsSmall actor → Each IsSmallCall script
+own-small : {actor : ℕ} (script : List Call) → IsSmall actor → Each IsSmallCall script
     → Each IsSmallSpoken (calls_of actor script)
-own-small actor [] small all = tt
-own-small actor (call ∷ script) small all = ((small, all.0), own-small actor script small all.1)
+own-small [] small all = tt
+own-small (call ∷ script) small all = ((small, all.0), own-small script small all.1)
 
 listed-small : (actor : ℕ) (scripts : List (List Call)) → actor + length scripts ≤ 1024
     → ((i : ℕ) → i < length scripts → Each IsSmallCall (get_or scripts i []))
@@ -169,16 +169,16 @@ listed-small : (actor : ℕ) (scripts : List (List Call)) → actor + length scr
 listed-small actor [] few all = tt
 listed-small actor (script ∷ scripts) few all =
     each-append IsSmallSpoken (calls_of actor script) (calls_from (actor + 1) scripts)
-    (own-small actor script (omega arith) (all 0 (omega arith)))
+    (own-small script (omega arith) (all 0 (omega arith)))
     (listed-small (actor + 1) scripts (omega arith) (λ i below. all (suc i) (omega arith)))
 
-few-nodes : (format n : ℕ) → (format ≡ 1) ⊎ (format ≡ 2) → n ≤ most_nodes format → n ≤ 1024
-few-nodes format n (inl e) few = let less : n ≤ 256 = subst (λ (f : ℕ). n ≤ most_nodes f) e few in omega arith
-few-nodes format n (inr e) few = subst (λ (f : ℕ). n ≤ most_nodes f) e few
+few-nodes : {format : ℕ} (n : ℕ) → (format ≡ 1) ⊎ (format ≡ 2) → n ≤ most_nodes format → n ≤ 1024
+few-nodes n (inl e) few = let less : n ≤ 256 = subst (λ (f : ℕ). n ≤ most_nodes f) e few in omega arith
+few-nodes n (inr e) few = subst (λ (f : ℕ). n ≤ most_nodes f) e few
 
-valid-small : (contents : Contents) → IsValid contents → IsSmallListing (listing_of contents)
-valid-small contents valid =
-    let few = few-nodes contents.format contents.nodes valid.format valid.few in
+valid-small : {contents : Contents} → IsValid contents → IsSmallListing (listing_of contents)
+valid-small {contents} valid =
+    let few = few-nodes contents.nodes valid.format valid.few in
     record {
       format = elim valid.format [ inl e ↦ omega (arith, e) | inr e ↦ omega (arith, e) ];
       nodes = omega (arith, few);
@@ -191,11 +191,11 @@ valid-small contents valid =
       callers = omega (arith, valid.callers);
       spoken = listed-small 0 contents.scripts (omega (arith, valid.scripts, valid.few_homes, valid.callers))
           (λ i below. elim (cases_lt i (length contents.homes)) [
-            | inl sub ↦ course-small contents.format contents.nodes (get_or contents.homes i 0) false
-                (get_or contents.scripts i []) few (valid.courses i sub)
+            | inl sub ↦ course-small contents.format (get_or contents.homes i 0) false (get_or contents.scripts i [])
+                few (valid.courses i sub)
             | inr caller ↦ each-of (IsSearch contents.nodes (length contents.homes)) IsSmallCall
-                (get_or contents.scripts i []) (λ call is. search-small contents.nodes (length contents.homes) call few
-                (omega (arith, valid.few_homes)) is) (valid.searches i caller below)
+                (get_or contents.scripts i []) (λ call is. search-small call few (omega (arith, valid.few_homes)) is)
+                (valid.searches i caller below)
           ]);
       order = each-of (λ actor. actor < length contents.scripts) IsSmall contents.order
           (λ actor is. omega (arith, is, valid.scripts, valid.few_homes, valid.callers)) valid.order;
@@ -205,17 +205,17 @@ pub returned : ((contents : Contents) → IsValid contents → IsInput (input_te
     → InputsReturn
 returned reads contents valid =
     let listing = listing_of contents in
-    let small = valid-small contents valid in
-    let readable = listing-readable listing small in (
+    let small = valid-small valid in
+    let readable = listing-readable small in (
       record {
         listing = listing;
         listed = record {
           value = listing_value listing;
           json = record {
-            utf8 = line-utf8 3 (listing_value listing) readable;
-            reads = line-read 3 (listing_value listing) readable (omega arith);
+            utf8 = line-utf8 readable;
+            reads = line-read readable (omega arith);
           };
-          shape = shape-back listing small;
+          shape = shape-back small;
         };
         is = refl;
       },

@@ -25,11 +25,11 @@ place_pieces find node number level weight =
     member_text (codes "{\"actor\"") find.actor
     ∷ answer_pieces (kind_text find.found) find.from find.sub node number level weight find.first find.last
 
-pub placed : (find : FindLine) (node number : ℕ) (level : Option ℕ) (weight : ℕ)
+pub placed : (find : FindLine) {node number : ℕ} {level : Option ℕ} {weight : ℕ}
     → (find.found ≡ At node number level weight) ⊎ (find.found ≡ OffAt node number level weight)
     → place_pieces find node number level weight ≡ done_pieces (line_of_find find)
-placed find node number level weight (inl at) = rw at refl
-placed find node number level weight (inr off) = rw off refl
+placed find (inl at) = rw at refl
+placed find (inr off) = rw off refl
 
 -- what is written of a call is the text of its value
 pub done-is : (done : Done) → concat (done_pieces done) ≡ compact_text (done_value done)
@@ -61,22 +61,22 @@ whole-report outcome =
     (decimal (length outcome.order))
 
 -- what is written of a report is its JSON
-pub report-is : (outcome : Outcome) (calls : List Done) (order : List ℕ) (visits : ℕ) → calls ≡ outcome.calls
+pub report-is : (outcome : Outcome) {calls : List Done} {order : List ℕ} {visits : ℕ} → calls ≡ outcome.calls
     → order ≡ outcome.order → visits ≡ length outcome.order
     → codes "{\"calls\":" ++ calls_left false calls order visits ≡ report_json_of outcome
-report-is outcome calls order visits same_calls same_order count =
+report-is outcome {order} {visits} same_calls same_order count =
     ap (λ (xs : List Done). codes "{\"calls\":" ++ calls_left false xs order visits) same_calls
     ∙ ap (λ (xs : List ℕ). codes "{\"calls\":" ++ calls_left false outcome.calls xs visits) same_order
     ∙ ap (λ (n : ℕ). codes "{\"calls\":" ++ calls_left false outcome.calls outcome.order n) count
     ∙ whole-report outcome
 
 -- the first call of those that are left
-pub call-step : (begun : Bool) (calls : List Done) (none : Done) (order : List ℕ) (visits : ℕ) (opened line : List ℕ)
+pub call-step : (begun : Bool) (calls : List Done) (none : Done) (order : List ℕ) (visits : ℕ) {opened line : List ℕ}
     → 1 ≤ length calls → opened ≡ opening begun → line ≡ opened ++ concat (done_pieces (get_or calls 0 none))
-    → calls_left begun calls order visits
-    ≡ line ++ calls_left true (take (length calls - 1) (drop 1 calls)) order visits
-call-step begun [] none order visits opened line some opens is = absurd (omega arith)
-call-step begun (call ∷ calls) none order visits opened line some opens is =
+    → calls_left begun calls order visits ≡ line ++ calls_left true (take (length calls - 1) (drop 1 calls)) order
+    visits
+call-step begun [] none order visits some opens is = absurd (omega arith)
+call-step begun (call ∷ calls) none order visits {line} some opens is =
     let rest = calls_left true calls order visits in
     let behind = codes ",\"order\":" ++ order_left false order visits in
     let item = compact_text (done_value call) in

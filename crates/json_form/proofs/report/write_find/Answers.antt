@@ -25,7 +25,7 @@ returns-in-At c =
       c.write_small.ensures.text,
     ) (grown-is c.args.line.now (place_pieces find a.node a.number a.level a.weight)
     ∙ ap (λ (pieces : List (List ℕ)). c.args.line.now ++ concat pieces)
-    (placed find a.node a.number a.level a.weight a.is))
+    (placed find a.is))
 
 pub returns-in-Again : goal.returns-in-Again
 returns-in-Again c =

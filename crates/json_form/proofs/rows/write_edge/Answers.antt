@@ -7,6 +7,6 @@ use Rattle.json_form.proofs.rows.write_edge.Goals as goal
 pub returns-in-Some-clause-no : goal.returns-in-Some-clause-no
 returns-in-Some-clause-no c = λ no.
     ap (λ o. option_and_then edge_of (option_and_then (each_in number_in) o)) (sym c.in-Some.ensures)
-    ∙ none-of edge_of (each_in number_in (items_view c.in-Some.items.now.items)) 3
+    ∙ none-of edge_of (each_in number_in (items_view c.in-Some.items.now.items))
     (λ ns is. c.write_row.ensures.no no ns (ap (λ vs. each_in number_in (items_view vs)) c.deref.ensures.value ∙ is))
     edge-none

@@ -14,7 +14,7 @@ returns-in-Some-clause-ok c =
     let same : list_in (line_in kind) value ≡ each_in (line_in kind) (items_view c.deref.result.now) =
     ap (λ o. option_and_then (each_in (line_in kind)) o) (sym c.in-Some.ensures)
     ∙ ap (λ vs. each_in (line_in kind) (items_view vs)) (sym c.deref.ensures.value) in
-    on_ok_weaker c.push_each.result (λ h. (concat h.0, lines-known kind value h.0 (same ∙ h.1), h.2))
+    on_ok_weaker c.push_each.result (λ h. (concat h.0, lines-known kind value (same ∙ h.1), h.2))
     c.push_each.ensures.ok
 
 pub returns-in-Some-clause-err : goal.returns-in-Some-clause-err

@@ -5,13 +5,12 @@ use Rattle.json_form.proofs.Orders.{all-written, empty-list, line-written, min-i
 use Rattle.json_form.proofs.text.push_lines.Goals as goal
 
 pub lines-init : goal.lines-init
-lines-init c = none-written c.args.items.now c.args.text.now.items c.args.line.now c.requires
+lines-init c = none-written c.args.items.now c.args.text.now.items c.requires
 
 pub returns-then-not-write_row-clause-err : goal.returns-then-not-write_row-clause-err
 returns-then-not-write_row-clause-err c = inr (
   refl,
-  some-stuck c.args.items.now c.lines.left.now c.split_at.result.0.now c.split_at.result.1.now c.args.text.now.items
-      c.lines.text.items c.lines.line c.min.result c.lines.invariant c.split_at.ensures.front c.split_at.ensures.back
+  some-stuck c.min.result c.lines.invariant c.split_at.ensures.front c.split_at.ensures.back
       (none-by-count number_in c.split_at.result.0.now (c.write_row.ensures.no c.if-not-write_row.true)),
 )
 
@@ -19,15 +18,12 @@ pub lines-preserved : goal.lines-preserved
 lines-preserved c =
     let row = c.write_row.ensures.yes c.if-not-write_row.false in
     let some : 0 < length c.lines.left.now = grind (arith, rules, c.lines-test.true, c.is_empty.ensures) in
-    let least = min-is (length c.lines.left.now) c.min.result c.min.ensures in
-    line-written c.args.items.now c.lines.left.now c.split_at.result.0.now c.split_at.result.1.now
-    c.args.text.now.items c.lines.text.items c.lines.line c.push_line.new.text.items c.push_line.new.line row.0
-    c.min.result c.lines.invariant some least.0 least.1 least.2 c.split_at.ensures.front c.split_at.ensures.back row.1
-    c.split_at.ensures.front_len
-    (c.in_ok-push_line.ensures.text ∙ ap (λ (l : List ℕ). c.lines.text.items ++ l) row.3)
+    let least = min-is (length c.lines.left.now) c.min.ensures in
+    line-written c.lines.invariant some least.0 least.1 least.2 c.split_at.ensures.front c.split_at.ensures.back row.1
+    c.split_at.ensures.front_len (c.in_ok-push_line.ensures.text ∙ ap (λ (l : List ℕ). c.lines.text.items ++ l) row.3)
     c.in_ok-push_line.ensures.clear
 
 pub returns-clause-ok : goal.returns-clause-ok
 returns-clause-ok c =
-    all-written c.args.items.now c.lines.left.now c.args.text.now.items c.lines.text.items c.lines.line
-    c.lines.invariant (empty-list c.lines.left.now (grind (arith, rules, c.lines-test.false, c.is_empty.ensures)))
+    all-written c.lines.invariant (empty-list c.lines.left.now
+    (grind (arith, rules, c.lines-test.false, c.is_empty.ensures)))
