@@ -151,9 +151,9 @@ common_bit x y i here there = elim (cases_lt 0 (bit_and x y)) [
 ]
 
 pub all_meet : (a b : List ℕ) (from : ℕ) → ((k : ℕ) → get_or a k 0 < 2 ^ 64)
-    → ((k : ℕ) → k < from → bit_and (get_or a k 0) (get_or b k 0) ≡ 0) → (result : Bool) →
-    IsTrue result ↔ MeetWithin a b from (length a) → IsTrue result ↔ Meet a b
-all_meet a b from small none result rest = (
+    → ((k : ℕ) → k < from → bit_and (get_or a k 0) (get_or b k 0) ≡ 0) → {result : Bool}
+    → IsTrue result ↔ MeetWithin a b from (length a) → IsTrue result ↔ Meet a b
+all_meet a b from small none rest = (
   λ h.
       let place = rest.0 h in
       let bit = shared_bit (get_or a place.0 0) (get_or b place.0 0) (small place.0) place.3 in

@@ -33,11 +33,11 @@ pub union_nothing : (balls : List (List ℕ)) (x : ℕ) → has x (union_of ball
 unfolding union_of
 union_nothing balls x = refl
 
-pub absorb_next : (balls : List (List ℕ)) (centres old nodes b : List ℕ) (from v : ℕ) → IsNext centres from v
-    → ball balls v ≡ b
-    → ((x : ℕ) → has x nodes ≡ (has x (union_of balls (sift (λ u. has u centres) 0 from)) || has x old))
-    → (x : ℕ) → has x (union b nodes) ≡ (has x (union_of balls (sift (λ u. has u centres) 0 (v + 1))) || has x old)
-absorb_next balls centres old nodes b from v next is before x =
+pub absorb_next : (balls : List (List ℕ)) {centres : List ℕ} (old nodes : List ℕ) {b : List ℕ} {from v : ℕ}
+    → IsNext centres from v → ball balls v ≡ b → ((x : ℕ)
+    → has x nodes ≡ (has x (union_of balls (sift (λ u. has u centres) 0 from)) || has x old)) → (x : ℕ)
+    → has x (union b nodes) ≡ (has x (union_of balls (sift (λ u. has u centres) 0 (v + 1))) || has x old)
+absorb_next balls {centres} old nodes {b} {from} {v} next is before x =
     has-union x b nodes
     ∙ ap (λ c. has x b || c) (before x)
     ∙ or_both (has x b) (has x (union_of balls (sift (λ u. has u centres) 0 from))) (has x old)

@@ -86,10 +86,10 @@ module _ (numbers : List ℕ) (limit b count w : ℕ) (words : List ℕ) (before
     ];
   }
 
-pub block_more : (numbers : List ℕ) (limit b w : ℕ) (words : List ℕ) → AreWithin numbers limit (64 * b) words
+pub block_more : {numbers : List ℕ} {limit : ℕ} (b w : ℕ) {words : List ℕ} → AreWithin numbers limit (64 * b) words
     → ((i : ℕ) → i < 64 → (bit_at w i == 1) ≡ nat_le (slice_index numbers (64 * b + i)) limit)
     → AreWithin numbers limit (64 * (b + 1)) (words ++ w ∷ [])
-block_more numbers limit b w words before bits =
+block_more {numbers} {limit} b w {words} before bits =
     let next : 64 * (b + 1) ≡ 64 * b + 64 = omega arith in
     subst (λ n. AreWithin numbers limit n (words ++ w ∷ [])) (sym next)
     (word_more numbers limit b (64 * b + 64) w words before (omega arith) (omega arith)
@@ -111,16 +111,16 @@ is_within numbers limit x = elim (cases_lt x (length numbers)) [
       ∙ sym (ap (λ t. t && nat_le (slice_index numbers x) limit) (le-ltb x (length numbers) over))
 ]
 
-pub within_bits : (numbers : List ℕ) (limit : ℕ) (words : List ℕ) → AreWithin numbers limit (length numbers) words
+pub within_bits : {numbers : List ℕ} {limit : ℕ} {words : List ℕ} → AreWithin numbers limit (length numbers) words
     → set_bits words ≡ sift (λ x. nat_le (slice_index numbers x) limit) 0 (length numbers)
-within_bits numbers limit words all =
+within_bits {numbers} {limit} {words} all =
     same_as_bits words (sift (λ x. nat_le (slice_index numbers x) limit) 0 (length numbers))
     (ascending-passing (λ x. nat_le (slice_index numbers x) limit) 0 (length numbers))
     (λ x. all.each x ∙ sym (is_within numbers limit x))
 
-pub none_after : (numbers : List ℕ) (limit : ℕ) (words : List ℕ) → AreWithin numbers limit (length numbers) words
+pub none_after : {numbers : List ℕ} {limit : ℕ} {words : List ℕ} → AreWithin numbers limit (length numbers) words
     → (v : ℕ) → length numbers ≤ v → is_set words v ≡ false
-none_after numbers limit words all v over =
+none_after {numbers} {limit} all v over =
     all.each v ∙ ap (λ t. t && nat_le (slice_index numbers v) limit) (le-ltb v (length numbers) over)
 
 -- ---- words that were there, filled one by one

@@ -16,9 +16,9 @@ use Rattle.node_set.proofs.Words.{is_set_past, has-set_bits, ascending-set_bits,
 bit_both : (a b : ℕ) → a < 2 → b < 2 → min a b == 1 ≡ (a == 1 && b == 1)
 bit_both a b h k = grind (arith, nat_tests)
 
-is_set-kept : (a b new : List ℕ) (x : ℕ) → AreWordsKept a b new → length a ≡ length b
+is_set-kept : {a b new : List ℕ} (x : ℕ) → AreWordsKept a b new → length a ≡ length b
     → is_set new x ≡ (is_set a x && is_set b x)
-is_set-kept a b new x all same =
+is_set-kept {a} {b} {new} x all same =
     elim (cases_lt (x / 64) (length a)) [
       | inl below ↦
           rw (all.kept (x / 64) below, bit_at_and (get_or a (x / 64) 0) (get_or b (x / 64) 0) (x % 64))
@@ -27,20 +27,20 @@ is_set-kept a b new x all same =
       | inr over ↦ rw (is_set_past new x (omega (arith, all.enough)), is_set_past a x over) refl
     ]
 
-pub keep_bits : (a b new : List ℕ) → AreWordsKept a b new → length a ≡ length b
+pub keep_bits : {a b new : List ℕ} → AreWordsKept a b new → length a ≡ length b
     → set_bits new ≡ filter (λ v. has v (set_bits b)) (set_bits a)
-keep_bits a b new all same =
+keep_bits {a} {b} {new} all same =
     same_as_bits new (filter (λ v. has v (set_bits b)) (set_bits a))
     (ascending-filter (λ v. has v (set_bits b)) (set_bits a) (ascending-set_bits a))
-    (λ x. is_set-kept a b new x all same
+    (λ x. is_set-kept x all same
     ∙ sym (rw (has-filter (λ v. has v (set_bits b)) x (set_bits a), has-set_bits a x, has-set_bits b x) refl))
 
-pub words-keep : (room : ℕ) (a b new : List ℕ) → AreWords room a → AreWordsKept a b new → length a ≡ length b
+pub words-keep : {room : ℕ} {a b new : List ℕ} → AreWords room a → AreWordsKept a b new → length a ≡ length b
     → AreWords room new
-words-keep room a b new ok all same = record {
+words-keep ok all same = record {
   small = ok.small;
   enough = all.enough ∙ ok.enough;
-  tail = λ x over. is_set-kept a b new x all same ∙ rw (ok.tail x over) refl;
+  tail = λ x over. is_set-kept x all same ∙ rw (ok.tail x over) refl;
 }
 
 -- ---- what the second hasn't
@@ -48,9 +48,9 @@ words-keep room a b new ok all same = record {
 bit_less : (a b : ℕ) → a < 2 → b < 2 → a - b == 1 ≡ (a == 1 && not (b == 1))
 bit_less a b h k = grind (arith, nat_tests)
 
-is_set-removed : (a b new : List ℕ) (x : ℕ) → AreWordsRemoved a b new → length a ≡ length b
+is_set-removed : {a b new : List ℕ} (x : ℕ) → AreWordsRemoved a b new → length a ≡ length b
     → is_set new x ≡ (is_set a x && not (is_set b x))
-is_set-removed a b new x all same =
+is_set-removed {a} {b} {new} x all same =
     elim (cases_lt (x / 64) (length a)) [
       | inl below ↦
           rw (all.left (x / 64) (x % 64) below (omega arith))
@@ -59,20 +59,20 @@ is_set-removed a b new x all same =
       | inr over ↦ rw (is_set_past new x (omega (arith, all.enough)), is_set_past a x over) refl
     ]
 
-pub remove_bits : (a b new : List ℕ) → AreWordsRemoved a b new → length a ≡ length b
+pub remove_bits : {a b new : List ℕ} → AreWordsRemoved a b new → length a ≡ length b
     → set_bits new ≡ filter (λ v. not (has v (set_bits b))) (set_bits a)
-remove_bits a b new all same =
+remove_bits {a} {b} {new} all same =
     same_as_bits new (filter (λ v. not (has v (set_bits b))) (set_bits a))
     (ascending-filter (λ v. not (has v (set_bits b))) (set_bits a) (ascending-set_bits a))
-    (λ x. is_set-removed a b new x all same
+    (λ x. is_set-removed x all same
     ∙ sym (rw (has-filter (λ v. not (has v (set_bits b))) x (set_bits a), has-set_bits a x, has-set_bits b x) refl))
 
-pub words-remove : (room : ℕ) (a b new : List ℕ) → AreWords room a → AreWordsRemoved a b new → length a ≡ length b
+pub words-remove : {room : ℕ} {a b new : List ℕ} → AreWords room a → AreWordsRemoved a b new → length a ≡ length b
     → AreWords room new
-words-remove room a b new ok all same = record {
+words-remove ok all same = record {
   small = ok.small;
   enough = all.enough ∙ ok.enough;
-  tail = λ x over. is_set-removed a b new x all same ∙ rw (ok.tail x over) refl;
+  tail = λ x over. is_set-removed x all same ∙ rw (ok.tail x over) refl;
 }
 
 bit_without : (a b : ℕ) → a < 2 → b < 2 → min a (1 - b) ≡ a - b

@@ -20,18 +20,18 @@ bit_at_shifted n s j =
     ∙ ap (bit_at (n / 2 ^ s)) back)
 
 -- the bit of a number, by its word and its place there
-pub bit_of : (words : List ℕ) (x k i : ℕ) → x ≡ 64 * k + i → i < 64
+pub bit_of : (words : List ℕ) {x : ℕ} (k i : ℕ) → x ≡ 64 * k + i → i < 64
     → has x (set_bits words) ≡ (bit_at (get_or words k 0) i == 1)
-bit_of words x k i is below =
+bit_of words {x} k i is below =
     let word : x / 64 ≡ k = omega arith in
     let bit : x % 64 ≡ i = omega arith in
     has-set_bits words x ∙ rw (word, bit) refl
 
-is_one : (b : ℕ) → b ≡ 1 → (b == 1) ≡ true
-is_one b h = grind (arith, nat_tests)
+is_one : {b : ℕ} → b ≡ 1 → (b == 1) ≡ true
+is_one h = grind (arith, nat_tests)
 
-is_none : (b : ℕ) → b ≡ 0 → (b == 1) ≡ false
-is_none b h = grind (arith, nat_tests)
+is_none : {b : ℕ} → b ≡ 0 → (b == 1) ≡ false
+is_none h = grind (arith, nat_tests)
 
 -- the word w of number k has its first bit from place s on at place s + t
 module _ (words : List ℕ) (k s t w : ℕ) (is : w ≡ get_or words k 0) (small : w < 2 ^ 64) where
@@ -48,19 +48,18 @@ module _ (words : List ℕ) (k s t w : ℕ) (is : w ≡ get_or words k 0) (small
       let fits = place_fits one in
       record {
         reached = omega arith;
-        member = bit_of words (64 * k + s + t) k (s + t) (omega arith) fits
-            ∙ is_one (bit_at (get_or words k 0) (s + t)) (subst (λ n. bit_at n (s + t) ≡ 1) is one);
+        member = bit_of words k (s + t) (omega arith) fits
+            ∙ is_one (subst (λ n. bit_at n (s + t) ≡ 1) is one);
         first = λ x low high.
             let at : x ≡ 64 * k + (s + (x - (64 * k + s))) = omega arith in
-            bit_of words x k (s + (x - (64 * k + s))) at (omega (arith, fits))
-            ∙ is_none (bit_at (get_or words k 0) (s + (x - (64 * k + s))))
-            (subst (λ n. bit_at n (s + (x - (64 * k + s))) ≡ 0) is (none (x - (64 * k + s)) (omega arith)));
+            bit_of words k (s + (x - (64 * k + s))) at (omega (arith, fits))
+            ∙ is_none (subst (λ n. bit_at n (s + (x - (64 * k + s))) ≡ 0) is (none (x - (64 * k + s)) (omega arith)));
       }
 
 -- the word of `from` has a bit from there on
-pub found_here : (words : List ℕ) (from w : ℕ) → w ≡ get_or words (from / 64) 0 → w < 2 ^ 64 → 0 < w / 2 ^ (from % 64)
-    → IsNext (set_bits words) from (from + trailing_zeros w64 (w / 2 ^ (from % 64)))
-found_here words from w is small some =
+pub found_here : (words : List ℕ) (from : ℕ) {w : ℕ} → w ≡ get_or words (from / 64) 0 → w < 2 ^ 64
+    → 0 < w / 2 ^ (from % 64) → IsNext (set_bits words) from (from + trailing_zeros w64 (w / 2 ^ (from % 64)))
+found_here words from {w} is small some =
     let tz = bit_at-trailing_zeros w64 (w / 2 ^ (from % 64)) some (less w (2 ^ (from % 64)) small) in
     let whole : 64 * (from / 64) + from % 64 ≡ from = omega arith in
     subst (λ n. IsNext (set_bits words) n (n + trailing_zeros w64 (w / 2 ^ (from % 64)))) whole
@@ -71,23 +70,22 @@ found_here words from w is small some =
     less : (w d : ℕ) → w < 2 ^ 64 → w / d < 2 ^ 64
     less w d small = omega (arith, div-le_self w d)
 
-pub none_here : (words : List ℕ) (from w : ℕ) → w ≡ get_or words (from / 64) 0 → w / 2 ^ (from % 64) ≡ 0
-    → (x : ℕ) → from ≤ x → x < 64 * (from / 64 + 1) → has x (set_bits words) ≡ false
-none_here words from w is none x low high =
+pub none_here : (words : List ℕ) (from : ℕ) {w : ℕ} → w ≡ get_or words (from / 64) 0 → w / 2 ^ (from % 64) ≡ 0 → (x : ℕ)
+    → from ≤ x → x < 64 * (from / 64 + 1) → has x (set_bits words) ≡ false
+none_here words from {w} is none x low high =
     let at : x ≡ 64 * (from / 64) + (from % 64 + (x - from)) = omega arith in
-    bit_of words x (from / 64) (from % 64 + (x - from)) at (omega arith)
-    ∙ is_none (bit_at (get_or words (from / 64) 0) (from % 64 + (x - from)))
-    (subst (λ n. bit_at n (from % 64 + (x - from)) ≡ 0) is
+    bit_of words (from / 64) (from % 64 + (x - from)) at (omega arith)
+    ∙ is_none (subst (λ n. bit_at n (from % 64 + (x - from)) ≡ 0) is
     (sym (bit_at_shifted w (from % 64) (x - from)) ∙ (ap (λ n. bit_at n (x - from)) none ∙ bit_at-zero (x - from))))
 
 pub none_past : (words : List ℕ) (from x : ℕ) → length words ≤ from / 64 → from ≤ x → has x (set_bits words) ≡ false
 none_past words from x over low = has-set_bits words x ∙ is_set_past words x (omega arith)
 
 -- a later word has a bit, and none before has
-pub found_later : (words : List ℕ) (from k w : ℕ) → w ≡ get_or words k 0 → w < 2 ^ 64 → 0 < w → from ≤ 64 * k
+pub found_later : (words : List ℕ) (from k : ℕ) {w : ℕ} → w ≡ get_or words k 0 → w < 2 ^ 64 → 0 < w → from ≤ 64 * k
     → ((x : ℕ) → from ≤ x → x < 64 * k → has x (set_bits words) ≡ false)
     → IsNext (set_bits words) from (64 * k + trailing_zeros w64 w)
-found_later words from k w is small some reached before =
+found_later words from k {w} is small some reached before =
     let tz = bit_at-trailing_zeros w64 w some small in
     let none : (s : ℕ) → 0 + s ≡ s = λ s. omega arith in
     let whole : 64 * k + 0 ≡ 64 * k = omega arith in
@@ -106,14 +104,14 @@ found_later words from k w is small some reached before =
       ];
     }
 
-pub none_more : (words : List ℕ) (from k w : ℕ) → w ≡ get_or words k 0 → w ≡ 0
-    → ((x : ℕ) → from ≤ x → x < 64 * k → has x (set_bits words) ≡ false)
-    → (x : ℕ) → from ≤ x → x < 64 * (k + 1) → has x (set_bits words) ≡ false
-none_more words from k w is none before x low high = elim (cases_lt x (64 * k)) [
+pub none_more : (words : List ℕ) (from k : ℕ) {w : ℕ} → w ≡ get_or words k 0 → w ≡ 0
+    → ((x : ℕ) → from ≤ x → x < 64 * k → has x (set_bits words) ≡ false) → (x : ℕ) → from ≤ x → x < 64 * (k + 1)
+    → has x (set_bits words) ≡ false
+none_more words from k is none before x low high = elim (cases_lt x (64 * k)) [
   | inl early ↦ before x low early
   | inr late ↦
       let at : x ≡ 64 * k + (x - 64 * k) = omega arith in
-      bit_of words x k (x - 64 * k) at (omega arith)
-      ∙ is_none (bit_at (get_or words k 0) (x - 64 * k))
-      (subst (λ n. bit_at n (x - 64 * k) ≡ 0) is (ap (λ n. bit_at n (x - 64 * k)) none ∙ bit_at-zero (x - 64 * k)))
+      bit_of words k (x - 64 * k) at (omega arith)
+      ∙ is_none (subst (λ n. bit_at n (x - 64 * k) ≡ 0) is
+      (ap (λ n. bit_at n (x - 64 * k)) none ∙ bit_at-zero (x - 64 * k)))
 ]

@@ -35,9 +35,9 @@ pub same_as_bits : (words xs : List ℕ) → IsAscending xs → ((x : ℕ) → i
 same_as_bits words xs all same = same_members (set_bits words) xs (ascending-set_bits words) all
     (λ x. has-set_bits words x ∙ same x)
 
-pub are_nodes : (room : ℕ) (words : List ℕ) → AreWords room words
+pub are_nodes : {room : ℕ} {words : List ℕ} → AreWords room words
     → AreNodes (record { room = room; members = set_bits words })
-are_nodes room words ok = record {
+are_nodes {room} {words} ok = record {
   small = ok.small;
   ascending = ascending-set_bits words;
   below = below_from_has room (set_bits words)
@@ -66,9 +66,9 @@ no_bits n = same_as_bits (replicate n 0) [] tt (is_set-zeros n)
 -- ---- one bit
 
 -- the test of a bit, in the word w of v
-pub has_word : (words : List ℕ) (v w : ℕ) → v / 64 < length words → w ≡ get_or words (v / 64) w
+pub has_word : (words : List ℕ) (v : ℕ) {w : ℕ} → v / 64 < length words → w ≡ get_or words (v / 64) w
     → bit_and (w / 2 ^ (v % 64)) 1 == 1 ≡ has v (set_bits words)
-has_word words v w h e =
+has_word words v {w} h e =
     rw (has-set_bits words v, ← get_or_default_zero words (v / 64) w h, ← e, shr_and_one w (v % 64)) refl
 
 -- one word, with the bit s set: t < 64 and s < 64 need no proof for the other bits
@@ -89,9 +89,9 @@ same_word x v e = elim (cases_eq x v) [
 other_word : (x v : ℕ) → (x / 64 ≡ v / 64 → ⊥) → x == v ≡ false
 other_word x v e = ne_eqb x v (λ same. e (ap (λ (n : ℕ). n / 64) same))
 
-is_set-insert : (words : List ℕ) (v x w : ℕ) → v / 64 < length words → w ≡ get_or words (v / 64) 0
+is_set-insert : (words : List ℕ) (v x : ℕ) {w : ℕ} → v / 64 < length words → w ≡ get_or words (v / 64) 0
     → is_set (set words (v / 64) (bit_or w (1 * 2 ^ (v % 64) % 2 ^ 64))) x ≡ (x == v || is_set words x)
-is_set-insert words v x w h e =
+is_set-insert words v x {w} h e =
     elim (cases_eq (x / 64) (v / 64)) [
       | inl same ↦
           rw (
@@ -108,20 +108,20 @@ is_set-insert words v x w h e =
       ) refl
     ]
 
-pub insert_bit : (words : List ℕ) (v w : ℕ) → v / 64 < length words → w ≡ get_or words (v / 64) w
+pub insert_bit : (words : List ℕ) (v : ℕ) {w : ℕ} → v / 64 < length words → w ≡ get_or words (v / 64) w
     → set_bits (set words (v / 64) (bit_or w (1 * 2 ^ (v % 64) % 2 ^ 64))) ≡ with_number v (set_bits words)
-insert_bit words v w h e =
+insert_bit words v {w} h e =
     same_as_bits (set words (v / 64) (bit_or w (1 * 2 ^ (v % 64) % 2 ^ 64))) (with_number v (set_bits words))
     (ascending-inserted v (set_bits words) (ascending-set_bits words))
-    (λ x. is_set-insert words v x w h (e ∙ get_or_default_zero words (v / 64) w h)
+    (λ x. is_set-insert words v x h (e ∙ get_or_default_zero words (v / 64) w h)
     ∙ sym (rw (has-inserted x v (set_bits words), has-set_bits words x) refl))
 
-pub words-insert : (room : ℕ) (words : List ℕ) (v w : ℕ) → AreWords room words → v < room → v / 64 < length words
+pub words-insert : {room : ℕ} {words : List ℕ} (v : ℕ) {w : ℕ} → AreWords room words → v < room → v / 64 < length words
     → w ≡ get_or words (v / 64) w → AreWords room (set words (v / 64) (bit_or w (1 * 2 ^ (v % 64) % 2 ^ 64)))
-words-insert room words v w ok below h e = record {
+words-insert {words} v {w} ok below h e = record {
   small = ok.small;
   enough = length-set words (v / 64) (bit_or w (1 * 2 ^ (v % 64) % 2 ^ 64)) ∙ ok.enough;
-  tail = λ x over. is_set-insert words v x w h (e ∙ get_or_default_zero words (v / 64) w h)
+  tail = λ x over. is_set-insert words v x h (e ∙ get_or_default_zero words (v / 64) w h)
       ∙ rw (ne_eqb x v (λ same. omega arith), ok.tail x over) refl;
 }
 
@@ -130,9 +130,9 @@ words-insert room words v w ok below h e = record {
 bit_either : (a b : ℕ) → a < 2 → b < 2 → max a b == 1 ≡ (b == 1 || a == 1)
 bit_either a b h k = grind (arith, nat_tests)
 
-is_set-joined : (words more both : List ℕ) (x : ℕ) → AreWordsJoined words more both → length words ≡ length more
+is_set-joined : {words more both : List ℕ} (x : ℕ) → AreWordsJoined words more both → length words ≡ length more
     → is_set both x ≡ (is_set more x || is_set words x)
-is_set-joined words more both x all same =
+is_set-joined {words} {more} {both} x all same =
     elim (cases_lt (x / 64) (length words)) [
       | inl below ↦
           rw (all.joined (x / 64) below, bit_at_or (get_or words (x / 64) 0) (get_or more (x / 64) 0) (x % 64))
@@ -146,27 +146,27 @@ is_set-joined words more both x all same =
       ) refl
     ]
 
-pub absorb_bits : (words more both : List ℕ) → AreWordsJoined words more both → length words ≡ length more
+pub absorb_bits : {words more both : List ℕ} → AreWordsJoined words more both → length words ≡ length more
     → set_bits both ≡ union (set_bits more) (set_bits words)
-absorb_bits words more both all same =
+absorb_bits {words} {more} {both} all same =
     same_as_bits both (union (set_bits more) (set_bits words))
     (ascending-union (set_bits more) (set_bits words) (ascending-set_bits words))
-    (λ x. is_set-joined words more both x all same
+    (λ x. is_set-joined x all same
     ∙ sym (rw (has-union x (set_bits more) (set_bits words), has-set_bits more x, has-set_bits words x) refl))
 
-pub words-absorb : (room : ℕ) (words more both : List ℕ) → AreWords room words → AreWords room more
+pub words-absorb : {room : ℕ} {words more both : List ℕ} → AreWords room words → AreWords room more
     → AreWordsJoined words more both → AreWords room both
-words-absorb room words more both ok ok_more all = record {
+words-absorb ok ok_more all = record {
   small = ok.small;
   enough = all.enough ∙ ok.enough;
-  tail = λ x over. is_set-joined words more both x all (ok.enough ∙ sym ok_more.enough)
+  tail = λ x over. is_set-joined x all (ok.enough ∙ sym ok_more.enough)
       ∙ rw (ok_more.tail x over, ok.tail x over) refl;
 }
 
 -- some number is in both sets just where the words have a bit in common
-pub meet_bits : (words more : List ℕ) (result : Bool) → length words ≡ length more → IsTrue result ↔ Meet words more
+pub meet_bits : (words more : List ℕ) {result : Bool} → length words ≡ length more → IsTrue result ↔ Meet words more
     → result ≡ share (set_bits words) (set_bits more)
-meet_bits words more result same meet = at result (share (set_bits words) (set_bits more)) (λ h. shared (meet.0 h))
+meet_bits words more {result} same meet = at result (share (set_bits words) (set_bits more)) (λ h. shared (meet.0 h))
     (λ h. meet.1 (found (share_gives (set_bits words) (set_bits more) h)))
   where
     at : (b c : Bool) → (IsTrue b → c ≡ true) → (c ≡ true → IsTrue b) → b ≡ c
@@ -235,10 +235,10 @@ bits_of_word words k i below =
     let bit : (64 * k + i) % 64 ≡ i = omega arith in
     rw (word, bit) refl
 
-pub count_word : (words : List ℕ) (total k : ℕ) → get_or words k 0 < 2 ^ 64
-    → total ≡ length (sift (is_set words) 0 (64 * k))
-    → total + ones (get_or words k 0) ≡ length (sift (is_set words) 0 (64 * (k + 1)))
-count_word words total k small before =
+pub count_word : (words : List ℕ) {total : ℕ} (k : ℕ) → get_or words k 0 < 2 ^ 64
+    → total ≡ length (sift (is_set words) 0 (64 * k)) → total + ones (get_or words k 0) ≡ length
+    (sift (is_set words) 0 (64 * (k + 1)))
+count_word words {total} k small before =
     let next : 64 * (k + 1) ≡ 64 * k + 64 = omega arith in
     let here : length (sift (is_set words) (64 * k) 64) ≡ ones (get_or words k 0) =
     length-passing_word (is_set words) (64 * k) 64 (get_or words k 0) small (bits_of_word words k) in
@@ -250,7 +250,7 @@ count_word words total k small before =
     ap (λ (n : ℕ). total + n) (sym here) ∙ (ap (λ (n : ℕ). n + length (sift (is_set words) (64 * k) 64)) before
     ∙ (sym apart ∙ ap (λ (n : ℕ). length (sift (is_set words) 0 n)) (sym next)))
 
-pub count_fits : (words : List ℕ) (total k : ℕ) → k < 16 → get_or words k 0 < 2 ^ 64
+pub count_fits : (words : List ℕ) {total : ℕ} (k : ℕ) → k < 16 → get_or words k 0 < 2 ^ 64
     → total ≡ length (sift (is_set words) 0 (64 * k)) → total + ones (get_or words k 0) ≤ 1024
-count_fits words total k few small before =
-    omega (arith, count_word words total k small before, length-passing-le (is_set words) 0 (64 * (k + 1)))
+count_fits words k few small before =
+    omega (arith, count_word words k small before, length-passing-le (is_set words) 0 (64 * (k + 1)))

@@ -9,8 +9,7 @@ loop-block-preserved c =
     subst (λ (l : List ℕ). AreWithin c.args.bytes.now c.args.limit (64 * (c.loop-block.block + 1)) l)
     (sym (take_more_set c.loop-block.words c.loop-block.block c.block_within.result
     (omega (arith, c.loop-block.auto.words, c.requires, c.loop-block-test.true))))
-    (block_more c.args.bytes.now c.args.limit c.loop-block.block c.block_within.result
-    (take c.loop-block.block c.loop-block.words) c.loop-block.invariant c.block_within.ensures)
+    (block_more c.loop-block.block c.block_within.result c.loop-block.invariant c.block_within.ensures)
 
 pub returns-then-bytes-gt0 : goal.returns-then-bytes-gt0
 returns-then-bytes-gt0 c =

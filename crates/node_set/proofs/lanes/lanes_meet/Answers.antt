@@ -12,4 +12,4 @@ returns-then-block_meets c = (
 pub returns : goal.returns
 returns c =
     all_meet c.args.a.now c.args.b.now (4 * (length c.args.a.now / 4)) (λ k. omega (arith, c.type_inv.a k))
-    (λ k h. c.loop-block.invariant k (omega arith)) c.rest_meets.result c.rest_meets.ensures
+    (λ k h. c.loop-block.invariant k (omega arith)) c.rest_meets.ensures

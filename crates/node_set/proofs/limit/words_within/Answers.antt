@@ -10,8 +10,7 @@ pub loop-block-preserved : goal.loop-block-preserved
 loop-block-preserved c =
     subst (λ (l : List ℕ). AreWithin c.args.numbers.now c.args.limit (64 * (c.loop-block.block + 1)) l)
     (sym c.in_ok-push.ensures.items)
-    (block_more c.args.numbers.now c.args.limit c.loop-block.block c.block_within.result c.loop-block.words.items
-    c.loop-block.invariant c.block_within.ensures)
+    (block_more c.loop-block.block c.block_within.result c.loop-block.invariant c.block_within.ensures)
 
 pub returns : goal.returns
 returns c =

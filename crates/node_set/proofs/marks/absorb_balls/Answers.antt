@@ -24,9 +24,8 @@ ball-preserved c =
       room_kept = c.ball.invariant.room_kept;
       order = λ ascending. ascending-union c.index-balls-v.result.members c.ball.nodes.members
           (c.ball.invariant.order ascending);
-      so_far = absorb_next (sets c.args.balls.now) c.args.centres.now.members c.args.nodes.now.members
-          c.ball.nodes.members
-          c.index-balls-v.result.members c.ball.from c.in-Some.v c.in-Some.ensures.some at c.ball.invariant.so_far;
+      so_far = absorb_next (sets c.args.balls.now) c.args.nodes.now.members c.ball.nodes.members c.in-Some.ensures.some
+          at c.ball.invariant.so_far;
     })
 
 pub returns-clause-members : goal.returns-clause-members

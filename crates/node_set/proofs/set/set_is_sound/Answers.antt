@@ -5,4 +5,4 @@ use Rattle.node_set.proofs.set.set_is_sound.Goals as goal
 
 pub returns : goal.returns
 returns c = subst (λ (s : Nodes). AreNodes s) c.set.view_is
-    (are_nodes c.set.inside.room c.set.inside.words.items c.set.invariant)
+    (are_nodes c.set.invariant)

@@ -27,8 +27,7 @@ pub invariant_of-self : goal.invariant_of-self
 invariant_of-self c =
     let other : AreWords c.self.inside.room c.other.inside.words.items = rw (same_room c) c.other.invariant in
     subst (λ (l : List ℕ). AreWords c.self.inside.room l) (sym (written c))
-    (words-absorb c.self.inside.room c.self.inside.words.items c.other.inside.words.items c.lanes_absorb.new.a
-    c.self.invariant other (joined c))
+    (words-absorb c.self.invariant other (joined c))
 
 pub returns : goal.returns
 returns c =
@@ -37,6 +36,5 @@ returns c =
       ← c.self.view_is,
       ← c.other.view_is,
       written c,
-      absorb_bits c.self.inside.words.items c.other.inside.words.items
-          c.lanes_absorb.new.a (joined c) same,
+      absorb_bits (joined c) same,
     ) refl

@@ -9,7 +9,7 @@ overflow_add-total c =
     let word : get_or c.deref-word-items.result.now c.loop-word.word-index 0 < 2 ^ 64 =
     omega (arith, c.type_inv.word-items c.loop-word.word-index) in
     let bound : c.loop-word.total + ones (get_or c.deref-word-items.result.now c.loop-word.word-index 0) ≤ 1024 =
-    count_fits c.deref-word-items.result.now c.loop-word.total c.loop-word.word-index few word c.loop-word.invariant
+    count_fits c.deref-word-items.result.now c.loop-word.word-index few word c.loop-word.invariant
     in
     omega arith
 
@@ -17,4 +17,4 @@ pub loop-word-preserved : goal.loop-word-preserved
 loop-word-preserved c =
     let word : get_or c.deref-word-items.result.now c.loop-word.word-index 0 < 2 ^ 64 =
     omega (arith, c.type_inv.word-items c.loop-word.word-index) in
-    count_word c.deref-word-items.result.now c.loop-word.total c.loop-word.word-index word c.loop-word.invariant
+    count_word c.deref-word-items.result.now c.loop-word.word-index word c.loop-word.invariant

@@ -16,8 +16,7 @@ invariant_of-self c =
     subst (λ (l : List ℕ). AreWords c.self.inside.room l) (sym written) (record {
       small = c.self.invariant.small;
       enough = omega (arith, c.fill_words.ensures.enough, room);
-      tail = λ v over. none_after c.args.bytes.now c.args.limit c.fill_words.new.words c.fill_words.ensures v
-          (omega (arith, over, room));
+      tail = λ v over. none_after c.fill_words.ensures v (omega (arith, over, room));
     })
 
 pub returns-clause-members : goal.returns-clause-members
@@ -27,4 +26,4 @@ returns-clause-members c =
     take_at c.fill_words.new.words (drop (length c.fill_words.new.words) c.self.inside.words.items)
     c.self.inside.words.len
     (c.fill_words.auto.words ∙ ap (length {A = ℕ}) c.deref_mut.ensures.value ∙ sym c.self.inside.words.ok.0) in
-    rw written (within_bits c.args.bytes.now c.args.limit c.fill_words.new.words c.fill_words.ensures)
+    rw written (within_bits c.fill_words.ensures)

@@ -7,4 +7,4 @@ pub returns : goal.returns
 returns c =
     let within : c.args.v / 64 < length c.self.inside.words.items =
     omega (arith, ap (λ (s : Nodes). s.room) c.self.view_is) in
-    rw (← c.self.view_is) (has_word c.self.inside.words.items c.args.v c.index.result.now within c.index.ensures)
+    rw (← c.self.view_is) (has_word c.self.inside.words.items c.args.v within c.index.ensures)

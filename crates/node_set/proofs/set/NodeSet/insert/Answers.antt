@@ -6,14 +6,12 @@ use Rattle.node_set.proofs.set.NodeSet.insert.Goals as goal
 pub invariant_of-self : goal.invariant_of-self
 invariant_of-self c =
     let room : c.self.inside.room ≡ c.args.self.now.room = ap (λ (s : Nodes). s.room) c.self.view_is in
-    words-insert c.self.inside.room c.self.inside.words.items c.args.v c.index_mut.result.now c.self.invariant
-    (omega arith) (omega arith) c.index_mut.ensures.value
+    words-insert c.args.v c.self.invariant (omega arith) (omega arith) c.index_mut.ensures.value
 
 pub returns : goal.returns
 returns c =
     let room : c.self.inside.room ≡ c.args.self.now.room = ap (λ (s : Nodes). s.room) c.self.view_is in
     rw (
       ← c.self.view_is,
-      insert_bit c.self.inside.words.items c.args.v c.index_mut.result.now
-          (omega arith) c.index_mut.ensures.value,
+      insert_bit c.self.inside.words.items c.args.v (omega arith) c.index_mut.ensures.value,
     ) refl

@@ -29,10 +29,9 @@ same c = omega (arith, same_room c, c.self.invariant.enough, c.other.invariant.e
 pub invariant_of-self : goal.invariant_of-self
 invariant_of-self c =
     subst (λ (l : List ℕ). AreWords c.self.inside.room l) (sym (written c))
-    (words-keep c.self.inside.room c.self.inside.words.items c.other.inside.words.items c.words_keep.new.a
-    c.self.invariant (left c) (same c))
+    (words-keep c.self.invariant (left c) (same c))
 
 pub returns-clause-members : goal.returns-clause-members
 returns-clause-members c =
     rw (← c.self.view_is, ← c.other.view_is, written c)
-    (keep_bits c.self.inside.words.items c.other.inside.words.items c.words_keep.new.a (left c) (same c))
+    (keep_bits (left c) (same c))

@@ -14,4 +14,4 @@ returns c =
     c.lanes_meet.ensures)
     in
     rw (← c.self.view_is, ← c.other.view_is) (meet_bits c.self.inside.words.items c.other.inside.words.items
-    c.lanes_meet.result (omega arith) meet)
+    (omega arith) meet)

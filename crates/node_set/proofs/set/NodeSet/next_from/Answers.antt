@@ -10,7 +10,7 @@ overflow_cast-result c =
     let next : IsNext (set_bits c.self.inside.words.items) c.args.from c.in-Some.v =
     subst (λ (l : List ℕ). IsNext (set_bits l) c.args.from c.in-Some.v) c.deref.ensures.value c.in-Some.ensures.some
     in
-    let nodes = are_nodes c.self.inside.room c.self.inside.words.items c.self.invariant in
+    let nodes = are_nodes c.self.invariant in
     omega (
       arith,
       below-has c.self.inside.room c.in-Some.v (set_bits c.self.inside.words.items) nodes.below next.member,
@@ -22,7 +22,7 @@ returns-in-Some-clause-below c =
     let next : IsNext (set_bits c.self.inside.words.items) c.args.from c.in-Some.v =
     subst (λ (l : List ℕ). IsNext (set_bits l) c.args.from c.in-Some.v) c.deref.ensures.value c.in-Some.ensures.some
     in
-    let nodes = are_nodes c.self.inside.room c.self.inside.words.items c.self.invariant in
+    let nodes = are_nodes c.self.invariant in
     omega (
       arith,
       below-has c.self.inside.room c.in-Some.v (set_bits c.self.inside.words.items) nodes.below next.member,

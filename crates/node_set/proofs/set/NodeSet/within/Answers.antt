@@ -2,4 +2,4 @@ use Rattle.node_set.proofs.Limiting.{within_bits}
 use Rattle.node_set.proofs.set.NodeSet.within.Goals as goal
 
 pub returns-clause-members : goal.returns-clause-members
-returns-clause-members c = within_bits c.args.numbers.now c.args.limit c.in_ok-words.words.items c.in_ok-words.ensures
+returns-clause-members c = within_bits c.in_ok-words.ensures
