@@ -59,11 +59,11 @@ none-below a actor (script ∷ scripts) below =
     ∙ none-below a (actor + 1) scripts (omega arith)
 
 -- one script more is listed
-pub calls-step : (scripts : List (List Call)) (done now all : List ActorCall) (actor : ℕ) (script : List Call)
-    → actor < length scripts → get_or scripts actor [] ≡ script → now ≡ done ++ calls_of actor script
-    → done ++ calls_from actor (drop actor scripts) ≡ all → now ++ calls_from (actor + 1) (drop (actor + 1) scripts)
-    ≡ all
-calls-step scripts done now all actor script below is grown so_far =
+pub calls-step : (scripts : List (List Call)) (done : List ActorCall) {now all : List ActorCall} (actor : ℕ)
+    {script : List Call} → actor < length scripts → get_or scripts actor [] ≡ script
+    → now ≡ done ++ calls_of actor script → done ++ calls_from actor (drop actor scripts) ≡ all
+    → now ++ calls_from (actor + 1) (drop (actor + 1) scripts) ≡ all
+calls-step scripts done actor {script} below is grown so_far =
     let rest : List ActorCall = calls_from (actor + 1) (drop (actor + 1) scripts) in
     let here : drop actor scripts ≡ get_or scripts actor [] ∷ drop (actor + 1) scripts =
     rw add-one (drop-cons scripts actor [] below) in
@@ -115,8 +115,8 @@ back actor (script ∷ scripts) =
     scripts)) (actor + 1) (length scripts) (λ a above. later a actor script scripts (omega arith))
     ∙ back (actor + 1) scripts)
 
-pub listed-back : (contents : Contents) → IsValid contents → contents_in (listing_of contents) ≡ contents
-listed-back contents valid =
+pub listed-back : {contents : Contents} → IsValid contents → contents_in (listing_of contents) ≡ contents
+listed-back {contents} valid =
     let scripts = contents.scripts in
     ap (λ n. record contents { scripts = map (λ a. script_of a (said_from 0 scripts)) (numbers_from 0 n) })
     (sym valid.scripts)
@@ -147,14 +147,14 @@ listed-count actor (script ∷ scripts) = omega (
   listed-count (actor + 1) scripts,
 )
 
-listed-is : (contents : Contents) → IsValid contents → IsListing (listing_of contents)
-listed-is contents valid = record {
-  valid = subst IsValid (sym (listed-back contents valid)) valid;
+listed-is : {contents : Contents} → IsValid contents → IsListing (listing_of contents)
+listed-is {contents} valid = record {
+  valid = subst IsValid (sym (listed-back valid)) valid;
   actors = listed-actors (length contents.homes + contents.callers) 0 contents.scripts (omega (arith, valid.scripts));
   few = omega (arith, listed-count 0 contents.scripts, valid.few_calls);
 }
 
 pub inputs_read : (contents : Contents) → IsValid contents → IsInput (input_text_of contents) (Ok contents)
 inputs_read contents valid =
-    subst (λ (c : Contents). IsInput (input_text_of contents) (Ok c)) (listed-back contents valid)
-    (listings_read (listing_of contents) (listed-is contents valid))
+    subst (λ (c : Contents). IsInput (input_text_of contents) (Ok c)) (listed-back valid)
+    (listings_read (listing_of contents) (listed-is valid))

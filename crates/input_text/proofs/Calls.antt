@@ -88,8 +88,8 @@ off-heard said d s =
     ∙ ap (λ l. script_of s said.calls ++ l) (script-cons s d [] ∙ append-nil (cond (eqb d.actor s) (d.call ∷ []) [])))
     ∙ off-append false (script_of s said.calls) (cond (eqb d.actor s) (d.call ∷ []) [])
 
-next-are : (said : Said) (d : Spoken) (left : List Spoken) → AreNext said (d ∷ left) → AreNext (heard said d) left
-next-are said d left are = record {
+next-are : {said : Said} {d : Spoken} {left : List Spoken} → AreNext said (d ∷ left) → AreNext (heard said d) left
+next-are {said} {d} {left} are = record {
   nodes = are.nodes;
   subs = are.subs;
   callers = are.callers;
@@ -172,16 +172,15 @@ course-line : (said : Said) (actor : ℕ) (call : Call) (script : List Call) →
     → IsCourse said.format said.nodes (place_of said actor) (is_off said actor) (call ∷ script)
     → Leads said (line_of_call actor call) (heard said (record { actor = actor; call = call }))
 course-line said actor (calls.Move to) script stands room nodes subs below h =
-    leads-word said (heard said (record { actor = actor; call = calls.Move to })) (codes "move") (actor ∷ to ∷ []) 7
-    move_row is_move (small-two actor to (omega (arith, below, subs)) (omega (arith, h.1, nodes))) stands
-    (move-good said actor to room below h.1 h.0 h.2)
+    leads-word said (actor ∷ to ∷ []) is_move (small-two (omega (arith, below, subs)) (omega (arith, h.1, nodes)))
+    stands (move-good said actor to room below h.1 h.0 h.2)
 course-line said actor (calls.Find from sub) script stands room nodes subs below h = absurd h
 course-line said actor calls.Off script stands room nodes subs below h =
-    leads-word said (heard said (record { actor = actor; call = calls.Off })) (codes "off") (actor ∷ []) 7
-    off_row off_is (small-one actor (omega (arith, below, subs))) stands (off-good said actor room below h.0 h.1)
+    leads-word said (actor ∷ []) off_is (small-one (omega (arith, below, subs))) stands
+    (off-good said actor room below h.0 h.1)
 course-line said actor calls.On script stands room nodes subs below h =
-    leads-word said (heard said (record { actor = actor; call = calls.On })) (codes "on") (actor ∷ []) 7
-    on_row on_is (small-one actor (omega (arith, below, subs))) stands (on-good said actor room below h.0 h.1)
+    leads-word said (actor ∷ []) on_is (small-one (omega (arith, below, subs))) stands
+    (on-good said actor room below h.0 h.1)
 
 search-line : (said : Said) (actor : ℕ) (call : Call) → may_stand said.place 7 ≡ true
     → HasRoom said → said.nodes ≤ 1024 → subs said ≤ 64 → said.callers ≤ 64 → length said.homes ≤ actor
@@ -189,9 +188,7 @@ search-line : (said : Said) (actor : ℕ) (call : Call) → may_stand said.place
     → Leads said (line_of_call actor call) (heard said (record { actor = actor; call = call }))
 search-line said actor (calls.Move to) stands room nodes subs callers above below h = absurd h
 search-line said actor (calls.Find from sub) stands room nodes subs callers above below h =
-    leads-word said (heard said (record { actor = actor; call = calls.Find from sub })) (codes "find")
-    (actor ∷ from ∷ sub
-    ∷ []) 7 find_row is_find (small-three actor from sub (omega (arith, below, subs, callers)) (omega (
+    leads-word said (actor ∷ from ∷ sub ∷ []) is_find (small-three (omega (arith, below, subs, callers)) (omega (
       arith,
       h.0,
       nodes,
@@ -199,9 +196,9 @@ search-line said actor (calls.Find from sub) stands room nodes subs callers abov
 search-line said actor calls.Off stands room nodes subs callers above below h = absurd h
 search-line said actor calls.On stands room nodes subs callers above below h = absurd h
 
-call-leads : (said : Said) (d : ActorCall) (left : List Spoken) → may_stand said.place 7 ≡ true
+call-leads : {said : Said} (d : ActorCall) {left : List Spoken} → may_stand said.place 7 ≡ true
     → AreNext said (spoken_of d ∷ left) → Leads said (call_line d) (heard said (spoken_of d))
-call-leads said d left stands are =
+call-leads {said} d {left} stands are =
     let room : length said.calls < most_calls said.format = omega (arith, are.few) in
     let own = own-first (spoken_of d) left in
     elim (cases_lt d.actor (length said.homes)) [
@@ -216,14 +213,13 @@ call-leads said d left stands are =
           (subst (All (IsSearch said.nodes (length said.homes))) own (are.searches d.actor above known)))
     ]
 
-pub calls-lead : (said : Said) (listed : List ActorCall) → may_stand said.place 7 ≡ true
-    → AreNext said (map spoken_of listed)
-    → Leads said (concat (map call_line listed))
+pub calls-lead : {said : Said} (listed : List ActorCall) → may_stand said.place 7 ≡ true
+    → AreNext said (map spoken_of listed) → Leads said (concat (map call_line listed))
     (record said { place = behind said.place 7 listed; calls = said.calls ++ map spoken_of listed })
-calls-lead said [] stands are =
+calls-lead {said} [] stands are =
     subst (λ (cs : List Spoken). Leads said [] (record said { calls = cs })) (sym (append-nil said.calls)) (leads-none
     said)
-calls-lead said (d ∷ listed) stands are =
+calls-lead {said} (d ∷ listed) stands are =
     let next : Said = heard said (spoken_of d) in
     let all : List Spoken = map spoken_of listed in
     let last : Said = record said { place = behind 7 7 listed; calls = (said.calls ++ spoken_of d ∷ []) ++ all } in
@@ -231,5 +227,5 @@ calls-lead said (d ∷ listed) stands are =
     ap (λ p. record said { place = p; calls = (said.calls ++ spoken_of d ∷ []) ++ all }) (behind-same 7 listed)
     ∙ ap (λ cs. record said { place = 7; calls = cs }) (append_assoc said.calls (spoken_of d ∷ []) all) in
     subst (Leads said (concat (map call_line (d ∷ listed)))) same
-    (leads-line said next last (call_line d) (map call_line listed) (call-leads said d all stands are)
-    (calls-lead next listed refl (next-are said (spoken_of d) all are)))
+    (leads-line said next last (call_line d) (map call_line listed) (call-leads d stands are)
+    (calls-lead listed refl (next-are are)))

@@ -43,10 +43,10 @@ leads-both said next last a b one two =
     subst (λ l. Leads said l last) (sym (concat-append a b)) (leads-then said next last (concat a) (concat b) one two)
 
 -- a line of a word that may stand there, and whose row has no fault
-pub leads-word : (said next : Said) (word numbers : List ℕ) (place : ℕ) (row : Said → List ℕ → Option Row)
-    → IsWord word place row → All IsSmall numbers → may_stand said.place place ≡ true
+pub leads-word : (said : Said) {next : Said} {word : List ℕ} (numbers : List ℕ) {place : ℕ}
+    {row : Said → List ℕ → Option Row} → IsWord word place row → All IsSmall numbers → may_stand said.place place ≡ true
     → verdict (row said numbers) ≡ Ok next → Leads said (line_of word numbers) next
-leads-word said next word numbers place row known small stands good = λ before rest.
+leads-word said {next} {word} numbers known small stands good = λ before rest.
     let cut = line-cut word numbers rest known.some known.dense small in
     let judged : judge said (fields_of (word ++ fields numbers)) ≡ Ok next =
     ap (judge said) (line-fields word numbers known.some known.dense small)
@@ -80,14 +80,14 @@ is_order = record { some = omega arith; dense = refl; says = refl; judged = λ s
 
 -- ---- small numbers
 
-pub small-one : (a : ℕ) → IsSmall a → All IsSmall (a ∷ [])
-small-one a h = All-cons IsSmall a [] h (All-nil IsSmall)
+pub small-one : {a : ℕ} → IsSmall a → All IsSmall (a ∷ [])
+small-one {a} h = All-cons IsSmall a [] h (All-nil IsSmall)
 
-pub small-two : (a b : ℕ) → IsSmall a → IsSmall b → All IsSmall (a ∷ b ∷ [])
-small-two a b h i = All-cons IsSmall a (b ∷ []) h (small-one b i)
+pub small-two : {a b : ℕ} → IsSmall a → IsSmall b → All IsSmall (a ∷ b ∷ [])
+small-two {a} {b} h i = All-cons IsSmall a (b ∷ []) h (small-one i)
 
-pub small-three : (a b c : ℕ) → IsSmall a → IsSmall b → IsSmall c → All IsSmall (a ∷ b ∷ c ∷ [])
-small-three a b c h i j = All-cons IsSmall a (b ∷ c ∷ []) h (small-two b c i j)
+pub small-three : {a b c : ℕ} → IsSmall a → IsSmall b → IsSmall c → All IsSmall (a ∷ b ∷ c ∷ [])
+small-three {a} {b} {c} h i j = All-cons IsSmall a (b ∷ c ∷ []) h (small-two i j)
 
 pub small-all : (n : ℕ) (numbers : List ℕ) → n ≤ 10000000 → All (λ a. a < n) numbers → All IsSmall numbers
 small-all n [] few h = All-nil IsSmall
@@ -108,10 +108,10 @@ behind-same place (x ∷ xs) = refl
 
 -- ---- the first lines
 
-pub track-good : (format : ℕ) → (format ≡ 1) ⊎ (format ≡ 2)
+pub track-good : {format : ℕ} → (format ≡ 1) ⊎ (format ≡ 2)
     → verdict (track_row nothing (format ∷ [])) ≡ Ok (record nothing { place = 1; format = format })
-track-good format (inl e) = rw e refl
-track-good format (inr e) = rw e refl
+track-good (inl e) = rw e refl
+track-good (inr e) = rw e refl
 
 pub nodes-good : (said : Said) (n : ℕ) → 1 ≤ n → n ≤ most_nodes said.format
     → verdict (nodes_row said (n ∷ [])) ≡ Ok (record said { place = 2; nodes = n })
@@ -144,10 +144,10 @@ callers-good said callers few =
 
 -- ---- the edges
 
-edge-good : (said : Said) (edge : Edge) → IsEdge said.nodes edge → length said.edges < 32768
+edge-good : (said : Said) {edge : Edge} → IsEdge said.nodes edge → length said.edges < 32768
     → verdict (edge_row said (edge.a ∷ edge.b ∷ edge.weight ∷ []))
     ≡ Ok (record said { place = 4; edges = said.edges ++ edge ∷ [] })
-edge-good said edge is few =
+edge-good said {edge} is few =
     let a : leb said.nodes edge.a ≡ false = grind (arith, nat_tests, is.a_below) in
     let b : leb said.nodes edge.b ≡ false = grind (arith, nat_tests, is.b_below) in
     let c : eqb edge.weight 0 ≡ false = grind (arith, nat_tests, is.positive) in
@@ -171,12 +171,11 @@ edges-lead said (edge ∷ edges) stands nodes are few =
     ∙ ap (λ es. record said { place = 4; edges = es }) (append_assoc said.edges (edge ∷ []) edges) in
     subst (Leads said (concat (map edge_line (edge ∷ edges)))) same
     (leads-line said next last (edge_line edge) (map edge_line edges)
-    (leads-word said next (codes "edge") (edge.a ∷ edge.b ∷ edge.weight ∷ []) 4 edge_row is_edge
-    (small-three edge.a edge.b edge.weight (omega (arith, is.a_below, nodes)) (omega (arith, is.b_below, nodes))
-    (omega (
+    (leads-word said (edge.a ∷ edge.b ∷ edge.weight ∷ []) is_edge
+    (small-three (omega (arith, is.a_below, nodes)) (omega (arith, is.b_below, nodes)) (omega (
       arith,
       is.light,
-    ))) stands (edge-good said edge is (omega (arith, few))))
+    ))) stands (edge-good said is (omega (arith, few))))
     (edges-lead next edges refl nodes (All-tail (IsEdge said.nodes) edge edges are) (omega (
       arith,
       few,
@@ -207,7 +206,7 @@ homes-lead said (home ∷ homes) stands nodes are few =
     ∙ ap (λ hs. record said { place = 5; homes = hs }) (append_assoc said.homes (home ∷ []) homes) in
     subst (Leads said (concat (map home_line (home ∷ homes)))) same
     (leads-line said next last (home_line home) (map home_line homes)
-    (leads-word said next (codes "sub") (home ∷ []) 5 sub_row is_sub (small-one home (omega (arith, nodes))) stands
+    (leads-word said (home ∷ []) is_sub (small-one (omega (arith, nodes))) stands
     (home-good said home below (omega (arith, few))))
     (homes-lead next homes refl nodes (All-tail (λ home. home < said.nodes) home homes are) (omega (
       arith,
@@ -231,9 +230,9 @@ none-past n (a ∷ numbers) h =
     let below : leb n a ≡ false = grind (arith, nat_tests) in
     rw (below, none-past n numbers (All-tail (λ actor. actor < n) a numbers h)) refl
 
-order-good : (said : Said) (piece : List ℕ) → IsPiece (actors said) piece
+order-good : (said : Said) {piece : List ℕ} → IsPiece (actors said) piece
     → verdict (order_row said piece) ≡ Ok (record said { place = 8; order = said.order ++ piece })
-order-good said piece is =
+order-good said {piece} is =
     let a : eqb (length piece) 0 ≡ false = grind (arith, nat_tests, is.some) in
     let b : ltb 64 (length piece) ≡ false = grind (arith, nat_tests, is.few) in
     rw (a, b, none-past (actors said) piece is.below) refl
@@ -253,6 +252,6 @@ orders-lead said (piece ∷ pieces) stands few are =
     ∙ ap (λ ns. record said { place = 8; order = ns }) (append_assoc said.order piece (concat pieces)) in
     subst (Leads said (concat (map order_line (piece ∷ pieces)))) same
     (leads-line said next last (order_line piece) (map order_line pieces)
-    (leads-word said next (codes "order") piece 8 order_row is_order
-    (small-all (actors said) piece (omega (arith, few)) is.below) stands (order-good said piece is))
+    (leads-word said piece is_order (small-all (actors said) piece (omega (arith, few)) is.below) stands
+    (order-good said is))
     (orders-lead next pieces refl few (All-tail (IsPiece (actors said)) piece pieces are)))

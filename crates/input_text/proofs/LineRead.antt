@@ -9,7 +9,7 @@ use Rattle.std.specs.Char.{is_ascii_digit}
 use Rattle.std.specs.Fmt.{decimal}
 use Rattle.std.specs.List.{list_all}
 use Rattle.std.specs.Int.{IsInRange}
-use Rattle.std.specs.Str.Parse.{AllDigits, digits_value}
+use Rattle.std.specs.Str.Parse.{AllDigits}
 use Rattle.word_line.specs.Forms.{number_of}
 use Rattle.net_reader.specs.declared.fault.InputCause.TheVariants.{Form}
 use Rattle.net_reader.specs.TextLines.{begins_comment, fields_from, fields_of, is_blank, lines_from, lines_of, numbers_of, piece, without_return, word_of}
@@ -104,22 +104,22 @@ pub record IsWritten (n : ℕ) : Type 0 where
   pub dense : list_all is_dense (decimal n) ≡ true
   pub reads : number_of (decimal n) ≡ Some n
 
-number-go : (a b c : Bool) (v n : ℕ) → a ≡ true → b ≡ true → c ≡ true → v ≡ n
+number-go : (a b c : Bool) {v n : ℕ} → a ≡ true → b ≡ true → c ≡ true → v ≡ n
     → cond (a && b && c) (Some v) None ≡ Some n
-number-go true true true v n e f g h = ap Some h
-number-go true true false v n e f g h = cc
-number-go true false c v n e f g h = cc
-number-go false b c v n e f g h = cc
+number-go true true true e f g h = ap Some h
+number-go true true false e f g h = cc
+number-go true false c e f g h = cc
+number-go false b c e f g h = cc
 
-pub written : (n : ℕ) → IsSmall n → IsWritten n
-written n small =
+pub written : {n : ℕ} → IsSmall n → IsWritten n
+written {n} small =
     let numeral = decimal_is_IsNumeral n (omega arith) in
     let some : 0 < length (decimal n) = numeral.0.0 in
     let short : length (decimal n) ≤ 7 = length-decimal-le 7 n (omega arith) small (omega arith) in record {
       some = some;
       dense = digits-dense (decimal n) numeral.0.1;
-      reads = number-go (leb 1 (length (decimal n))) (leb (length (decimal n)) 18) (list_all (λ b. is_ascii_digit b)
-          (decimal n)) (digits_value 10 (decimal n)) n (grind (arith, nat_tests)) (grind (arith, nat_tests))
+      reads = number-go (leb 1 (length (decimal n))) (leb (length (decimal n)) 18)
+          (list_all (λ b. is_ascii_digit b) (decimal n)) (grind (arith, nat_tests)) (grind (arith, nat_tests))
           (digits-all (decimal n) numeral.0.1) numeral.1;
     }
 
@@ -129,7 +129,7 @@ word-fields : (word : List ℕ) (numbers : List ℕ) → list_all is_dense word 
 word-fields word [] dense small = ap (fields_from []) (append-nil word) ∙ fields-end [] word dense
     ∙ sym (append-nil (piece word))
 word-fields word (n ∷ numbers) dense small =
-    let here = written n (All-head IsSmall n numbers small) in
+    let here = written (All-head IsSmall n numbers small) in
     fields-cut [] word (decimal n ++ fields numbers) dense
     ∙ ap (λ l. piece word ++ l)
     (word-fields (decimal n) numbers here.dense (All-tail IsSmall n numbers small)
@@ -138,13 +138,13 @@ word-fields word (n ∷ numbers) dense small =
 numbers-read : (numbers : List ℕ) → All IsSmall numbers → numbers_of (map decimal numbers) ≡ Some numbers
 numbers-read [] small = refl
 numbers-read (n ∷ numbers) small =
-    let here = written n (All-head IsSmall n numbers small) in
+    let here = written (All-head IsSmall n numbers small) in
     rw (here.reads, numbers-read numbers (All-tail IsSmall n numbers small)) refl
 
 fields-inside : (numbers : List ℕ) → All IsSmall numbers → list_all is_inside (fields numbers) ≡ true
 fields-inside [] small = refl
 fields-inside (n ∷ numbers) small =
-    let here = written n (All-head IsSmall n numbers small) in
+    let here = written (All-head IsSmall n numbers small) in
     list_all-append is_inside (decimal n) (fields numbers)
     ∙ and_from (list_all is_inside (decimal n)) (list_all is_inside (fields numbers))
     (inside-dense (decimal n) here.dense) (fields-inside numbers (All-tail IsSmall n numbers small))

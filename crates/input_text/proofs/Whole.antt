@@ -10,7 +10,7 @@ use Rattle.net_reader.specs.declared.said.Spoken.{Spoken}
 use Rattle.net_reader.specs.Input.{IsAnswer, IsInput, read, read_from}
 use Rattle.net_reader.specs.TextLines.{lines_of}
 use Rattle.net_reader.specs.Said.{Said, nothing, script_of}
-use Rattle.net_reader.specs.Table.{callers_row, k_row, may_stand, nodes_row, track_row}
+use Rattle.net_reader.specs.Table.{may_stand}
 use Rattle.net_reader.specs.Valid.{IsCourse, IsSearch}
 use Rattle.text_line.specs.OrderLines.{order_lines, pieces_within, pieces}
 use Rattle.input_text.specs.declared.listing.ActorCall.{ActorCall}
@@ -75,8 +75,8 @@ after_calls l = record (after_callers l) { place = behind 6 7 l.calls; calls = m
 abbrev after_order : ListingValue → Said
 after_order l = record (after_calls l) { place = behind (behind 6 7 l.calls) 8 (pieces l.order); order = l.order }
 
-most-few : (format nodes : ℕ) → (format ≡ 1) ⊎ (format ≡ 2) → nodes ≤ cond (eqb format 2) 1024 256 → nodes ≤ 1024
-most-few format nodes h few = go (eqb format 2) few
+most-few : {format : ℕ} (nodes : ℕ) → (format ≡ 1) ⊎ (format ≡ 2) → nodes ≤ cond (eqb format 2) 1024 256 → nodes ≤ 1024
+most-few {format} nodes h few = go (eqb format 2) few
   where
     go : (b : Bool) → nodes ≤ cond b 1024 256 → nodes ≤ 1024
     go true e = e
@@ -108,14 +108,14 @@ spoken-actors n (c ∷ listed) h =
     (spoken-actors n listed (All-tail (λ (c : ActorCall). c.actor < n) c listed h))
 
 -- the calls of the listing are those of a valid input
-listed-next : (l : ListingValue) → IsListing l → AreNext (after_callers l) (map spoken_of l.calls)
-listed-next l is =
+listed-next : {l : ListingValue} → IsListing l → AreNext (after_callers l) (map spoken_of l.calls)
+listed-next {l} is =
     let valid = is.valid in
     let spoken : List Spoken = map spoken_of l.calls in
     let script : ℕ → List Call = λ actor. script_of actor spoken in
     let count : ℕ = length l.homes + l.callers in
     let scripts = scripts_count script 0 count in record {
-      nodes = most-few l.format l.nodes valid.format valid.few;
+      nodes = most-few l.nodes valid.format valid.few;
       subs = valid.few_homes;
       callers = valid.callers;
       courses = λ s below.
@@ -128,8 +128,8 @@ listed-next l is =
       few = omega (arith, is.few, length-map l.calls spoken_of);
     }
 
-calls-part : (l : ListingValue) → IsListing l → Leads (after_callers l) (concat (call_lines l)) (after_order l)
-calls-part l is =
+calls-part : {l : ListingValue} → IsListing l → Leads (after_callers l) (concat (call_lines l)) (after_order l)
+calls-part {l} is =
     let valid = is.valid in
     let count : ℕ = length l.homes + l.callers in
     let spoken : List Spoken = map spoken_of l.calls in
@@ -140,60 +140,57 @@ calls-part l is =
     let few : count ≤ 128 = omega (arith, valid.few_homes, valid.callers) in
     let orders = orders-lead (after_calls l) (pieces l.order) (order-stands l.calls) few parts.sound in
     leads-both (after_callers l) (after_calls l) (after_order l) (map call_line l.calls) (order_lines l.order)
-    (calls-lead (after_callers l) l.calls refl (listed-next l is))
+    (calls-lead l.calls refl (listed-next is))
     (subst (λ (ns : List ℕ). Leads (after_calls l) (concat (order_lines l.order))
     (record (after_order l) { order = ns }))
     parts.joined orders)
 
-actors-part : (l : ListingValue) → IsListing l → Leads (after_network l) (concat (actor_lines l)) (after_order l)
-actors-part l is =
+actors-part : {l : ListingValue} → IsListing l → Leads (after_network l) (concat (actor_lines l)) (after_order l)
+actors-part {l} is =
     let valid = is.valid in
     let p = behind 3 4 l.edges in
     leads-both (after_network l) (after_homes l) (after_order l) (map home_line l.homes)
     (line_of (codes "callers") (l.callers ∷ []) ∷ call_lines l)
-    (homes-lead (after_network l) l.homes (homes-stand l.edges) (most-few l.format l.nodes valid.format valid.few)
+    (homes-lead (after_network l) l.homes (homes-stand l.edges) (most-few l.nodes valid.format valid.few)
     valid.homes (omega (arith, valid.few_homes)))
     (leads-line (after_homes l) (after_callers l) (after_order l) (line_of (codes "callers") (l.callers ∷ []))
     (call_lines l)
-    (leads-word (after_homes l) (after_callers l) (codes "callers") (l.callers ∷ []) 6 callers_row is_callers
-    (small-one l.callers (omega (arith, valid.callers))) (callers-stand p l.homes valid.some_homes)
-    (callers-good (after_homes l) l.callers valid.callers))
-    (calls-part l is))
+    (leads-word (after_homes l) (l.callers ∷ []) is_callers (small-one (omega (arith, valid.callers)))
+    (callers-stand p l.homes valid.some_homes) (callers-good (after_homes l) l.callers valid.callers))
+    (calls-part is))
 
-network-part : (l : ListingValue) → IsListing l → Leads (after_k l) (concat (network_lines l)) (after_order l)
-network-part l is =
+network-part : {l : ListingValue} → IsListing l → Leads (after_k l) (concat (network_lines l)) (after_order l)
+network-part {l} is =
     let valid = is.valid in
     leads-both (after_k l) (after_network l) (after_order l) (map edge_line l.edges) (actor_lines l)
-    (edges-lead (after_k l) l.edges refl (most-few l.format l.nodes valid.format valid.few) valid.edges
+    (edges-lead (after_k l) l.edges refl (most-few l.nodes valid.format valid.few) valid.edges
     (omega (arith, valid.few_edges)))
-    (actors-part l is)
+    (actors-part is)
 
-format-small : (format : ℕ) → (format ≡ 1) ⊎ (format ≡ 2) → format < 10000000
-format-small format h = omega (arith, h)
+format-small : {format : ℕ} → (format ≡ 1) ⊎ (format ≡ 2) → format < 10000000
+format-small h = omega (arith, h)
 
-whole : (l : ListingValue) → IsListing l → Leads nothing (listing_text l) (after_order l)
-whole l is =
+whole : {l : ListingValue} → IsListing l → Leads nothing (listing_text l) (after_order l)
+whole {l} is =
     let valid = is.valid in
     let one : Said = record nothing { place = 1; format = l.format } in
     let two : Said = record one { place = 2; nodes = l.nodes } in
     leads-line nothing one (after_order l) (line_of (codes "track") (l.format ∷ [])) (lines_from_nodes l)
-    (leads-word nothing one (codes "track") (l.format ∷ []) 1 track_row is_track
-    (small-one l.format (format-small l.format valid.format)) refl (track-good l.format valid.format))
+    (leads-word nothing (l.format ∷ []) is_track (small-one (format-small valid.format)) refl (track-good valid.format))
     (leads-line one two (after_order l) (line_of (codes "nodes") (l.nodes ∷ [])) (lines_from_k l)
-    (leads-word one two (codes "nodes") (l.nodes ∷ []) 2 nodes_row is_nodes
-    (small-one l.nodes (omega (arith, most-few l.format l.nodes valid.format valid.few))) refl
+    (leads-word one (l.nodes ∷ []) is_nodes (small-one (omega (arith, most-few l.nodes valid.format valid.few))) refl
     (nodes-good one l.nodes valid.some valid.few))
     (leads-line two (after_k l) (after_order l) (line_of (codes "k") (l.k ∷ [])) (network_lines l)
-    (leads-word two (after_k l) (codes "k") (l.k ∷ []) 3 k_row is_k
-    (small-one l.k (omega (arith, valid.k_few))) refl (k-good two l.k valid.k_some valid.k_few valid.k_wide))
-    (network-part l is)))
+    (leads-word two (l.k ∷ []) is_k (small-one (omega (arith, valid.k_few))) refl
+    (k-good two l.k valid.k_some valid.k_few valid.k_wide))
+    (network-part is)))
 
 ends : (said : Said) (n : ℕ) → ltb said.place 6 ≡ false → read_from said n (lines_of []) ≡ Ok (said, n)
 ends said n e = rw e refl
 
 pub listings_read : (l : ListingValue) → IsListing l → IsInput (listing_text l) (Ok (contents_in l))
 listings_read l is =
-    let lead = whole l is 0 [] in
+    let lead = whole is 0 [] in
     let found : read (listing_text l) ≡ Ok (after_order l, lead.0) =
     ap (λ t. read_from nothing 0 (lines_of t)) (sym (append-nil (listing_text l)))
     ∙ lead.1 ∙ ends (after_order l) lead.0 (finished l.calls (pieces l.order)) in

@@ -2,7 +2,6 @@ use Rattle.std.proofs.Common.{◌≡◌, ◌<◌, [], get_or, length, map, List,
 use Rattle.std.proofs.lemmas.List.{length-map}
 use Rattle.std.specs.Global.{Global}
 use Rattle.net_reader.specs.declared.said.Call.{Call}
-use Rattle.input_text.specs.Listing.{calls_from}
 use Rattle.input_text.proofs.ByActor.{calls-step, get-map}
 use Rattle.input_text.proofs.input.calls_by_actor.Goals as goal
 
@@ -18,8 +17,7 @@ loop-script-preserved c =
     ∙ sym c.deref.ensures.value in
     record {
       at = omega arith;
-      calls = calls-step (map items scripts) c.loop-script.calls.items c.push_calls.new.calls.items
-          (calls_from 0 (map items scripts)) actor c.deref.result.now (omega (arith, below, length-map scripts items))
-          found
-          c.in_ok-push_calls.ensures c.loop-script.invariant.calls;
+      calls = calls-step (map items scripts) c.loop-script.calls.items actor
+          (omega (arith, below, length-map scripts items)) found c.in_ok-push_calls.ensures
+          c.loop-script.invariant.calls;
     }
