@@ -79,38 +79,31 @@ block_meet a b at fits_a fits_b =
 -- ---- a block absorbed
 
 module _ (a b : List ℕ) (at : ℕ) (fits_a : at + 4 ≤ length a) (fits_b : at + 4 ≤ length b) where
-  either : List ℕ
+  abbrev either : List ℕ
   either = zip2 bit_or (take 4 (drop at a)) (take 4 (drop at b))
 
   lanes : length either ≡ 4
-  unfolding either
   lanes = length-zip2 bit_or (chunk at 4 a) (chunk at 4 b)
       (length-chunk at 4 a fits_a ∙ sym (length-chunk at 4 b fits_b)) ∙ length-chunk at 4 a fits_a
 
   placed : (i : ℕ) → i < 4 → get_or (put_chunk at a either) (at + i) 0 ≡ bit_or (get_or a (at + i) 0)
       (get_or b (at + i) 0)
-  unfolding either
   placed i h =
-      get_or-put_chunk_at at a (zip2 bit_or (take 4 (drop at a)) (take 4 (drop at b))) i 0 (omega (arith, lanes))
-      (omega (arith, lanes)) ∙
+      get_or-put_chunk_at at a either i 0 (omega (arith, lanes)) (omega (arith, lanes)) ∙
       (get_or-zip2 bit_or (chunk at 4 a) (chunk at 4 b) i 0 0 0 (omega (arith, length-chunk at 4 a fits_a))
       (omega (arith, length-chunk at 4 b fits_b)) ∙
       (ap (λ n. bit_or n (get_or (chunk at 4 b) i 0)) (get_or-chunk at 4 a i 0 h)
       ∙ ap (λ n. bit_or (get_or a (at + i) 0) n) (get_or-chunk at 4 b i 0 h)))
 
-  pub block_joined : AreWordsJoinedWithin a b
-      (put_chunk at a (zip2 bit_or (take 4 (drop at a)) (take 4 (drop at b)))) at
-      (at + 4)
-  unfolding either
+  pub block_joined : AreWordsJoinedWithin a b (put_chunk at a either) at (at + 4)
   block_joined = record {
-    enough = length-put_chunk at a (zip2 bit_or (take 4 (drop at a)) (take 4 (drop at b)));
+    enough = length-put_chunk at a either;
     joined = λ k low high.
         let e : at + (k - at) ≡ k = omega arith in
-        subst (λ n. get_or (put_chunk at a (zip2 bit_or (take 4 (drop at a)) (take 4 (drop at b)))) n 0 ≡ bit_or
-        (get_or a n 0) (get_or b n 0)) e (placed (k - at) (omega arith));
-    before = λ k low. get_or-put_chunk_below at a (zip2 bit_or (take 4 (drop at a)) (take 4 (drop at b))) k 0 low;
-    after = λ k high. get_or-put_chunk_above at a (zip2 bit_or (take 4 (drop at a)) (take 4 (drop at b))) k 0
-        (omega (arith, lanes));
+        subst (λ n. get_or (put_chunk at a either) n 0 ≡ bit_or (get_or a n 0) (get_or b n 0)) e
+        (placed (k - at) (omega arith));
+    before = λ k low. get_or-put_chunk_below at a either k 0 low;
+    after = λ k high. get_or-put_chunk_above at a either k 0 (omega (arith, lanes));
   }
 
 -- ---- all blocks, and what is left behind the last
