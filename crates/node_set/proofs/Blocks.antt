@@ -1,6 +1,5 @@
 -- Blocks of words: what one block tells, and what the blocks tell together.
-use Rattle.std.proofs.Common.{◌≡◌, inl, inr, ℕ, zero, suc, ◌+◌, ◌-◌, ◌<◌, ◌≤◌, ◌↔◌, Bool, IsTrue, List, [], ◌∷◌, length, take, drop, get_or, sym, ◌∙◌, ap, subst, arith}
-use Rattle.std.proofs.Common.{min, ◌^◌, w64}
+use Rattle.std.proofs.Common.{◌≡◌, inl, inr, ℕ, zero, suc, ◌+◌, ◌-◌, ◌<◌, ◌≤◌, ◌↔◌, Bool, IsTrue, List, [], ◌∷◌, length, take, drop, get_or, sym, ◌∙◌, ap, subst, arith, min, ◌^◌, w64}
 use Rattle.std.specs.Prelude.{bit_or, bit_and, not, nat_eq}
 use Rattle.std.specs.Int.{bit_at, trailing_zeros}
 use Rattle.std.proofs.lemmas.Bool.{cases_lt, false≢true}
