@@ -10,7 +10,8 @@ use Rattle.std.proofs.lemmas.List.{same_lists, take-append-drop, append-nil}
 use Rattle.std.proofs.lemmas.List.Elements.{All-set}
 use Rattle.net_graph.specs.declared.edge.Edge.{Edge}
 use Rattle.net_graph.specs.declared.neighbours.Arc.{Arc}
-use Rattle.net_graph.specs.Layout.{IsArc, row}
+use Rattle.net_graph.specs.Layout.{IsArc, make_arc, row}
+use Rattle.net_graph.specs.Network.{IsEdge}
 use Rattle.net_graph.specs.Notes.{Note, note_of, notes_by, notes_of, row_of, AreCounts, AreFilled, HaveRoom}
 use Rattle.net_graph.proofs.Noting.{row-append, row-own, row-other, edge-notes, loop-notes, notes-push}
 use Rattle.net_graph.specs.Starts.{AreStarts}
@@ -208,10 +209,10 @@ pub record ArePlaced (n : ℕ) (edges : List Edge) (starts : List ℕ) (first : 
   pub long : length taken ≡ n
   pub sized : length arcs ≡ get_or starts n 0
 
-module _ (n : ℕ) (edges : List Edge) (starts : List ℕ) (room : HaveRoom n (notes_of edges) starts)
-    (first rest : List Note) (note : Note) (whole : notes_of edges ≡ first ++ note ∷ rest) (below : note.from < n)
-    (taken : List ℕ) (arcs : List Arc) (placed : ArePlaced n edges starts first taken arcs) where
-  pub has_place : get_or starts note.from 0 + get_or taken note.from 0 < length arcs
+module _ {n : ℕ} {edges : List Edge} {starts : List ℕ} (room : HaveRoom n (notes_of edges) starts) {first : List Note}
+    (rest : List Note) (note : Note) (whole : notes_of edges ≡ first ++ note ∷ rest) (below : note.from < n)
+    {taken : List ℕ} {arcs : List Arc} (placed : ArePlaced n edges starts first taken arcs) where
+  has_place : get_or starts note.from 0 + get_or taken note.from 0 < length arcs
   has_place =
       omega (
         arith,
@@ -219,11 +220,11 @@ module _ (n : ℕ) (edges : List Edge) (starts : List ℕ) (room : HaveRoom n (n
         place_within n (notes_of edges) starts room first rest note whole below taken placed.long placed.counts,
       )
 
-  pub one_placed : (next : List ℕ) (more : List Arc) → IsArc n note.arc
+  one_placed : {next : List ℕ} {more : List Arc} → IsArc n note.arc
       → next ≡ set taken note.from (get_or taken note.from 0 + 1)
       → more ≡ set arcs (get_or starts note.from 0 + get_or taken note.from 0) note.arc
       → ArePlaced n edges starts (first ++ note ∷ []) next more
-  one_placed next more limited next_is more_is = rw (next_is, more_is) (record {
+  one_placed limited next_is more_is = rw (next_is, more_is) (record {
     counts = one_counted first note taken (omega (arith, below, placed.long)) placed.counts;
     filled = one_filled n (notes_of edges) starts room first rest note whole below taken placed.long placed.counts
         arcs placed.sized placed.filled;
@@ -232,3 +233,31 @@ module _ (n : ℕ) (edges : List Edge) (starts : List ℕ) (room : HaveRoom n (n
     long = length-set taken note.from (get_or taken note.from 0 + 1) ∙ placed.long;
     sized = length-set arcs (get_or starts note.from 0 + get_or taken note.from 0) note.arc ∙ placed.sized;
   })
+
+-- an edge that is no loop, one way and then the other
+module _ {n : ℕ} {edges : List Edge} {starts : List ℕ} (room : HaveRoom n (notes_of edges) starts) {first : List Note}
+    (rest : List Note) (e : Edge) (is_edge : IsEdge n e)
+    (splits : notes_of edges ≡ (first ++ note_of e.a e.b e.weight ∷ []) ++ note_of e.b e.a e.weight ∷ rest)
+    {taken : List ℕ} {arcs : List Arc} (placed : ArePlaced n edges starts first taken arcs) where
+  one_way : notes_of edges ≡ first ++ note_of e.a e.b e.weight ∷ note_of e.b e.a e.weight ∷ rest
+  one_way = splits ∙ append_assoc first (note_of e.a e.b e.weight ∷ []) (note_of e.b e.a e.weight ∷ rest)
+
+  pub place_there : get_or starts e.a 0 + get_or taken e.a 0 < length arcs
+  place_there =
+      has_place room (note_of e.b e.a e.weight ∷ rest) (note_of e.a e.b e.weight) one_way is_edge.a_below placed
+
+  module _ {next : List ℕ} {more : List Arc} (next_is : next ≡ set taken e.a (get_or taken e.a 0 + 1))
+      (more_is : more ≡ set arcs (get_or starts e.a 0 + get_or taken e.a 0) (make_arc e.b e.weight)) where
+    placed_there : ArePlaced n edges starts (first ++ note_of e.a e.b e.weight ∷ []) next more
+    placed_there =
+        one_placed room (note_of e.b e.a e.weight ∷ rest) (note_of e.a e.b e.weight) one_way is_edge.a_below placed
+        (record { below = is_edge.b_below; positive = is_edge.positive; light = is_edge.light }) next_is more_is
+
+    pub place_back : get_or starts e.b 0 + get_or next e.b 0 < length more
+    place_back = has_place room rest (note_of e.b e.a e.weight) splits is_edge.b_below placed_there
+
+    pub edge_placed : {last : List ℕ} {most : List Arc} → last ≡ set next e.b (get_or next e.b 0 + 1)
+        → most ≡ set more (get_or starts e.b 0 + get_or next e.b 0) (make_arc e.a e.weight)
+        → ArePlaced n edges starts ((first ++ note_of e.a e.b e.weight ∷ []) ++ note_of e.b e.a e.weight ∷ []) last most
+    edge_placed = one_placed room rest (note_of e.b e.a e.weight) splits is_edge.b_below placed_there
+        (record { below = is_edge.a_below; positive = is_edge.positive; light = is_edge.light })
