@@ -162,7 +162,7 @@ least_within n edges inside u v tries all steps walk lt =
 
 -- ---- the numbers below n at which a function is below t
 
-count : (ℕ → ℕ) → ℕ → ℕ → ℕ
+abbrev count : (ℕ → ℕ) → ℕ → ℕ → ℕ
 count g t zero = 0
 count g t (suc n) = count g t n + cond (ltb (g n) t) 1 0
 
@@ -179,17 +179,14 @@ one_most : (x t : ℕ) → cond (ltb x t) 1 0 ≤ 1
 one_most x t = grind (arith, nat_tests)
 
 count_most : (g : ℕ → ℕ) (t n : ℕ) → count g t n ≤ n
-unfolding count
 count_most g t zero = omega arith
 count_most g t (suc n) = omega (arith, count_most g t n, one_most (g n) t)
 
 count_wider : (g : ℕ → ℕ) (s t n : ℕ) → s ≤ t → count g s n ≤ count g t n
-unfolding count
 count_wider g s t zero le = omega arith
 count_wider g s t (suc n) le = omega (arith, count_wider g s t n le, one_more (g n) s t le)
 
 count_more : (g : ℕ → ℕ) (s t n x : ℕ) → x < n → s ≤ g x → g x < t → count g s n + 1 ≤ count g t n
-unfolding count
 count_more g s t zero x below from to = absurd (omega arith)
 count_more g s t (suc n) x below from to = elim (cases_eq x n) [
   | inl same ↦

@@ -116,43 +116,44 @@ module _ (n : ℕ) (all : List Note) (starts : List ℕ) (room : HaveRoom n all 
     place_within = places_within n (λ v. length (row_of v all)) starts room note.from (get_or taken note.from 0) below
         free
 
+    abbrev taken_next : List ℕ
+    taken_next = set taken note.from (get_or taken note.from 0 + 1)
+
+    abbrev spot : ℕ
+    spot = get_or starts note.from 0 + get_or taken note.from 0
+
     -- one arc more is in its place
     pub one_filled : (arcs : List Arc) → length arcs ≡ get_or starts n 0 → AreFilled all starts taken arcs
-        → AreFilled all starts (set taken note.from (get_or taken note.from 0 + 1))
-        (set arcs (get_or starts note.from 0 + get_or taken note.from 0) note.arc)
+        → AreFilled all starts taken_next (set arcs spot note.arc)
     one_filled arcs sized before v place d v_short short =
         let old : v < length taken =
         omega (arith, v_short, length-set taken note.from (get_or taken note.from 0 + 1)) in
         elim (cases_eq v note.from) [
           | inl same ↦
-              subst (λ u. get_or (set arcs (get_or starts note.from 0 + get_or taken note.from 0) note.arc)
-              (get_or starts u 0 + place) d ≡ get_or (row_of u all) place d) (sym same)
-              (here (subst (λ u. place < get_or (set taken note.from (get_or taken note.from 0 + 1)) u 0) same short))
+              subst (λ u. get_or (set arcs spot note.arc) (get_or starts u 0 + place) d ≡ get_or (row_of u all) place d)
+              (sym same) (here (subst (λ u. place < get_or taken_next u 0) same short))
           | inr other ↦
               let low : place < get_or taken v 0 =
               subst (λ k. place < k) (get_or-set_other taken note.from v (get_or taken note.from 0 + 1) 0 other) short
               in
-              get_or-set_other arcs (get_or starts note.from 0 + get_or taken note.from 0) (get_or starts v 0 + place)
-              note.arc d
+              get_or-set_other arcs spot (get_or starts v 0 + place) note.arc d
               (places_apart n (λ u. length (row_of u all)) starts room v note.from place (get_or taken note.from 0)
               (omega (arith, old, long)) below other (omega (arith, low, fits v (omega (arith, old, long)))) free)
               ∙ before v place d old low
         ]
       where
-        here : place < get_or (set taken note.from (get_or taken note.from 0 + 1)) note.from 0
-            → get_or (set arcs (get_or starts note.from 0 + get_or taken note.from 0) note.arc)
-            (get_or starts note.from 0 + place) d ≡ get_or (row_of note.from all) place d
+        here : place < get_or taken_next note.from 0
+            → get_or (set arcs spot note.arc) (get_or starts note.from 0 + place) d
+            ≡ get_or (row_of note.from all) place d
         here below_next = elim (cases_eq place (get_or taken note.from 0)) [
           | inl last ↦
-              subst (λ k. get_or (set arcs (get_or starts note.from 0 + get_or taken note.from 0) note.arc)
-              (get_or starts note.from 0 + k) d ≡ get_or (row_of note.from all) k d) (sym last)
-              (get_or-set_same arcs (get_or starts note.from 0 + get_or taken note.from 0) note.arc d
-              (omega (arith, sized, place_within)) ∙ sym (is_next d))
+              subst (λ k. get_or (set arcs spot note.arc) (get_or starts note.from 0 + k) d
+              ≡ get_or (row_of note.from all) k d) (sym last)
+              (get_or-set_same arcs spot note.arc d (omega (arith, sized, place_within)) ∙ sym (is_next d))
           | inr older ↦
-              get_or-set_other arcs (get_or starts note.from 0 + get_or taken note.from 0)
-              (get_or starts note.from 0 + place) note.arc d (λ same. omega (arith, same, older))
-              ∙ before note.from place d (omega (arith, below, long))
-              (omega (
+              get_or-set_other arcs spot (get_or starts note.from 0 + place) note.arc d
+              (λ same. omega (arith, same, older))
+              ∙ before note.from place d (omega (arith, below, long)) (omega (
                 arith,
                 below_next,
                 older,
