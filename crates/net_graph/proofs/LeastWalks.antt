@@ -1,16 +1,14 @@
 -- The least weight of a walk is found: whether a walk of a weight is there can be tested, since each edge weighs
 -- something, and none of least weight visits a node twice.
 use Rattle.std.proofs.Common.{◌≡◌, ℕ, zero, suc, ◌+◌, ◌-◌, ◌<◌, ◌≤◌, Bool, true, false, List, [], ◌∷◌, length, refl, sym, subst, inl, inr, arith, below_more, ◌∙◌, add-one}
-use Rattle.std.specs.Prelude.{All, ◌==◌, ◌&&◌, ◌||◌, nat_le}
-use Rattle.std.specs.Prelude.{◌*◌, cond, ltb}
+use Rattle.std.specs.Prelude.{All, ◌==◌, ◌&&◌, ◌||◌, nat_le, ◌*◌, cond, ltb}
 use Rattle.std.specs.List.{list_any}
 use Rattle.std.proofs.lemmas.Bool.{cases_Bool, cases_eq, cases_lt, eqb-true, eq-eqb, false≢true, and_parts, or_cases, or_right, and_from, or_left}
 use Rattle.std.proofs.lemmas.Bool.Decides.{nat_tests}
 use Rattle.std.proofs.lemmas.List.Folds.{Any-from_list_any, list_any_at}
 use Rattle.net_graph.specs.declared.edge.Edge.{Edge}
 use Rattle.net_graph.specs.declared.edge.TheConstants.{MAX_WEIGHT}
-use Rattle.net_graph.specs.LeastWeights.{first_passing, leads_on, reaches, walk_weighs}
-use Rattle.net_graph.specs.LeastWeights.{LeastWeightsAreBounded, LeastWeightsAreFound}
+use Rattle.net_graph.specs.LeastWeights.{first_passing, leads_on, reaches, walk_weighs, LeastWeightsAreBounded, LeastWeightsAreFound}
 use Rattle.net_graph.specs.Network.{IsEdge}
 use Rattle.net_graph.specs.Walks.{Joins, make_edge, Step, IsWalk, weight_of, IsWalkWeight, IsLeastWeight}
 use Rattle.net_graph.specs.WalkLaws.{join_edge, least_weight_one}

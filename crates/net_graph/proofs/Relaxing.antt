@@ -1,7 +1,7 @@
 -- What one step of the search does to the weights.
 use Rattle.std.proofs.Common.{◌≡◌, ◌≢◌, ◌++◌, take, get_or, ℕ, ◌+◌, ◌<◌, ◌≤◌, Bool, true, false, List, [], ◌∷◌, Option, None, Some, length, set, refl, sym, ◌∙◌, ap, subst, inl, inr, arith}
 use Rattle.std.specs.Prelude.{Contains, IsPermutation}
-use Rattle.std.proofs.lemmas.List.{length-set, get_or-set_same, get_or-set_other, get_or_past}
+use Rattle.std.proofs.lemmas.List.{length-set, get_or-set_same, get_or-set_other, get_or_past, take_more}
 use Rattle.std.proofs.lemmas.Bool.{cases_eq, cases_lt}
 use Rattle.net_graph.specs.declared.neighbours.Arc.{Arc}
 use Rattle.net_graph.specs.Walks.{among}
@@ -12,7 +12,6 @@ use Rattle.net_graph.specs.Queue.{Waiting, make_waiting}
 use Rattle.net_graph.specs.Search.{IsLighter, IsRelaxed}
 use Rattle.std.proofs.lemmas.List.Sorted.{Contains-permutation, IsPermutation-sym}
 use Rattle.std.proofs.lemmas.List.Elements.{Contains-append_left, Contains-append_right, Contains-append_cases}
-use Rattle.std.proofs.lemmas.List.{take_more}
 use Rattle.net_graph.proofs.Elements.{first, first_or_later, later}
 use Rattle.std.proofs.lemmas.Option.{same_Some}
 

@@ -1,6 +1,6 @@
 -- The search as a whole: what it keeps, and that least weights are left when no unsettled node has a weight.
 use Rattle.std.proofs.Common.{◌≡◌, ◌≢◌, ◌⊎◌, ℕ, ◌+◌, ◌-◌, ◌*◌, ◌^◌, ◌<◌, ◌≤◌, Bool, true, false, cond, List, [], ◌∷◌, ◌++◌, take, Option, None, Some, length, get_or, set, replicate, refl, zero, suc, sym, ◌∙◌, ap, subst, inl, inr, arith}
-use Rattle.std.specs.Prelude.{Contains}
+use Rattle.std.specs.Prelude.{Contains, IsPermutation}
 use Rattle.std.specs.List.{count_by}
 use Rattle.std.proofs.lemmas.List.{length-set, get_or-set_same, get_or-set_other, get_or_past, get_or-replicate, length-replicate, take_at}
 use Rattle.std.proofs.lemmas.List.Elements.{All-contains}
@@ -16,7 +16,6 @@ use Rattle.net_graph.specs.Layout.{make_arc, IsArc, AreArcsOf}
 use Rattle.net_graph.specs.Least.{IsAtMost}
 use Rattle.net_graph.specs.Queue.{Waiting, make_waiting, AreSettled, IsNextUnsettled}
 use Rattle.net_graph.specs.Search.{IsRelaxed}
-use Rattle.std.specs.Prelude.{IsPermutation}
 use Rattle.std.proofs.lemmas.List.Sorted.{Contains-permutation, IsPermutation-sym}
 use Rattle.net_graph.specs.WalkLaws.{walk_further, walk_begins}
 use Rattle.net_graph.proofs.Lowering.{at_most_trans, at_most_some}
