@@ -1,11 +1,9 @@
 -- Growth of one cluster: fewer than k growths are enough.
-use Rattle.std.proofs.Common.{◌≡◌, inl, inr, ℕ, suc, ◌*◌, ◌^◌, ◌<◌, ◌≤◌, true, false, List, ◌∷◌}
-use Rattle.std.proofs.Common.{length, filter, refl, sym, ◌∙◌, ap, subst, arith}
+use Rattle.std.proofs.Common.{◌≡◌, inl, inr, ℕ, suc, ◌*◌, ◌^◌, ◌<◌, ◌≤◌, true, false, List, ◌∷◌, length, filter, refl, sym, ◌∙◌, ap, subst, arith}
 use Rattle.std.proofs.lemmas.Bool.{cases_lt, false≢true, leb-true, leb-false, le-leb, lt-leb}
 use Rattle.std.proofs.Math.Nat.{lt_of_not-le}
 use Rattle.node_set.specs.Balls.{union_of, touches, growth, least}
-use Rattle.node_set.specs.BallLaws.{growth_size}
-use Rattle.node_set.specs.BallLaws.{growth_first, least_passes, least_first, least_is}
+use Rattle.node_set.specs.BallLaws.{growth_size, growth_first, least_passes, least_first, least_is}
 use Rattle.node_set.specs.GrowthLaws.{reached}
 use Rattle.whole_powers.specs.PowerLaws.{outgrows}
 use Rattle.coarse_cover.specs.Coarsening.{is_enough, cluster_of}
