@@ -5,9 +5,8 @@ use Rattle.node_set.specs.Nodes.{Nodes}
 use Rattle.coarse_cover.specs.Coarsening.{is_enough}
 use Rattle.node_set.specs.LeadLaws.{nodes_from}
 use Rattle.node_set.specs.TurnLaws.{touched_grown}
-use Rattle.coarse_cover.proofs.Growth.{cluster_homed, cluster_members, some_enough}
+use Rattle.coarse_cover.proofs.Growth.{cluster_homed, cluster_members, some_enough, stops, goes_on}
 use Rattle.node_set.specs.GrowthLaws.{growth_fits, next_union, reached}
-use Rattle.coarse_cover.proofs.Growth.{stops, goes_on}
 use Rattle.coarse_cover.proofs.growing.grow.Goals as goal
 use Rattle.node_set.specs.Balls.{growth, least, touches, union_of, sets}
 use Rattle.node_set.specs.BallLaws.{ball_at, growth_first, union_first}
