@@ -1,18 +1,14 @@
 -- The clusters of a mean cover: their shape, that each ball finds a home, and the sum of their sizes.
-use Rattle.std.proofs.Common.{◌≡◌, inl, inr, ℕ, zero, suc, ◌+◌, ◌*◌, ◌^◌, ◌<◌, ◌≤◌, Bool, true, false, not}
-use Rattle.std.proofs.Common.{List, [], ◌∷◌, length, filter, refl, sym, ◌∙◌, ap, arith, add-one, ◌&&◌}
+use Rattle.std.proofs.Common.{◌≡◌, inl, inr, ℕ, zero, suc, ◌+◌, ◌*◌, ◌^◌, ◌<◌, ◌≤◌, Bool, true, false, not, List, [], ◌∷◌, length, filter, refl, sym, ◌∙◌, ap, arith, add-one, ◌&&◌}
 use Rattle.std.specs.Prelude.{All}
 use Rattle.std.proofs.Math.Nat.{pow-succ'}
 use Rattle.std.proofs.lemmas.Bool.{cases_Bool, false≢true, false_from_ne_true, not-true, not_from_false}
 use Rattle.std.proofs.lemmas.List.Elements.{All-nil, All-cons}
 use Rattle.std.proofs.lemmas.List.Sums.{sum_by-cons}
 use Rattle.node_set.specs.Ascending.{has, IsAscending}
-use Rattle.node_set.specs.Balls.{AreCentred, AreInside, GrownCluster, IsShaped, ball, centres, growth, is_homed, least}
-use Rattle.node_set.specs.Balls.{touches, union_of}
-use Rattle.node_set.specs.BallLaws.{HoldCentres, ascending-union_of, below_centre, growth_leader, growth_next}
-use Rattle.node_set.specs.BallLaws.{growth_waits, has_centre, least_passes, length-centres, union_from}
-use Rattle.node_set.specs.FilterLaws.{ascending-filter, filter_halves, filter-has, filter_keeps}
-use Rattle.node_set.specs.FilterLaws.{has-filter, some_length}
+use Rattle.node_set.specs.Balls.{AreCentred, AreInside, GrownCluster, IsShaped, ball, centres, growth, is_homed, least, touches, union_of}
+use Rattle.node_set.specs.BallLaws.{HoldCentres, ascending-union_of, below_centre, growth_leader, growth_next, growth_waits, has_centre, least_passes, length-centres, union_from}
+use Rattle.node_set.specs.FilterLaws.{ascending-filter, filter_halves, filter-has, filter_keeps, has-filter, some_length}
 use Rattle.node_set.specs.GrowthLaws.{touching_below}
 use Rattle.node_set.specs.HomeLaws.{homed_here, homed_later}
 use Rattle.node_set.specs.SetLaws.{ascending-passing, same_members, share_from}

@@ -1,11 +1,9 @@
 -- Growth of one cluster: fewer than k growths come before the last.
-use Rattle.std.proofs.Common.{◌≡◌, inl, inr, ℕ, suc, ◌*◌, ◌^◌, ◌<◌, ◌≤◌, true, false, List, ◌∷◌, length, refl}
-use Rattle.std.proofs.Common.{sym, ◌∙◌, arith}
+use Rattle.std.proofs.Common.{◌≡◌, inl, inr, ℕ, suc, ◌*◌, ◌^◌, ◌<◌, ◌≤◌, true, false, List, ◌∷◌, length, refl, sym, ◌∙◌, arith}
 use Rattle.std.proofs.lemmas.Bool.{cases_lt, false≢true, leb-true, leb-false, le-leb, lt-leb}
 use Rattle.std.proofs.Math.Nat.{lt_of_not-le}
 use Rattle.node_set.specs.Balls.{AreInside, growth, least, union_of}
-use Rattle.node_set.specs.BallLaws.{HoldCentres, growth_leader, least_first, least_is, least_passes, union_has}
-use Rattle.node_set.specs.BallLaws.{union_size}
+use Rattle.node_set.specs.BallLaws.{HoldCentres, growth_leader, least_first, least_is, least_passes, union_has, union_size}
 use Rattle.node_set.specs.FilterLaws.{some_length}
 use Rattle.node_set.specs.SetLaws.{has_head}
 use Rattle.whole_powers.specs.PowerLaws.{outgrows}

@@ -1,6 +1,5 @@
 -- What a finished mean cover is, and what follows of its clusters.
-use Rattle.std.proofs.Common.{◌≡◌, ℕ, suc, ◌+◌, ◌^◌, ◌<◌, ◌≤◌, true, List, [], ◌∷◌, length, get_or}
-use Rattle.std.proofs.Common.{map, refl, sym, ◌∙◌, ap, arith}
+use Rattle.std.proofs.Common.{◌≡◌, ℕ, suc, ◌+◌, ◌^◌, ◌<◌, ◌≤◌, true, List, [], ◌∷◌, length, get_or, map, refl, sym, ◌∙◌, ap, arith}
 use Rattle.std.specs.Prelude.{All}
 use Rattle.std.specs.List.{sum_by}
 use Rattle.std.proofs.lemmas.Grind.{same_number_lists}
@@ -12,8 +11,7 @@ use Rattle.node_set.specs.Balls.{AreCentred, AreHomes, AreInside, GrownCluster, 
 use Rattle.node_set.specs.BallLaws.{get_or-map_centres, has_centre, length-centres, union_has}
 use Rattle.node_set.specs.HomeLaws.{home_has, home_within}
 use Rattle.whole_powers.specs.Bounds.{PowersAdd}
-use Rattle.mean_cover.specs.Covering.{MeanClustersAreShaped, MeanCoversAreSmall, MeanHomesAreFound, mean_clusters}
-use Rattle.mean_cover.specs.Covering.{mean_covering, sum_of_sizes}
+use Rattle.mean_cover.specs.Covering.{MeanClustersAreShaped, MeanCoversAreSmall, MeanHomesAreFound, mean_clusters, mean_covering, sum_of_sizes}
 use Rattle.mean_cover.specs.MeanCovers.{IsMeanCover, as_mean_cluster, member_lists}
 use Rattle.mean_cover.specs.HalfMade.{IsUnderWay, clusters_from}
 use Rattle.mean_cover.specs.declared.cover.MeanCluster.{MeanCluster}

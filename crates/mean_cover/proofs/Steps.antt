@@ -1,7 +1,5 @@
 -- What is done, and what the definition gives for the balls that wait.
-use Rattle.std.proofs.Common.{◌≡◌, inl, inr, ℕ, zero, suc, ◌+◌, ◌<◌, ◌≤◌, Bool, true, false, cond, not, ◌&&◌, List, []}
-use Rattle.std.proofs.Common.{◌∷◌, ◌++◌, length, length-append, append_assoc, get_or, map, refl, sym, ◌∙◌, ap}
-use Rattle.std.proofs.Common.{arith}
+use Rattle.std.proofs.Common.{◌≡◌, inl, inr, ℕ, zero, suc, ◌+◌, ◌<◌, ◌≤◌, Bool, true, false, cond, not, ◌&&◌, List, [], ◌∷◌, ◌++◌, length, length-append, append_assoc, get_or, map, refl, sym, ◌∙◌, ap, arith}
 use Rattle.std.proofs.Math.Nat.{le_refl}
 use Rattle.std.proofs.lemmas.Bool.{cases_lt, and_right}
 use Rattle.std.proofs.lemmas.List.{length-map}
@@ -16,8 +14,7 @@ use Rattle.mean_cover.specs.HalfMade.{IsAdded, IsReady, IsUnderWay, clusters_fro
 use Rattle.mean_cover.specs.declared.cover.MeanCluster.{MeanCluster}
 use Rattle.mean_cover.specs.declared.cover.MeanCover.{MeanCover}
 use Rattle.node_set.specs.declared.workspace.Workspace.{Workspace}
-use Rattle.mean_cover.proofs.Clusters.{IsMeanCluster, clusters_within, covering_mean, is_mean_cluster, others}
-use Rattle.mean_cover.proofs.Clusters.{others_fewer, ready_all, ready_others}
+use Rattle.mean_cover.proofs.Clusters.{IsMeanCluster, clusters_within, covering_mean, is_mean_cluster, others, others_fewer, ready_all, ready_others}
 
 -- ---- enough fuel is enough
 

@@ -1,5 +1,4 @@
-use Rattle.std.proofs.Common.{◌≡◌, ◌++◌, ℕ, List, length, take, drop, ap, arith, sym, ◌∙◌}
-use Rattle.std.proofs.Common.{refl, sym, ◌∙◌}
+use Rattle.std.proofs.Common.{◌≡◌, ◌++◌, ℕ, List, length, take, drop, ap, arith, sym, ◌∙◌, refl}
 use Rattle.node_set.specs.Balls.{sets}
 use Rattle.mean_cover.specs.Covering.{mean_cluster}
 use Rattle.mean_cover.specs.MeanCovers.{as_mean_cluster}
