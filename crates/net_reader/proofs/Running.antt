@@ -50,33 +50,28 @@ settled-go : (blank : Bool) (line : LineState) → cond blank line line ≡ line
 settled-go true line = refl
 settled-go false line = refl
 
-pub put-comment : (xs : List ℕ) (word : ℕ) (numbers : List ℕ)
-    → record { open_field = opens.Comment; word = word; numbers = numbers }
-    ≡ fold put (record { open_field = opens.Comment; word = word; numbers = numbers }) xs
-unfolding put close_as more
-put-comment [] word numbers = refl
-put-comment (x ∷ xs) word numbers =
-    put-comment xs word numbers
-    ∙ ap (λ l. fold put l xs) (sym (settled-go (is_blank x) (record {
-      open_field =
-          opens.Comment;
-      word = word;
-      numbers = numbers;
-    })))
+abbrev pub IsSettled : Open → Type 0
+IsSettled field = (word : ℕ) (numbers : List ℕ) (b : ℕ)
+    → put (record { open_field = field; word = word; numbers = numbers }) b
+    ≡ record { open_field = field; word = word; numbers = numbers }
 
-pub put-wrong : (xs : List ℕ) (word : ℕ) (numbers : List ℕ)
-    → record { open_field = opens.Wrong; word = word; numbers = numbers }
-    ≡ fold put (record { open_field = opens.Wrong; word = word; numbers = numbers }) xs
+pub comment-settled : IsSettled opens.Comment
 unfolding put close_as more
-put-wrong [] word numbers = refl
-put-wrong (x ∷ xs) word numbers =
-    put-wrong xs word numbers
-    ∙ ap (λ l. fold put l xs) (sym (settled-go (is_blank x) (record {
-      open_field =
-          opens.Wrong;
-      word = word;
-      numbers = numbers;
-    })))
+comment-settled word numbers b =
+    settled-go (is_blank b) (record { open_field = opens.Comment; word = word; numbers = numbers })
+
+pub wrong-settled : IsSettled opens.Wrong
+unfolding put close_as more
+wrong-settled word numbers b =
+    settled-go (is_blank b) (record { open_field = opens.Wrong; word = word; numbers = numbers })
+
+pub put-settled : {field : Open} → IsSettled field → (xs : List ℕ) (line : LineState) → line.open_field ≡ field
+    → line ≡ fold put line xs
+put-settled settled [] line is = refl
+put-settled {field} settled (x ∷ xs) line is =
+    let same : put line x ≡ line = ap (λ f. put (record line { open_field = f }) x) is
+    ∙ settled line.word line.numbers x ∙ ap (λ f. record line { open_field = f }) (sym is) in
+    put-settled settled xs line is ∙ ap (λ l. fold put l xs) (sym same)
 
 -- bytes that each don't end a line
 pub inside-front : (hay : List ℕ) (k : ℕ) → k ≤ length hay
@@ -129,28 +124,16 @@ run-plain line {field} taken piece begins e back plain is = record {
       ∙ put-plain (take taken piece) line plain;
 }
 
-pub run-comment : (line : LineState) {found : Open × ℕ} (taken : ℕ) (piece : List ℕ) {rest : List ℕ}
-    → line.open_field ≡ opens.Comment → found ≡ (opens.Comment, taken) → rest ≡ drop found.1 piece
+pub run-settled : {field : Open} → IsSettled field → (line : LineState) {found : Open × ℕ} (taken : ℕ) (piece : List ℕ)
+    {rest : List ℕ} → line.open_field ≡ field → found ≡ (field, taken) → rest ≡ drop found.1 piece
     → list_all is_inside (take taken piece) ≡ true → IsRun line (record line { open_field = found.0 }) piece rest
-run-comment line taken piece begins e back inside = record {
+run-settled {field} settled line taken piece begins e back inside = record {
   front = take taken piece;
-  parts = cut piece opens.Comment taken e back;
+  parts = cut piece field taken e back;
   inside = inside;
   read = ap (λ (p : Open × ℕ). record line { open_field = p.0 }) e
-      ∙ put-comment (take taken piece) line.word line.numbers
-      ∙ ap (λ f. fold put (record line { open_field = f }) (take taken piece)) (sym begins);
-}
-
-pub run-wrong : (line : LineState) {found : Open × ℕ} (taken : ℕ) (piece : List ℕ) {rest : List ℕ}
-    → line.open_field ≡ opens.Wrong → found ≡ (opens.Wrong, taken) → rest ≡ drop found.1 piece
-    → list_all is_inside (take taken piece) ≡ true → IsRun line (record line { open_field = found.0 }) piece rest
-run-wrong line taken piece begins e back inside = record {
-  front = take taken piece;
-  parts = cut piece opens.Wrong taken e back;
-  inside = inside;
-  read = ap (λ (p : Open × ℕ). record line { open_field = p.0 }) e
-      ∙ put-wrong (take taken piece) line.word line.numbers
-      ∙ ap (λ f. fold put (record line { open_field = f }) (take taken piece)) (sym begins);
+      ∙ ap (λ f. record line { open_field = f }) (sym begins)
+      ∙ put-settled settled (take taken piece) line begins;
 }
 
 pub run-still : (line : LineState) {field : Open} {found : Open × ℕ} (piece : List ℕ) {rest : List ℕ}
