@@ -34,17 +34,14 @@ pub place_after-push : (here : ℕ) (script : List Call) (call : Call)
     → place_after here (script ++ call ∷ []) ≡ place_after (place_after here script) (call ∷ [])
 place_after-push here [] call = refl
 place_after-push here (acts.Move to ∷ script) call = place_after-push to script call
-place_after-push here (acts.Find from sub ∷ script) call = place_after-push here script call
-place_after-push here (acts.Off ∷ script) call = place_after-push here script call
-place_after-push here (acts.On ∷ script) call = place_after-push here script call
+place_after-push here (other ∷ script) call = place_after-push here script call
 
 pub off_after-push : (off : Bool) (script : List Call) (call : Call)
     → off_after off (script ++ call ∷ []) ≡ off_after (off_after off script) (call ∷ [])
 off_after-push off [] call = refl
-off_after-push off (acts.Move to ∷ script) call = off_after-push off script call
-off_after-push off (acts.Find from sub ∷ script) call = off_after-push off script call
 off_after-push off (acts.Off ∷ script) call = off_after-push true script call
 off_after-push off (acts.On ∷ script) call = off_after-push false script call
+off_after-push off (other ∷ script) call = off_after-push off script call
 
 -- after one call more, of this actor or of another
 place-go : (b : Bool) (here : ℕ) (script : List Call) (call : Call)
