@@ -33,8 +33,7 @@ Heard said words.Edge found = (edge : Edge) × IsEdge said.nodes edge × (length
 } ≡ found)
 Heard said words.Sub found = (node : ℕ) × (node < said.nodes) × (subs said < 64) × (record said {
   place = 5;
-  homes =
-      said.homes ++ node ∷ [];
+  homes = said.homes ++ node ∷ [];
 } ≡ found)
 Heard said words.Callers found = (callers : ℕ) × (callers ≤ 64) × (record said { place = 6; callers = callers } ≡ found)
 Heard said words.Move found = (sub : ℕ) × (to : ℕ) × ((length said.calls < most_calls said.format) × (sub < subs said)
@@ -48,8 +47,7 @@ Heard said words.Off found = (sub : ℕ) × ((length said.calls < most_calls sai
 Heard said words.On found = (sub : ℕ) × ((length said.calls < most_calls said.format) × (sub < subs said) ×
     (said.format ≡ 2) × (is_off said sub ≡ true)) × (with_call said sub calls.On ≡ found)
 Heard said words.Order found = (numbers : List ℕ) × All (λ actor. actor < actors said) numbers × (record said {
-  place =
-      8;
+  place = 8;
   order = said.order ++ numbers;
 } ≡ found)
 
@@ -109,8 +107,7 @@ is-edge : (n a b w : ℕ) → eqb w 0 ≡ false → ltb 1048576 w ≡ false → 
 is-edge n a b w e f g = record {
   a_below = grind (arith, nat_tests);
   b_below = grind (arith, nat_tests);
-  positive =
-      grind (arith, nat_tests);
+  positive = grind (arith, nat_tests);
   light = grind (arith, nat_tests);
 }
 

@@ -93,16 +93,23 @@ first-byte (x ∷ xs) h =
 pub run-none : (line : LineState) (piece : List ℕ) → IsRun line line piece piece
 run-none line piece = record { front = []; parts = refl; inside = refl; read = refl }
 
+-- one run behind another
+pub run-join : {first line last : LineState} {piece rest after : List ℕ} → IsRun first line piece rest
+    → IsRun line last rest after → IsRun first last piece after
+run-join {first} {after} run more = record {
+  front = run.front ++ more.front;
+  parts = run.parts ∙ ap (λ xs. run.front ++ xs) more.parts ∙ sym (append_assoc run.front more.front after);
+  inside = all-append is_inside run.front more.front run.inside more.inside;
+  read = more.read ∙ ap (λ l. fold put l more.front) run.read ∙ sym (fold-append put first run.front more.front);
+}
+
+run-byte : (line : LineState) {b : ℕ} (rest : List ℕ) → is_inside b ≡ true → IsRun line (put line b) (b ∷ rest) rest
+run-byte line {b} rest h =
+    record { front = b ∷ []; parts = refl; inside = and_from (is_inside b) true h refl; read = refl }
+
 pub run-more : {first line last : LineState} {piece rest after : List ℕ} {b : ℕ} → IsRun first line piece (b ∷ rest)
     → is_inside b ≡ true → IsRun (put line b) last rest after → IsRun first last piece after
-run-more {first} {after} {b} run h more = record {
-  front = run.front ++ b ∷ more.front;
-  parts = run.parts ∙ ap (λ xs. run.front ++ b ∷ xs) more.parts ∙ sym (append_assoc run.front (b ∷ more.front) after);
-  inside = all-append is_inside run.front (b ∷ more.front) run.inside
-      (and_from (is_inside b) (list_all is_inside more.front) h more.inside);
-  read = more.read ∙ ap (λ l. fold put (put l b) more.front) run.read
-      ∙ sym (fold-append put first run.front (b ∷ more.front));
-}
+run-more {line = line} {rest = rest} run h more = run-join run (run-join (run-byte line rest h) more)
 
 -- a run from the front of a piece
 cut : (piece : List ℕ) {rest : List ℕ} {found : Open × ℕ} (field : Open) (taken : ℕ) → found ≡ (field, taken)
@@ -225,16 +232,6 @@ run-word-blank line piece {rest} b {blank} packed taken fresh no_blank no_commen
     subst (λ l. IsRun (put line b) l piece rest) (closed-word line packed blank ends)
     (run-more (run-word line piece b packed taken fresh no_blank no_comment back plain is) (blank-inside blank ends)
     (run-none last rest))
-
--- one run behind another
-pub run-join : {first line last : LineState} {piece rest after : List ℕ} → IsRun first line piece rest
-    → IsRun line last rest after → IsRun first last piece after
-run-join {first} {after} run more = record {
-  front = run.front ++ more.front;
-  parts = run.parts ∙ ap (λ xs. run.front ++ xs) more.parts ∙ sym (append_assoc run.front more.front after);
-  inside = all-append is_inside run.front more.front run.inside more.inside;
-  read = more.read ∙ ap (λ l. fold put l more.front) run.read ∙ sym (fold-append put first run.front more.front);
-}
 
 pub run-length : {line now : LineState} {piece rest : List ℕ} → IsRun line now piece rest → length rest ≤ length piece
 run-length {rest} run = omega (arith, ap length run.parts, length-append run.front rest)

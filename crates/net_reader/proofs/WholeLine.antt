@@ -7,7 +7,6 @@ use Rattle.std.specs.List.{list_all}
 use Rattle.net_reader.specs.declared.line.Open.TheVariants as opens
 use Rattle.net_reader.specs.declared.word.Word.{Word}
 use Rattle.net_reader.specs.declared.word.Word.TheVariants.{Order}
-use Rattle.net_reader.specs.declared.fault.InputCause.{InputCause}
 use Rattle.net_reader.specs.declared.fault.InputFault.{InputFault}
 use Rattle.net_reader.specs.declared.scan.Scan.{Scan}
 use Rattle.net_reader.specs.Said.{Said}
@@ -16,7 +15,7 @@ use Rattle.net_reader.specs.Steps.{IsRun, LineState, ReaderState, after_bytes, c
 use Rattle.net_reader.specs.Table.{judge_word}
 use Rattle.net_reader.specs.Whole.{IsComment, IsCommentTo, IsDigits, IsEnd, IsLast, IsLeft, IsNumbers, IsNumberTo, IsUpTo, Opens, Rests, between}
 use Rattle.net_reader.proofs.Digits.{below-most, plain-more, read-more, still-small}
-use Rattle.net_reader.proofs.Feeding.{fed-faulty, ran}
+use Rattle.net_reader.proofs.Feeding.{fed-faulty, past, ran}
 use Rattle.net_reader.proofs.Running.{comment-settled, run-settled, run-join, run-length, run-more, run-none, run-number}
 
 -- the five bytes of a word and a blank
@@ -158,9 +157,6 @@ judged last said packed numbers closed named =
     ∙ ap (λ w. judge_word said w (Some numbers)) named
 
 -- a line that lies whole at the front, up to its end
-abbrev past : ℕ → Result Said InputCause → ReaderState
-past m verdict = record { said = fault_at (m + 1) verdict; lines = m + 1; begun = false; held = false; line = fresh }
-
 up-to-shorter : {word : Word} {numbers piece after left : List ℕ} → Opens word piece after → IsUpTo numbers after left
     → length left < length piece
 up-to-shorter opening ends =
