@@ -48,7 +48,7 @@ pub next-actor : (setting : Setting) (scripts : Scripts) (history : History) (ac
     → next setting scripts history actor ≡ Some visit → visit.actor ≡ actor
 unfolding IsOwn
 next-actor setting scripts history actor visit h =
-    elim (cases_lt actor (subs setting)) as (λ _. visit.actor ≡ actor) [
+    elim (cases_lt actor (subs setting)) [
       | inl low ↦ (slice_get-of_map actor 0 _ (length (own actor history)) visit
           (sym (next-sub setting scripts history actor low) ∙ h)).0
       | inr high ↦ let found = look-next actor (next_key (caller_in setting scripts history actor)) visit
@@ -84,8 +84,7 @@ kept_by_play setting scripts P more (actor ∷ order) history now =
 -- a next visit keeps that each visit was its actor's next one
 pub played-push : MoreIsPlayed
 played-push setting scripts history actor visit e played ticket found h =
-    elim (cases_lt ticket (length history)) as (λ _. next setting scripts
-    (take ticket (history ++ visit ∷ [])) found.actor ≡ Some found) [
+    elim (cases_lt ticket (length history)) [
       | inl low ↦ rw (take-append-le ticket history (visit ∷ []) (omega arith))
           (played ticket found (sym (get-left history (visit ∷ []) ticket low) ∙ h))
       | inr high ↦
@@ -129,7 +128,7 @@ next-puts : (setting : Setting) (scripts : Scripts) (history : History) (actor s
     → is_put_for sub visit.act ≡ (visit.actor == sub)
 unfolding IsOwn
 next-puts setting scripts history actor sub visit below h =
-    elim (cases_lt actor (subs setting)) as (λ _. is_put_for sub visit.act ≡ (visit.actor == sub)) [
+    elim (cases_lt actor (subs setting)) [
       | inl low ↦ let found = slice_get-of_map actor sub _ (length (own actor history)) visit
           (sym (next-sub setting scripts history actor low) ∙ h) in
           found.1 ∙ sym (ap (λ a. a == sub) found.0)

@@ -6,7 +6,7 @@ use Rattle.std.proofs.lemmas.Bool.{eqb-true}
 use Rattle.std.proofs.lemmas.List.{append-nil, map-append, length_push, length-drop, length-take-le, take_all, take-append-le, drop-append-le}
 use Rattle.std.proofs.lemmas.List.Sums.{fold-append}
 use Rattle.std.proofs.Math.ListN.{drop_of_length-le}
-use Rattle.std.proofs.lemmas.List.Elements.{All-cons, All-nil, All-append, All-head, All-tail}
+use Rattle.std.proofs.lemmas.List.Elements.{All-cons, All-nil, All-append, All-weaker}
 use Rattle.std.proofs.lemmas.Option.{slice_get_within}
 use Rattle.entry_word.specs.declared.visit.Key.{Key}
 use Rattle.entry_word.specs.declared.visit.Visit.{Visit}
@@ -129,11 +129,10 @@ pub record IsUnderWay (setting : Setting) (history : History) (actor : ℕ) (fin
   pub follow : FollowEachOther 0 caller.answers
   pub ends : end_place 0 caller.answers ≤ caller.first
 
-later_than : (setting : Setting) (history : History) (actor : ℕ) (call : FindCall) (now more : ℕ) (pursuit : Pursuit)
-    (seen : List ℕ) → now ≤ more → IsAt setting history actor call now pursuit seen
+later_than : {setting : Setting} {history : History} {actor : ℕ} {call : FindCall} {now more : ℕ} {pursuit : Pursuit}
+    {seen : List ℕ} → now ≤ more → IsAt setting history actor call now pursuit seen
     → IsAt setting history actor call more pursuit seen
-later_than setting history actor call now more pursuit seen h far = record
-    { looks = far.looks; reads = far.reads; low = omega (arith, h, far.low) }
+later_than h far = record { looks = far.looks; reads = far.reads; low = omega (arith, h, far.low) }
 
 -- the tickets of a find that was answered stay
 seen-more : (ticketed more : List ℕ) (answer : Answer) → answer.first ≤ answer.last → answer.last < length ticketed
@@ -146,22 +145,14 @@ seen-more ticketed more answer order within =
 answered-more : (setting : Setting) (history : History) (actor : ℕ) (ticketed more : List ℕ) (answers : List Answer)
     → All (IsAnswered setting history actor ticketed) answers
     → All (IsAnswered setting history actor (ticketed ++ more)) answers
-answered-more setting history actor ticketed more [] all = All-nil
-    (IsAnswered setting history actor (ticketed ++ more))
-answered-more setting history actor ticketed more (answer ∷ answers) all =
-    All-cons (IsAnswered setting history actor (ticketed ++ more)) answer answers
-    (one (All-head (IsAnswered setting history actor ticketed) answer answers all))
-    (answered-more setting history actor ticketed more answers
-    (All-tail (IsAnswered setting history actor ticketed) answer answers all))
-  where
-    one : IsAnswered setting history actor ticketed answer
-        → IsAnswered setting history actor (ticketed ++ more) answer
-    one h = record {
+answered-more setting history actor ticketed more answers =
+    All-weaker (IsAnswered setting history actor ticketed) (IsAnswered setting history actor (ticketed ++ more))
+    (λ answer h. record {
       within = omega (arith, h.within, length-append ticketed more);
       order = h.order;
-      find = subst (λ seen. IsFind setting history actor answer.call answer.found seen)
+      find = subst (IsFind setting history actor answer.call answer.found)
           (sym (seen-more ticketed more answer h.order h.within)) h.find;
-    }
+    }) answers
 
 -- one look more of a caller
 look_more : (setting : Setting) (history : History) (actor : ℕ) (finds : List FindCall) (ticketed : List ℕ) (now : ℕ)
@@ -289,8 +280,7 @@ under_way setting scripts history actor high played =
           low = far.low;
           done = far.done;
           script = far.script;
-          current = λ call later same. later_than setting history actor call (length (take t history))
-              (length (take t history ++ visit ∷ [])) _ _ (omega (arith, length_push (take t history) visit))
+          current = λ call later same. later_than (omega (arith, length_push (take t history) visit))
               (far.current call later same);
           follow = far.follow;
           ends = far.ends;
