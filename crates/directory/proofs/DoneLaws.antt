@@ -4,7 +4,7 @@ use Rattle.std.proofs.lemmas.List.{drop_all, length-take, take-append-drop, take
 use Rattle.entry_word.specs.Marks.{MarksUnpack}
 use Rattle.directory.specs.Settings.{Setting, start, subs}
 use Rattle.directory.specs.Histories.{History, puts_to}
-use Rattle.directory.specs.Courses.{after_steps, Course, course_at, Step, move_to, switch_off, switch_on}
+use Rattle.directory.specs.Courses.{after_steps, Course, course_at, Step, move_to}
 use Rattle.directory.specs.Writes.{visits, writes}
 use Rattle.directory.specs.Puts.{puts_left, steps_in}
 use Rattle.directory.specs.Orders.{AreValid, IsDone, IsPlayed, script_visits, Scripts, steps_of}
@@ -28,8 +28,7 @@ some-visit : (setting : Setting) (sub : ℕ) (course : Course) (step : Step) (st
     → 1 ≤ length (visits_in setting sub course (step ∷ steps))
 unfolding writes
 some-visit setting sub course (move_to node) steps = omega arith
-some-visit setting sub course switch_off steps = omega arith
-some-visit setting sub course switch_on steps = omega arith
+some-visit setting sub course _ steps = omega arith
 
 no-steps : (setting : Setting) (sub : ℕ) (course : Course) (steps : List Step)
     → length (visits_in setting sub course steps) ≡ 0 → steps ≡ []

@@ -111,8 +111,7 @@ course-after setting course (move_to node) sound may =
       inside = subst (λ p. p < setting.nodes) (sym there) may.inside;
       few = omega (arith, more, may.few);
     }
-course-after setting course switch_off sound may = record { low = sound.low; inside = sound.inside; few = sound.few }
-course-after setting course switch_on sound may = record { low = sound.low; inside = sound.inside; few = sound.few }
+course-after setting course _ sound may = record { low = sound.low; inside = sound.inside; few = sound.few }
 
 pub nothing-taken : {A : Type 0} (k : ℕ) → take {A = A} k [] ≡ []
 nothing-taken zero = refl
