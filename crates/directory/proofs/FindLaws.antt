@@ -60,8 +60,7 @@ pub chase-hops : (setting : Setting) (call : FindCall) (known last_known level :
       known = known;
       level = level;
       weight = weight;
-      hops_left =
-          length words + hops;
+      hops_left = length words + hops;
     }) node) words
     ≡ chases (record { known = last_known; level = level; weight = weight + way; hops_left = hops }) last
 unfolding LeadOn

@@ -93,7 +93,8 @@ small-writes setting course (step ∷ steps) sound may =
         let to : node < 2 ^ 16 = omega (arith, sound.low, h.inside) in
         let move = next_move setting course node in
         All-cons IsSmallWrite _ (after_coming setting course move) (h.few, from)
-        (all-after IsSmallWrite setting course move (λ level. (h.few, to)) (h.few, to) h.few (λ level cluster. tt) (λ node. tt))
+        (all-after IsSmallWrite setting course move (λ level. (h.few, to)) (h.few, to) h.few (λ level cluster. tt)
+        (λ node. tt))
     at_step switch_off h = All-cons IsSmallWrite _ [] sound.few (All-nil IsSmallWrite)
     at_step switch_on h = All-cons IsSmallWrite _ [] sound.few (All-nil IsSmallWrite)
 
