@@ -16,13 +16,12 @@ use Rattle.directory.specs.Statements.{MovesAreShort}
 use Rattle.directory.proofs.Tests.{both_ways}
 
 -- moves are numbered one after another
-unfoldable pub AreNumbered : ℕ → List Move → Type 0
+abbrev pub AreNumbered : ℕ → List Move → Type 0
 AreNumbered n [] = Unit {0}
 AreNumbered n (move ∷ later) = (move.number ≡ suc n) × AreNumbered (suc n) later
 
 numbered-append : (n : ℕ) (moves : List Move) (move : Move) → move.number ≡ suc (n + length moves)
     → AreNumbered n moves → AreNumbered n (moves ++ move ∷ [])
-unfolding AreNumbered
 numbered-append n [] move h f = (h ∙ (let e : suc (n + 0) ≡ suc n = omega arith in e), tt)
 numbered-append n (first ∷ later) move h f = (
   f.0,
@@ -40,7 +39,6 @@ numbered-steps setting course (step ∷ steps) f = numbered-steps setting (after
 
 base-low : (level n low : ℕ) (moves : List Move) → low ≤ n → AreNumbered n moves
     → fold (λ last (m : Move). cond (nat_le level m.renewed) m.number last) low moves ≤ n + length moves
-unfolding AreNumbered
 base-low level n low [] h f = omega (arith, h)
 base-low level n low (move ∷ later) h f =
     let step : fold (λ last (m : Move). cond (nat_le level m.renewed) m.number last)
@@ -111,7 +109,6 @@ pub gathered_by_move : (setting : Setting) (first : ℕ) (steps : List Step) (no
     (gathered_weight (course_of setting first steps) level + setting.distance
     (fold (λ n (m : Move). m.to) (course_of setting first steps).start (course_of setting first steps).moves)
     node)
-unfolding AreNumbered
 gathered_by_move setting first steps node level = gathered-after setting (course_of setting first steps) node level
     (numbered-steps setting (course_at first) steps tt)
 
@@ -119,7 +116,6 @@ pub address_by_move : (setting : Setting) (first : ℕ) (steps : List Step) (nod
     → address_node (after_step setting (course_of setting first steps) (move_to node)) level
     ≡ cond (nat_le level (next_move setting (course_of setting first steps) node).renewed) node
     (address_node (course_of setting first steps) level)
-unfolding AreNumbered
 address_by_move setting first steps node level = address-after setting (course_of setting first steps) node level
     (numbered-steps setting (course_at first) steps tt)
 

@@ -19,7 +19,7 @@ use Rattle.directory.specs.Statements.{CommitsAreMoves, StandsAtStop}
 use Rattle.directory.specs.StepLaws.{take-append, start-kept}
 
 -- the moves that steps add to a course
-unfoldable pub added : Setting → Course → List Step → List Move
+abbrev pub added : Setting → Course → List Step → List Move
 added setting course [] = []
 added setting course (move_to node ∷ steps) = next_move setting course node ∷ added setting
     (after_step setting course (move_to node)) steps
@@ -27,7 +27,6 @@ added setting course (step ∷ steps) = added setting (after_step setting course
 
 pub moves-added : (setting : Setting) (course : Course) (steps : List Step)
     → (after_steps setting course steps).moves ≡ course.moves ++ added setting course steps
-unfolding added
 moves-added setting course [] = sym (append-nil course.moves)
 moves-added setting course (move_to node ∷ steps) =
     moves-added setting (after_step setting course (move_to node)) steps
@@ -45,13 +44,12 @@ none-listed (x ∷ xs) all = ap (λ o. cons_option o (filter_map write_commit xs
     ∙ none-listed xs (All-tail IsNoCommit x xs all)
 
 -- whether a front of this length goes past a place
-is_past : ℕ → ℕ → Bool
+abbrev is_past : ℕ → ℕ → Bool
 is_past place zero = false
 is_past zero (suc k) = true
 is_past (suc place) (suc k) = is_past place k
 
 not-past : (place k : ℕ) → is_past place k ≡ false → k ≤ place
-unfolding is_past
 not-past place zero h = omega arith
 not-past zero (suc k) h = cc
 not-past (suc place) (suc k) h = omega (arith, not-past place k h)
@@ -60,7 +58,6 @@ not-past (suc place) (suc k) h = omega (arith, not-past place k h)
 one-listed : (xs : List Write) (y : Write) (zs : List Write) (commit : Commit) (k : ℕ) → All IsNoCommit xs
     → All IsNoCommit zs → write_commit y ≡ Some commit
     → filter_map write_commit (take k (xs ++ y ∷ zs)) ≡ cond (is_past (length xs) k) (commit ∷ []) []
-unfolding is_past
 one-listed [] y zs commit zero f g h = refl
 one-listed [] y zs commit (suc k) f g h = ap (λ o. cons_option o (filter_map write_commit (take k zs))) h
     ∙ ap (λ cs. commit ∷ cs) (none-listed (take k zs) (All-take IsNoCommit k zs g))
@@ -73,7 +70,6 @@ move-listed : (setting : Setting) (course : Course) (move : Move) (k : ℕ)
     → filter_map write_commit (take k (move_writes setting course move))
     ≡ cond (is_past (suc (length (map (new_address setting move) (numbers_from 0 (suc move.renewed))))) k)
     (commit_by move ∷ []) []
-unfolding is_past
 move-listed setting course move k =
     one-listed (mark_at move.to (Coming move.number move.from) ∷ map (new_address setting move)
     (numbers_from 0 (suc move.renewed))) (mark_at move.from (Gone move.number move.to))
@@ -106,7 +102,7 @@ parted setting course step steps k =
     (take (k - length (step_writes setting course step)) (writes setting (after_step setting course step) steps))
 
 committed : (setting : Setting) (course : Course) (steps : List Step) (k : ℕ) → AreCommitted setting course steps k
-unfolding added writes
+unfolding writes
 committed setting course [] k = record {
   count = 0;
   few = omega arith;

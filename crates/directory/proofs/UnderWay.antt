@@ -23,7 +23,7 @@ use Rattle.directory.proofs.TicketLaws.{tickets-push}
 use Rattle.directory.specs.StepLaws.{by_fronts}
 use Rattle.directory.specs.LookLaws.{pursuit_after, pursuit-step, answer-ends}
 
-unfoldable pub after_last : ℕ → List ℕ → ℕ
+abbrev pub after_last : ℕ → List ℕ → ℕ
 after_last earliest [] = earliest
 after_last earliest (ticket ∷ later) = after_last (suc ticket) later
 
@@ -58,7 +58,7 @@ looks-push : (setting : Setting) (history : History) (actor : ℕ) (call : FindC
     → key_of call (pursuit_after setting history call pursuit sofar) ≡ Some key
     → slice_get history ticket ≡ Some (look_by actor key)
     → AreLooks setting history actor call earliest pursuit (sofar ++ ticket ∷ [])
-unfolding AreLooks after_last
+unfolding AreLooks
 looks-push setting history actor call [] earliest pursuit ticket key looks low wanted is_look =
     (low, (key, wanted, is_look, tt))
 looks-push setting history actor call (t ∷ sofar) earliest pursuit ticket key
@@ -77,7 +77,6 @@ looks-push setting history actor call (t ∷ sofar) earliest pursuit ticket key
 
 after_last-push : (earliest : ℕ) (sofar : List ℕ) (ticket : ℕ)
     → after_last earliest (sofar ++ ticket ∷ []) ≡ suc ticket
-unfolding after_last
 after_last-push earliest [] ticket = refl
 after_last-push earliest (t ∷ sofar) ticket = after_last-push (suc t) sofar ticket
 
@@ -99,21 +98,20 @@ pub record IsAnswered (setting : Setting) (history : History) (actor : ℕ) (tic
   pub find : IsFind setting history actor answer.call answer.found (seen_of ticketed answer)
 
 -- where the last of some answers ends
-unfoldable pub end_place : ℕ → List Answer → ℕ
+abbrev pub end_place : ℕ → List Answer → ℕ
 end_place place [] = place
 end_place place (answer ∷ later) = end_place (suc answer.last) later
 
 follow-push : (place : ℕ) (answers : List Answer) (answer : Answer) → FollowEachOther place answers
     → end_place place answers ≤ answer.first → answer.first ≤ answer.last
     → FollowEachOther place (answers ++ answer ∷ [])
-unfolding FollowEachOther end_place
+unfolding FollowEachOther
 follow-push place [] answer follow low order = (low, order, tt)
 follow-push place (one ∷ answers) answer follow low order =
     (follow.0, follow.1, follow-push (suc one.last) answers answer follow.2 low order)
 
 end_place-push : (place : ℕ) (answers : List Answer) (answer : Answer)
     → end_place place (answers ++ answer ∷ []) ≡ suc answer.last
-unfolding end_place
 end_place-push place [] answer = refl
 end_place-push place (one ∷ answers) answer = end_place-push (suc one.last) answers answer
 
@@ -164,7 +162,7 @@ look_more : (setting : Setting) (history : History) (actor : ℕ) (finds : List 
     → IsUnderWay setting history actor finds (ticketed ++ now ∷ []) (suc now)
     (with_pursuit caller call later (after_word setting call caller.pursuit (cell setting (before now history) key))
     o)
-unfolding AreLooks after_last
+unfolding AreLooks
 look_more setting history actor finds ticketed now caller call later key far calls wanted is_look o answer = at_answer
     o answer
   where
@@ -250,7 +248,7 @@ pub under_way : (setting : Setting) (scripts : Scripts) (history : History) (act
     → IsPlayed setting scripts history
     → IsUnderWay setting history actor (finds_of setting scripts actor) (tickets actor history) (length history)
     (caller_in setting scripts history actor)
-unfolding words_after tickets_from AreLooks after_last FollowEachOther end_place
+unfolding words_after tickets_from AreLooks FollowEachOther
 under_way setting scripts history actor high played =
     by_fronts (λ front. Under front) history
     (record {
