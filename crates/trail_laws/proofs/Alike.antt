@@ -152,12 +152,12 @@ get-next (x ∷ xs) (y ∷ ys) zs visit h same =
     (omega (arith, same))
 
 -- a switch is put where the subscriber rests
-pub alike-switch : MarksAreLeft → StepsBeginAtRest → (setting : Setting) (sub : ℕ) (history : History) (visit : Visit)
+pub alike-switch : MarksAreLeft → StepsBeginAtRest → {setting : Setting} {sub : ℕ} {history : History} {visit : Visit}
     → setting.nodes ≤ 2 ^ 16 → IsLegal setting sub history → IsLegal setting sub (history ++ visit ∷ [])
     → is_put_for sub visit.act ≡ true → IsSwitching sub history visit
     → IsAlike setting sub history (history ++ visit ∷ [])
 unfolding steps_from writes
-alike-switch marks_left rests setting sub history visit low legal legal_more put switch = record {
+alike-switch marks_left rests {setting} {sub} {history} {visit} low legal legal_more put switch = record {
   marks = λ v. at_node v (v == switch.node) refl;
   entries = λ level cluster. ap address_in (after (Entry level cluster sub));
   stands = ap (fold (λ n (c : Commit). c.to) (start setting sub)) same_commits;
@@ -206,7 +206,7 @@ alike-switch marks_left rests setting sub history visit low legal legal_more put
         ))
 
     inside : last_stop course < setting.nodes
-    inside = stop-inside setting course (sound-script setting sub (steps_in puts) legal.script)
+    inside = stop-inside (sound-script setting sub (steps_in puts) legal.script)
 
     there_now : mark_seen setting sub history (last_stop course) ≡ there course
     there_now = marks_left setting sub history low legal (last_stop course)
@@ -259,16 +259,15 @@ alike-switch marks_left rests setting sub history visit low legal legal_more put
 
 -- so it is for each visit that is none of a move
 pub alike-step : CellsOfPuts → MarksAreLeft → StepsBeginAtRest
-    → (setting : Setting) (sub : ℕ) (history : History) (visit : Visit) → setting.nodes ≤ 2 ^ 16
+    → {setting : Setting} {sub : ℕ} (history : History) (visit : Visit) → setting.nodes ≤ 2 ^ 16
     → IsLegal setting sub history → IsLegal setting sub (history ++ visit ∷ [])
     → is_of_move sub history visit.act ≡ false → IsAlike setting sub history (history ++ visit ∷ [])
-alike-step cells marks_left rests setting sub history visit low legal legal_more quiet = at_put
+alike-step cells marks_left rests {setting} {sub} history visit low legal legal_more quiet = at_put
     (is_put_for sub visit.act) refl
   where
     at_put : (b : Bool) → is_put_for sub visit.act ≡ b → IsAlike setting sub history (history ++ visit ∷ [])
     at_put false e = alike-other cells setting sub history visit e
-    at_put true e = alike-switch marks_left rests setting sub history visit low legal legal_more e
-        (switching sub history visit e quiet)
+    at_put true e = alike-switch marks_left rests low legal legal_more e (switching sub history visit e quiet)
 
 -- what is led alike arrives alike
 pub led-alike : (setting : Setting) (marks others : ℕ → PresenceMark) → ((v : ℕ) → AreAlike (marks v) (others v))

@@ -44,10 +44,11 @@ behind-nothing setting sub seen known node = record {
 }
 
 -- it stays so
-pub behind-later : (setting : Setting) (sub t u : ℕ) (history : History) (behind : Behind) (known : Option ℕ) (node : ℕ)
+pub behind-later : {setting : Setting} {sub : ℕ} (t u : ℕ) (history : History) {behind : Behind} {known : Option ℕ}
+    {node : ℕ}
     → t ≤ u → IsBehind setting sub (before t history) behind known node
     → IsBehind setting sub (before u history) behind known node
-behind-later setting sub t u history behind known node h is = record {
+behind-later {setting} {sub} t u history {behind} {node} h is = record {
   few = omega (arith, is.few, number-grows sub t u history h);
   stop = at_stop is.stop;
   early = omega (arith, is.early, begun-grows setting sub t u history h);

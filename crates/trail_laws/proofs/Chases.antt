@@ -203,7 +203,7 @@ module _ (setting : Setting) (marks : ℕ → PresenceMark) where
           way : HasMetric setting → setting.distance v last ≤ weight_from moves i
           way metric = subst (λ x. setting.distance x last ≤ weight_from moves i) is_stop
               (subst (λ x. setting.distance (stop_at from moves i) x ≤ weight_from moves i) ends
-              (way-short setting from number moves i linked begins metric low))
+              (way-short from number moves i linked begins metric low))
       at_last (inr other) (inr off_to) =
           inr (others v inside other off_to, before-end from last moves i v ends low is_stop other)
 

@@ -100,9 +100,9 @@ pub record IsNext (setting : Setting) (course : Course) (move : Move) : Type 0 w
   pub moving : move.to ≢ move.from
   pub is_on : course.is_off ≡ false
 
-pub is-next : (setting : Setting) (course : Course) (node : ℕ) → MayMove setting course node
+pub is-next : {setting : Setting} {course : Course} {node : ℕ} → MayMove setting course node
     → IsNext setting course (next_move setting course node)
-is-next setting course node may = record {
+is-next {setting} {course} {node} may = record {
   number = refl;
   from = refl;
   weight = refl;
@@ -128,18 +128,18 @@ pub base-with : (level : ℕ) (course : Course) (move : Move)
 base-with level course move = fold-append (λ last (m : Move). if nat_le level m.renewed then m.number else last) 0
     course.moves (move ∷ [])
 
-there-with : (setting : Setting) (course : Course) (move : Move) → IsNext setting course move
+there-with : {setting : Setting} {course : Course} {move : Move} → IsNext setting course move
     → there (with_move course move) ≡ Here move.number
-there-with setting course move next =
+there-with {course} {move} next =
     ap (λ b. cond b (Off (length (with_move course move).moves)) (Here (length (with_move course move).moves)))
     next.is_on ∙ ap (λ n. Here n) (count-with course move ∙ sym next.number)
 
-pub trail-has : (setting : Setting) (course : Course) (move : Move) (v : ℕ) → IsSound setting course
+pub trail-has : {setting : Setting} {course : Course} (move : Move) (v : ℕ) → IsSound setting course
     → has v (trail setting course move) ≡ (has v (map (λ (m : Move). m.from) (since_top setting course)) ||
     (v == move.from || false))
-trail-has setting course move v sound =
+trail-has {setting} {course} move v sound =
     ap (λ ms. has v (map (λ (m : Move). m.from) ms)) (drop-append-le (base setting.top course.moves) course.moves
-    (move ∷ []) (base-low setting course setting.top sound))
+    (move ∷ []) (base-low setting.top sound))
     ∙ (ap (has v) (map-append (λ (m : Move). m.from) (since_top setting course) (move ∷ []))
     ∙ has-append v (map (λ (m : Move). m.from) (since_top setting course)) (move.from ∷ []))
 
@@ -167,16 +167,15 @@ added-rest false true here gone coming its mark = refl
 added-rest false false here gone coming its mark = refl
 
 -- when a move has made all its writes its subscriber rests again
-pub marks-rest : (setting : Setting) (course : Course) (move : Move) (purged : List ℕ) (v : ℕ)
+pub marks-rest : {setting : Setting} {course : Course} {move : Move} (purged : List ℕ) (v : ℕ)
     → IsSound setting course → IsNext setting course move
     → ((move.renewed == setting.top) ≡ true → has v purged
     ≡ (has v (trail setting course move) && not (v == move.to)))
     → ((move.renewed == setting.top) ≡ false → has v purged ≡ false)
     → mark_erasing setting course move purged v ≡ rest_mark setting (with_move course move) v
 unfolding trail_mark
-marks-rest setting course move purged v sound next whole none =
-    rw (stop-with course move, there-with setting course move next, sym next.from)
-    (at_top (move.renewed == setting.top) refl)
+marks-rest {setting} {course} {move} purged v sound next whole none =
+    rw (stop-with course move, there-with next, sym next.from) (at_top (move.renewed == setting.top) refl)
   where
     since : List Move
     since = since_top setting course
@@ -201,7 +200,7 @@ marks-rest setting course move purged v sound next whole none =
           count-with course move,
         ))
         in
-        rw (none_since, whole e, trail-has setting course move v sound)
+        rw (none_since, whole e, trail-has move v sound)
         (purged-rest (v == move.to) (v == move.from) (has v (map (λ (m : Move). m.from) since)) (Here move.number)
         (Gone move.number move.to) (Coming move.number move.from) (there course) (trail_mark since v Empty)
         (trail_mark-none since v Empty) ∙ ap (cond (v == move.to) (Here move.number)) refl)
@@ -210,8 +209,7 @@ marks-rest setting course move purged v sound next whole none =
         let one_since : since_top setting (with_move course move) ≡ since ++ move ∷ [] =
         ap (λ n. drop n (course.moves ++ move ∷ [])) (base-with setting.top course move
         ∙ ap (λ b. cond b move.number (base setting.top course.moves)) low)
-        ∙ drop-append-le (base setting.top course.moves) course.moves (move ∷ [])
-        (base-low setting course setting.top sound) in
+        ∙ drop-append-le (base setting.top course.moves) course.moves (move ∷ []) (base-low setting.top sound) in
         rw (one_since, none e, trail_mark-push since move v Empty)
         (added-rest (v == move.to) (v == move.from) (Here move.number) (Gone move.number move.to)
         (Coming move.number move.from) (there course) (trail_mark since v Empty))

@@ -15,15 +15,13 @@ use Rattle.trail_laws.specs.Ways.{StandsInside}
 use Rattle.trail_laws.proofs.ClosedMarks.{rest_mark}
 use Rattle.trail_laws.proofs.ClosedViews.{clearing, coming, passage, Phase, phase_commits, phase_mark, Shown, View}
 use Rattle.trail_laws.proofs.Stops.{view-counts}
-use Rattle.trail_laws.proofs.Views.{shown}
 use Rattle.trail_laws.proofs.Laws.{HistoryView, Laws, view}
 use Rattle.directory.specs.ListLaws.{last_or-push}
 use Rattle.std.proofs.lemmas.Option.{same_Some}
 
 pub covers : Laws → MarksTell → StandsInside → PhasesCover
 unfolding HistoryView
-covers laws marks inside setting sub history low legal = at_count
-    (view-counts setting (shown setting sub history) (view laws setting sub history low legal))
+covers laws marks inside setting sub history low legal = at_count (view-counts (view laws history low legal))
   where
     Goal : Type 0
     Goal = IsBeforeCommit setting sub history
@@ -49,17 +47,17 @@ covers laws marks inside setting sub history low legal = at_count
 last-is : (xs : List Move) (x y : Move) → last_or None (xs ++ x ∷ []) ≡ Some y → x ≡ y
 last-is xs x y h = same_Some x y (sym (last_or-push None xs x) ∙ h)
 
-begun-shown : (setting : Setting) (shown : Shown) (move : Move) → View setting shown
+begun-shown : {setting : Setting} {shown : Shown} (move : Move) → View setting shown
     → length shown.moves ≡ suc (length shown.commits) → last_or None shown.moves ≡ Some move
     → shown.marks move.to ≡ Coming move.number move.from
-begun-shown setting shown move (inl h) early last = absurd (omega (
+begun-shown move (inl h) early last = absurd (omega (
   arith,
   early,
   ap length h.moves_are,
   ap length h.commits_are,
   length-map h.course.moves commit_by,
 ))
-begun-shown setting shown move (inr h) early last = at_phase h.phase h.marks_are h.commits_are
+begun-shown {setting} {shown} move (inr h) early last = at_phase h.phase h.marks_are h.commits_are
   where
     same : h.move ≡ move
     same = last-is h.course.moves h.move move (sym (ap (last_or None) h.moves_are) ∙ last)
@@ -85,4 +83,4 @@ begun-shown setting shown move (inr h) early last = at_phase h.phase h.marks_are
 pub coming-stands : Laws → ComingStands
 unfolding HistoryView
 coming-stands laws setting sub history move low legal early last =
-    begun-shown setting (shown setting sub history) move (view laws setting sub history low legal) early last
+    begun-shown move (view laws history low legal) early last

@@ -49,11 +49,11 @@ lazy-push setting moves move lazy whole k level low below = at_place (cases_lt (
         (sym (take-append-le k moves (move ∷ []) h)) (lazy k level h below)
 
 -- a move renews each level that reaches its threshold
-lazy-whole_move : (setting : Setting) (course : Course) (node level : ℕ) → IsSound setting course
+lazy-whole_move : {setting : Setting} {course : Course} (node level : ℕ) → IsSound setting course
     → ((i : ℕ) → i ≤ setting.top → 1 ≤ setting.threshold i) → level ≤ setting.top
     → weight_from (course.moves ++ next_move setting course node ∷ [])
     (base level (course.moves ++ next_move setting course node ∷ [])) < setting.threshold level
-lazy-whole_move setting course node level sound some below =
+lazy-whole_move {setting} {course} node level sound some below =
     subst (λ b. weight_from (course.moves ++ move ∷ []) b < setting.threshold level)
     (sym (base-with level course move)) (at_test (nat_le level move.renewed) refl)
   where
@@ -80,16 +80,16 @@ lazy-whole_move setting course node level sound some below =
         omega (
           arith,
           less,
-          weight-push course.moves move (base level course.moves) (base-low setting course level sound),
+          weight-push course.moves move (base level course.moves) (base-low level sound),
         )
 
-lazy-step : (setting : Setting) (course : Course) (step : Step) → IsSound setting course
+lazy-step : {setting : Setting} {course : Course} (step : Step) → IsSound setting course
     → ((i : ℕ) → i ≤ setting.top → 1 ≤ setting.threshold i) → AreLazy setting course.moves
     → AreLazy setting (after_step setting course step).moves
-lazy-step setting course (move_to node) sound some lazy = lazy-push setting course.moves
-    (next_move setting course node) lazy (λ level below. lazy-whole_move setting course node level sound some below)
-lazy-step setting course switch_off sound some lazy = lazy
-lazy-step setting course switch_on sound some lazy = lazy
+lazy-step {setting} {course} (move_to node) sound some lazy = lazy-push setting course.moves
+    (next_move setting course node) lazy (λ level below. lazy-whole_move node level sound some below)
+lazy-step switch_off sound some lazy = lazy
+lazy-step switch_on sound some lazy = lazy
 
 lazy-steps : (setting : Setting) (course : Course) (steps : List Step) → IsSound setting course
     → MaySteps setting course steps → ((i : ℕ) → i ≤ setting.top → 1 ≤ setting.threshold i)
@@ -97,18 +97,18 @@ lazy-steps : (setting : Setting) (course : Course) (steps : List Step) → IsSou
 unfolding MaySteps
 lazy-steps setting course [] sound may some lazy = lazy
 lazy-steps setting course (step ∷ steps) sound may some lazy =
-    lazy-steps setting (after_step setting course step) steps (sound-step setting course step sound may.0) may.1 some
-    (lazy-step setting course step sound some lazy)
+    lazy-steps setting (after_step setting course step) steps (sound-step step sound may.0) may.1 some
+    (lazy-step step sound some lazy)
 
 lazy-none : (setting : Setting) → ((i : ℕ) → i ≤ setting.top → 1 ≤ setting.threshold i) → AreLazy setting []
 lazy-none setting some zero level low below = some level below
 lazy-none setting some (suc k) level low below = some level below
 
 -- so it is after the puts of a legal history
-pub legal-lazy : (setting : Setting) (sub : ℕ) (history : History)
+pub legal-lazy : {setting : Setting} {sub : ℕ} (history : History)
     → ((i : ℕ) → i ≤ setting.top → 1 ≤ setting.threshold i) → IsLegal setting sub history
     → AreLazy setting (course_in setting sub (puts_to sub history)).moves
 unfolding AreLinked
-legal-lazy setting sub history some legal =
+legal-lazy {setting} {sub} history some legal =
     lazy-steps setting (course_at (start setting sub)) _ (record { begins = legal.script.begins; linked = tt })
     legal.script.allowed some (lazy-none setting some)

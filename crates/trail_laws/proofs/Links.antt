@@ -48,30 +48,30 @@ last-inside setting from number (move ∷ later) h (f0, f1, f2, f3, f4, f5, f6, 
     (suc number) later f3 f7
 
 -- a subscriber stands at a node of the network
-pub stop-inside : (setting : Setting) (course : Course) → IsSound setting course → last_stop course < setting.nodes
-stop-inside setting course sound = last-inside setting course.start 0 course.moves sound.begins sound.linked
+pub stop-inside : {setting : Setting} {course : Course} → IsSound setting course → last_stop course < setting.nodes
+stop-inside {setting} {course} sound = last-inside setting course.start 0 course.moves sound.begins sound.linked
 
 pub renewed-low : (setting : Setting) (course : Course) (node : ℕ)
     → (next_move setting course node).renewed ≤ setting.top
 renewed-low setting course node = highest-low _ setting.top
 
-pub sound-step : (setting : Setting) (course : Course) (step : Step) → IsSound setting course
+pub sound-step : {setting : Setting} {course : Course} (step : Step) → IsSound setting course
     → MayStep setting course step → IsSound setting (after_step setting course step)
-sound-step setting course (move_to node) sound may = record {
+sound-step {setting} {course} (move_to node) sound may = record {
   begins = sound.begins;
   linked = linked-push setting course.start 0 course.moves (next_move setting course node)
       (let e : suc (length course.moves) ≡ suc (0 + length course.moves) = omega arith in e) refl
-      (stop-inside setting course sound) may.inside may.moving (renewed-low setting course node) refl sound.linked;
+      (stop-inside sound) may.inside may.moving (renewed-low setting course node) refl sound.linked;
 }
-sound-step setting course switch_off sound may = record { begins = sound.begins; linked = sound.linked }
-sound-step setting course switch_on sound may = record { begins = sound.begins; linked = sound.linked }
+sound-step switch_off sound may = record { begins = sound.begins; linked = sound.linked }
+sound-step switch_on sound may = record { begins = sound.begins; linked = sound.linked }
 
 pub sound-steps : (setting : Setting) (course : Course) (steps : List Step) → IsSound setting course
     → MaySteps setting course steps → IsSound setting (after_steps setting course steps)
 unfolding MaySteps
 sound-steps setting course [] sound may = sound
 sound-steps setting course (step ∷ steps) sound may = sound-steps setting (after_step setting course step) steps
-    (sound-step setting course step sound may.0) may.1
+    (sound-step step sound may.0) may.1
 
 -- the last renewal of a level is one of the moves, or none
 base-from : (level last from number : ℕ) (setting : Setting) (moves : List Move) → last ≤ number
@@ -90,9 +90,9 @@ base-from level last from number setting (move ∷ later) low (f0, f1, f2, f3, f
     at_test true more = omega (arith, more move.number (omega (arith, f0)))
     at_test false more = omega (arith, more last (omega (arith, low)))
 
-pub base-low : (setting : Setting) (course : Course) (level : ℕ) → IsSound setting course
+pub base-low : {setting : Setting} {course : Course} (level : ℕ) → IsSound setting course
     → base level course.moves ≤ length course.moves
-base-low setting course level sound = omega (
+base-low {setting} {course} level sound = omega (
   arith,
   base-from level 0 course.start 0 setting course.moves
       (omega arith) sound.linked,

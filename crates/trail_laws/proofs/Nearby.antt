@@ -23,27 +23,27 @@ use Rattle.trail_laws.proofs.Holders.{move_address}
 use Rattle.trail_laws.proofs.Prices.{address-near, AreLazy, lazy-front, lazy-whole, weight-push}
 
 -- at a level that a move doesn't renew the address stays near
-near-kept : (setting : Setting) (course : Course) (move : Move) (level : ℕ) → HasMetric setting
+near-kept : {setting : Setting} {course : Course} {move : Move} (level : ℕ) → HasMetric setting
     → IsSound setting course → IsNext setting course move → level ≤ setting.top
     → AreLazy setting (course.moves ++ move ∷ []) → nat_le level move.renewed ≡ false
     → setting.distance (address_node course level) move.to < setting.threshold level
-near-kept setting course move level metric sound next below lazy e = omega (
+near-kept {setting} {course} {move} level metric sound next below lazy e = omega (
   arith,
   metric.detour (address_node course level) move.from move.to old_inside from_inside next.inside,
-  address-near setting course level sound metric,
+  address-near level sound metric,
   ap (setting.distance (address_node course level)) next.from,
   next.weight,
-  weight-push course.moves move (base level course.moves) (base-low setting course level sound),
+  weight-push course.moves move (base level course.moves) (base-low level sound),
   subst (λ b. weight_from (course.moves ++ move ∷ []) b < setting.threshold level)
       (base-with level course move ∙ ap (λ b. cond b move.number (base level course.moves)) e)
       (lazy-whole setting (course.moves ++ move ∷ []) level below lazy),
 )
   where
     from_inside : move.from < setting.nodes
-    from_inside = subst (λ n. n < setting.nodes) (sym next.from) (stop-inside setting course sound)
+    from_inside = subst (λ n. n < setting.nodes) (sym next.from) (stop-inside sound)
 
     old_inside : address_node course level < setting.nodes
-    old_inside = old-inside setting course level sound
+    old_inside = old-inside level sound
 
 -- ---- each level has an address
 rest-has : (setting : Setting) (course : Course) (level : ℕ)
@@ -77,22 +77,22 @@ HasNear setting shown level =
     × (HasMetric setting → AreLazy setting shown.moves
     → setting.distance node (stands shown.from shown.commits) < setting.threshold level)
 
-pub level-has : (setting : Setting) (shown : Shown) (level : ℕ) → level ≤ setting.top → View setting shown
+pub level-has : {setting : Setting} {shown : Shown} (level : ℕ) → level ≤ setting.top → View setting shown
     → HasNear setting shown level
-level-has setting shown level below (inl h) = (
+level-has {setting} {shown} level below (inl h) = (
   address_node h.course level,
   _,
-  old-inside setting h.course level h.sound,
+  old-inside level h.sound,
   h.entries_are level _ below ∙ rest-has setting h.course level,
   λ metric lazy. subst (λ n. setting.distance (address_node h.course level) n < setting.threshold level)
       (sym (ap (stands shown.from) h.commits_are ∙ rest-stands h.course shown.from h.begins))
       (omega (
         arith,
-        address-near setting h.course level h.sound metric,
+        address-near level h.sound metric,
         lazy-whole setting h.course.moves level below (subst (AreLazy setting) h.moves_are lazy),
       )),
 )
-level-has setting shown level below (inr h) = at_phase h.phase h.is_phase
+level-has {setting} {shown} level below (inr h) = at_phase h.phase h.is_phase
     (λ cluster. h.entries_are level cluster below) h.commits_are
   where
     course : Course
@@ -115,7 +115,7 @@ level-has setting shown level below (inr h) = at_phase h.phase h.is_phase
     old_one : ((address : Address) × (shown.entries level (setting.home level (address_node course level))
         ≡ Some address)) → Near (address_node course level) → HasNear setting shown level
     old_one found near =
-        (address_node course level, found.0, old-inside setting course level h.sound, found.1, near)
+        (address_node course level, found.0, old-inside level h.sound, found.1, near)
 
     new_one : shown.commits ≡ map commit_by (course.moves ++ move ∷ [])
         → shown.entries level new_home ≡ new_entry move → HasNear setting shown level
@@ -126,8 +126,7 @@ level-has setting shown level below (inr h) = at_phase h.phase h.is_phase
       e,
       λ metric lazy. omega (
         arith,
-        ap (setting.distance move.to)
-            (ap (stands shown.from) c ∙ next-stands setting course move shown.from h.next h.begins),
+        ap (setting.distance move.to) (ap (stands shown.from) c ∙ next-stands shown.from h.next h.begins),
         metric.none move.to h.next.inside,
         lazy-front setting course.moves (move ∷ []) level below (subst (AreLazy setting) h.moves_are lazy),
       ),
@@ -144,8 +143,8 @@ level-has setting shown level below (inr h) = at_phase h.phase h.is_phase
     old_near c t metric lazy = omega (
       arith,
       ap (setting.distance (address_node course level))
-          (ap (stands shown.from) c ∙ next-stands setting course move shown.from h.next h.begins),
-      near-kept setting course move level metric h.sound h.next below (subst (AreLazy setting) h.moves_are lazy) t,
+          (ap (stands shown.from) c ∙ next-stands shown.from h.next h.begins),
+      near-kept level metric h.sound h.next below (subst (AreLazy setting) h.moves_are lazy) t,
     )
 
     new_written : nat_le level move.renewed ≡ true
@@ -163,7 +162,7 @@ level-has setting shown level below (inr h) = at_phase h.phase h.is_phase
       arith,
       ap (setting.distance (address_node course level))
           (ap (stands shown.from) c ∙ rest-stands course shown.from h.begins),
-      address-near setting course level h.sound metric,
+      address-near level h.sound metric,
       lazy-front setting course.moves (move ∷ []) level below (subst (AreLazy setting) h.moves_are lazy),
     ))
     at_phase passage p e c = at_level (nat_le level move.renewed) refl

@@ -44,7 +44,7 @@ front-legal fronts setting sub history t low legal =
     legal)
 
 -- what a visit keeps that is none of a move holds from a front to a later one, while no move is made
-module _ (fronts : FrontsAreLegal) (setting : Setting) (sub : ℕ) (history : History) (P : History → Type 0)
+module _ (fronts : FrontsAreLegal) {setting : Setting} {sub : ℕ} (history : History) (P : History → Type 0)
     (low : setting.nodes ≤ 2 ^ 16) (legal : IsLegal setting sub history)
     (one : (seen : History) (visit : Visit) → IsLegal setting sub seen → IsLegal setting sub (seen ++ visit ∷ [])
     → is_of_move sub seen visit.act ≡ false → P seen → P (seen ++ visit ∷ [])) where

@@ -38,36 +38,35 @@ weight-push moves move b low = ap (sum_by (λ (m : Move). m.weight)) (drop-appen
     ∙ sum_by_push (λ (m : Move). m.weight) (drop b moves) move
 
 -- how far the address of a level is from the last stop
-pub address-near : (setting : Setting) (course : Course) (level : ℕ) → IsSound setting course → HasMetric setting
+pub address-near : {setting : Setting} {course : Course} (level : ℕ) → IsSound setting course → HasMetric setting
     → setting.distance (address_node course level) (last_stop course) ≤ weight_from course.moves
     (base level course.moves)
-address-near setting course level sound metric =
+address-near {setting} {course} level sound metric =
     subst (λ n. setting.distance (address_node course level) n ≤ weight_from course.moves (base level course.moves))
-    (stop-end course.start course.moves)
-    (way-short setting course.start 0 course.moves (base level course.moves) sound.linked sound.begins metric
-    (base-low setting course level sound))
+    (stop-end course.start course.moves) (way-short course.start 0 course.moves (base level course.moves) sound.linked
+    sound.begins metric (base-low level sound))
 
 -- after the confirm the trail from an old address is short
-pub price-clearing : (setting : Setting) (from : ℕ) (course : Course) (move : Move) (level : ℕ) → IsSound setting course
+pub price-clearing : {setting : Setting} (from : ℕ) {course : Course} {move : Move} (level : ℕ) → IsSound setting course
     → IsNext setting course move → course.start ≡ from → level ≤ setting.top → HasMetric setting
     → AreLazy setting (course.moves ++ move ∷ [])
     → weight_from (course.moves ++ move ∷ []) (base level course.moves) + 2
     ≤ 2 * setting.threshold level
     + setting.distance (address_node course level) (stands from (map commit_by (course.moves ++ move ∷ [])))
-price-clearing setting from course move level sound next begins below metric lazy = omega (
+price-clearing {setting} from {course} {move} level sound next begins below metric lazy = omega (
   arith,
   lazy-front setting course.moves (move ∷ []) level below lazy,
-  weight-push course.moves move (base level course.moves) (base-low setting course level sound),
+  weight-push course.moves move (base level course.moves) (base-low level sound),
   next.weight,
   metric.detour move.from (address_node course level) move.to from_inside old_inside next.inside,
   metric.both_ways move.from (address_node course level) from_inside old_inside,
   ap (setting.distance (address_node course level)) next.from,
-  address-near setting course level sound metric,
-  ap (setting.distance (address_node course level)) (next-stands setting course move from next begins),
+  address-near level sound metric,
+  ap (setting.distance (address_node course level)) (next-stands from next begins),
 )
   where
     from_inside : move.from < setting.nodes
-    from_inside = subst (λ n. n < setting.nodes) (sym next.from) (stop-inside setting course sound)
+    from_inside = subst (λ n. n < setting.nodes) (sym next.from) (stop-inside sound)
 
     old_inside : address_node course level < setting.nodes
-    old_inside = old-inside setting course level sound
+    old_inside = old-inside level sound

@@ -17,7 +17,7 @@ use Rattle.directory.specs.declared.answers.Found.{Found}
 use Rattle.directory.specs.declared.answers.Found.TheVariants.{Again}
 use Rattle.trail_laws.specs.Trail.{entry_seen}
 use Rattle.trail_laws.specs.Rightness.{AgainHasItsCause, IsAnswered, QuietFindsAnswer, ReadsTop}
-use Rattle.trail_laws.specs.Within.{Affords, AffordsAddress, Begins, EntryAsks, WeighsAtMost, QuietFindsStayWithin}
+use Rattle.trail_laws.specs.Within.{Affords, AffordsAddress, Begins, EntryAsks, QuietFindsStayWithin}
 use Rattle.trail_laws.proofs.Passing.{front-legal}
 use Rattle.trail_laws.proofs.Right.{last-more, Low, read-one, readers-low}
 use Rattle.trail_laws.proofs.Sure.{first-sure, IsSure, Used, look-sure, sure-until}
@@ -38,7 +38,7 @@ last-late setting history actor call earliest pursuit t (u ∷ later) (first, (k
           (after_word setting call pursuit (cell setting (before t history) key)) u later rest,
     ))
 
-module _ (used : Used) (setting : Setting) (history : History) (actor : ℕ) (call : FindCall) (Within : ℕ → Type 0)
+module _ (used : Used) {setting : Setting} (history : History) (actor : ℕ) (call : FindCall) (Within : ℕ → Type 0)
     (found : Found) (low : setting.nodes ≤ 2 ^ 16) (inside : call.from < setting.nodes)
     (legal : IsLegal setting call.sub history) where
   sure-looks : (later : List ℕ) (t : ℕ) (pursuit : Pursuit)
@@ -60,7 +60,7 @@ module _ (used : Used) (setting : Setting) (history : History) (actor : ℕ) (ca
       late = last-late setting history actor call (suc t) pursuit u later (first, (key, wanted, is_look, rest))
 
       waited : IsSure setting call.sub (before u history) call Within pursuit
-      waited = sure-until used setting call.sub history call Within t u pursuit low legal (omega (arith, first))
+      waited = sure-until used history call Within t u pursuit low legal (omega (arith, first))
           (omega (arith, slice_get_within history u (look_by actor key) is_look))
           (λ x h g. quiet x h (omega (arith, g, late, last-more t u later))) sure
 
@@ -73,19 +73,17 @@ module _ (used : Used) (setting : Setting) (history : History) (actor : ℕ) (ca
   unfolding AreLooks
   first-looks [] begins quiet looks ends = let clash : at_origin ≡ ended found = ends in cc
   first-looks (t ∷ later) begins quiet (first, (key, wanted, is_look, rest)) ends =
-      sure-looks later t (after_word setting call at_origin (cell setting (before t history) key))
-      (first-sure used setting (before t history) call Within key begins low inside
-      (front-legal used.fronts setting call.sub history t low legal) wanted) rest quiet
+      sure-looks later t (after_word setting call at_origin (cell setting (before t history) key)) (first-sure used key
+      begins low inside (front-legal used.fronts setting call.sub history t low legal) wanted) rest quiet
       (sym (read-one setting history actor t key call at_origin later is_look) ∙ ends)
 
-pub quiet-within : Used → (setting : Setting) (history : History) (actor : ℕ) (call : FindCall) (Within : ℕ → Type 0)
-    (found : Found) (tickets : List ℕ) → setting.nodes ≤ 2 ^ 16 → call.from < setting.nodes
+pub quiet-within : Used → {setting : Setting} {history : History} {actor : ℕ} {call : FindCall} {Within : ℕ → Type 0}
+    {found : Found} {tickets : List ℕ} → setting.nodes ≤ 2 ^ 16 → call.from < setting.nodes
     → IsLegal setting call.sub history → Begins setting (before (first_of tickets) history) call Within
     → IsFind setting history actor call found tickets
     → IsQuiet history call.sub (first_of tickets) (last_of tickets) → IsAnswered found × Within (found_weight found)
-quiet-within used setting history actor call Within found tickets low inside legal begins find quiet =
-    first-looks used setting history actor call Within found low inside legal tickets begins quiet find.looks
-    find.answer
+quiet-within used {setting} {history} {actor} {call} {Within} {found} {tickets} low inside legal begins find quiet =
+    first-looks used history actor call Within found low inside legal tickets begins quiet find.looks find.answer
 
 -- ---- without a bound: the home at the top level has an address that the origin reads
 abbrev pub HasReader : Setting → ℕ → History → List Reader → Type 0
@@ -141,23 +139,22 @@ from-level setting sub node seen cluster first (suc count) low high h some = at_
         (map (λ c. record { level = first; cluster = c }) (setting.readers first node)) _
         (more (let less : first < setting.top = grind (arith, nat_tests, other, low) in omega (arith, less)))
 
-pub readers-have : Used → (setting : Setting) (sub node : ℕ) (seen : History) → setting.nodes ≤ 2 ^ 16
+pub readers-have : Used → {setting : Setting} {sub : ℕ} (node : ℕ) (seen : History) → setting.nodes ≤ 2 ^ 16
     → ReadsTop setting → node < setting.nodes → IsLegal setting sub seen
     → HasReader setting sub seen (all_readers setting node)
-readers-have used setting sub node seen low reads inside legal =
+readers-have used {setting} {sub} node seen low reads inside legal =
     let there = used.top setting sub seen low legal in
     from-level setting sub node seen (setting.home setting.top there.0) 0 (levels setting) (omega arith) (omega arith)
     (reads there.0 node there.2 inside) (ap is_some there.3)
 
-affords-any : Used → (setting : Setting) (seen : History) (call : FindCall) (weight : ℕ) (readers : List Reader)
+affords-any : Used → {setting : Setting} (seen : History) (call : FindCall) (weight : ℕ) (readers : List Reader)
     → setting.nodes ≤ 2 ^ 16 → IsLegal setting call.sub seen → All (Low setting) readers
     → HasReader setting call.sub seen readers → Affords setting call.sub seen call Anything weight readers
 unfolding Affords
-affords-any used setting seen call weight [] low legal all some = absurd some
-affords-any used setting seen call weight (reader ∷ later) low legal all some =
-    at_entry (entry_seen setting call.sub seen reader.level reader.cluster) refl some
-    (λ h. affords-any used setting seen call (weight + 2 * way_in setting call reader) later low legal
-    (All-tail (Low setting) reader later all) h)
+affords-any used seen call weight [] low legal all some = absurd some
+affords-any used {setting} seen call weight (reader ∷ later) low legal all some =
+    at_entry (entry_seen setting call.sub seen reader.level reader.cluster) refl some (λ h. affords-any used seen call
+    (weight + 2 * way_in setting call reader) later low legal (All-tail (Low setting) reader later all) h)
   where
     at_entry : (entry : Option Address) → entry_seen setting call.sub seen reader.level reader.cluster ≡ entry
         → (is_some (entry_seen setting call.sub seen reader.level reader.cluster) ≡ true)
@@ -176,7 +173,7 @@ affords-any used setting seen call weight (reader ∷ later) low legal all some 
 
 pub quiet-answers : Used → QuietFindsAnswer
 quiet-answers used setting history actor call found tickets low reads inside legal find quiet =
-    (quiet-within used setting history actor call Anything found tickets low inside legal begins find quiet).0
+    (quiet-within used low inside legal begins find quiet).0
   where
     seen : History
     seen = before (first_of tickets) history
@@ -187,10 +184,8 @@ quiet-answers used setting history actor call found tickets low reads inside leg
     begins : Begins setting (before (first_of tickets) history) call Anything
     begins = record {
       here = tt;
-      climbing = λ c h o. affords-any used setting (before (first_of tickets) history) call 0
-          (all_readers setting call.from)
-          low legal_seen (readers-low setting call.from)
-          (readers-have used setting call.sub call.from
+      climbing = λ c h o. affords-any used (before (first_of tickets) history) call 0 (all_readers setting call.from)
+          low legal_seen (readers-low setting call.from) (readers-have used call.from
           (before (first_of tickets) history) low reads inside legal_seen);
       chasing = λ p from e.
           let there = used.comings setting call.sub (before (first_of tickets) history) low legal_seen call.from p
@@ -238,4 +233,4 @@ again-cause used setting history actor call why weight tickets low reads inside 
 -- a quiet find whose beginning is sure of a bound stays within it
 pub quiet-stays : Used → QuietFindsStayWithin
 quiet-stays used setting history actor call found tickets most low inside legal begins find quiet =
-    quiet-within used setting history actor call (WeighsAtMost most) found tickets low inside legal begins find quiet
+    quiet-within used low inside legal begins find quiet

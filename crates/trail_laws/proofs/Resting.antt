@@ -29,9 +29,9 @@ use Rattle.trail_laws.proofs.Comings.{there-not_coming}
 
 pub addresses-by_phase : Laws → AddressesLeadByPhase
 addresses-by_phase laws setting sub history low metric some legal level cluster address known below is_some knows =
-    let its = placed laws setting sub history low legal level cluster address below is_some in
+    let its = placed laws history low legal level cluster address below is_some in
     let there = its.leads known knows in
-    let lazy = legal-lazy setting sub history some legal in (
+    let lazy = legal-lazy history some legal in (
       there.hops,
       there.way,
       there.few,
@@ -82,7 +82,7 @@ module _ (laws : Laws) (setting : Setting) (sub : ℕ) (history : History) (low 
   mark-there = laws.marks setting sub history low legal (last_stop course)
       ∙ (ap (λ ws. mark_left setting sub ws (last_stop course)) all-made
       ∙ (rest-marks_of setting sub (steps_in (puts_to sub history)) (last_stop course) legal.script
-      (stop-inside setting course (sound-script setting sub (steps_in (puts_to sub history)) legal.script))
+      (stop-inside (sound-script setting sub (steps_in (puts_to sub history)) legal.script))
       ∙ rest-there setting course))
 
   marked : IsMarked setting sub history

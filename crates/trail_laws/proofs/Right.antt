@@ -159,16 +159,16 @@ mark-good setting sub seen chase node (Coming q from) knows tells = at_known (is
         tells.1
 
 -- one look
-pub look-good : MarksTell → EntriesTell → (setting : Setting) (seen : History) (call : FindCall) (pursuit : Pursuit)
+pub look-good : MarksTell → EntriesTell → {setting : Setting} (seen : History) (call : FindCall) (pursuit : Pursuit)
     (key : Key) → setting.nodes ≤ 2 ^ 16 → call.from < setting.nodes → IsLegal setting call.sub seen
     → IsSafe setting (number call.sub seen) pursuit → key_of call pursuit ≡ Some key
     → IsGood setting call.sub seen (after_word setting call pursuit (cell setting seen key))
-look-good marks entries setting seen call at_origin key low inside legal safe wanted =
+look-good marks entries {setting} seen call at_origin key low inside legal safe wanted =
     let e : Presence call.from call.sub ≡ key = cc in
     subst (λ (k : Key). IsGood setting call.sub seen (after_origin setting call (mark_in (cell setting seen k)))) e
     (origin-good setting seen call (mark_seen setting call.sub seen call.from)
     (marks setting call.sub seen low legal call.from inside))
-look-good marks entries setting seen call (climbs known weight reader later) key low inside legal safe wanted =
+look-good marks entries {setting} seen call (climbs known weight reader later) key low inside legal safe wanted =
     let e : Entry reader.level reader.cluster call.sub ≡ key = cc in
     subst (λ (k : Key). IsGood setting call.sub seen (after_entry setting call known weight reader later
     (address_in (cell setting seen k)))) e
@@ -176,13 +176,13 @@ look-good marks entries setting seen call (climbs known weight reader later) key
     (entry_seen setting call.sub seen reader.level reader.cluster) safe.0 safe.1
     (entries setting call.sub seen low legal reader.level reader.cluster
     (All-head (Low setting) reader later safe.1)))
-look-good marks entries setting seen call (chases chase node) key low inside legal safe wanted =
+look-good marks entries {setting} seen call (chases chase node) key low inside legal safe wanted =
     let e : Presence node call.sub ≡ key = cc in
     subst (λ (k : Key). IsGood setting call.sub seen (after_mark setting chase node (mark_in (cell setting seen k))))
     e
     (mark-good setting call.sub seen chase node (mark_seen setting call.sub seen node) safe.0
     (marks setting call.sub seen low legal node safe.1))
-look-good marks entries setting seen call (ended found) key low inside legal safe wanted = cc
+look-good marks entries seen call (ended found) key low inside legal safe wanted = cc
 
 -- what is right before a look is right through it
 pub commits-through : (sub actor t : ℕ) (key : Key) (history : History)
@@ -216,13 +216,13 @@ read-one setting history actor t key call pursuit later h = ap
     (words_at setting history) later)) h
 
 -- the looks of a find end with a right answer
-module _ (marks : MarksTell) (entries : EntriesTell) (fronts : FrontsAreLegal) (setting : Setting) (history : History)
+module _ (marks : MarksTell) (entries : EntriesTell) (fronts : FrontsAreLegal) {setting : Setting} (history : History)
     (actor : ℕ) (call : FindCall) (found : Found) (low : setting.nodes ≤ 2 ^ 16) (inside : call.from < setting.nodes)
     (legal : IsLegal setting call.sub history) where
   next-good : (t : ℕ) (pursuit : Pursuit) (key : Key) → IsSafe setting (number call.sub (before t history)) pursuit
       → key_of call pursuit ≡ Some key → IsGood setting call.sub (before t history)
       (after_word setting call pursuit (cell setting (before t history) key))
-  next-good t pursuit key = look-good marks entries setting (before t history) call pursuit key low inside
+  next-good t pursuit key = look-good marks entries (before t history) call pursuit key low inside
       (front-legal fronts setting call.sub history t low legal)
 
   right-looks : (later : List ℕ) (t : ℕ) (key : Key) (pursuit : Pursuit)
@@ -254,7 +254,7 @@ module _ (marks : MarksTell) (entries : EntriesTell) (fronts : FrontsAreLegal) (
 
 pub answers-right : MarksTell → EntriesTell → FrontsAreLegal → AnswersAreRight
 answers-right marks entries fronts setting history actor call found tickets low inside legal find =
-    first-right marks entries fronts setting history actor call found low inside legal tickets find.looks find.answer
+    first-right marks entries fronts history actor call found low inside legal tickets find.looks find.answer
 
 -- so numbers never fall
 number-of : (setting : Setting) (history : History) (sub : ℕ) (found : Found) (last p : ℕ)

@@ -63,13 +63,12 @@ left-linked setting from number (m ∷ moves) (f0, f1, f2, f3, f4, f5, f6, f7) z
 left-linked setting from number (m ∷ moves) (f0, f1, f2, f3, f4, f5, f6, f7) (suc i) c h =
     left-linked setting m.to (suc number) moves f7 i c h
 
-course-linked : (setting : Setting) (course : Course) (move : Move) → IsSound setting course
+course-linked : {setting : Setting} {course : Course} {move : Move} → IsSound setting course
     → IsNext setting course move → AreLinked setting course.start 0 (course.moves ++ move ∷ [])
-course-linked setting course move sound next =
-    linked-push setting course.start 0 course.moves move
-    (omega (arith, next.number)) next.from
-    (subst (λ n. n < setting.nodes) (sym next.from) (stop-inside setting course sound)) next.inside next.moving
-    next.renewed next.weight sound.linked
+course-linked {setting} {course} {move} sound next =
+    linked-push setting course.start 0 course.moves move (omega (arith, next.number)) next.from
+    (subst (λ n. n < setting.nodes) (sym next.from) (stop-inside sound)) next.inside next.moving next.renewed
+    next.weight sound.linked
 
 -- the moves of a view that are committed: all, or all but one
 pub record IsCommitted (setting : Setting) (shown : Shown) : Type 0 where
@@ -80,8 +79,8 @@ pub record IsCommitted (setting : Setting) (shown : Shown) : Type 0 where
   pub count : length shown.commits ≡ length moves
   pub rest : (shown.moves ≡ moves) ⊎ ((length shown.moves ≡ suc (length moves)) × (shown.off ≡ false))
 
-pub committed : (setting : Setting) (shown : Shown) → View setting shown → IsCommitted setting shown
-committed setting shown (inl h) = record {
+pub committed : {setting : Setting} {shown : Shown} → View setting shown → IsCommitted setting shown
+committed {setting} (inl h) = record {
   moves = h.course.moves;
   begins = subst (λ n. n < setting.nodes) h.begins h.sound.begins;
   linked = subst (λ n. AreLinked setting n 0 h.course.moves) h.begins h.sound.linked;
@@ -89,7 +88,7 @@ committed setting shown (inl h) = record {
   count = ap length h.commits_are ∙ length-map h.course.moves commit_by;
   rest = inl h.moves_are;
 }
-committed setting shown (inr h) = at_phase h.phase h.commits_are
+committed {setting} {shown} (inr h) = at_phase h.phase h.commits_are
   where
     begins : shown.from < setting.nodes
     begins = subst (λ n. n < setting.nodes) h.begins h.sound.begins
@@ -99,7 +98,7 @@ committed setting shown (inr h) = at_phase h.phase h.commits_are
       moves = h.course.moves ++ h.move ∷ [];
       begins = begins;
       linked = subst (λ n. AreLinked setting n 0 (h.course.moves ++ h.move ∷ [])) h.begins
-          (course-linked setting h.course h.move h.sound h.next);
+          (course-linked h.sound h.next);
       are = c;
       count = ap length c ∙ length-map (h.course.moves ++ h.move ∷ []) commit_by;
       rest = inl h.moves_are;
@@ -118,35 +117,35 @@ committed setting shown (inr h) = at_phase h.phase h.commits_are
     at_phase (clearing erased purged) c = all c
 
 -- at most one move is begun that isn't committed, and none when the subscriber is off
-pub view-counts : (setting : Setting) (shown : Shown) → View setting shown
+pub view-counts : {setting : Setting} {shown : Shown} → View setting shown
     → (length shown.moves ≡ suc (length shown.commits)) ⊎ (length shown.moves ≡ length shown.commits)
-view-counts setting shown view =
-    let its = committed setting shown view in
+view-counts {setting} {shown} view =
+    let its = committed view in
     elim its.rest [
       | inl all ↦ inr (ap length all ∙ sym its.count)
       | inr more ↦ inl (more.0 ∙ ap suc (sym its.count))
     ]
 
-pub off-counts : (setting : Setting) (shown : Shown) → View setting shown → shown.off ≡ true
+pub off-counts : {setting : Setting} {shown : Shown} → View setting shown → shown.off ≡ true
     → length shown.moves ≡ length shown.commits
-off-counts setting shown view off =
-    let its = committed setting shown view in
+off-counts {setting} {shown} view off =
+    let its = committed view in
     elim its.rest [
       | inl all ↦ ap length all ∙ sym its.count
       | inr more ↦ let clash : true ≡ false = sym off ∙ more.1 in cc
     ]
 
 -- it stands at a node of the network
-pub view-inside : (setting : Setting) (shown : Shown) → View setting shown
+pub view-inside : {setting : Setting} {shown : Shown} → View setting shown
     → stands shown.from shown.commits < setting.nodes
-view-inside setting shown view =
-    let its = committed setting shown view in
+view-inside {setting} {shown} view =
+    let its = committed view in
     subst (λ n. n < setting.nodes) (sym (ap (stands shown.from) its.are ∙ stands-moves shown.from its.moves))
     (last-inside setting shown.from 0 its.moves its.begins its.linked)
 
-pub stop-left : (setting : Setting) (shown : Shown) → View setting shown
+pub stop-left : {setting : Setting} {shown : Shown} → View setting shown
     → (i : ℕ) (c : Commit) → slice_get shown.commits i ≡ Some c → stop_after shown.from shown.commits i ≡ c.from
-stop-left setting shown view i c h =
-    let its = committed setting shown view in
+stop-left {setting} {shown} view i c h =
+    let its = committed view in
     ap (λ cs. stop_after shown.from cs i) its.are
     ∙ left-linked setting shown.from 0 its.moves its.linked i c (sym (ap (λ cs. slice_get cs i) its.are) ∙ h)

@@ -1,5 +1,5 @@
 -- What makes a find sure of an answer at each pursuit: a look keeps it, and what is no put of a move.
-use Rattle.std.proofs.Common.{◌≡◌, ℕ, zero, suc, ◌+◌, ◌*◌, ◌<◌, ◌≤◌, ◌^◌, Bool, true, false, cond, List, [], ◌∷◌, ◌++◌, Option, Some, None, length, refl, sym, ap, ◌∙◌, subst, arith}
+use Rattle.std.proofs.Common.{◌≡◌, ℕ, zero, suc, ◌+◌, ◌*◌, ◌<◌, ◌≤◌, ◌^◌, Bool, true, false, cond, List, [], ◌∷◌, Option, Some, None, length, refl, sym, ap, ◌∙◌, subst, arith}
 use Rattle.entry_word.specs.Marks.{mark_in}
 use Rattle.entry_word.specs.Addresses.{address_in}
 use Rattle.entry_word.specs.declared.address.Address.{Address}
@@ -35,7 +35,7 @@ IsSure setting sub seen call Within (chases chase node) =
 IsSure setting sub seen call Within (ended found) = IsAnswered found × Within (found_weight found)
 
 -- ---- it stays
-module _ (setting : Setting) (sub : ℕ) (one other : History) (call : FindCall) (Within : ℕ → Type 0)
+module _ {setting : Setting} {sub : ℕ} {one other : History} (call : FindCall) (Within : ℕ → Type 0)
     (alike : IsAlike setting sub one other) where
   led-on : (known : Option ℕ) (node hops way : ℕ)
       → IsLed setting (mark_seen setting sub one) known node (standing setting sub one) hops way
@@ -85,15 +85,15 @@ pub record Used : Type 0 where
   pub top : TopHasEntry
 
 -- up to a later ticket, while no move is made
-pub sure-until : Used → (setting : Setting) (sub : ℕ) (history : History) (call : FindCall) (Within : ℕ → Type 0)
+pub sure-until : Used → {setting : Setting} {sub : ℕ} (history : History) (call : FindCall) (Within : ℕ → Type 0)
     (t u : ℕ) (pursuit : Pursuit) → setting.nodes ≤ 2 ^ 16 → IsLegal setting sub history → t ≤ u → u ≤ length history
     → ((x : ℕ) → t ≤ x → x < u → moves_at sub history x ≡ false)
     → IsSure setting sub (before t history) call Within pursuit
     → IsSure setting sub (before u history) call Within pursuit
-sure-until used setting sub history call Within t u pursuit low legal =
-    while-quiet used.fronts setting sub history (λ seen. IsSure setting sub seen call Within pursuit) low legal
-    (λ seen visit is more quiet sure. sure-alike setting sub seen (seen ++ visit ∷ []) call Within
-    (alike-step used.cells used.marks_left used.rests setting sub seen visit low is more quiet) pursuit sure) t u
+sure-until used {setting} {sub} history call Within t u pursuit low legal =
+    while-quiet used.fronts history (λ seen. IsSure setting sub seen call Within pursuit) low legal
+    (λ seen visit is more quiet sure. sure-alike call Within
+    (alike-step used.cells used.marks_left used.rests seen visit low is more quiet) pursuit sure) t u
 
 -- ---- one look
 module _ (setting : Setting) (seen : History) (call : FindCall) (Within : ℕ → Type 0) where
@@ -195,12 +195,12 @@ module _ (setting : Setting) (seen : History) (call : FindCall) (Within : ℕ �
       let clash : None ≡ Some led.0 = sym (ap (lead chase.known) same) ∙ led.2 in cc
 
 -- the look at the origin, and one after it
-pub first-sure : Used → (setting : Setting) (seen : History) (call : FindCall) (Within : ℕ → Type 0) (key : Key)
+pub first-sure : Used → {setting : Setting} {seen : History} {call : FindCall} {Within : ℕ → Type 0} (key : Key)
     → Begins setting seen call Within → setting.nodes ≤ 2 ^ 16 → call.from < setting.nodes
     → IsLegal setting call.sub seen → key_of call at_origin ≡ Some key
     → IsSure setting call.sub seen call Within (after_word setting call at_origin (cell setting seen key))
 unfolding Affords
-first-sure used setting seen call Within key begins low inside legal wanted =
+first-sure used {setting} {seen} {call} {Within} key begins low inside legal wanted =
     let e : Presence call.from call.sub ≡ key = cc in
     subst (λ (k : Key). IsSure setting call.sub seen call Within
     (after_origin setting call (mark_in (cell setting seen k)))) e

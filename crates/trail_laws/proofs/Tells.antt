@@ -63,14 +63,13 @@ stop-drop from (m ∷ later) (suc b) i low = let e : suc b + i
     ≡ suc (b + i) = omega arith in rw e (stop-drop m.to later b i (omega arith))
 
 -- the Gone of a move at the node that it left
-gone-is : (from : ℕ) (marks : ℕ → PresenceMark) (off : Bool) (all : List Move) (setting : Setting) (course : Course)
+gone-is : (from : ℕ) (marks : ℕ → PresenceMark) (off : Bool) (all : List Move) {setting : Setting} {course : Course}
     (node : ℕ) (mark : PresenceMark) (more : List Commit) → IsSound setting course
     → trail_mark (since_top setting course) node Empty ≡ mark
     → MarkIs setting.nodes from marks (map commit_by course.moves ++ more) off all node mark
-gone-is from marks off all setting course node mark more sound same =
+gone-is from marks off all {setting} {course} node mark more sound same =
     at_left (last-left setting (stop_at course.start course.moves low) (0 + low) (since_top setting course) node Empty
-    (linked-drop setting course.start 0 course.moves low sound.linked
-    (base-low setting course setting.top sound)))
+    (linked-drop setting course.start 0 course.moves low sound.linked (base-low setting.top sound)))
   where
     low : ℕ
     low = base setting.top course.moves
@@ -92,11 +91,11 @@ gone-is from marks off all setting course node mark more sound same =
             ∙ ap (λ f. Some (record { number = left.move.number; from = f; to = left.move.to })) left.its_from)
 
 -- at rest
-rest-is : (from : ℕ) (marks : ℕ → PresenceMark) (all : List Move) (setting : Setting) (course : Course) (node : ℕ)
+rest-is : (from : ℕ) (marks : ℕ → PresenceMark) (all : List Move) {setting : Setting} {course : Course} (node : ℕ)
     → IsSound setting course → course.start ≡ from
     → MarkIs setting.nodes from marks (map commit_by course.moves) course.is_off all node
     (rest_mark setting course node)
-rest-is from marks all setting course node sound begins = at_place (node == last_stop course) refl
+rest-is from marks all {setting} {course} node sound begins = at_place (node == last_stop course) refl
   where
     stands_there : stands from (map commit_by course.moves) ≡ last_stop course
     stands_there = stands-moves from course.moves ∙ ap (λ f. fold (λ n (m : Move). m.to) f course.moves) (sym begins)
@@ -115,14 +114,13 @@ rest-is from marks all setting course node sound begins = at_place (node == last
         (cond b (there course) (trail_mark (since_top setting course) node Empty))
     at_place true e = at_state course.is_off refl (eqb-true node (last_stop course) e)
     at_place false e = subst (λ (cs : List Commit). MarkIs setting.nodes from marks cs course.is_off all node
-        (trail_mark (since_top setting course) node Empty)) (append-nil (map commit_by course.moves))
-        (gone-is from marks course.is_off all setting course node
-        (trail_mark (since_top setting course) node Empty) [] sound refl)
+        (trail_mark (since_top setting course) node Empty)) (append-nil (map commit_by course.moves)) (gone-is from
+        marks course.is_off all node (trail_mark (since_top setting course) node Empty) [] sound refl)
 
 -- what holds of the marks at rest while the subscriber is on
-pub next-stands : (setting : Setting) (course : Course) (move : Move) (from : ℕ) → IsNext setting course move
+pub next-stands : {setting : Setting} {course : Course} {move : Move} (from : ℕ) → IsNext setting course move
     → course.start ≡ from → stands from (map commit_by (course.moves ++ move ∷ [])) ≡ move.to
-next-stands setting course move from next begins = stands-moves from (course.moves ++ move ∷ [])
+next-stands {course} {move} from next begins = stands-moves from (course.moves ++ move ∷ [])
     ∙ fold-append (λ n (m : Move). m.to) from course.moves (move ∷ [])
 
 pub rest-stands : (course : Course) (from : ℕ) → course.start ≡ from
@@ -131,9 +129,9 @@ rest-stands course from begins = stands-moves from course.moves
     ∙ ap (λ f. fold (λ n (m : Move). m.to) f course.moves) (sym begins)
 
 -- the Gone of the move itself
-own-gone : (setting : Setting) (course : Course) (move : Move) → IsNext setting course move
+own-gone : {setting : Setting} {course : Course} {move : Move} → IsNext setting course move
     → slice_get (map commit_by (course.moves ++ move ∷ [])) (move.number - 1) ≡ Some (commit_by move)
-own-gone setting course move next = ap (slice_get (map commit_by (course.moves ++ move ∷ [])))
+own-gone {course} {move} next = ap (slice_get (map commit_by (course.moves ++ move ∷ [])))
     (let e : move.number - 1 ≡ length course.moves = omega (arith, next.number) in e) ∙ at_end course.moves
   where
     at_end : (xs : List Move) → slice_get (map commit_by (xs ++ move ∷ [])) (length xs) ≡ Some (commit_by move)
@@ -141,7 +139,7 @@ own-gone setting course move next = ap (slice_get (map commit_by (course.moves +
     at_end (x ∷ xs) = at_end xs
 
 -- each phase of a move
-module _ (setting : Setting) (from : ℕ) (marks : ℕ → PresenceMark) (course : Course) (move : Move) (node : ℕ)
+module _ {setting : Setting} (from : ℕ) (marks : ℕ → PresenceMark) {course : Course} {move : Move} (node : ℕ)
     (sound : IsSound setting course) (next : IsNext setting course move) (begins : course.start ≡ from) where
   coming-is : MarkIs setting.nodes from marks (map commit_by course.moves) false (course.moves ++ move ∷ []) node
       (mark_coming setting course move node)
@@ -152,7 +150,7 @@ module _ (setting : Setting) (from : ℕ) (marks : ℕ → PresenceMark) (course
           (cond b (Coming move.number move.from) (rest_mark setting course node))
       at_to true e = (
         next.number ∙ sym (moves-count course move),
-        subst (λ n. n < setting.nodes) (sym next.from) (stop-inside setting course sound),
+        subst (λ n. n < setting.nodes) (sym next.from) (stop-inside sound),
         refl,
         inl (
           next.number ∙ ap suc (sym (length-map course.moves commit_by)),
@@ -161,7 +159,7 @@ module _ (setting : Setting) (from : ℕ) (marks : ℕ → PresenceMark) (course
       )
       at_to false e = subst (λ b. MarkIs setting.nodes from marks (map commit_by course.moves) b
           (course.moves ++ move ∷ []) node (rest_mark setting course node)) next.is_on
-          (rest-is from marks (course.moves ++ move ∷ []) setting course node sound begins)
+          (rest-is from marks (course.moves ++ move ∷ []) node sound begins)
 
   -- what a mark tells once the move is committed
   abbrev pub TellsCommit : PresenceMark → Type 0
@@ -173,18 +171,16 @@ module _ (setting : Setting) (from : ℕ) (marks : ℕ → PresenceMark) (course
 
   -- the marks of the trail, when the subscriber has left it
   trail-is : (node == move.from) ≡ false → TellsCommit (rest_mark setting course node)
-  trail-is other = subst TellsCommit
-      (sym (ap (λ b. cond b (there course) (trail_mark (since_top setting course) node Empty))
-      (ap (λ n. node == n) (sym next.from) ∙ other)))
-      (subst (λ (cs : List Commit). MarkIs setting.nodes from marks cs false (course.moves ++ move ∷ []) node
-      (trail_mark (since_top setting course) node Empty)) (sym (map-append commit_by course.moves (move ∷ [])))
-      (gone-is from marks false (course.moves ++ move ∷ []) setting course node
+  trail-is other = subst TellsCommit (sym (ap (λ b. cond b (there course) (trail_mark (since_top setting course) node
+      Empty)) (ap (λ n. node == n) (sym next.from) ∙ other))) (subst (λ (cs : List Commit). MarkIs setting.nodes from
+      marks cs false (course.moves ++ move ∷ []) node (trail_mark (since_top setting course) node Empty))
+      (sym (map-append commit_by course.moves (move ∷ []))) (gone-is from marks false (course.moves ++ move ∷ []) node
       (trail_mark (since_top setting course) node Empty) (commit_by move ∷ []) sound refl))
 
   left-is : (node == move.from) ≡ true → TellsCommit (Gone move.number move.to)
   left-is e = (
     omega (arith, next.number),
-    own-gone setting course move next
+    own-gone next
         ∙ ap (λ f. Some (record { number = move.number; from = f; to = move.to })) (sym (eqb-true node move.from e)),
     next.inside,
   )
@@ -198,11 +194,11 @@ module _ (setting : Setting) (from : ℕ) (marks : ℕ → PresenceMark) (course
       at_from true t e at = left-is e
       at_from false true e at = (
         next.number ∙ sym (moves-count course move),
-        subst (λ n. n < setting.nodes) (sym next.from) (stop-inside setting course sound),
+        subst (λ n. n < setting.nodes) (sym next.from) (stop-inside sound),
         refl,
         inr (
           all-count,
-          eqb-true node move.to at ∙ sym (next-stands setting course move from next begins),
+          eqb-true node move.to at ∙ sym (next-stands from next begins),
           gone ∙ ap (λ n. Gone move.number n) (sym (eqb-true node move.to at)),
         ),
       )
@@ -216,19 +212,18 @@ module _ (setting : Setting) (from : ℕ) (marks : ℕ → PresenceMark) (course
           (cond t (Coming move.number move.from) (rest_mark setting course node)))))
       at_marks true t f at e = tt
       at_marks false true f at e =
-          (eqb-true node move.to at ∙ sym (next-stands setting course move from next begins), all-count, refl)
+          (eqb-true node move.to at ∙ sym (next-stands from next begins), all-count, refl)
       at_marks false false true at e = left-is e
       at_marks false false false at e = trail-is e
 
 -- so a mark of a view tells it
-pub mark-is : (setting : Setting) (shown : Shown) (node : ℕ) → node < setting.nodes → View setting shown
+pub mark-is : {setting : Setting} {shown : Shown} (node : ℕ) → node < setting.nodes → View setting shown
     → MarkIs setting.nodes shown.from shown.marks shown.commits shown.off shown.moves node (shown.marks node)
-mark-is setting shown node low (inl h) =
+mark-is {setting} {shown} node low (inl h) =
     rw (h.marks_are node low, h.commits_are, h.off_is)
-    (rest-is shown.from shown.marks shown.moves setting h.course node h.sound h.begins)
-mark-is setting shown node low (inr h) = at_phase h.phase h.is_phase
-    (h.marks_are node low) h.commits_are (h.marks_are h.move.from
-    (subst (λ n. n < setting.nodes) (sym h.next.from) (stop-inside setting h.course h.sound)))
+    (rest-is shown.from shown.marks shown.moves node h.sound h.begins)
+mark-is {setting} {shown} node low (inr h) = at_phase h.phase h.is_phase (h.marks_are node low) h.commits_are
+    (h.marks_are h.move.from (subst (λ n. n < setting.nodes) (sym h.next.from) (stop-inside h.sound)))
   where
     at_phase : (phase : Phase) → IsPhase setting h.course h.move phase
         → shown.marks node ≡ phase_mark setting h.course h.move phase node
@@ -236,10 +231,9 @@ mark-is setting shown node low (inr h) = at_phase h.phase h.is_phase
         → shown.marks h.move.from ≡ phase_mark setting h.course h.move phase h.move.from
         → MarkIs setting.nodes shown.from shown.marks shown.commits shown.off shown.moves node (shown.marks node)
     at_phase (coming written) p m c f = rw (m, c, h.off_is, h.moves_are)
-        (coming-is setting shown.from shown.marks h.course h.move node h.sound h.next h.begins)
-    at_phase passage p m c f = rw (m, c, h.off_is, h.moves_are)
-        (passing-is setting shown.from shown.marks h.course h.move node h.sound h.next h.begins
-        (f ∙ ap (λ b. cond b (Gone h.move.number h.move.to) (mark_coming setting h.course h.move h.move.from))
+        (coming-is shown.from shown.marks node h.sound h.next h.begins)
+    at_phase passage p m c f = rw (m, c, h.off_is, h.moves_are) (passing-is shown.from shown.marks node h.sound h.next
+        h.begins (f ∙ ap (λ b. cond b (Gone h.move.number h.move.to) (mark_coming setting h.course h.move h.move.from))
         (eq-eqb h.move.from h.move.from refl)))
     at_phase (clearing erased purged) p m c f = rw (m, c, h.off_is, h.moves_are)
-        (clearing-is setting shown.from shown.marks h.course h.move node h.sound h.next h.begins purged)
+        (clearing-is shown.from shown.marks node h.sound h.next h.begins purged)
