@@ -1,9 +1,10 @@
 -- What isn't a visit of a move changes nothing that leads a find: a switch turns a Here into an Off, or back, where the
 -- subscriber rests.
-use Rattle.std.proofs.Common.{◌≡◌, ℕ, zero, suc, ◌<◌, ◌≤◌, ◌^◌, Bool, true, false, cond, not, ◌==◌, ◌&&◌, ◌||◌, List, [], ◌∷◌, ◌++◌, Option, Some, None, length, map, take, fold, refl, sym, ap, ◌∙◌, subst, arith}
+use Rattle.std.proofs.Common.{inl, inr, ◌≡◌, ℕ, zero, suc, ◌<◌, ◌≤◌, ◌^◌, Bool, true, false, cond, not, ◌==◌, ◌&&◌, ◌||◌, List, [], ◌∷◌, ◌++◌, Option, Some, None, length, map, take, fold, refl, sym, ap, ◌∙◌, subst, arith}
+use Rattle.std.proofs.lemmas.Bool.{cases_Bool, cond_both, and_parts, eqb-true, eq-eqb}
+use Rattle.std.proofs.Math.Bool.{and-false}
 use Rattle.std.specs.Prelude.{filter_map, slice_get}
 use Rattle.std.specs.List.{cons_option}
-use Rattle.std.proofs.lemmas.Bool.{and_parts, eqb-true, eq-eqb}
 use Rattle.std.proofs.lemmas.List.{append-nil, length-map, take_all}
 use Rattle.std.proofs.lemmas.List.Sums.{fold-append}
 use Rattle.entry_word.specs.Marks.{mark_in, says_here, says_off}
@@ -78,10 +79,6 @@ pub record IsSwitching (sub : ℕ) (history : History) (visit : Visit) : Type 0 
       × (step_writes setting course step ≡ mark_at (last_stop course) mark ∷ [])
   pub no_commit : commit_of (node_put visit.act) (mark_put visit.act) ≡ None
 
-false-and : (b : Bool) → (b && false) ≡ false
-false-and true = refl
-false-and false = refl
-
 pub switching : (sub : ℕ) (history : History) (visit : Visit) → is_put_for sub visit.act ≡ true
     → is_of_move sub history visit.act ≡ false → IsSwitching sub history visit
 switching sub history visit put quiet = at_act visit.act refl put is_switching
@@ -99,7 +96,7 @@ switching sub history visit put quiet = at_act visit.act refl put is_switching
         → (says_off (mark_put act) || (ends_off (puts_to sub history) && says_here (mark_put act))) ≡ true
         → IsSwitching sub history visit
     at_act (Put (Entry level cluster s) word) e p x = let none : (ends_off (puts_to sub history) && false)
-        ≡ true = x in let clash : false ≡ true = sym (false-and (ends_off (puts_to sub history))) ∙ none in cc
+        ≡ true = x in let clash : false ≡ true = sym (and-false (ends_off (puts_to sub history))) ∙ none in cc
     at_act (Put (Presence node s) word) e p x = at_mark (mark_in word) refl x
       where
         its : visit.act ≡ Put (Presence node sub) word
@@ -135,7 +132,7 @@ switching sub history visit put quiet = at_act visit.act refl put is_switching
           where
             was_off : ends_off (puts_to sub history) ≡ true
             was_off = (and_parts (ends_off (puts_to sub history)) true y).0
-        at_mark mark m y = let clash : false ≡ true = sym (false-and (ends_off (puts_to sub history))) ∙ y in cc
+        at_mark mark m y = let clash : false ≡ true = sym (and-false (ends_off (puts_to sub history))) ∙ y in cc
     at_act act e p x = cc
 
 get-next : (xs ys zs : List Visit) (visit : Visit) → xs ++ visit ∷ [] ≡ take (length (xs ++ visit ∷ [])) (ys ++ zs)
@@ -217,13 +214,9 @@ alike-switch marks_left rests {setting} {sub} {history} {visit} low legal legal_
 
     answered : (known : Option ℕ) → (lead known (there course) ≡ None) × (answers known (there course) ≡ true)
         × (known_after known (there course) ≡ known)
-    answered known = at_state course.is_off
-      where
-        at_state : (b : Bool) → (lead known (cond b (Off (length course.moves)) (Here (length course.moves))) ≡ None)
-            × (answers known (cond b (Off (length course.moves)) (Here (length course.moves))) ≡ true)
-            × (known_after known (cond b (Off (length course.moves)) (Here (length course.moves))) ≡ known)
-        at_state true = (refl, refl, refl)
-        at_state false = (refl, refl, refl)
+    answered known = cond_both course.is_off (Off (length course.moves)) (Here (length course.moves))
+        (λ mark. (lead known mark ≡ None) × (answers known mark ≡ true) × (known_after known mark ≡ known))
+        (λ e. (refl, refl, refl)) (λ e. (refl, refl, refl))
 
     after : (key : Key) → cell setting (history ++ visit ∷ []) key
         ≡ word_after key (cell setting history key) (Put (Presence switch.node sub) switch.word)
@@ -262,12 +255,11 @@ pub alike-step : CellsOfPuts → MarksAreLeft → StepsBeginAtRest
     → {setting : Setting} {sub : ℕ} (history : History) (visit : Visit) → setting.nodes ≤ 2 ^ 16
     → IsLegal setting sub history → IsLegal setting sub (history ++ visit ∷ [])
     → is_of_move sub history visit.act ≡ false → IsAlike setting sub history (history ++ visit ∷ [])
-alike-step cells marks_left rests {setting} {sub} history visit low legal legal_more quiet = at_put
-    (is_put_for sub visit.act) refl
-  where
-    at_put : (b : Bool) → is_put_for sub visit.act ≡ b → IsAlike setting sub history (history ++ visit ∷ [])
-    at_put false e = alike-other cells setting sub history visit e
-    at_put true e = alike-switch marks_left rests low legal legal_more e (switching sub history visit e quiet)
+alike-step cells marks_left rests {setting} {sub} history visit low legal legal_more quiet =
+    elim (cases_Bool (is_put_for sub visit.act)) [
+      | inl put ↦ alike-switch marks_left rests low legal legal_more put (switching sub history visit put quiet)
+      | inr other ↦ alike-other cells setting sub history visit other
+    ]
 
 -- what is led alike arrives alike
 pub led-alike : (setting : Setting) (marks others : ℕ → PresenceMark) → ((v : ℕ) → AreAlike (marks v) (others v))

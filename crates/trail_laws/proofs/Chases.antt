@@ -1,7 +1,7 @@
 -- Where the marks of a trail lead: the numbers rise from hop to hop, so that no node is met twice.
-use Rattle.std.proofs.Common.{◌≡◌, ◌≢◌, ◌⊎◌, inl, inr, ℕ, zero, suc, ◌+◌, ◌*◌, ◌<◌, ◌≤◌, max, Bool, true, false, cond, List, Option, Some, None, length, refl, sym, ap, ◌∙◌, subst, arith}
+use Rattle.std.proofs.lemmas.Bool.{cases_Bool, cases_eq}
+use Rattle.std.proofs.Common.{◌≡◌, ◌≢◌, ◌⊎◌, inl, inr, ℕ, zero, suc, ◌+◌, ◌*◌, ◌<◌, ◌≤◌, max, true, false, cond, List, Option, Some, None, length, refl, sym, ap, ◌∙◌, subst, arith}
 use Rattle.std.specs.Prelude.{nat_le}
-use Rattle.std.proofs.lemmas.Bool.{cases_eq}
 use Rattle.std.proofs.lemmas.Bool.Decides.{nat_tests}
 use Rattle.entry_word.specs.declared.mark.PresenceMark.{PresenceMark}
 use Rattle.entry_word.specs.declared.mark.PresenceMark.TheVariants.{Empty, Gone, Coming}
@@ -43,11 +43,10 @@ knows-less most number (Some k) h low = grind (arith, nat_tests)
 -- a stop that isn't the last is left by a move
 before-end : (from end : ℕ) (moves : List Move) (i v : ℕ) → stop_at from moves (length moves) ≡ end
     → i ≤ length moves → stop_at from moves i ≡ v → v ≢ end → i < length moves
-before-end from end moves i v ends low is_stop other = at_last (cases_eq i (length moves))
-  where
-    at_last : (i ≡ length moves) ⊎ (i ≢ length moves) → i < length moves
-    at_last (inl e) = absurd (other (sym is_stop ∙ (ap (stop_at from moves) e ∙ ends)))
-    at_last (inr before) = omega (arith, low, before)
+before-end from end moves i v ends low is_stop other = elim (cases_eq i (length moves)) [
+  | inl e ↦ absurd (other (sym is_stop ∙ (ap (stop_at from moves) e ∙ ends)))
+  | inr before ↦ omega (arith, low, before)
+]
 
 module _ (setting : Setting) (marks : ℕ → PresenceMark) where
   pub arrived : (known : Option ℕ) (node last most_hops most_way : ℕ) → node ≡ last
@@ -201,9 +200,7 @@ module _ (setting : Setting) (marks : ℕ → PresenceMark) where
           (back-leads last most p to known above_most knows comes answered)))
         where
           way : HasMetric setting → setting.distance v last ≤ weight_from moves i
-          way metric = subst (λ x. setting.distance x last ≤ weight_from moves i) is_stop
-              (subst (λ x. setting.distance (stop_at from moves i) x ≤ weight_from moves i) ends
-              (way-short from number moves i linked begins metric low))
+          way metric = rw (is_stop, ends) at (way-short from number moves i linked begins metric low)
       at_last (inr other) (inr off_to) =
           inr (others v inside other off_to, before-end from last moves i v ends low is_stop other)
 
@@ -218,15 +215,12 @@ module _ (setting : Setting) (marks : ℕ → PresenceMark) where
 
   pub passing-leads : (left p to : ℕ) (known : Option ℕ) → marks left ≡ Gone p to → marks to ≡ Coming p left
       → Arrival setting marks known to to 2 (setting.distance to left + (setting.distance left to + 0))
-  passing-leads left p to known gone comes = at_known (is_known p known) refl
-    where
-      at_known : (b : Bool) → is_known p known ≡ b → Arrival setting marks known to to 2
-          (setting.distance to left + (setting.distance left to + 0))
-      at_known true e = arrived known to to 2 _ refl (ap (answers known) comes ∙ e)
-      at_known false e =
-          hopped known to left to 1 (setting.distance left to + 0)
-          (ap (lead known) comes ∙ ap (λ b. cond b None (Some left)) e)
-          (left-leads left p to (known_after known (marks to)) gone comes)
+  passing-leads left p to known gone comes = elim (cases_Bool (is_known p known)) [
+    | inl e ↦ arrived known to to 2 _ refl (ap (answers known) comes ∙ e)
+    | inr e ↦ hopped known to left to 1 (setting.distance left to + 0)
+        (ap (lead known) comes ∙ ap (λ b. cond b None (Some left)) e)
+        (left-leads left p to (known_after known (marks to)) gone comes)
+  ]
 
   pub passing-exits : (from number left : ℕ) (moves : List Move) (most p to : ℕ)
       → stop_at from moves (length moves) ≡ left → number + length moves < p → left < setting.nodes → to < setting.nodes

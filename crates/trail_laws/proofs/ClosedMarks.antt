@@ -1,7 +1,8 @@
 -- The marks of a subscriber in closed form: at rest after a course, and in each phase of the move that comes next.
+use Rattle.std.proofs.lemmas.Bool.{or_parts, eqb-true}
+use Rattle.trail_laws.proofs.Links.{stop-inside, IsSound, base-low, renewed-low}
 use Rattle.std.proofs.Common.{◌≡◌, ◌≢◌, ℕ, suc, ◌<◌, ◌≤◌, Bool, true, false, cond, not, ◌==◌, ◌&&◌, ◌||◌, List, [], ◌∷◌, ◌++◌, length, map, drop, fold, refl, sym, ap, ◌∙◌, arith, length-append}
 use Rattle.std.specs.Prelude.{if◌then◌else◌, nat_le}
-use Rattle.std.proofs.lemmas.Bool.{eqb-true}
 use Rattle.std.proofs.lemmas.Bool.Decides.{nat_tests}
 use Rattle.std.proofs.lemmas.List.{drop-append-le, map-append}
 use Rattle.std.proofs.Math.ListN.{drop_of_length-le}
@@ -13,7 +14,6 @@ use Rattle.directory.specs.Settings.{Setting}
 use Rattle.directory.specs.Courses.{Move, Course, last_stop, base, next_move, MayMove}
 use Rattle.directory.specs.Writes.{Write, mark_at, trail}
 use Rattle.directory.specs.States.{mark_after}
-use Rattle.trail_laws.proofs.Links.{IsSound, base-low, renewed-low}
 use Rattle.node_set.specs.SetLaws.{has-append}
 
 -- the marks that moves leave behind: at each node the last leaving
@@ -82,13 +82,9 @@ pub trail_mark-none : (moves : List Move) (v : ℕ) (mark : PresenceMark)
     → has v (map (λ (move : Move). move.from) moves) ≡ false → trail_mark moves v mark ≡ mark
 unfolding trail_mark
 trail_mark-none [] v mark h = refl
-trail_mark-none (move ∷ later) v mark h = at_test (v == move.from) h (λ m g. trail_mark-none later v m g)
-  where
-    at_test : (b : Bool) → (b || has v (map (λ (m : Move). m.from) later)) ≡ false
-        → ((m : PresenceMark) → has v (map (λ (x : Move). x.from) later) ≡ false → trail_mark later v m ≡ m)
-        → trail_mark later v (cond b (Gone move.number move.to) mark) ≡ mark
-    at_test true h more = cc
-    at_test false h more = more mark h
+trail_mark-none (move ∷ later) v mark h =
+    let parts = or_parts (v == move.from) (has v (map (λ (m : Move). m.from) later)) h in
+    rw parts.0 (trail_mark-none later v mark parts.1)
 
 -- a move that comes next
 pub record IsNext (setting : Setting) (course : Course) (move : Move) : Type 0 where
@@ -99,6 +95,11 @@ pub record IsNext (setting : Setting) (course : Course) (move : Move) : Type 0 w
   pub inside : move.to < setting.nodes
   pub moving : move.to ≢ move.from
   pub is_on : course.is_off ≡ false
+
+-- it begins at a node of the network
+pub from-inside : {setting : Setting} {course : Course} {move : Move} → IsSound setting course
+    → IsNext setting course move → move.from < setting.nodes
+from-inside sound next = rw next.from (stop-inside sound)
 
 pub is-next : {setting : Setting} {course : Course} {node : ℕ} → MayMove setting course node
     → IsNext setting course (next_move setting course node)

@@ -1,6 +1,6 @@
 -- A Coming stands at one node, and leads to where the subscriber stands.
+use Rattle.std.proofs.lemmas.Bool.{cases_Bool, cases_cond, eqb-true}
 use Rattle.std.proofs.Common.{◌≡◌, inl, inr, ℕ, ◌+◌, ◌<◌, ◌≤◌, Bool, true, false, cond, ◌==◌, List, Option, length, refl, sym, ap, ◌∙◌, arith}
-use Rattle.std.proofs.lemmas.Bool.{eqb-true}
 use Rattle.node_set.specs.Ascending.{has}
 use Rattle.entry_word.specs.declared.mark.PresenceMark.TheVariants.{Empty, Here, Gone, Coming, Off}
 use Rattle.directory.specs.Settings.{Setting}
@@ -9,52 +9,44 @@ use Rattle.trail_laws.proofs.Links.{IsSound}
 use Rattle.trail_laws.proofs.ClosedMarks.{mark_coming, mark_erasing, mark_passing, rest_mark, since_top, there, trail_mark}
 use Rattle.trail_laws.proofs.ClosedViews.{clearing, coming, passage, Phase, phase_commits, phase_mark, Shown, View}
 use Rattle.trail_laws.proofs.Chases.{Arrival, arrived, left-leads, longer}
-use Rattle.trail_laws.proofs.LinkedStops.{last-left, LeavesMark}
+use Rattle.trail_laws.proofs.LinkedStops.{last-left}
 use Rattle.trail_laws.proofs.Tells.{next-stands, rest-stands, stands}
 use Rattle.trail_laws.proofs.Leads.{coming-there, first_of, low_of, passing-at_to, passing-gone, trail-linked}
 
 trail-not_coming : {setting : Setting} {course : Course} (v p u : ℕ) → IsSound setting course
     → trail_mark (since_top setting course) v Empty ≡ Coming p u → ⊥
-trail-not_coming {setting} {course} v p u sound h = at_left (last-left setting (first_of setting course) (low_of setting
-    course) (since_top setting course) v Empty (trail-linked sound))
-  where
-    at_left : LeavesMark setting (first_of setting course) (low_of setting course) (since_top setting course) v Empty
-        → ⊥
-    at_left (inl none) = let clash : Empty ≡ Coming p u = sym none.0 ∙ h in cc
-    at_left (inr left) = let clash : Gone left.move.number left.move.to ≡ Coming p u = sym left.mark_is ∙ h in cc
+trail-not_coming {setting} {course} v p u sound h =
+    elim (last-left setting (first_of setting course) (low_of setting course) (since_top setting course) v Empty
+    (trail-linked sound)) [
+      | inl none ↦ let clash : Empty ≡ Coming p u = sym none.0 ∙ h in cc
+      | inr left ↦ let clash : Gone left.move.number left.move.to ≡ Coming p u = sym left.mark_is ∙ h in cc
+    ]
 
 pub there-not_coming : (course : Course) (p u : ℕ) → there course ≡ Coming p u → ⊥
-there-not_coming course p u h = at_state course.is_off h
-  where
-    at_state : (b : Bool) → cond b (Off (length course.moves)) (Here (length course.moves)) ≡ Coming p u → ⊥
-    at_state true g = cc
-    at_state false g = cc
+there-not_coming course p u h =
+    elim (cases_cond course.is_off (Off (length course.moves)) (Here (length course.moves)) (Coming p u) (sym h))
+    [ inl is_off ↦ cc | inr here ↦ cc ]
 
 rest-not_coming : {setting : Setting} {course : Course} (v p u : ℕ) → IsSound setting course
     → rest_mark setting course v ≡ Coming p u → ⊥
-rest-not_coming {setting} {course} v p u sound h = at_place (v == last_stop course) h
-  where
-    at_place : (b : Bool) → cond b (there course) (trail_mark (since_top setting course) v Empty) ≡ Coming p u → ⊥
-    at_place true g = there-not_coming course p u g
-    at_place false g = trail-not_coming v p u sound g
+rest-not_coming {setting} {course} v p u sound h = elim (cases_Bool (v == last_stop course)) [
+  | inl e ↦ there-not_coming course p u (rw e at h)
+  | inr e ↦ trail-not_coming v p u sound (rw e at h)
+]
 
 coming-not : {setting : Setting} {course : Course} (move : Move) (v p u : ℕ) → IsSound setting course
     → mark_coming setting course move v ≡ Coming p u → ((v == move.to) ≡ true) × (u ≡ move.from)
-coming-not {setting} {course} move v p u sound h = at_to (v == move.to) h
-  where
-    at_to : (b : Bool) → cond b (Coming move.number move.from) (rest_mark setting course v) ≡ Coming p u → (b ≡ true)
-        × (u ≡ move.from)
-    at_to true g = (refl, cc)
-    at_to false g = absurd (rest-not_coming v p u sound g)
+coming-not {setting} {course} move v p u sound h = elim (cases_Bool (v == move.to)) [
+  | inl e ↦ let comes : Coming move.number move.from ≡ Coming p u = rw e at h in (e, cc)
+  | inr e ↦ absurd (rest-not_coming v p u sound (rw e at h))
+]
 
 passing-not : {setting : Setting} {course : Course} (move : Move) (v p u : ℕ) → IsSound setting course
     → mark_passing setting course move v ≡ Coming p u → ((v == move.to) ≡ true) × (u ≡ move.from)
-passing-not {setting} {course} move v p u sound h = at_from (v == move.from) h
-  where
-    at_from : (b : Bool) → cond b (Gone move.number move.to) (mark_coming setting course move v) ≡ Coming p u
-        → ((v == move.to) ≡ true) × (u ≡ move.from)
-    at_from true g = cc
-    at_from false g = coming-not move v p u sound g
+passing-not {setting} {course} move v p u sound h = elim (cases_Bool (v == move.from)) [
+  | inl e ↦ let clash : Gone move.number move.to ≡ Coming p u = rw e at h in cc
+  | inr e ↦ coming-not move v p u sound (rw e at h)
+]
 
 clearing-not : {setting : Setting} {course : Course} (move : Move) (purged : List ℕ) (v p u : ℕ)
     → IsSound setting course → mark_erasing setting course move purged v ≡ Coming p u → ⊥

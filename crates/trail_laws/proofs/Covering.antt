@@ -8,7 +8,7 @@ use Rattle.directory.specs.Settings.{Setting}
 use Rattle.directory.specs.Courses.{Move}
 use Rattle.directory.specs.Histories.{puts_to}
 use Rattle.directory.specs.Puts.{course_in}
-use Rattle.directory.specs.Standing.{commit_by, commits, number, standing}
+use Rattle.directory.specs.Standing.{commit_by, number, standing}
 use Rattle.trail_laws.specs.Trail.{mark_seen, MarksTell, MarkTells}
 use Rattle.trail_laws.specs.Phases.{ComingStands, IsBeforeCommit, IsPassingFrom, IsSettled, PhasesCover}
 use Rattle.trail_laws.specs.Ways.{StandsInside}
@@ -21,7 +21,11 @@ use Rattle.std.proofs.lemmas.Option.{same_Some}
 
 pub covers : Laws → MarksTell → StandsInside → PhasesCover
 unfolding HistoryView
-covers laws marks inside setting sub history low legal = at_count (view-counts (view laws history low legal))
+covers laws marks inside setting sub history low legal = elim (view-counts (view laws history low legal)) [
+  | inl before ↦ inl before
+  | inr all ↦ at_mark all (mark_seen setting sub history (standing setting sub history)) refl
+      (marks setting sub history low legal (standing setting sub history) (inside setting sub history low legal))
+]
   where
     Goal : Type 0
     Goal = IsBeforeCommit setting sub history
@@ -36,12 +40,6 @@ covers laws marks inside setting sub history low legal = at_count (view-counts (
       λ from comes.
           let clash : mark ≡ Coming (number sub history) from = sym e ∙ comes in cc,
     ))
-
-    at_count : (length (course_in setting sub (puts_to sub history)).moves ≡ suc (length (commits sub history)))
-        ⊎ (length (course_in setting sub (puts_to sub history)).moves ≡ length (commits sub history)) → Goal
-    at_count (inl before) = inl before
-    at_count (inr all) = at_mark all (mark_seen setting sub history (standing setting sub history)) refl
-        (marks setting sub history low legal (standing setting sub history) (inside setting sub history low legal))
 
 -- a move that isn't committed has its Coming where it goes
 last-is : (xs : List Move) (x y : Move) → last_or None (xs ++ x ∷ []) ≡ Some y → x ≡ y

@@ -1,6 +1,7 @@
 -- How the marks of a chase follow one another, by the looks of a find: what a Gone or a Coming tells of the node where
 -- it leads holds at every later look.
-use Rattle.std.proofs.Common.{◌≡◌, ◌⊎◌, inl, inr, ℕ, zero, suc, ◌-◌, ◌<◌, ◌≤◌, ◌^◌, max, Bool, true, false, cond, List, [], ◌∷◌, ◌++◌, Option, Some, None, length, refl, sym, ap, ◌∙◌, subst, arith}
+use Rattle.std.proofs.lemmas.Bool.{cases_Bool}
+use Rattle.std.proofs.Common.{◌≡◌, ◌⊎◌, inl, inr, ℕ, zero, suc, ◌-◌, ◌<◌, ◌≤◌, ◌^◌, max, true, false, List, [], ◌∷◌, ◌++◌, Option, Some, None, length, refl, sym, ap, ◌∙◌, subst, arith}
 use Rattle.std.specs.Prelude.{flat_map}
 use Rattle.std.proofs.lemmas.Bool.Decides.{nat_tests}
 use Rattle.entry_word.specs.Marks.{mark_in}
@@ -155,18 +156,11 @@ module _ (laws : ChaseLaws) {setting : Setting} (history : History) (call : Find
   continues (Off q) tells more = ended-so (OffAt node q chase.level chase.weight)
   continues (Gone q to) tells more = hop-rises (known_with q chase.known) chase.level chase.weight chase.hops_left to
       (after_gone q) (gone-leads laws (before t history) chase.known node q to low legal tells) more
-  continues (Coming q from) tells more = at_known (is_known q chase.known) refl more
-    where
-      at_known : (b : Bool) → is_known q chase.known ≡ b
-          → Later (cond b (ended (At node q chase.level chase.weight))
-          (hop setting chase.known chase.level chase.weight chase.hops_left node from))
-          → Rises (after_coming behind q) (marks_chased setting call
-          (cond b (ended (At node q chase.level chase.weight))
-          (hop setting chase.known chase.level chase.weight chase.hops_left node from)) words)
-      at_known true e rest = subst (Rises (after_coming behind q))
-          (sym (ended-so (At node q chase.level chase.weight))) (none-rise (after_coming behind q))
-      at_known false e rest = hop-rises chase.known chase.level chase.weight chase.hops_left from
-          (after_coming behind q) (coming-leads laws q from low legal tells is e) rest
+  continues (Coming q from) tells more = elim (cases_Bool (is_known q chase.known)) [
+    | inl e ↦ rw (e, ended-so (At node q chase.level chase.weight)) (none-rise (after_coming behind q))
+    | inr e ↦ rw e (hop-rises chase.known chase.level chase.weight chase.hops_left from (after_coming behind q)
+        (coming-leads laws q from low legal tells is e) (rw e at more))
+  ]
 
   chase-rises : node < setting.nodes
       → Later (after_mark setting chase node (mark_seen setting call.sub (before t history) node))
@@ -225,8 +219,8 @@ looks-rise laws history actor call low inside legal [] earliest pursuit behind s
     none-rise behind
 looks-rise laws {setting} history actor call low inside legal (t ∷ later) earliest pursuit behind safe tracked
     (first, (key, wanted, is_look, rest)) =
-    subst (Rises behind) (sym read) (look-rises laws history call t pursuit key (flat_map (words_at setting history)
-    later) behind low legal_now safe_now
+    subst (Rises behind) (sym read) (look-rises laws history call t pursuit key
+    (flat_map (words_at setting history) later) behind low legal_now safe_now
     (tracked-later setting call.sub earliest t history behind pursuit first tracked) wanted
     (λ b its. looks-rise laws history actor call low inside legal later (suc t) next b safe_next its rest))
   where

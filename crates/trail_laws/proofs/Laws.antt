@@ -6,16 +6,13 @@ use Rattle.entry_word.specs.declared.mark.PresenceMark.TheVariants.{Empty}
 use Rattle.entry_word.specs.declared.address.Address.{Address}
 use Rattle.directory.specs.Settings.{Setting, start}
 use Rattle.directory.specs.Histories.{History, puts_to}
-use Rattle.directory.specs.Courses.{Move, stop}
-use Rattle.directory.specs.Puts.{course_in}
+use Rattle.directory.specs.Courses.{Move, stop, course_at}
+use Rattle.directory.specs.Puts.{course_in, steps_in}
 use Rattle.directory.specs.Legal.{IsLegal}
 use Rattle.directory.specs.Standing.{commits, off, standing}
 use Rattle.directory.specs.Statements.{CommitsAreTold, EntriesAreLeft, LegalIsAmid, MarksAreLeft, OffIsTold}
-use Rattle.trail_laws.specs.Trail.{AddressesLead, ComingsLead, EntriesTell, entry_seen, EntryTells, IsLed, mark_seen, MarksTell, MarkTells, OneComing, TopHasEntry}
-use Rattle.directory.specs.Courses.{course_at}
-use Rattle.directory.specs.Puts.{steps_in}
+use Rattle.trail_laws.specs.Trail.{AddressesLead, ComingsLead, EntriesTell, entry_seen, EntryTells, IsLed, mark_seen, MarksTell, MarkTells, OneComing, TopHasEntry, answers}
 use Rattle.directory.specs.Parts.{lead}
-use Rattle.trail_laws.specs.Trail.{answers}
 use Rattle.trail_laws.proofs.ClosedViews.{View}
 use Rattle.trail_laws.proofs.Views.{legal-view, shown}
 use Rattle.trail_laws.proofs.Tells.{mark-is, MarkIs}

@@ -1,7 +1,9 @@
 -- Where the marks lead from the nodes of a course, in each phase.
-use Rattle.std.proofs.Common.{◌≡◌, ◌≢◌, ℕ, zero, suc, ◌+◌, ◌-◌, ◌*◌, ◌<◌, ◌≤◌, Bool, true, false, cond, ◌==◌, List, [], ◌∷◌, ◌++◌, Option, length, map, drop, fold, refl, sym, ap, ◌∙◌, subst, arith, length-append}
+use Rattle.std.proofs.Math.Seq.{drop-nil}
+use Rattle.std.proofs.lemmas.Bool.{cases_Bool, cond_both, eq-eqb, ne_eqb}
+use Rattle.trail_laws.proofs.ClosedMarks.{from-inside, IsNext, rest_mark, mark_coming, mark_passing, mark_erasing, since_top, there, trail_mark, trail_mark-push}
+use Rattle.std.proofs.Common.{inl, inr, ◌≡◌, ◌≢◌, ℕ, zero, suc, ◌+◌, ◌-◌, ◌*◌, ◌<◌, ◌≤◌, Bool, true, false, cond, ◌==◌, List, [], ◌∷◌, ◌++◌, Option, length, map, drop, fold, refl, sym, ap, ◌∙◌, subst, arith, length-append}
 use Rattle.std.specs.Prelude.{if◌then◌else◌, nat_le, slice_index, sum_by}
-use Rattle.std.proofs.lemmas.Bool.{eq-eqb, ne_eqb}
 use Rattle.std.proofs.lemmas.Bool.Decides.{nat_tests}
 use Rattle.std.proofs.lemmas.List.{drop-append-le, get_or_append_left, length-drop, length-map, map-append}
 use Rattle.std.proofs.lemmas.List.Sums.{fold-append}
@@ -11,7 +13,6 @@ use Rattle.directory.specs.Settings.{Setting}
 use Rattle.directory.specs.Courses.{Move, Course, base, last_stop}
 use Rattle.trail_laws.specs.Trail.{answers, KnowsAtMost}
 use Rattle.trail_laws.proofs.Links.{AreLinked, IsSound, base-low, linked-push, stop-inside}
-use Rattle.trail_laws.proofs.ClosedMarks.{IsNext, rest_mark, mark_coming, mark_passing, mark_erasing, since_top, there, trail_mark, trail_mark-push}
 use Rattle.trail_laws.proofs.GoneCounts.{above}
 use Rattle.trail_laws.proofs.Chases.{Arrival, back-leads, coming-exits, Exits, leads, longer, passing-exits, passing-leads, rest-exits}
 use Rattle.trail_laws.proofs.LinkedStops.{stop_at, stops-inside, weight_from}
@@ -26,13 +27,9 @@ stop-end from (m ∷ later) = stop-end m.to later
 drop-count : (moves : List Move) (b : ℕ) → b ≤ length moves → b + length (drop b moves) ≡ length moves
 drop-count moves b low = omega (arith, length-drop b moves, low)
 
-nothing-dropped : {A : Type 0} (n : ℕ) → drop {A = A} n [] ≡ []
-nothing-dropped zero = refl
-nothing-dropped (suc n) = refl
-
 drop-more : (b i : ℕ) (xs : List Move) → drop i (drop b xs) ≡ drop (b + i) xs
 drop-more zero i xs = let e : 0 + i ≡ i = omega arith in rw e refl
-drop-more (suc b) i [] = nothing-dropped i ∙ sym (nothing-dropped (suc b + i))
+drop-more (suc b) i [] = drop-nil i ∙ sym (drop-nil (suc b + i))
 drop-more (suc b) i (x ∷ xs) = let e : suc b + i ≡ suc (b + i) = omega arith in rw e (drop-more b i xs)
 
 -- the last renewal of a lower level is no earlier than that of the top level
@@ -43,20 +40,19 @@ base-order : (setting : Setting) (level low high from number : ℕ) (moves : Lis
 unfolding AreLinked
 base-order setting level low high from number [] below linked order l h = order
 base-order setting level low high from number (m ∷ later) below (f0, f1, f2, f3, f4, f5, f6, f7) order l h =
-    at_tests (nat_le setting.top m.renewed) (nat_le level m.renewed) refl refl
-    (λ x y a b c. base-order setting level x y m.to (suc number) later below f7 a b c)
-  where
-    at_tests : (s t : Bool) → nat_le setting.top m.renewed ≡ s → nat_le level m.renewed ≡ t
-        → ((x y : ℕ) → y ≤ x → x ≤ suc number → y ≤ suc number
-        → fold (λ k (n : Move). if nat_le setting.top n.renewed then n.number else k) y later ≤ fold
-        (λ k (n : Move). if nat_le level n.renewed then n.number else k) x later)
-        → fold (λ k (n : Move). if nat_le setting.top n.renewed then n.number else k)
-        (cond s m.number high) later ≤ fold (λ k (n : Move). if nat_le level n.renewed then n.number else k)
-        (cond t m.number low) later
-    at_tests true true e f more = more m.number m.number (omega arith) (omega (arith, f0)) (omega (arith, f0))
-    at_tests true false e f more = absurd (grind (arith, nat_tests, below))
-    at_tests false true e f more = more m.number high (omega (arith, f0, h)) (omega (arith, f0)) (omega (arith, h))
-    at_tests false false e f more = more low high order (omega (arith, l)) (omega (arith, h))
+    elim (cases_Bool (nat_le setting.top m.renewed)) [
+      | inl e ↦ elim (cases_Bool (nat_le level m.renewed)) [
+        | inl f ↦ rw (e, f) (base-order setting level m.number m.number m.to (suc number) later below f7
+            (omega arith) (omega (arith, f0)) (omega (arith, f0)))
+        | inr f ↦ absurd (grind (arith, nat_tests, below))
+      ]
+      | inr e ↦ elim (cases_Bool (nat_le level m.renewed)) [
+        | inl f ↦ rw (e, f) (base-order setting level m.number high m.to (suc number) later below f7
+            (omega (arith, f0, h)) (omega (arith, f0)) (omega (arith, h)))
+        | inr f ↦ rw (e, f) (base-order setting level low high m.to (suc number) later below f7 order
+            (omega (arith, l)) (omega (arith, h)))
+      ]
+    ]
 
 pub base-top : {setting : Setting} {course : Course} (level : ℕ) → IsSound setting course → level ≤ setting.top
     → base setting.top course.moves ≤ base level course.moves
@@ -138,11 +134,8 @@ stop-leads {setting} {course} marks last most more_hops more_way sound =
 
 -- ---- at rest
 answered-there : (course : Course) (known : Option ℕ) → answers known (there course) ≡ true
-answered-there course known = at_state course.is_off
-  where
-    at_state : (b : Bool) → answers known (cond b (Off (length course.moves)) (Here (length course.moves))) ≡ true
-    at_state true = refl
-    at_state false = refl
+answered-there course known = cond_both course.is_off (Off (length course.moves)) (Here (length course.moves))
+    (λ mark. answers known mark ≡ true) (λ e. refl) (λ e. refl)
 
 pub rest-there : (setting : Setting) (course : Course) → rest_mark setting course (last_stop course) ≡ there course
 rest-there setting course = ap (λ b. cond b (there course)
@@ -206,11 +199,8 @@ module _ {setting : Setting} {course : Course} {move : Move} (marks : ℕ → Pr
 module _ {setting : Setting} {course : Course} {move : Move} (marks : ℕ → PresenceMark)
     (sound : IsSound setting course) (next : IsNext setting course move)
     (marks_are : (v : ℕ) → v < setting.nodes → marks v ≡ mark_passing setting course move v) where
-  from-inside : move.from < setting.nodes
-  from-inside = subst (λ n. n < setting.nodes) (sym next.from) (stop-inside sound)
-
   pub passing-gone : marks move.from ≡ Gone move.number move.to
-  passing-gone = marks_are move.from from-inside ∙ ap (λ b. cond b (Gone move.number move.to)
+  passing-gone = marks_are move.from (from-inside sound next) ∙ ap (λ b. cond b (Gone move.number move.to)
       (mark_coming setting course move move.from)) (eq-eqb move.from move.from refl)
 
   pub passing-at_to : marks move.to ≡ Coming move.number move.from
@@ -228,7 +218,8 @@ module _ {setting : Setting} {course : Course} {move : Move} (marks : ℕ → Pr
       stop-leads marks move.to (suc (length course.moves)) 1 (2 * setting.distance move.from move.to) sound
       (omega arith) (passing-exits setting marks (first_of setting course) (low_of setting course) move.from
       (since_top setting course) (suc (length course.moves)) move.number move.to (trail-ends sound ∙ sym next.from)
-      (omega (arith, trail-count sound, next.number)) from-inside next.inside passing-gone passing-at_to (λ w low
+      (omega (arith, trail-count sound, next.number)) (from-inside sound next) next.inside passing-gone passing-at_to
+      (λ w low
       off_from off_to. marks_are w low
       ∙ (ap (λ b. cond b (Gone move.number move.to) (mark_coming setting course move w)) (ne_eqb w move.from off_from)
       ∙ (ap (λ b. cond b (Coming move.number move.from) (rest_mark setting course w)) (ne_eqb w move.to off_to)
@@ -247,7 +238,7 @@ with-linked {setting} {course} {move} sound next =
     linked-push setting (first_of setting course) (low_of setting course) (since_top setting course) move
     (omega (arith, next.number, trail-count sound)) (next.from ∙ (sym (trail-ends sound)
     ∙ stop-end (first_of setting course) (since_top setting course)))
-    (subst (λ n. n < setting.nodes) (sym next.from) (stop-inside sound)) next.inside next.moving
+    (from-inside sound next) next.inside next.moving
     next.renewed next.weight (trail-linked sound)
 
 -- the trail with one move more ends the course with it

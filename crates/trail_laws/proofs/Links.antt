@@ -1,5 +1,6 @@
 -- The moves of a course are linked: each begins where the one before ended, and is numbered after it.
-use Rattle.std.proofs.Common.{◌≡◌, ◌≢◌, ℕ, suc, ◌+◌, ◌<◌, ◌≤◌, Bool, true, false, cond, List, [], ◌∷◌, ◌++◌, length, fold, refl, ◌∙◌, arith, length-append}
+use Rattle.std.proofs.Common.{inl, inr, ◌≡◌, ◌≢◌, ℕ, suc, ◌+◌, ◌<◌, ◌≤◌, List, [], ◌∷◌, ◌++◌, length, fold, refl, ◌∙◌, arith, length-append}
+use Rattle.std.proofs.lemmas.Bool.{cases_Bool}
 use Rattle.std.specs.Prelude.{nat_le, if◌then◌else◌}
 use Rattle.directory.specs.Settings.{Setting}
 use Rattle.directory.specs.Courses.{Step, move_to, switch_off, switch_on, Move, Course, last_stop, base, next_move, after_step, after_steps, MayStep, MaySteps}
@@ -81,14 +82,13 @@ base-from : (level last from number : ℕ) (setting : Setting) (moves : List Mov
 unfolding AreLinked
 base-from level last from number setting [] low linked = omega (arith, low)
 base-from level last from number setting (move ∷ later) low (f0, f1, f2, f3, f4, f5, f6, f7) =
-    at_test (nat_le level move.renewed) (λ l h. base-from level l move.to (suc number) setting later h f7)
-  where
-    at_test : (b : Bool) → ((l : ℕ) → l ≤ suc number → fold
-        (λ k (m : Move). if nat_le level m.renewed then m.number else k) l later ≤ suc number + length later)
-        → fold (λ l (m : Move). if nat_le level m.renewed then m.number else l)
-        (cond b move.number last) later ≤ number + suc (length later)
-    at_test true more = omega (arith, more move.number (omega (arith, f0)))
-    at_test false more = omega (arith, more last (omega (arith, low)))
+    elim (cases_Bool (nat_le level move.renewed)) [
+      | inl e ↦ rw e (omega (
+        arith,
+        base-from level move.number move.to (suc number) setting later (omega (arith, f0)) f7,
+      ))
+      | inr e ↦ rw e (omega (arith, base-from level last move.to (suc number) setting later (omega (arith, low)) f7))
+    ]
 
 pub base-low : {setting : Setting} {course : Course} (level : ℕ) → IsSound setting course
     → base level course.moves ≤ length course.moves

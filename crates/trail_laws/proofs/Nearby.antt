@@ -1,7 +1,9 @@
 -- Each level has an address at the home of a node that is near where the subscriber stands.
+use Rattle.std.proofs.Math.Bool.{and-false}
+use Rattle.std.proofs.lemmas.Bool.{cases_Bool, cond_both, eqb-true, eq-eqb}
+use Rattle.trail_laws.proofs.ClosedMarks.{from-inside, base-with, IsNext}
 use Rattle.std.proofs.Common.{◌≡◌, inl, inr, ℕ, suc, ◌<◌, ◌≤◌, Bool, true, false, cond, not, ◌==◌, ◌&&◌, List, [], ◌∷◌, ◌++◌, Some, None, map, take, refl, sym, ap, ◌∙◌, subst, arith}
 use Rattle.std.specs.Prelude.{nat_le}
-use Rattle.std.proofs.lemmas.Bool.{eqb-true, eq-eqb}
 use Rattle.std.proofs.lemmas.Bool.Decides.{nat_tests}
 use Rattle.node_set.specs.Ascending.{has}
 use Rattle.node_set.specs.SetLaws.{has-passing, passing_over}
@@ -11,8 +13,7 @@ use Rattle.directory.specs.Courses.{address_node, base, Course, Move}
 use Rattle.directory.specs.Writes.{old_home}
 use Rattle.directory.specs.Standing.{commit_by}
 use Rattle.trail_laws.specs.Trail.{HasMetric}
-use Rattle.trail_laws.proofs.Links.{base-low, IsSound, stop-inside}
-use Rattle.trail_laws.proofs.ClosedMarks.{base-with, IsNext}
+use Rattle.trail_laws.proofs.Links.{base-low, IsSound}
 use Rattle.trail_laws.proofs.ClosedEntries.{entry_written, new_entry, rest_entry}
 use Rattle.trail_laws.proofs.ClosedViews.{clearing, coming, IsPhase, old_levels, passage, Phase, phase_commits, phase_entry, renewed_levels, Shown, View, while_clearing}
 use Rattle.trail_laws.proofs.ClosedWrites.{in-levels}
@@ -29,7 +30,7 @@ near-kept : {setting : Setting} {course : Course} {move : Move} (level : ℕ) �
     → setting.distance (address_node course level) move.to < setting.threshold level
 near-kept {setting} {course} {move} level metric sound next below lazy e = omega (
   arith,
-  metric.detour (address_node course level) move.from move.to old_inside from_inside next.inside,
+  metric.detour (address_node course level) move.from move.to old_inside (from-inside sound next) next.inside,
   address-near level sound metric,
   ap (setting.distance (address_node course level)) next.from,
   next.weight,
@@ -39,9 +40,6 @@ near-kept {setting} {course} {move} level metric sound next below lazy e = omega
       (lazy-whole setting (course.moves ++ move ∷ []) level below lazy),
 )
   where
-    from_inside : move.from < setting.nodes
-    from_inside = subst (λ n. n < setting.nodes) (sym next.from) (stop-inside sound)
-
     old_inside : address_node course level < setting.nodes
     old_inside = old-inside level sound
 
@@ -57,16 +55,10 @@ rest-has setting course level =
 written-has : (setting : Setting) (course : Course) (move : Move) (written : List ℕ) (level : ℕ)
     → (address : Address) × (entry_written setting course move written level
     (setting.home level (address_node course level)) ≡ Some address)
-written-has setting course move written level = at_test
-    (has level written && setting.home level (address_node course level) == setting.home level move.to)
-  where
-    at_test : (b : Bool) → (address : Address) × (cond b (new_entry move)
-        (rest_entry setting course level (setting.home level (address_node course level))) ≡ Some address)
-    at_test true = (record { number = move.number; node = move.to }, refl)
-    at_test false = (
-      record { number = base level course.moves; node = address_node course level },
-      rest-has setting course level,
-    )
+written-has setting course move written level =
+    cond_both (has level written && setting.home level (address_node course level) == setting.home level move.to)
+    (new_entry move) (rest_entry setting course level (setting.home level (address_node course level)))
+    (λ entry. (address : Address) × (entry ≡ Some address)) (λ e. (_, refl)) (λ e. (_, rest-has setting course level))
 
 -- the home of a node has an address, and while no level has gathered its threshold the node is near where the
 -- subscriber stands
@@ -165,11 +157,10 @@ level-has {setting} {shown} level below (inr h) = at_phase h.phase h.is_phase
       address-near level h.sound metric,
       lazy-front setting course.moves (move ∷ []) level below (subst (AreLazy setting) h.moves_are lazy),
     ))
-    at_phase passage p e c = at_level (nat_le level move.renewed) refl
-      where
-        at_level : (b : Bool) → nat_le level move.renewed ≡ b → HasNear setting shown level
-        at_level true t = new_one c (e new_home ∙ new_written t)
-        at_level false t = old_one (found_old (renewed_levels move) e) (old_near c t)
+    at_phase passage p e c = elim (cases_Bool (nat_le level move.renewed)) [
+      | inl t ↦ new_one c (e new_home ∙ new_written t)
+      | inr t ↦ old_one (found_old (renewed_levels move) e) (old_near c t)
+    ]
     at_phase (clearing erased purged) (while_clearing n k in_order) e c = at_level
         (nat_le level move.renewed) refl
       where
@@ -180,13 +171,9 @@ level-has {setting} {shown} level below (inr h) = at_phase h.phase h.is_phase
             (suc move.renewed) (let high : move.renewed < level = grind (arith, nat_tests, t) in omega
             (arith, high)))
 
-        never : (b : Bool) → (b && false) ≡ false
-        never true = refl
-        never false = refl
-
         kept : nat_le level move.renewed ≡ true → (b : Bool) → (new_home == its_old) ≡ b
             → (has level (take n (old_levels setting course move)) && b) ≡ false
-        kept t false e2 = never (has level (take n (old_levels setting course move)))
+        kept t false e2 = and-false (has level (take n (old_levels setting course move)))
         kept t true e2 = ap (λ b. b && true) (not-taken level n (old_levels setting course move)
             (has-passing (λ l. not (old_home setting course l == setting.home l move.to)) level 0
             (suc move.renewed) (omega arith) (let low : level ≤ move.renewed = grind

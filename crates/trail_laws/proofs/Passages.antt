@@ -205,8 +205,8 @@ past-all : PassageLaws → {setting : Setting} {sub : ℕ} (c : Commit) (history
     → c.to < setting.nodes → IsLegal setting sub history → IsPast setting sub c history
 past-all laws {setting} {sub} c history low inside legal =
     by_fronts (IsPast setting sub c) history none (λ t visit found past. past-step laws c (take t history) visit low
-    inside (front-legal laws.fronts setting sub history t low legal) (subst (IsLegal setting sub) (take-more history t
-    visit found) (front-legal laws.fronts setting sub history (suc t) low legal)) past)
+    inside (front-legal laws.fronts setting sub history t low legal) (subst (IsLegal setting sub)
+    (take-more history t visit found) (front-legal laws.fronts setting sub history (suc t) low legal)) past)
   where
     none : IsPast setting sub c []
     none any = cc

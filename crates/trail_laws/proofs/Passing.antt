@@ -1,5 +1,7 @@
 -- What a legal history is at its fronts: they are legal, numbers only grow, and a look changes nothing.
-use Rattle.std.proofs.Common.{◌<◌, ◌≡◌, ℕ, zero, suc, ◌+◌, ◌-◌, ◌≤◌, ◌^◌, Bool, true, false, cond, List, [], ◌∷◌, ◌++◌, Some, length, take, filter, refl, sym, ap, ◌∙◌, subst, arith, length-append}
+use Rattle.std.proofs.Math.Seq.{take-nil}
+use Rattle.std.proofs.Common.{inl, inr, ◌<◌, ◌≡◌, ℕ, zero, suc, ◌+◌, ◌-◌, ◌≤◌, ◌^◌, Bool, false, List, [], ◌∷◌, ◌++◌, Some, length, take, filter, refl, sym, ap, ◌∙◌, subst, arith, length-append}
+use Rattle.std.proofs.lemmas.Bool.{cases_Bool}
 use Rattle.std.specs.Prelude.{slice_get}
 use Rattle.std.proofs.lemmas.List.{append-nil, length-take}
 use Rattle.std.proofs.lemmas.List.Elements.{filter-append}
@@ -23,14 +25,10 @@ filter-front : (p : Visit → Bool) (t : ℕ) (xs : List Visit)
     → filter p (take t xs) ≡ take (length (filter p (take t xs))) (filter p xs)
 filter-front p zero xs = refl
 filter-front p (suc t) [] = refl
-filter-front p (suc t) (x ∷ xs) = at_test (p x) (filter-front p t xs)
-  where
-    at_test : (b : Bool) → filter p (take t xs) ≡ take (length (filter p (take t xs))) (filter p xs)
-        → cond b (x ∷ filter p (take t xs)) (filter p (take t xs))
-        ≡ take (length (cond b (x ∷ filter p (take t xs)) (filter p (take t xs))))
-        (cond b (x ∷ filter p xs) (filter p xs))
-    at_test true h = ap (λ zs. x ∷ zs) h
-    at_test false h = h
+filter-front p (suc t) (x ∷ xs) = elim (cases_Bool (p x)) [
+  | inl e ↦ rw e (ap (λ zs. x ∷ zs) (filter-front p t xs))
+  | inr e ↦ rw e (filter-front p t xs)
+]
 
 -- a front of a legal history is legal
 pub front-legal : FrontsAreLegal → (setting : Setting) (sub : ℕ) (history : History) (t : ℕ) → setting.nodes ≤ 2 ^ 16
@@ -72,11 +70,7 @@ module _ (fronts : FrontsAreLegal) {setting : Setting} {sub : ℕ} (history : Hi
 
 take-further : (k t : ℕ) (xs : History) → (rest : History) × (take (k + t) xs ≡ take t xs ++ rest)
 take-further k zero xs = (take (k + 0) xs, refl)
-take-further k (suc t) [] = ([], at_length (k + suc t))
-  where
-    at_length : (n : ℕ) → take {A = Visit} n [] ≡ []
-    at_length zero = refl
-    at_length (suc n) = refl
+take-further k (suc t) [] = ([], take-nil (k + suc t))
 take-further k (suc t) (x ∷ xs) =
     let more = take-further k t xs in
     let e : k + suc t ≡ suc (k + t) = omega arith in (more.0, rw e (ap (λ zs. x ∷ zs) more.1))

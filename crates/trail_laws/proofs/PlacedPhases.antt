@@ -1,4 +1,5 @@
 -- What an address tells, and where the marks lead from its node: at rest, and in each phase of a move.
+use Rattle.trail_laws.proofs.ClosedMarks.{from-inside, IsNext, mark_coming, mark_erasing, mark_passing, rest_mark}
 use Rattle.std.proofs.Common.{◌==◌, ◌≡◌, ◌≢◌, ◌⊎◌, inl, inr, ℕ, zero, suc, ◌<◌, ◌≤◌, true, List, [], ◌∷◌, ◌++◌, Option, length, map, refl, sym, ap, ◌∙◌, subst, arith}
 use Rattle.std.specs.Prelude.{slice_index}
 use Rattle.std.proofs.lemmas.Bool.{eqb-true}
@@ -11,8 +12,7 @@ use Rattle.directory.specs.Settings.{Setting}
 use Rattle.directory.specs.Courses.{Move, Course, address_node, base, last_stop}
 use Rattle.directory.specs.Standing.{Commit, commit_by}
 use Rattle.trail_laws.specs.Trail.{answers, KnowsAtMost}
-use Rattle.trail_laws.proofs.Links.{IsSound, base-low, stop-inside, moves-count}
-use Rattle.trail_laws.proofs.ClosedMarks.{IsNext, mark_coming, mark_erasing, mark_passing, rest_mark}
+use Rattle.trail_laws.proofs.Links.{IsSound, base-low, moves-count}
 use Rattle.trail_laws.proofs.Holders.{IsNew, IsOld, move_address, old_address}
 use Rattle.trail_laws.proofs.GoneCounts.{above, gone_above, passing-fewer, some-out}
 use Rattle.trail_laws.proofs.Chases.{Arrival, arrived, longer}
@@ -178,16 +178,14 @@ module _ {setting : Setting} (from : ℕ) (marks : ℕ → PresenceMark) {course
       known (base-top level sound below) (base-low level sound) (old-inside level sound) refl knows) old
   passing-placed marks_are (inl new) =
       move-placed (map commit_by (course.moves ++ move ∷ [])) (suc (length course.moves)) move.to 2 _ all-count
-      all-stood (two-inside move.to move.from next.inside from_inside next.moving) (fine-passing from marks level _ _
+      all-stood (two-inside move.to move.from next.inside (from-inside sound next) next.moving)
+      (fine-passing from marks level _ _
       sound next begins marks_are (λ metric lazy. omega (
         arith,
         lazy-front setting course.moves (move ∷ []) level below lazy,
-        metric.both_ways move.to move.from next.inside from_inside,
+        metric.both_ways move.to move.from next.inside (from-inside sound next),
       ))) (λ known knows. passage-new marks sound next marks_are known) new
     where
-      from_inside : move.from < setting.nodes
-      from_inside = subst (λ n. n < setting.nodes) (sym next.from) (stop-inside sound)
-
       two-inside : (a b : ℕ) → a < setting.nodes → b < setting.nodes → a ≢ b → 2 ≤ setting.nodes
       two-inside zero zero h g d = absurd (d refl)
       two-inside zero (suc b) h g d = omega (arith, g)

@@ -1,6 +1,7 @@
 -- What the ways along the marks weigh: no level has gathered its threshold, so that the trail from its address is
 -- short.
-use Rattle.std.proofs.Common.{◌≡◌, ℕ, ◌+◌, ◌*◌, ◌<◌, ◌≤◌, List, [], ◌∷◌, ◌++◌, length, map, take, drop, refl, sym, ap, ◌∙◌, subst, arith, length-append}
+use Rattle.trail_laws.proofs.ClosedMarks.{from-inside, IsNext}
+use Rattle.std.proofs.Common.{◌≡◌, ℕ, ◌+◌, ◌*◌, ◌<◌, ◌≤◌, List, [], ◌∷◌, ◌++◌, length, map, take, drop, refl, ap, ◌∙◌, subst, arith, length-append}
 use Rattle.std.specs.Prelude.{sum_by}
 use Rattle.std.proofs.lemmas.List.{drop-append-le, take_all, take_at}
 use Rattle.std.proofs.lemmas.List.Sums.{sum_by_push}
@@ -8,8 +9,7 @@ use Rattle.directory.specs.Settings.{Setting}
 use Rattle.directory.specs.Courses.{Move, Course, address_node, base, last_stop}
 use Rattle.directory.specs.Standing.{commit_by}
 use Rattle.trail_laws.specs.Trail.{HasMetric}
-use Rattle.trail_laws.proofs.Links.{IsSound, base-low, stop-inside}
-use Rattle.trail_laws.proofs.ClosedMarks.{IsNext}
+use Rattle.trail_laws.proofs.Links.{IsSound, base-low}
 use Rattle.trail_laws.proofs.LinkedStops.{way-short, weight_from, old-inside}
 use Rattle.trail_laws.proofs.Tells.{next-stands, stands}
 use Rattle.trail_laws.proofs.Leads.{stop-end}
@@ -58,15 +58,12 @@ price-clearing {setting} from {course} {move} level sound next begins below metr
   lazy-front setting course.moves (move ∷ []) level below lazy,
   weight-push course.moves move (base level course.moves) (base-low level sound),
   next.weight,
-  metric.detour move.from (address_node course level) move.to from_inside old_inside next.inside,
-  metric.both_ways move.from (address_node course level) from_inside old_inside,
+  metric.detour move.from (address_node course level) move.to (from-inside sound next) old_inside next.inside,
+  metric.both_ways move.from (address_node course level) (from-inside sound next) old_inside,
   ap (setting.distance (address_node course level)) next.from,
   address-near level sound metric,
   ap (setting.distance (address_node course level)) (next-stands from next begins),
 )
   where
-    from_inside : move.from < setting.nodes
-    from_inside = subst (λ n. n < setting.nodes) (sym next.from) (stop-inside sound)
-
     old_inside : address_node course level < setting.nodes
     old_inside = old-inside level sound

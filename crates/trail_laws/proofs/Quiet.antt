@@ -1,8 +1,7 @@
 -- A quiet find has its answer: what it stands on stays while no visit of a move is made.
-use Rattle.std.proofs.Common.{◌≡◌, ◌≢◌, ◌⊎◌, inl, inr, ℕ, zero, suc, ◌+◌, ◌-◌, ◌*◌, ◌<◌, ◌≤◌, ◌^◌, Bool, true, false, ◌==◌, ◌||◌, List, [], ◌∷◌, ◌++◌, Option, Some, None, map, fold, refl, sym, ap, ◌∙◌, subst, arith}
+use Rattle.std.proofs.lemmas.Bool.{cases_Bool, cases_eq, or_cases, eqb-true, cases_lt}
+use Rattle.std.proofs.Common.{◌≡◌, ◌⊎◌, inl, inr, ℕ, zero, suc, ◌+◌, ◌-◌, ◌*◌, ◌<◌, ◌≤◌, ◌^◌, true, false, ◌==◌, List, [], ◌∷◌, ◌++◌, Option, Some, None, map, fold, refl, sym, ap, ◌∙◌, subst, arith}
 use Rattle.std.specs.Prelude.{All, flat_map, is_some}
-use Rattle.std.proofs.lemmas.Bool.{eqb-true, cases_eq, cases_lt}
-use Rattle.std.proofs.lemmas.Bool.Decides.{nat_tests}
 use Rattle.std.proofs.lemmas.List.Elements.{All-head, All-tail}
 use Rattle.std.proofs.lemmas.Option.{slice_get_within}
 use Rattle.node_set.specs.Ascending.{has}
@@ -99,17 +98,11 @@ at-level : (setting : Setting) (sub : ℕ) (seen : History) (level cluster : ℕ
     → has cluster clusters ≡ true → is_some (entry_seen setting sub seen level cluster) ≡ true
     → HasReader setting sub seen (map (λ c. record { level = level; cluster = c }) clusters ++ rest)
 at-level setting sub seen level cluster [] rest h some = cc
-at-level setting sub seen level cluster (c ∷ clusters) rest h some = at_test (cluster == c) refl h
-    (λ g. at-level setting sub seen level cluster clusters rest g some)
-  where
-    at_test : (b : Bool) → (cluster == c) ≡ b → (b || has cluster clusters) ≡ true
-        → (has cluster clusters ≡ true → HasReader setting sub seen
-        (map (λ x. record { level = level; cluster = x }) clusters ++ rest))
-        → HasReader setting sub seen (record { level = level; cluster = c } ∷
-        (map (λ x. record { level = level; cluster = x }) clusters ++ rest))
-    at_test true e g more = inl (ap (λ x. is_some (entry_seen setting sub seen level x)) (sym (eqb-true cluster c e))
-        ∙ some)
-    at_test false e g more = inr (more g)
+at-level setting sub seen level cluster (c ∷ clusters) rest h some =
+    elim (or_cases (cluster == c) (has cluster clusters) h) [
+      | inl e ↦ inl (rw (← eqb-true cluster c e) some)
+      | inr later ↦ inr (at-level setting sub seen level cluster clusters rest later some)
+    ]
 
 passed : (setting : Setting) (sub : ℕ) (seen : History) (xs ys : List Reader) → HasReader setting sub seen ys
     → HasReader setting sub seen (xs ++ ys)
@@ -122,22 +115,14 @@ from-level : (setting : Setting) (sub node : ℕ) (seen : History) (cluster firs
     → HasReader setting sub seen (flat_map (λ level. map (λ c. record { level = level; cluster = c })
     (setting.readers level node)) (numbers_from first count))
 from-level setting sub node seen cluster first zero low high h some = absurd (omega arith)
-from-level setting sub node seen cluster first (suc count) low high h some = at_place (cases_eq first setting.top)
-    (λ less. from-level setting sub node seen cluster (suc first) count less (omega arith) h some)
-  where
-    at_place : (first ≡ setting.top) ⊎ (first ≢ setting.top)
-        → (suc first ≤ setting.top → HasReader setting sub seen
-        (flat_map (λ level. map (λ c. record { level = level; cluster = c }) (setting.readers level node))
-        (numbers_from (suc first) count)))
-        → HasReader setting sub seen (map (λ c. record { level = first; cluster = c })
-        (setting.readers first node) ++ flat_map (λ level. map (λ c. record { level = level; cluster = c })
-        (setting.readers level node)) (numbers_from (suc first) count))
-    at_place (inl e) more = at-level setting sub seen first cluster (setting.readers first node) _
-        (ap (λ l. has cluster (setting.readers l node)) e ∙ h)
-        (ap (λ l. is_some (entry_seen setting sub seen l cluster)) e ∙ some)
-    at_place (inr other) more = passed setting sub seen
-        (map (λ c. record { level = first; cluster = c }) (setting.readers first node)) _
-        (more (let less : first < setting.top = grind (arith, nat_tests, other, low) in omega (arith, less)))
+from-level setting sub node seen cluster first (suc count) low high h some = elim (cases_eq first setting.top) [
+  | inl e ↦ at-level setting sub seen first cluster (setting.readers first node) _
+      (ap (λ l. has cluster (setting.readers l node)) e ∙ h)
+      (ap (λ l. is_some (entry_seen setting sub seen l cluster)) e ∙ some)
+  | inr other ↦ passed setting sub seen
+      (map (λ c. record { level = first; cluster = c }) (setting.readers first node)) _
+      (from-level setting sub node seen cluster (suc first) count (omega (arith, other, low)) (omega arith) h some)
+]
 
 pub readers-have : Used → {setting : Setting} {sub : ℕ} (node : ℕ) (seen : History) → setting.nodes ≤ 2 ^ 16
     → ReadsTop setting → node < setting.nodes → IsLegal setting sub seen
@@ -199,36 +184,24 @@ either-quiet : (sub : ℕ) (history : History) (first count : ℕ)
     → ((u : ℕ) → first ≤ u → u < first + count → moves_at sub history u ≡ false)
     ⊎ ((ticket : ℕ) × (first ≤ ticket) × (ticket < first + count) × (moves_at sub history ticket ≡ true))
 either-quiet sub history first zero = inl (λ u h g. absurd (omega arith))
-either-quiet sub history first (suc count) = at_more (moves_at sub history (first + count)) refl
-    (either-quiet sub history first count)
-  where
-    at_more : (b : Bool) → moves_at sub history (first + count) ≡ b
-        → ((u : ℕ) → first ≤ u → u < first + count → moves_at sub history u ≡ false)
-        ⊎ ((ticket : ℕ) × (first ≤ ticket) × (ticket < first + count) × (moves_at sub history ticket ≡ true))
-        → ((u : ℕ) → first ≤ u → u < first + suc count → moves_at sub history u ≡ false)
-        ⊎ ((ticket : ℕ) × (first ≤ ticket) × (ticket < first + suc count) × (moves_at sub history ticket ≡ true))
-    at_more b e (inr found) = inr (found.0, found.1, omega (arith, found.2), found.3)
-    at_more true e (inl all) = inr (first + count, omega arith, omega arith, e)
-    at_more false e (inl all) = inl (λ u h g. at_place u h (cases_lt u (first + count)) g)
-      where
-        at_place : (u : ℕ) → first ≤ u → (u < first + count) ⊎ (first + count ≤ u) → u < first + suc count
-            → moves_at sub history u ≡ false
-        at_place u h (inl low) g = all u h low
-        at_place u h (inr high) g = let same : u ≡ first + count = omega arith in ap (moves_at sub history) same ∙ e
+either-quiet sub history first (suc count) = elim (either-quiet sub history first count) [
+  | inr found ↦ inr (found.0, found.1, omega (arith, found.2), found.3)
+  | inl all ↦ elim (cases_Bool (moves_at sub history (first + count))) [
+    | inl e ↦ inr (first + count, omega arith, omega arith, e)
+    | inr e ↦ inl (λ u h g. elim (cases_lt u (first + count)) [
+      | inl low ↦ all u h low
+      | inr high ↦ let same : u ≡ first + count = omega arith in ap (moves_at sub history) same ∙ e
+    ])
+  ]
+]
 
 pub again-cause : Used → AgainHasItsCause
 again-cause used setting history actor call why weight tickets low reads inside legal find =
-    at_either (either-quiet call.sub history (first_of tickets) (suc (last_of tickets) - first_of tickets))
-  where
-    at_either : ((u : ℕ) → first_of tickets ≤ u → u < first_of tickets + (suc (last_of tickets) - first_of tickets)
-        → moves_at call.sub history u ≡ false)
-        ⊎ ((ticket : ℕ) × (first_of tickets ≤ ticket) × (ticket < first_of tickets +
-        (suc (last_of tickets) - first_of tickets)) × (moves_at call.sub history ticket ≡ true))
-        → (ticket : ℕ) × (first_of tickets ≤ ticket) × (ticket ≤ last_of tickets)
-        × (moves_at call.sub history ticket ≡ true)
-    at_either (inl all) = absurd (quiet-answers used setting history actor call
-        (Again why weight) tickets low reads inside legal find (λ u h g. all u h (omega arith)))
-    at_either (inr found) = (found.0, found.1, omega (arith, found.1, found.2), found.3)
+    elim (either-quiet call.sub history (first_of tickets) (suc (last_of tickets) - first_of tickets)) [
+      | inl all ↦ absurd (quiet-answers used setting history actor call
+          (Again why weight) tickets low reads inside legal find (λ u h g. all u h (omega arith)))
+      | inr found ↦ (found.0, found.1, omega (arith, found.1, found.2), found.3)
+    ]
 
 -- a quiet find whose beginning is sure of a bound stays within it
 pub quiet-stays : Used → QuietFindsStayWithin

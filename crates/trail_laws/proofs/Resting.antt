@@ -1,5 +1,6 @@
 -- How far the marks lead in each phase, and what rest is.
-use Rattle.std.proofs.Common.{◌≡◌, ◌≢◌, ℕ, ◌^◌, ◌≤◌, Bool, true, false, cond, Some, length, map, refl, sym, ap, ◌∙◌, arith, inl, inr}
+use Rattle.std.proofs.lemmas.Bool.{cases_Bool}
+use Rattle.std.proofs.Common.{◌≡◌, ◌≢◌, ℕ, ◌^◌, ◌≤◌, false, cond, Some, length, map, sym, ap, ◌∙◌, arith, inl, inr}
 use Rattle.std.specs.Prelude.{filter_map, fold}
 use Rattle.std.proofs.lemmas.List.{length-drop, length-map, take_all}
 use Rattle.entry_word.specs.declared.address.Address.{Address}
@@ -86,13 +87,12 @@ module _ (laws : Laws) (setting : Setting) (sub : ℕ) (history : History) (low 
       ∙ rest-there setting course))
 
   marked : IsMarked setting sub history
-  marked = at_state course.is_off refl
-    where
-      at_state : (b : Bool) → course.is_off ≡ b → IsMarked setting sub history
-      at_state true e = inr (ap (mark_seen setting sub history) stood ∙ (mark-there
-          ∙ (ap (λ b. cond b (Off (length course.moves)) (Here (length course.moves))) e ∙ ap Off all)))
-      at_state false e = inl (ap (mark_seen setting sub history) stood ∙ (mark-there
-          ∙ (ap (λ b. cond b (Off (length course.moves)) (Here (length course.moves))) e ∙ ap Here all)))
+  marked = elim (cases_Bool course.is_off) [
+    | inl e ↦ inr (ap (mark_seen setting sub history) stood ∙ (mark-there
+        ∙ (ap (λ b. cond b (Off (length course.moves)) (Here (length course.moves))) e ∙ ap Off all)))
+    | inr e ↦ inl (ap (mark_seen setting sub history) stood ∙ (mark-there
+        ∙ (ap (λ b. cond b (Off (length course.moves)) (Here (length course.moves))) e ∙ ap Here all)))
+  ]
 
   not-coming : (from : ℕ) → mark_seen setting sub history (standing setting sub history)
       ≢ Coming (number sub history) from

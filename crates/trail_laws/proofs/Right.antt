@@ -1,6 +1,7 @@
 -- The answers of finds are right: what is known grows with the commits, and the mark that answers says where the
 -- subscriber stands.
-use Rattle.std.proofs.Common.{◌≡◌, ◌⊎◌, inl, inr, ℕ, zero, suc, ◌+◌, ◌-◌, ◌*◌, ◌<◌, ◌≤◌, ◌^◌, Bool, true, false, cond, List, [], ◌∷◌, ◌++◌, Option, Some, None, length, map, fold, refl, sym, ap, ◌∙◌, subst, arith}
+use Rattle.std.proofs.lemmas.Bool.{cond_both}
+use Rattle.std.proofs.Common.{◌≡◌, inl, inr, ℕ, zero, suc, ◌+◌, ◌-◌, ◌*◌, ◌<◌, ◌≤◌, ◌^◌, true, false, List, [], ◌∷◌, ◌++◌, Option, Some, None, length, map, fold, sym, ap, ◌∙◌, subst, arith}
 use Rattle.std.specs.Prelude.{All, filter_map, flat_map, slice_get, slice_index}
 use Rattle.std.proofs.lemmas.Bool.Decides.{nat_tests}
 use Rattle.std.proofs.lemmas.List.Elements.{All-append, All-cons, All-head, All-nil, All-tail}
@@ -142,21 +143,14 @@ mark-good setting sub seen chase node (Off q) knows tells = tells
 mark-good setting sub seen chase node (Gone q to) knows tells =
     hop-good setting sub seen (known_with q chase.known) chase.level chase.weight chase.hops_left node to
     (knows-with (number sub seen) q chase.known knows (gone-known setting sub seen node q to tells)) tells.2
-mark-good setting sub seen chase node (Coming q from) knows tells = at_known (is_known q chase.known) refl
-  where
-    at_known : (b : Bool) → is_known q chase.known ≡ b
-        → IsGood setting sub seen (cond b (ended (At node q chase.level chase.weight))
-        (hop setting chase.known chase.level chase.weight chase.hops_left node from))
-    at_known true e = committed tells.3
-      where
-        committed : ((q ≡ suc (number sub seen)) × (from ≡ standing setting sub seen))
-            ⊎ ((q ≡ number sub seen) × (node ≡ standing setting sub seen)
-            × (mark_seen setting sub seen from ≡ Gone q node))
-            → RightAt setting sub seen (At node q chase.level chase.weight)
-        committed (inl early) = absurd (omega (arith, early.0, known-low (number sub seen) q chase.known knows e))
-        committed (inr late) = (late.1, late.0, tells.2)
-    at_known false e = hop-good setting sub seen chase.known chase.level chase.weight chase.hops_left node from knows
-        tells.1
+mark-good setting sub seen chase node (Coming q from) knows tells = cond_both (is_known q chase.known)
+    (ended (At node q chase.level chase.weight))
+    (hop setting chase.known chase.level chase.weight chase.hops_left node from) (IsGood setting sub seen)
+    (λ e. elim tells.3 [
+      | inl early ↦ absurd (omega (arith, early.0, known-low (number sub seen) q chase.known knows e))
+      | inr late ↦ (late.1, late.0, tells.2)
+    ])
+    (λ e. hop-good setting sub seen chase.known chase.level chase.weight chase.hops_left node from knows tells.1)
 
 -- one look
 pub look-good : MarksTell → EntriesTell → {setting : Setting} (seen : History) (call : FindCall) (pursuit : Pursuit)

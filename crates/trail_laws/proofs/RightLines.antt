@@ -61,8 +61,8 @@ outcomes-right right cause played done legal made setting scripts order low read
     All-weaker (IsMade setting scripts (history_of setting scripts order))
     (IsRightLine setting (history_of setting scripts order)) (made_right right cause (history_of setting scripts order)
     low reads valid (λ sub below. legal setting scripts (history_of setting scripts order) sub low valid below
-    (played setting scripts order))) (outcome_of setting scripts order).calls (made setting scripts (history_of setting
-    scripts order) (played setting scripts order) (done setting scripts order))
+    (played setting scripts order))) (outcome_of setting scripts order).calls (made setting scripts
+    (history_of setting scripts order) (played setting scripts order) (done setting scripts order))
 
 -- a find whose answer has a number
 record Numbered (setting : Setting) (history : History) (sub p ticket : ℕ) : Type 0 where

@@ -1,6 +1,6 @@
 -- Where a subscriber was after so many commits, the number is no lower: so the marks of a trail rise from hop to hop.
-use Rattle.std.proofs.Common.{◌≡◌, ◌≢◌, ◌⊎◌, inl, inr, ℕ, ◌+◌, ◌-◌, ◌<◌, ◌≤◌, ◌^◌, ◌==◌, Bool, true, false, cond, List, [], ◌∷◌, ◌++◌, length, length-append, map, refl, sym, ap, ◌∙◌, subst, arith, eqb-true, eq-eqb}
-use Rattle.std.proofs.lemmas.Bool.{cases_eq, cases_lt}
+use Rattle.std.proofs.lemmas.Bool.{cases_Bool, cases_cond, eqb-false, cases_eq, cases_lt}
+use Rattle.std.proofs.Common.{◌≡◌, ◌≢◌, ◌⊎◌, inl, inr, ℕ, ◌+◌, ◌-◌, ◌<◌, ◌≤◌, ◌^◌, ◌==◌, Bool, true, false, cond, List, [], ◌∷◌, ◌++◌, length, length-append, map, refl, sym, ap, ◌∙◌, subst, arith, eqb-true}
 use Rattle.std.proofs.lemmas.List.{length-map}
 use Rattle.std.proofs.lemmas.Option.{slice_get_within}
 use Rattle.node_set.specs.Ascending.{has}
@@ -62,57 +62,37 @@ later {setting} {from} {number} {moves} is j w q x low few stops at_w =
 
 -- at rest, and in each phase of a move
 there-not : (course : Course) (p w : ℕ) → there course ≡ Gone p w → ⊥
-there-not course p w h = at_state course.is_off h
-  where
-    at_state : (b : Bool) → cond b (Off (length course.moves)) (Here (length course.moves)) ≡ Gone p w → ⊥
-    at_state true g = cc
-    at_state false g = cc
+there-not course p w h =
+    elim (cases_cond course.is_off (Off (length course.moves)) (Here (length course.moves)) (Gone p w) (sym h))
+    [ inl is_off ↦ cc | inr here ↦ cc ]
 
 rest-gone : (setting : Setting) (course : Course) (v p w : ℕ) → rest_mark setting course v ≡ Gone p w
     → (trail_mark (since_top setting course) v Empty ≡ Gone p w) × (v ≢ last_stop course)
-rest-gone setting course v p w h = at_place (v == last_stop course) refl h
-  where
-    at_place : (b : Bool) → (v == last_stop course) ≡ b
-        → cond b (there course) (trail_mark (since_top setting course) v Empty) ≡ Gone p w
-        → (trail_mark (since_top setting course) v Empty ≡ Gone p w) × (v ≢ last_stop course)
-    at_place true e g = absurd (there-not course p w g)
-    at_place false e g = (g, λ same. let clash : false ≡ true = sym e ∙ eq-eqb v (last_stop course) same in cc)
+rest-gone setting course v p w h = elim (cases_Bool (v == last_stop course)) [
+  | inl e ↦ absurd (there-not course p w (rw e at h))
+  | inr e ↦ (rw e at h, eqb-false v (last_stop course) e)
+]
 
 coming-gone : (setting : Setting) (course : Course) (move : Move) (v p w : ℕ)
     → mark_coming setting course move v ≡ Gone p w
     → (trail_mark (since_top setting course) v Empty ≡ Gone p w) × (v ≢ last_stop course) × (v ≢ move.to)
-coming-gone setting course move v p w h = at_to (v == move.to) refl h
-  where
-    at_to : (b : Bool) → (v == move.to) ≡ b
-        → cond b (Coming move.number move.from) (rest_mark setting course v) ≡ Gone p w
-        → (trail_mark (since_top setting course) v Empty ≡ Gone p w) × (v ≢ last_stop course) × (v ≢ move.to)
-    at_to true e g = cc
-    at_to false e g =
-        let rest = rest-gone setting course v p w g in
-        (rest.0, rest.1, λ same. let clash : false ≡ true = sym e ∙ eq-eqb v move.to same in cc)
+coming-gone setting course move v p w h = elim (cases_Bool (v == move.to)) [
+  | inl e ↦ let clash : Coming move.number move.from ≡ Gone p w = rw e at h in cc
+  | inr e ↦ let rest = rest-gone setting course v p w (rw e at h) in (rest.0, rest.1, eqb-false v move.to e)
+]
 
 passing-gone : {setting : Setting} {course : Course} {move : Move} (v p w : ℕ) → IsNext setting course move
     → mark_passing setting course move v ≡ Gone p w
     → (trail_mark (since_top setting course ++ move ∷ []) v Empty ≡ Gone p w) × (v ≢ move.to)
-passing-gone {setting} {course} {move} v p w next h = at_from (v == move.from) refl h
-  where
-    pushed : trail_mark (since_top setting course ++ move ∷ []) v Empty
-        ≡ cond (v == move.from) (Gone move.number move.to) (trail_mark (since_top setting course) v Empty)
-    pushed = trail_mark-push (since_top setting course) move v Empty
-
-    at_from : (b : Bool) → (v == move.from) ≡ b
-        → cond b (Gone move.number move.to) (mark_coming setting course move v) ≡ Gone p w
-        → (trail_mark (since_top setting course ++ move ∷ []) v Empty ≡ Gone p w) × (v ≢ move.to)
-    at_from true e g = (
-      pushed ∙ (ap (λ b. cond b (Gone move.number move.to) (trail_mark (since_top setting course) v Empty)) e ∙ g),
-      λ same. next.moving (sym same ∙ eqb-true v move.from e),
-    )
-    at_from false e g =
-        let rest = coming-gone setting course move v p w g in (
-          pushed ∙ (ap (λ b. cond b (Gone move.number move.to) (trail_mark (since_top setting course) v Empty)) e
-              ∙ rest.0),
-          rest.2,
-        )
+passing-gone {setting} {course} {move} v p w next h = elim (cases_Bool (v == move.from)) [
+  | inl e ↦ (
+    rw (trail_mark-push (since_top setting course) move v Empty, e) (rw e at h),
+    λ same. next.moving (sym same ∙ eqb-true v move.from e),
+  )
+  | inr e ↦
+      let rest = coming-gone setting course move v p w (rw e at h) in
+      (rw (trail_mark-push (since_top setting course) move v Empty, e) rest.0, rest.2)
+]
 
 clearing-gone : {setting : Setting} {course : Course} {move : Move} (purged : List ℕ) (v p w : ℕ)
     → IsNext setting course move → mark_erasing setting course move purged v ≡ Gone p w

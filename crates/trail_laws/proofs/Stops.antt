@@ -1,13 +1,13 @@
 -- Where the commits of a subscriber lead, and where each begins.
+use Rattle.trail_laws.proofs.ClosedMarks.{from-inside, IsNext}
 use Rattle.std.proofs.Common.{◌⊎◌, true, false, ◌≡◌, inl, inr, ℕ, zero, suc, ◌-◌, ◌<◌, ◌≤◌, List, [], ◌∷◌, ◌++◌, Some, length, map, fold, refl, sym, ap, ◌∙◌, subst, arith}
 use Rattle.std.specs.Prelude.{slice_get, slice_index}
 use Rattle.std.proofs.lemmas.List.{get_or_append_left, length-map, map-append}
 use Rattle.directory.specs.Settings.{Setting}
 use Rattle.directory.specs.Courses.{Course, Move}
 use Rattle.directory.specs.Standing.{Commit, commit_by}
-use Rattle.trail_laws.proofs.Links.{AreLinked, IsSound, last-inside, linked-push, moves-count, stop-inside}
+use Rattle.trail_laws.proofs.Links.{AreLinked, IsSound, last-inside, linked-push, moves-count}
 use Rattle.trail_laws.proofs.Tells.{stands, stands-moves}
-use Rattle.trail_laws.proofs.ClosedMarks.{IsNext}
 use Rattle.trail_laws.proofs.ClosedViews.{Shown, View, Phase, clearing, coming, passage, phase_commits}
 use Rattle.trail_laws.proofs.LinkedStops.{stop_at}
 
@@ -67,7 +67,7 @@ course-linked : {setting : Setting} {course : Course} {move : Move} → IsSound 
     → IsNext setting course move → AreLinked setting course.start 0 (course.moves ++ move ∷ [])
 course-linked {setting} {course} {move} sound next =
     linked-push setting course.start 0 course.moves move (omega (arith, next.number)) next.from
-    (subst (λ n. n < setting.nodes) (sym next.from) (stop-inside sound)) next.inside next.moving next.renewed
+    (from-inside sound next) next.inside next.moving next.renewed
     next.weight sound.linked
 
 -- the moves of a view that are committed: all, or all but one

@@ -1,4 +1,5 @@
 -- What makes a find sure of an answer at each pursuit: a look keeps it, and what is no put of a move.
+use Rattle.std.proofs.lemmas.Bool.{cond_both}
 use Rattle.std.proofs.Common.{◌≡◌, ℕ, zero, suc, ◌+◌, ◌*◌, ◌<◌, ◌≤◌, ◌^◌, Bool, true, false, cond, List, [], ◌∷◌, Option, Some, None, length, refl, sym, ap, ◌∙◌, subst, arith}
 use Rattle.entry_word.specs.Marks.{mark_in}
 use Rattle.entry_word.specs.Addresses.{address_in}
@@ -83,6 +84,19 @@ pub record Used : Type 0 where
   pub addresses : AddressesLead
   pub comings : ComingsLead
   pub top : TopHasEntry
+
+pub used : CellsOfPuts → MarksAreLeft → StepsBeginAtRest → FrontsAreLegal → MarksTell → AddressesLead → ComingsLead
+    → TopHasEntry → Used
+used cells marks_left rests fronts marks addresses comings top = record {
+  cells = cells;
+  marks_left = marks_left;
+  rests = rests;
+  fronts = fronts;
+  marks = marks;
+  addresses = addresses;
+  comings = comings;
+  top = top;
+}
 
 -- up to a later ticket, while no move is made
 pub sure-until : Used → {setting : Setting} {sub : ℕ} (history : History) (call : FindCall) (Within : ℕ → Type 0)
@@ -179,18 +193,16 @@ module _ (setting : Setting) (seen : History) (call : FindCall) (Within : ℕ �
   mark-sure chase node (Gone q to) same (suc hops) way few led allowed =
       hop-on chase node to (known_with q chase.known) hops way few led allowed (ap (lead chase.known) same)
       (ap (known_after chase.known) same)
-  mark-sure chase node (Coming q from) same (suc hops) way few led allowed = at_known (is_known q chase.known) refl
+  mark-sure chase node (Coming q from) same (suc hops) way few led allowed = cond_both (is_known q chase.known)
+      (ended (At node q chase.level chase.weight))
+      (hop setting chase.known chase.level chase.weight chase.hops_left node from) IsSureOf
+      (λ e. let clash : None ≡ Some led.0 = sym (leads true e) ∙ led.2 in cc)
+      (λ e. hop-on chase node from chase.known hops way few led allowed (leads false e)
+      (ap (known_after chase.known) same))
     where
       leads : (b : Bool) → is_known q chase.known ≡ b
           → lead chase.known (mark_seen setting call.sub seen node) ≡ cond b None (Some from)
       leads b e = ap (lead chase.known) same ∙ ap (λ b. cond b None (Some from)) e
-
-      at_known : (b : Bool) → is_known q chase.known ≡ b
-          → IsSureOf (cond b (ended (At node q chase.level chase.weight))
-          (hop setting chase.known chase.level chase.weight chase.hops_left node from))
-      at_known true e = let clash : None ≡ Some led.0 = sym (leads true e) ∙ led.2 in cc
-      at_known false e = hop-on chase node from chase.known hops way few led allowed (leads false e)
-          (ap (known_after chase.known) same)
   mark-sure chase node mark same (suc hops) way few led allowed =
       let clash : None ≡ Some led.0 = sym (ap (lead chase.known) same) ∙ led.2 in cc
 

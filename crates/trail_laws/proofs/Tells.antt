@@ -1,7 +1,8 @@
 -- What marks tell.
+use Rattle.std.proofs.lemmas.Bool.{cond_both, eqb-true, eq-eqb}
+use Rattle.trail_laws.proofs.ClosedMarks.{from-inside, IsNext, rest_mark, mark_coming, mark_passing, mark_erasing, since_top, there, trail_mark}
 use Rattle.std.proofs.Common.{◌≡◌, ◌⊎◌, inl, inr, ℕ, zero, suc, ◌+◌, ◌-◌, ◌<◌, ◌≤◌, Bool, true, false, cond, ◌==◌, List, [], ◌∷◌, ◌++◌, Some, length, map, drop, fold, refl, sym, ap, ◌∙◌, subst, arith}
 use Rattle.std.specs.Prelude.{slice_get, option_map}
-use Rattle.std.proofs.lemmas.Bool.{eqb-true, eq-eqb}
 use Rattle.std.proofs.lemmas.List.{append-nil, length-map, map-append}
 use Rattle.std.proofs.lemmas.List.Sums.{fold-append}
 use Rattle.node_set.specs.Ascending.{has}
@@ -10,8 +11,7 @@ use Rattle.entry_word.specs.declared.mark.PresenceMark.TheVariants.{Empty, Here,
 use Rattle.directory.specs.Settings.{Setting}
 use Rattle.directory.specs.Courses.{Move, Course, base, last_stop}
 use Rattle.directory.specs.Standing.{Commit, commit_by}
-use Rattle.trail_laws.proofs.Links.{AreLinked, IsSound, base-low, stop-inside, moves-count}
-use Rattle.trail_laws.proofs.ClosedMarks.{IsNext, rest_mark, mark_coming, mark_passing, mark_erasing, since_top, there, trail_mark}
+use Rattle.trail_laws.proofs.Links.{AreLinked, IsSound, base-low, moves-count}
 use Rattle.trail_laws.proofs.ClosedViews.{clearing, coming, IsPhase, passage, Phase, phase_commits, phase_mark, Shown, View}
 use Rattle.trail_laws.proofs.LinkedStops.{last-left, LeavesMark, stop_at}
 use Rattle.directory.specs.ListLaws.{slice_get-left}
@@ -95,27 +95,23 @@ rest-is : (from : ℕ) (marks : ℕ → PresenceMark) (all : List Move) {setting
     → IsSound setting course → course.start ≡ from
     → MarkIs setting.nodes from marks (map commit_by course.moves) course.is_off all node
     (rest_mark setting course node)
-rest-is from marks all {setting} {course} node sound begins = at_place (node == last_stop course) refl
+rest-is from marks all {setting} {course} node sound begins =
+    cond_both (node == last_stop course) (there course) (trail_mark (since_top setting course) node Empty) Tells
+    (λ e.
+    let same : node ≡ last_stop course = eqb-true node (last_stop course) e in
+    cond_both course.is_off (Off (length course.moves)) (Here (length course.moves)) Tells
+    (λ is_off. (same ∙ sym stands_there, sym count, is_off)) (λ is_on. (same ∙ sym stands_there, sym count, is_on)))
+    (λ e. rw (append-nil (map commit_by course.moves)) at
+    (gone-is from marks course.is_off all node (trail_mark (since_top setting course) node Empty) [] sound refl))
   where
+    Tells : PresenceMark → Type 0
+    Tells = MarkIs setting.nodes from marks (map commit_by course.moves) course.is_off all node
+
     stands_there : stands from (map commit_by course.moves) ≡ last_stop course
     stands_there = stands-moves from course.moves ∙ ap (λ f. fold (λ n (m : Move). m.to) f course.moves) (sym begins)
 
     count : length (map commit_by course.moves) ≡ length course.moves
     count = length-map course.moves commit_by
-
-    at_state : (b : Bool) → course.is_off ≡ b → node ≡ last_stop course
-        → MarkIs setting.nodes from marks (map commit_by course.moves) course.is_off all node
-        (cond b (Off (length course.moves)) (Here (length course.moves)))
-    at_state true e same = (same ∙ sym stands_there, sym count, e)
-    at_state false e same = (same ∙ sym stands_there, sym count, e)
-
-    at_place : (b : Bool) → (node == last_stop course) ≡ b
-        → MarkIs setting.nodes from marks (map commit_by course.moves) course.is_off all node
-        (cond b (there course) (trail_mark (since_top setting course) node Empty))
-    at_place true e = at_state course.is_off refl (eqb-true node (last_stop course) e)
-    at_place false e = subst (λ (cs : List Commit). MarkIs setting.nodes from marks cs course.is_off all node
-        (trail_mark (since_top setting course) node Empty)) (append-nil (map commit_by course.moves)) (gone-is from
-        marks course.is_off all node (trail_mark (since_top setting course) node Empty) [] sound refl)
 
 -- what holds of the marks at rest while the subscriber is on
 pub next-stands : {setting : Setting} {course : Course} {move : Move} (from : ℕ) → IsNext setting course move
@@ -143,23 +139,20 @@ module _ {setting : Setting} (from : ℕ) (marks : ℕ → PresenceMark) {course
     (sound : IsSound setting course) (next : IsNext setting course move) (begins : course.start ≡ from) where
   coming-is : MarkIs setting.nodes from marks (map commit_by course.moves) false (course.moves ++ move ∷ []) node
       (mark_coming setting course move node)
-  coming-is = at_to (node == move.to) refl
-    where
-      at_to : (b : Bool) → (node == move.to) ≡ b
-          → MarkIs setting.nodes from marks (map commit_by course.moves) false (course.moves ++ move ∷ []) node
-          (cond b (Coming move.number move.from) (rest_mark setting course node))
-      at_to true e = (
+  coming-is = cond_both (node == move.to) (Coming move.number move.from) (rest_mark setting course node)
+      (MarkIs setting.nodes from marks (map commit_by course.moves) false (course.moves ++ move ∷ []) node)
+      (λ e. (
         next.number ∙ sym (moves-count course move),
-        subst (λ n. n < setting.nodes) (sym next.from) (stop-inside sound),
+        from-inside sound next,
         refl,
         inl (
           next.number ∙ ap suc (sym (length-map course.moves commit_by)),
           next.from ∙ sym (rest-stands course from begins),
         ),
-      )
-      at_to false e = subst (λ b. MarkIs setting.nodes from marks (map commit_by course.moves) b
-          (course.moves ++ move ∷ []) node (rest_mark setting course node)) next.is_on
-          (rest-is from marks (course.moves ++ move ∷ []) node sound begins)
+      ))
+      (λ e. subst (λ b. MarkIs setting.nodes from marks (map commit_by course.moves) b
+      (course.moves ++ move ∷ []) node (rest_mark setting course node)) next.is_on
+      (rest-is from marks (course.moves ++ move ∷ []) node sound begins))
 
   -- what a mark tells once the move is committed
   abbrev pub TellsCommit : PresenceMark → Type 0
@@ -194,7 +187,7 @@ module _ {setting : Setting} (from : ℕ) (marks : ℕ → PresenceMark) {course
       at_from true t e at = left-is e
       at_from false true e at = (
         next.number ∙ sym (moves-count course move),
-        subst (λ n. n < setting.nodes) (sym next.from) (stop-inside sound),
+        from-inside sound next,
         refl,
         inr (
           all-count,
@@ -223,7 +216,7 @@ mark-is {setting} {shown} node low (inl h) =
     rw (h.marks_are node low, h.commits_are, h.off_is)
     (rest-is shown.from shown.marks shown.moves node h.sound h.begins)
 mark-is {setting} {shown} node low (inr h) = at_phase h.phase h.is_phase (h.marks_are node low) h.commits_are
-    (h.marks_are h.move.from (subst (λ n. n < setting.nodes) (sym h.next.from) (stop-inside h.sound)))
+    (h.marks_are h.move.from (from-inside h.sound h.next))
   where
     at_phase : (phase : Phase) → IsPhase setting h.course h.move phase
         → shown.marks node ≡ phase_mark setting h.course h.move phase node

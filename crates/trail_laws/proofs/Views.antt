@@ -1,4 +1,5 @@
 -- What a legal history leaves, in closed form: its subscriber rests, or is in a phase of a move.
+use Rattle.std.proofs.Math.Seq.{take-nil}
 use Rattle.std.proofs.Common.{◌≡◌, ◌⊎◌, inl, inr, ℕ, zero, suc, ◌<◌, ◌≤◌, ◌^◌, false, List, [], ◌∷◌, ◌++◌, None, length, map, take, fold, refl, sym, ap, ◌∙◌, subst, arith}
 use Rattle.std.specs.Prelude.{filter_map}
 use Rattle.std.proofs.lemmas.Bool.{lt-ltb}
@@ -241,17 +242,13 @@ amid-view {setting} {sub} before [] made script one some few =
     subst (λ steps. WritesView setting sub (writes_of setting sub before ++ take made [])
     (course_of setting sub steps).moves) (sym (append-nil before))
     (subst (λ ws. WritesView setting sub ws (course_of setting sub before).moves)
-    (sym (ap (λ ws. writes_of setting sub before ++ ws) (nothing made) ∙ append-nil (writes_of setting sub before)))
+    (sym (ap (λ ws. writes_of setting sub before ++ ws) (take-nil made) ∙ append-nil (writes_of setting sub before)))
     (rests setting sub before (subst (IsScript setting sub) (append-nil before) script)))
-  where
-    nothing : (n : ℕ) → take {A = Write} n [] ≡ []
-    nothing zero = refl
-    nothing (suc n) = refl
 amid-view {setting} {sub} before (move_to node ∷ []) made script one some few =
     let may = may-before setting (course_at (start setting sub)) before (move_to node) script.allowed in
     subst (λ ws. WritesView setting sub (writes_of setting sub before ++ take made ws)
-    (course_of setting sub (before ++ move_to node ∷ [])).moves) (sym (append-nil (move_writes setting (course_of
-    setting sub before) (next_move setting (course_of setting sub before) node)))) (amid-move (record {
+    (course_of setting sub (before ++ move_to node ∷ [])).moves) (sym (append-nil (move_writes setting
+    (course_of setting sub before) (next_move setting (course_of setting sub before) node)))) (amid-move (record {
       known =
           script.known;
       begins = script.begins;
