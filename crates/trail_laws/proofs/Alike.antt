@@ -272,6 +272,6 @@ led-alike setting marks others alike known node last (suc hops) way led = (
   led.1,
   sym (alike node known).0 ∙ led.2,
   led.3,
-  subst (λ k. IsLed setting others k led.0 last hops led.1) (alike node known).2
+  rw (alike node known).2 at
       (led-alike setting marks others alike (known_after known (marks node)) led.0 last hops led.1 led.4),
 )

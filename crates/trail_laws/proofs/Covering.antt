@@ -1,5 +1,5 @@
 -- The phases of a move cover all that a legal history leaves; in the first one its Coming stands where it goes.
-use Rattle.std.proofs.Common.{◌≡◌, ◌⊎◌, inl, inr, ℕ, suc, ◌<◌, cond, List, [], ◌∷◌, ◌++◌, Some, None, length, map, refl, sym, ap, ◌∙◌, subst, arith, eq-eqb}
+use Rattle.std.proofs.Common.{◌≡◌, ◌⊎◌, inl, inr, ℕ, suc, ◌<◌, cond, List, [], ◌∷◌, ◌++◌, Some, None, length, map, refl, sym, ap, ◌∙◌, arith, eq-eqb}
 use Rattle.std.specs.List.{last_or}
 use Rattle.std.proofs.lemmas.List.{length-map}
 use Rattle.entry_word.specs.declared.mark.PresenceMark.{PresenceMark}
@@ -72,9 +72,8 @@ begun-shown {setting} {shown} move (inr h) early last = at_phase h.phase h.marks
     at_phase : (phase : Phase)
         → ((v : ℕ) → v < setting.nodes → shown.marks v ≡ phase_mark setting h.course h.move phase v)
         → shown.commits ≡ phase_commits h.course h.move phase → shown.marks move.to ≡ Coming move.number move.from
-    at_phase (coming written) are c = subst (λ (m : Move). shown.marks m.to ≡ Coming m.number m.from) same
-        (are h.move.to h.next.inside ∙ ap (λ b. cond b (Coming h.move.number h.move.from)
-        (rest_mark setting h.course h.move.to)) (eq-eqb h.move.to h.move.to refl))
+    at_phase (coming written) are c = rw same at (are h.move.to h.next.inside ∙ ap (λ b. cond b
+        (Coming h.move.number h.move.from) (rest_mark setting h.course h.move.to)) (eq-eqb h.move.to h.move.to refl))
     at_phase passage are c = absurd (late c)
     at_phase (clearing erased purged) are c = absurd (late c)
 

@@ -1,5 +1,5 @@
 -- What the ways along the marks weigh, told for each state of the move under way.
-use Rattle.std.proofs.Common.{◌≡◌, ◌≢◌, ℕ, suc, ◌+◌, ◌*◌, ◌<◌, ◌≤◌, true, List, [], ◌∷◌, ◌++◌, None, length, map, sym, ap, ◌∙◌, subst, arith, length-append}
+use Rattle.std.proofs.Common.{◌≡◌, ◌≢◌, ℕ, suc, ◌+◌, ◌*◌, ◌<◌, ◌≤◌, true, List, [], ◌∷◌, ◌++◌, None, length, map, sym, ap, ◌∙◌, arith, length-append}
 use Rattle.std.proofs.lemmas.List.{length-map}
 use Rattle.entry_word.specs.declared.mark.PresenceMark.{PresenceMark}
 use Rattle.entry_word.specs.declared.mark.PresenceMark.TheVariants.{Here, Coming}
@@ -155,9 +155,7 @@ fine-clearing {setting} from marks {course} {move} level sound next begins below
     arith,
     price-clearing from level sound next begins below metric lazy,
   );
-  current = λ metric lazy all other same.
-      subst (λ n. weight_from (course.moves ++ move ∷ []) n < setting.threshold level) (sym same)
-      (lazy-whole setting (course.moves ++ move ∷ []) level below lazy);
+  current = λ metric lazy all other same. rw same (lazy-whole setting (course.moves ++ move ∷ []) level below lazy);
 }
   where
     same_count : length (course.moves ++ move ∷ []) ≡ suc (length (map commit_by (course.moves ++ move ∷ []))) → ⊥

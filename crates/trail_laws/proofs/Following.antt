@@ -66,8 +66,7 @@ fits-up laws {setting} {sub} {seen} {behind} {node} low legal inside is = at_sto
   where
     at_stop : (behind.place ≡ 0) ⊎ (stop_after (start setting sub) (commits sub seen) behind.place ≡ node)
         → GoesUp behind.place (mark_seen setting sub seen node)
-    at_stop (inl none) = subst (λ j. GoesUp j (mark_seen setting sub seen node)) (sym none)
-        (zero-up setting sub seen node (mark_seen setting sub seen node)
+    at_stop (inl none) = rw none (zero-up setting sub seen node (mark_seen setting sub seen node)
         (laws.marks setting sub seen low legal node inside))
     at_stop (inr stop) = stop-goes_up laws.cells laws.marks seen low legal behind.place node is.few stop inside
 

@@ -156,9 +156,9 @@ caller-in-turn follow count ascend setting scripts history played actor i j one 
     let short : b.0.last < length seen =
     omega (arith, looked, (count setting scripts history actor high played).0) in
     let one_is = line-visits actor a.0.call a.0.found (get_or seen a.0.first 0) (get_or seen a.0.last 0) earlier
-    (subst (λ (l : Done). find_of l ≡ Some earlier) (sym a.2) is_earlier) in
+    (rw a.2 is_earlier) in
     let other_is = line-visits actor b.0.call b.0.found (get_or seen b.0.first 0) (get_or seen b.0.last 0) later
-    (subst (λ (l : Done). find_of l ≡ Some later) (sym b.2) is_later) in (
+    (rw b.2 is_later) in (
       omega (
         arith,
         one_is.1,
@@ -235,8 +235,7 @@ steps-untold setting sub course [] seen i line find at told = cc
 steps-untold setting sub course (step ∷ steps) seen zero line find at told =
     let first : List ℕ = take (length (step_writes setting course step)) seen in
     let same : step_line setting sub course step first ≡ line = cc in
-    step-untold setting sub course step first find
-    (subst (λ (l : Done). find_of l ≡ Some find) (sym same) told)
+    step-untold setting sub course step first find (rw same told)
 steps-untold setting sub course (step ∷ steps) seen (suc i) line find at told =
     steps-untold setting sub (after_step setting course step) steps
     (drop (length (step_writes setting course step)) seen) i line find at told

@@ -2,7 +2,7 @@
 use Rattle.std.proofs.Math.Seq.{drop-nil}
 use Rattle.std.proofs.lemmas.Bool.{cases_Bool, cond_both, eq-eqb, ne_eqb}
 use Rattle.trail_laws.proofs.ClosedMarks.{from-inside, IsNext, rest_mark, mark_coming, mark_passing, mark_erasing, since_top, there, trail_mark, trail_mark-push}
-use Rattle.std.proofs.Common.{inl, inr, ◌≡◌, ◌≢◌, ℕ, zero, suc, ◌+◌, ◌-◌, ◌*◌, ◌<◌, ◌≤◌, Bool, true, false, cond, ◌==◌, List, [], ◌∷◌, ◌++◌, Option, length, map, drop, fold, refl, sym, ap, ◌∙◌, subst, arith, length-append}
+use Rattle.std.proofs.Common.{inl, inr, ◌≡◌, ◌≢◌, ℕ, zero, suc, ◌+◌, ◌-◌, ◌*◌, ◌<◌, ◌≤◌, Bool, true, false, cond, ◌==◌, List, [], ◌∷◌, ◌++◌, Option, length, map, drop, fold, refl, sym, ap, ◌∙◌, arith, length-append}
 use Rattle.std.specs.Prelude.{if◌then◌else◌, nat_le, slice_index, sum_by}
 use Rattle.std.proofs.lemmas.Bool.Decides.{nat_tests}
 use Rattle.std.proofs.lemmas.List.{drop-append-le, get_or_append_left, length-drop, length-map, map-append}
@@ -70,7 +70,7 @@ pub trail-linked : {setting : Setting} {course : Course} → IsSound setting cou
     → AreLinked setting (first_of setting course) (low_of setting course) (since_top setting course)
 trail-linked {setting} {course} sound =
     let e : 0 + low_of setting course ≡ low_of setting course = omega arith in
-    subst (λ n. AreLinked setting (first_of setting course) n (since_top setting course)) e (linked-drop setting
+    rw e at (linked-drop setting
     course.start 0 course.moves (low_of setting course) sound.linked (base-low setting.top sound))
 
 pub trail-stops : {setting : Setting} {course : Course} (i : ℕ) → IsSound setting course
@@ -106,9 +106,7 @@ trail-leads : (setting : Setting) (marks : ℕ → PresenceMark) (last most more
     → Arrival setting marks known v last (more_hops + above setting marks q) (weight_from all q + more_way)
 trail-leads setting marks last most more_hops more_way from number start moves all same linked count stops within exits
     q v known from_low to_end inside is_stop knows =
-    subst (λ n. Arrival setting marks known v last (more_hops + above setting marks n) (weight_from all q + more_way))
-    placed (subst (λ w. Arrival setting marks known v last (more_hops + above setting marks (number + (q - number)))
-    (w + more_way)) weights
+    rw placed at (rw weights at
     (leads setting marks from number last moves most more_hops more_way linked (omega (arith, count, within)) exits
     (length moves) (q - number) v known (omega arith) (omega (arith, count, to_end, from_low)) inside
     (stops (q - number) ∙ (ap (stop_at start all) placed ∙ is_stop)) knows))

@@ -17,7 +17,7 @@ use Rattle.trail_laws.proofs.Links.{base-low, IsSound}
 use Rattle.trail_laws.proofs.ClosedEntries.{entry_written, new_entry, rest_entry}
 use Rattle.trail_laws.proofs.ClosedViews.{clearing, coming, IsPhase, old_levels, passage, Phase, phase_commits, phase_entry, renewed_levels, Shown, View, while_clearing}
 use Rattle.trail_laws.proofs.ClosedWrites.{in-levels}
-use Rattle.trail_laws.proofs.LinkedStops.{weight_from, old-inside}
+use Rattle.trail_laws.proofs.LinkedStops.{old-inside}
 use Rattle.trail_laws.proofs.Tells.{next-stands, rest-stands, stands}
 use Rattle.trail_laws.proofs.Addresses.{not-taken}
 use Rattle.trail_laws.proofs.Holders.{move_address}
@@ -35,8 +35,7 @@ near-kept {setting} {course} {move} level metric sound next below lazy e = omega
   ap (setting.distance (address_node course level)) next.from,
   next.weight,
   weight-push course.moves move (base level course.moves) (base-low level sound),
-  subst (λ b. weight_from (course.moves ++ move ∷ []) b < setting.threshold level)
-      (base-with level course move ∙ ap (λ b. cond b move.number (base level course.moves)) e)
+  rw (base-with level course move ∙ ap (λ b. cond b move.number (base level course.moves)) e) at
       (lazy-whole setting (course.moves ++ move ∷ []) level below lazy),
 )
   where
@@ -76,13 +75,11 @@ level-has {setting} {shown} level below (inl h) = (
   _,
   old-inside level h.sound,
   h.entries_are level _ below ∙ rest-has setting h.course level,
-  λ metric lazy. subst (λ n. setting.distance (address_node h.course level) n < setting.threshold level)
-      (sym (ap (stands shown.from) h.commits_are ∙ rest-stands h.course shown.from h.begins))
-      (omega (
-        arith,
-        address-near level h.sound metric,
-        lazy-whole setting h.course.moves level below (subst (AreLazy setting) h.moves_are lazy),
-      )),
+  λ metric lazy. rw (ap (stands shown.from) h.commits_are ∙ rest-stands h.course shown.from h.begins) (omega (
+    arith,
+    address-near level h.sound metric,
+    lazy-whole setting h.course.moves level below (subst (AreLazy setting) h.moves_are lazy),
+  )),
 )
 level-has {setting} {shown} level below (inr h) = at_phase h.phase h.is_phase
     (λ cluster. h.entries_are level cluster below) h.commits_are

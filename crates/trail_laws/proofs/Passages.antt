@@ -14,7 +14,7 @@ use Rattle.entry_word.specs.declared.visit.Act.TheVariants.{Look, Put, Census}
 use Rattle.entry_word.specs.declared.visit.Visit.{Visit}
 use Rattle.directory.specs.Settings.{Setting, start}
 use Rattle.directory.specs.Histories.{cell, History, is_put_for, puts_to, word_after}
-use Rattle.directory.specs.Courses.{after_step, after_steps, Course, course_at, next_move}
+use Rattle.directory.specs.Courses.{after_step, after_steps, course_at, next_move}
 use Rattle.directory.specs.Puts.{course_in, mark_put, mark_step, node_put, steps_from, steps_in}
 use Rattle.directory.specs.Legal.{IsLegal}
 use Rattle.directory.specs.Standing.{Commit, commit_of, commits, confirms, number, passage, passage_of, standing}
@@ -80,10 +80,8 @@ coming-grows : (setting : Setting) (sub : ℕ) (puts : List Visit) (visit : Visi
     → length (course_in setting sub puts).moves < length (course_in setting sub (puts ++ visit ∷ [])).moves
 coming-grows setting sub puts visit p u comes =
     let more = put-course setting sub puts visit in
-    subst (λ (c : Course). length (course_in setting sub puts).moves < length c.moves)
-    (sym (more.1 ∙ ap (λ m. after_steps setting (course_in setting sub puts)
-    (cons_option (mark_step more.0 (node_put visit.act) m) [])) comes))
-    (omega (
+    rw (more.1 ∙ ap (λ m. after_steps setting (course_in setting sub puts)
+    (cons_option (mark_step more.0 (node_put visit.act) m) [])) comes) (omega (
       arith,
       length-append (course_in setting sub puts).moves
           (next_move setting (course_in setting sub puts) (node_put visit.act) ∷ []),

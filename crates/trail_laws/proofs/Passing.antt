@@ -65,8 +65,7 @@ module _ (fronts : FrontsAreLegal) {setting : Setting} {sub : ℕ} (history : Hi
       → ((x : ℕ) → t ≤ x → x < u → moves_at sub history x ≡ false) → P (before t history) → P (before u history)
   while-quiet t u order within quiet now =
       let e : (u - t) + t ≡ u = omega (arith, order) in
-      subst (λ n. P (before n history)) e (quiet-steps (u - t) t (omega (arith, within, e))
-      (λ x h g. quiet x h (omega (arith, g, e))) now)
+      rw e at (quiet-steps (u - t) t (omega (arith, within, e)) (λ x h g. quiet x h (omega (arith, g, e))) now)
 
 take-further : (k t : ℕ) (xs : History) → (rest : History) × (take (k + t) xs ≡ take t xs ++ rest)
 take-further k zero xs = (take (k + 0) xs, refl)
@@ -116,11 +115,9 @@ begun-grows setting sub t u history h =
   where
     of_puts : (all xs ys : List Visit) → all ≡ xs ++ ys
         → length (course_in setting sub xs).moves ≤ length (course_in setting sub all).moves
-    of_puts all xs ys same = subst (λ (c : Course). length (course_in setting sub xs).moves ≤ length c.moves)
-        (sym (ap (course_in setting sub) same
+    of_puts all xs ys same = rw (ap (course_in setting sub) same
         ∙ (ap (after_steps setting (course_at (start setting sub))) (steps-append false xs ys)
-        ∙ fold-append (after_step setting) (course_at (start setting sub)) (steps_in xs)
-        (steps_from (ends_off xs) ys))))
+        ∙ fold-append (after_step setting) (course_at (start setting sub)) (steps_in xs) (steps_from (ends_off xs) ys)))
         (moves-kept setting (course_in setting sub xs) (steps_from (ends_off xs) ys))
 
 -- after a look all is as before

@@ -1,6 +1,6 @@
 -- What an address tells, and where the marks lead from its node: at rest, and in each phase of a move.
 use Rattle.trail_laws.proofs.ClosedMarks.{from-inside, IsNext, mark_coming, mark_erasing, mark_passing, rest_mark}
-use Rattle.std.proofs.Common.{◌==◌, ◌≡◌, ◌≢◌, ◌⊎◌, inl, inr, ℕ, zero, suc, ◌<◌, ◌≤◌, true, List, [], ◌∷◌, ◌++◌, Option, length, map, refl, sym, ap, ◌∙◌, subst, arith}
+use Rattle.std.proofs.Common.{◌==◌, ◌≡◌, ◌≢◌, ◌⊎◌, inl, inr, ℕ, zero, suc, ◌<◌, ◌≤◌, true, List, [], ◌∷◌, ◌++◌, Option, length, map, refl, sym, ap, ◌∙◌, arith}
 use Rattle.std.specs.Prelude.{slice_index}
 use Rattle.std.proofs.lemmas.Bool.{eqb-true}
 use Rattle.std.proofs.lemmas.List.{get_or_append_left, get_or_at, length-map, map-append}
@@ -76,16 +76,15 @@ module _ (setting : Setting) (from : ℕ) (marks : ℕ → PresenceMark) (commit
       → ((known : Option ℕ) → KnowsAtMost number known → Arrival setting marks known its.node last hops way)
       → IsPlaced setting from marks commits moves level cluster address
   at-home moves level cluster address its hops way same inside home few is_stop some fine leads =
-      subst (λ (a : Address). IsPlaced setting from marks commits moves level cluster a) (sym same) (record {
+      rw same (record {
         inside = inside;
         home_is = eqb-true cluster (setting.home level its.node) home;
         few = few;
         is_stop = is_stop;
         most_way = way;
         fine = fine;
-        leads = λ known knows. subst (λ n. Arrival setting marks known its.node n setting.nodes way) (sym stood)
-            (longer setting marks known its.node last hops setting.nodes way way some (λ metric. omega arith)
-            (leads known (subst (λ n. KnowsAtMost n known) count knows)));
+        leads = λ known knows. rw stood (longer setting marks known its.node last hops setting.nodes way way some
+            (λ metric. omega arith) (leads known (rw count at knows)));
       })
 
 pub rest-placed : {setting : Setting} (from : ℕ) (marks : ℕ → PresenceMark) {course : Course} (level cluster : ℕ)

@@ -1,7 +1,7 @@
 -- What the ways along the marks weigh: no level has gathered its threshold, so that the trail from its address is
 -- short.
 use Rattle.trail_laws.proofs.ClosedMarks.{from-inside, IsNext}
-use Rattle.std.proofs.Common.{◌≡◌, ℕ, ◌+◌, ◌*◌, ◌<◌, ◌≤◌, List, [], ◌∷◌, ◌++◌, length, map, take, drop, refl, ap, ◌∙◌, subst, arith, length-append}
+use Rattle.std.proofs.Common.{◌≡◌, ℕ, ◌+◌, ◌*◌, ◌<◌, ◌≤◌, List, [], ◌∷◌, ◌++◌, length, map, take, drop, refl, ap, ◌∙◌, arith, length-append}
 use Rattle.std.specs.Prelude.{sum_by}
 use Rattle.std.proofs.lemmas.List.{drop-append-le, take_all, take_at}
 use Rattle.std.proofs.lemmas.List.Sums.{sum_by_push}
@@ -23,14 +23,12 @@ AreLazy setting moves =
 pub lazy-whole : (setting : Setting) (moves : List Move) (level : ℕ) → level ≤ setting.top → AreLazy setting moves
     → weight_from moves (base level moves) < setting.threshold level
 lazy-whole setting moves level below lazy =
-    subst (λ (ms : List Move). weight_from ms (base level ms) < setting.threshold level)
-    (take_all (length moves) moves (omega arith)) (lazy (length moves) level (omega arith) below)
+    rw (take_all (length moves) moves (omega arith)) at (lazy (length moves) level (omega arith) below)
 
 pub lazy-front : (setting : Setting) (xs ys : List Move) (level : ℕ) → level ≤ setting.top
     → AreLazy setting (xs ++ ys) → weight_from xs (base level xs) < setting.threshold level
 lazy-front setting xs ys level below lazy =
-    subst (λ (ms : List Move). weight_from ms (base level ms) < setting.threshold level)
-    (take_at xs ys (length xs) refl) (lazy (length xs) level (omega (arith, length-append xs ys)) below)
+    rw (take_at xs ys (length xs) refl) at (lazy (length xs) level (omega (arith, length-append xs ys)) below)
 
 pub weight-push : (moves : List Move) (move : Move) (b : ℕ) → b ≤ length moves
     → weight_from (moves ++ move ∷ []) b ≡ weight_from moves b + move.weight
@@ -42,8 +40,8 @@ pub address-near : {setting : Setting} {course : Course} (level : ℕ) → IsSou
     → setting.distance (address_node course level) (last_stop course) ≤ weight_from course.moves
     (base level course.moves)
 address-near {setting} {course} level sound metric =
-    subst (λ n. setting.distance (address_node course level) n ≤ weight_from course.moves (base level course.moves))
-    (stop-end course.start course.moves) (way-short course.start 0 course.moves (base level course.moves) sound.linked
+    rw (stop-end course.start course.moves) at (way-short course.start 0 course.moves
+    (base level course.moves) sound.linked
     sound.begins metric (base-low level sound))
 
 -- after the confirm the trail from an old address is short

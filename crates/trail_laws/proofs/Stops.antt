@@ -1,6 +1,6 @@
 -- Where the commits of a subscriber lead, and where each begins.
 use Rattle.trail_laws.proofs.ClosedMarks.{from-inside, IsNext}
-use Rattle.std.proofs.Common.{◌⊎◌, true, false, ◌≡◌, inl, inr, ℕ, zero, suc, ◌-◌, ◌<◌, ◌≤◌, List, [], ◌∷◌, ◌++◌, Some, length, map, fold, refl, sym, ap, ◌∙◌, subst, arith}
+use Rattle.std.proofs.Common.{◌⊎◌, true, false, ◌≡◌, inl, inr, ℕ, zero, suc, ◌-◌, ◌<◌, ◌≤◌, List, [], ◌∷◌, ◌++◌, Some, length, map, fold, refl, sym, ap, ◌∙◌, arith}
 use Rattle.std.specs.Prelude.{slice_get, slice_index}
 use Rattle.std.proofs.lemmas.List.{get_or_append_left, length-map, map-append}
 use Rattle.directory.specs.Settings.{Setting}
@@ -82,8 +82,8 @@ pub record IsCommitted (setting : Setting) (shown : Shown) : Type 0 where
 pub committed : {setting : Setting} {shown : Shown} → View setting shown → IsCommitted setting shown
 committed {setting} (inl h) = record {
   moves = h.course.moves;
-  begins = subst (λ n. n < setting.nodes) h.begins h.sound.begins;
-  linked = subst (λ n. AreLinked setting n 0 h.course.moves) h.begins h.sound.linked;
+  begins = rw h.begins at h.sound.begins;
+  linked = rw h.begins at h.sound.linked;
   are = h.commits_are;
   count = ap length h.commits_are ∙ length-map h.course.moves commit_by;
   rest = inl h.moves_are;
@@ -91,14 +91,13 @@ committed {setting} (inl h) = record {
 committed {setting} {shown} (inr h) = at_phase h.phase h.commits_are
   where
     begins : shown.from < setting.nodes
-    begins = subst (λ n. n < setting.nodes) h.begins h.sound.begins
+    begins = rw h.begins at h.sound.begins
 
     all : shown.commits ≡ map commit_by (h.course.moves ++ h.move ∷ []) → IsCommitted setting shown
     all c = record {
       moves = h.course.moves ++ h.move ∷ [];
       begins = begins;
-      linked = subst (λ n. AreLinked setting n 0 (h.course.moves ++ h.move ∷ [])) h.begins
-          (course-linked h.sound h.next);
+      linked = rw h.begins at (course-linked h.sound h.next);
       are = c;
       count = ap length c ∙ length-map (h.course.moves ++ h.move ∷ []) commit_by;
       rest = inl h.moves_are;
@@ -108,7 +107,7 @@ committed {setting} {shown} (inr h) = at_phase h.phase h.commits_are
     at_phase (coming written) c = record {
       moves = h.course.moves;
       begins = begins;
-      linked = subst (λ n. AreLinked setting n 0 h.course.moves) h.begins h.sound.linked;
+      linked = rw h.begins at h.sound.linked;
       are = c;
       count = ap length c ∙ length-map h.course.moves commit_by;
       rest = inr (ap length h.moves_are ∙ moves-count h.course h.move, h.off_is);
@@ -140,7 +139,7 @@ pub view-inside : {setting : Setting} {shown : Shown} → View setting shown
     → stands shown.from shown.commits < setting.nodes
 view-inside {setting} {shown} view =
     let its = committed view in
-    subst (λ n. n < setting.nodes) (sym (ap (stands shown.from) its.are ∙ stands-moves shown.from its.moves))
+    rw (ap (stands shown.from) its.are ∙ stands-moves shown.from its.moves)
     (last-inside setting shown.from 0 its.moves its.begins its.linked)
 
 pub stop-left : {setting : Setting} {shown : Shown} → View setting shown

@@ -42,16 +42,15 @@ module _ {setting : Setting} {sub : ℕ} {one other : History} (call : FindCall)
       → IsLed setting (mark_seen setting sub one) known node (standing setting sub one) hops way
       → IsLed setting (mark_seen setting sub other) known node (standing setting sub other) hops way
   led-on known node hops way led =
-      subst (λ n. IsLed setting (mark_seen setting sub other) known node n hops way) (sym alike.stands)
-      (led-alike setting (mark_seen setting sub one) (mark_seen setting sub other) alike.marks known node
-      (standing setting sub one) hops way led)
+      rw alike.stands (led-alike setting (mark_seen setting sub one) (mark_seen setting sub other) alike.marks known
+      node (standing setting sub one) hops way led)
 
   entry-alike : (old new : Option Address) (on other_on : Type 0) (there other_there : Address → Type 0) → new ≡ old
       → (on → other_on) → ((a : Address) → there a → other_there a) → EntryAsks old on there
       → EntryAsks new other_on other_there
   entry-alike None None on other_on there other_there same f g h = f h
   entry-alike (Some a) (Some b) on other_on there other_there same f g h =
-      let is_one : a ≡ b = cc in subst (λ (x : Address). other_there x) is_one (g a h)
+      let is_one : a ≡ b = cc in rw is_one at (g a h)
   entry-alike old new on other_on there other_there same f g h = cc
 
   affords-alike : (weight : ℕ) (readers : List Reader)
@@ -63,13 +62,13 @@ module _ {setting : Setting} {sub : ℕ} {one other : History} (call : FindCall)
       (entry_seen setting sub other reader.level reader.cluster) _ _ _ _ (alike.entries reader.level reader.cluster)
       (affords-alike (weight + 2 * way_in setting call reader) later)
       (λ address its known knows.
-      let led = its known (subst (λ n. KnowsAtMost n known) alike.count knows) in
+      let led = its known (rw alike.count at knows) in
       (led.0, led.1, led.2, led-on known address.node led.0 led.1 led.3, led.4)) h
 
   pub sure-alike : (pursuit : Pursuit) → IsSure setting sub one call Within pursuit
       → IsSure setting sub other call Within pursuit
   sure-alike (climbs known weight reader later) sure =
-      (subst (λ n. KnowsAtMost n known) (sym alike.count) sure.0, affords-alike weight (reader ∷ later) sure.1)
+      (rw alike.count sure.0, affords-alike weight (reader ∷ later) sure.1)
   sure-alike (chases chase node) sure =
       (sure.0, sure.1, sure.2, led-on chase.known node sure.0 sure.1 sure.3, sure.4)
   sure-alike other_pursuit sure = sure
@@ -166,11 +165,8 @@ module _ (setting : Setting) (seen : History) (call : FindCall) (Within : ℕ �
   hop-on chase node to known hops way few led allowed leads knows =
       let at_to : Some to ≡ Some led.0 = sym leads ∙ led.2 in
       let is_to : led.0 ≡ to = cc in
-      hop-sure known chase.level chase.weight chase.hops_left node to hops led.1 few
-      (subst (λ n. IsLed setting (mark_seen setting call.sub seen) known n (standing setting call.sub seen) hops led.1)
-      is_to (subst (λ k. IsLed setting (mark_seen setting call.sub seen) k led.0 (standing setting call.sub seen) hops
-      led.1) knows led.4))
-      (subst (λ n. Within (chase.weight + setting.distance node n + led.1)) is_to (subst Within
+      hop-sure known chase.level chase.weight chase.hops_left node to hops led.1 few (rw is_to at (rw knows at led.4))
+      (rw is_to at (subst Within
       (let e : chase.weight + way ≡ chase.weight + setting.distance node led.0 + led.1 = omega (arith, led.3) in e)
       allowed))
 
@@ -184,9 +180,7 @@ module _ (setting : Setting) (seen : History) (call : FindCall) (Within : ℕ �
   mark-sure chase node (Gone q to) same zero way few led allowed =
       let clash : false ≡ true = sym (ap (answers chase.known) same) ∙ led.1 in cc
   mark-sure chase node (Coming q from) same zero way few led allowed =
-      subst (λ b. IsSureOf (cond b (ended (At node q chase.level chase.weight))
-      (hop setting chase.known chase.level chase.weight chase.hops_left node from)))
-      (sym (sym (ap (answers chase.known) same) ∙ led.1))
+      rw (sym (ap (answers chase.known) same) ∙ led.1)
       (tt, subst Within (let e : chase.weight + way ≡ chase.weight = omega (arith, led.2) in e) allowed)
   mark-sure chase node mark same zero way few led allowed =
       (tt, subst Within (let e : chase.weight + way ≡ chase.weight = omega (arith, led.2) in e) allowed)

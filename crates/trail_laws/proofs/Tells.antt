@@ -164,10 +164,9 @@ module _ {setting : Setting} (from : ℕ) (marks : ℕ → PresenceMark) {course
 
   -- the marks of the trail, when the subscriber has left it
   trail-is : (node == move.from) ≡ false → TellsCommit (rest_mark setting course node)
-  trail-is other = subst TellsCommit (sym (ap (λ b. cond b (there course) (trail_mark (since_top setting course) node
-      Empty)) (ap (λ n. node == n) (sym next.from) ∙ other))) (subst (λ (cs : List Commit). MarkIs setting.nodes from
-      marks cs false (course.moves ++ move ∷ []) node (trail_mark (since_top setting course) node Empty))
-      (sym (map-append commit_by course.moves (move ∷ []))) (gone-is from marks false (course.moves ++ move ∷ []) node
+  trail-is other = subst TellsCommit (sym (ap (λ b. cond b (there course)
+      (trail_mark (since_top setting course) node Empty)) (ap (λ n. node == n) (sym next.from) ∙ other))) (rw
+      (map-append commit_by course.moves (move ∷ [])) (gone-is from marks false (course.moves ++ move ∷ []) node
       (trail_mark (since_top setting course) node Empty) (commit_by move ∷ []) sound refl))
 
   left-is : (node == move.from) ≡ true → TellsCommit (Gone move.number move.to)

@@ -239,16 +239,13 @@ amid-view : {setting : Setting} {sub : ℕ} (before under : List Step) (made : �
     (writes setting (course_of setting sub before) under)) (course_of setting sub (before ++ under)).moves
 unfolding writes
 amid-view {setting} {sub} before [] made script one some few =
-    subst (λ steps. WritesView setting sub (writes_of setting sub before ++ take made [])
-    (course_of setting sub steps).moves) (sym (append-nil before))
-    (subst (λ ws. WritesView setting sub ws (course_of setting sub before).moves)
-    (sym (ap (λ ws. writes_of setting sub before ++ ws) (take-nil made) ∙ append-nil (writes_of setting sub before)))
+    rw (append-nil before)
+    (rw (ap (λ ws. writes_of setting sub before ++ ws) (take-nil made) ∙ append-nil (writes_of setting sub before))
     (rests setting sub before (subst (IsScript setting sub) (append-nil before) script)))
 amid-view {setting} {sub} before (move_to node ∷ []) made script one some few =
     let may = may-before setting (course_at (start setting sub)) before (move_to node) script.allowed in
-    subst (λ ws. WritesView setting sub (writes_of setting sub before ++ take made ws)
-    (course_of setting sub (before ++ move_to node ∷ [])).moves) (sym (append-nil (move_writes setting
-    (course_of setting sub before) (next_move setting (course_of setting sub before) node)))) (amid-move (record {
+    rw (append-nil (move_writes setting
+    (course_of setting sub before) (next_move setting (course_of setting sub before) node))) (amid-move (record {
       known =
           script.known;
       begins = script.begins;
@@ -256,8 +253,7 @@ amid-view {setting} {sub} before (move_to node ∷ []) made script one some few 
     }) may.1 made some)
 amid-view {setting} {sub} before (step ∷ []) made script one some few =
     let e : made ≡ 1 = omega (arith, some, few) in
-    rw e (subst (λ ws. WritesView setting sub ws (course_of setting sub (before ++ step ∷ [])).moves)
-    (writes-more setting (course_at (start setting sub)) before step)
+    rw e (rw (writes-more setting (course_at (start setting sub)) before step) at
     (rests setting sub (before ++ step ∷ []) script))
 amid-view before (step ∷ other ∷ more) made script one some few = absurd (omega (arith, one))
 
