@@ -51,7 +51,7 @@ pub more_balls : (table : DistanceTable) (radius v : ℕ) (old : List Nodes) {ne
 more_balls table radius v old ball before is now =
     made_more (λ u. ball_of table u radius) v before is (ap sets now ∙ map_push (λ (b : Nodes). b.members) old ball)
 
-module _ (table : DistanceTable) (metric : IsMetric table) (cells : List ℕ) (depth : ℕ) (nodes : List ℕ)
+module _ {table : DistanceTable} (metric : IsMetric table) {cells nodes : List ℕ} {depth : ℕ}
     (all : nodes ≡ centres table.nodes) (row : IsRowOf table 0 cells)
     (bound : All (λ x. x ≤ depth) cells) (attained : 0 < length cells → Contains cells depth) where
   filled : cells ≡ map (λ u. dist table 0 u) (centres table.nodes)
@@ -95,9 +95,7 @@ pub flat_level_is : {table : DistanceTable} {top : ℕ} {clusters : List PlanClu
     → IsTop table top → IsWholeAlone table clusters → homes ≡ replicate {A = ℕ} table.nodes 0
     → level ≡ level_of top 1 (shape_with 1 clusters homes) → IsFlatLevel table level
 flat_level_is {table} {top} {homes} top_is alone zeros is =
-    subst (λ (l : Level). IsFlatLevel table l) (sym is)
-    (subst (λ (cs : List PlanCluster). IsFlatLevel table (level_of top 1 (shape_with 1 cs homes))) (sym alone.alone)
-    (record {
+    rw (is, alone.alone) (record {
       exponent = top_is;
       threshold = refl;
       phases = refl;
@@ -108,7 +106,7 @@ flat_level_is {table} {top} {homes} top_is alone zeros is =
           (ap (length {A = ℕ}) zeros ∙ length-replicate {A = ℕ} table.nodes 0)
           ∙ map_same (clusters_with (alone.cluster ∷ [])) (λ v. 0 ∷ []) table.nodes
           (λ v h. ap (λ b. cond b (0 ∷ []) []) (ap (has v) alone.whole.members ∙ has_centre table.nodes v h));
-    }))
+    })
   where
     replicated_from : (v n : ℕ) → replicate {A = ℕ} n 0 ≡ map (λ v. 0) (sift (λ x. true) v n)
     replicated_from v zero = refl
@@ -120,12 +118,10 @@ flat_level_is {table} {top} {homes} top_is alone zeros is =
 pub level_sized : {n : ℕ} (exponent threshold phases : ℕ) (clusters : List PlanCluster) (homes : List ℕ) {level : Level}
     → level ≡ level_of exponent threshold (shape_with phases clusters homes) → length homes ≡ n → length clusters ≤ n
     → exponent ≤ 30 → IsSized n level
-level_sized {n} exponent threshold phases clusters homes is nodes few light =
-    subst (λ (l : Level). IsSized n l) (sym is)
-    (record {
+level_sized exponent threshold phases clusters homes is nodes few light =
+    rw is (record {
       homes = nodes;
-      readers = length-map_centres (clusters_with clusters) (length homes)
-          ∙ nodes;
+      readers = length-map_centres (clusters_with clusters) (length homes) ∙ nodes;
       clusters = few;
       exponent = light;
     })
