@@ -34,8 +34,8 @@ no_made = record { first = 0; members = record { room = 0; members = [] }; phase
 abbrev no_grown : GrownCluster
 no_grown = record { first = 0; growths = 0; homed = []; members = [] }
 
-module _ (shape : CoveringsAreShaped) (found : CoveringsHaveHomes) (network : Network) (sound : IsNetwork network)
-    (covering : Covering) (low : 1 ≤ trade_off_of covering) (plan : PlanData) (metric : IsMetric plan.distances)
+module _ (shape : CoveringsAreShaped) (found : CoveringsHaveHomes) {network : Network} (sound : IsNetwork network)
+    {covering : Covering} (low : 1 ≤ trade_off_of covering) {plan : PlanData} (metric : IsMetric plan.distances)
     (is : IsCoveredPlan covering network plan) where
   module _ (i : ℕ) (below : i < levels_of plan) where
     abbrev made : List Cluster
@@ -52,8 +52,7 @@ module _ (shape : CoveringsAreShaped) (found : CoveringsHaveHomes) (network : Ne
         (omega (arith, as_many))
 
     close : (c : ℕ) → c < clusters_of plan i → IsClose network (reach_of covering * 2 ^ i) (get_or made c no_made)
-    close c h = listed_close network plan.distances metric is.distances sound covering i low shape c no_made
-        (omega (arith, as_many))
+    close c h = listed_close metric is.distances sound i covering low shape c no_made (omega (arith, as_many))
 
     made_member : (c v : ℕ) → c < clusters_of plan i → has v (members_of plan i c) ≡ true
         → has v (get_or made c no_made).members.members ≡ true
@@ -91,7 +90,7 @@ module _ (shape : CoveringsAreShaped) (found : CoveringsHaveHomes) (network : Ne
         sound.limits.edges (λ x hx inner. refl)
         (get_or made c no_made).first walk.steps v first walk.walk)
         in
-        subst (λ u. distance plan u v ≤ inside plan i c v) (sym (cluster_is c h).leader) (omega (arith, far, walk.sum))
+        rw (cluster_is c h).leader (omega (arith, far, walk.sum))
 
     pub inside_near : (c v : ℕ) → c < clusters_of plan i → has v (members_of plan i c) ≡ true
         → inside plan i c v ≤ reach_of covering * 2 ^ i
@@ -118,18 +117,11 @@ module _ (shape : CoveringsAreShaped) (found : CoveringsHaveHomes) (network : Ne
     found_home : (v : ℕ) → v < nodes_of plan → (home_of groups v < length groups)
         × (has v (get_or groups (home_of groups v) no_grown).homed ≡ true)
     found_home v h =
-        found covering (balls_of plan.distances i) v no_grown low
-        (centred network plan.distances metric is.distances sound covering i low)
-        (inside_balls network plan.distances metric is.distances sound covering i low) (ball_below v h)
+        found covering (balls_of plan.distances i) v no_grown low (centred metric is.distances sound i)
+        (inside_balls metric is.distances sound i) (ball_below v h)
 
     pub home_below : (v : ℕ) → v < nodes_of plan → home plan i v < clusters_of plan i
-    home_below v h =
-        omega (
-          arith,
-          home_is v h,
-          groups_count,
-          (found_home v h).0,
-        )
+    home_below v h = omega (arith, home_is v h, groups_count, (found_home v h).0)
 
     group_members : (c : ℕ) → c < length groups → (get_or made c no_made).members.members
         ≡ (get_or groups c no_grown).members
@@ -143,22 +135,17 @@ module _ (shape : CoveringsAreShaped) (found : CoveringsHaveHomes) (network : Ne
         → has x (members_of plan i (home plan i v)) ≡ true
     in_home v x h member =
         let c : ℕ = home_of groups v in
-        let is_within : c < length groups =
-        (found_home v h).0
-        in
-        let homed = (found_home v h).1 in
-        let shaped = shape covering (balls_of plan.distances i) low
-        (centred network plan.distances metric is.distances sound covering i low)
-        (inside_balls network plan.distances metric is.distances sound covering i low) c no_grown is_within in
-        subst (λ d. has x (members_of plan i d) ≡ true) (sym (home_is v h))
+        let is_within : c < length groups = (found_home v h).0 in
+        let shaped = shape covering (balls_of plan.distances i) low (centred metric is.distances sound i)
+        (inside_balls metric is.distances sound i) c no_grown is_within in
+        rw (home_is v h)
         (ap (has x) ((cluster_is c (omega (arith, groups_count))).members ∙ group_members c is_within ∙ shaped.1)
-        ∙ union_has (balls_of plan.distances i) x v (get_or groups c no_grown).homed homed member)
+        ∙ union_has (balls_of plan.distances i) x v (get_or groups c no_grown).homed (found_home v h).1 member)
 
     near_home : (u v : ℕ) → u < nodes_of plan → v < nodes_of plan → distance plan u v ≤ 2 ^ i
         → has v (members_of plan i (home plan i u)) ≡ true
     near_home u v hu hv near =
-        in_home u v hu (to_ball network plan.distances metric is.distances sound.limits.edges (2 ^ i)
-        (balls_of plan.distances i) refl u v hu hv near)
+        in_home u v hu (to_ball metric is.distances sound.limits.edges (2 ^ i) u v hu hv near)
 
     pub reads : (v : ℕ) → v < nodes_of plan → readers plan i v ≡ clusters_with (level_at plan i).clusters v
     reads v h = ap (λ (xs : List (List ℕ)). get_or xs v []) level.readers
@@ -200,10 +187,7 @@ module _ (shape : CoveringsAreShaped) (found : CoveringsHaveHomes) (network : Ne
       }
 
   plan_near : IsWithinReach plan
-  plan_near i c v h hc member =
-      subst (λ j. inside plan i c v ≤ j * 2 ^ (level_at plan i).exponent) (sym is.reach)
-      (subst (λ e. inside plan i c v ≤ reach_of covering * 2 ^ e) (sym (is.each i h).exponent)
-      (inside_near i h c v hc member))
+  plan_near i c v h hc member = rw (is.reach, (is.each i h).exponent) (inside_near i h c v hc member)
 
   pub plan_bounds : BoundsFinds plan
   plan_bounds = record {
