@@ -14,10 +14,8 @@ use Rattle.node_set.specs.Ascending.{sift}
 use Rattle.distances.specs.Table.{DistanceTable, IsMetric, IsRowOf, ball_of, dist}
 use Rattle.distances.specs.TableLaws.{part_is_row}
 use Rattle.region_plan.specs.Spread.{AreExponents, AreExponentsTo, AreMarked, HasExponent, IsExponent}
+use Rattle.region_plan.proofs.Exponents.{two}
 use Rattle.region_plan.proofs.Making.{more_balls}
-
-two : 1 ≤ 2
-two = omega arith
 
 -- ---- the exponent that just reaches a distance
 
@@ -87,13 +85,10 @@ pub row_written : {table : DistanceTable} {u at : ℕ} {row : List ℕ} (old new
 row_written {table} {u} {at} old new begins is before kept here w v w_below v_below = elim (cases_lt w u) [
   | inl less ↦
       let within : w * table.nodes + v < at = omega (arith, row_fits w table.nodes u table.nodes less (omega arith)) in
-      subst (λ e. IsExponent (dist table w v) e) (sym (kept (w * table.nodes + v) within)) (before w v less v_below)
+      rw (kept (w * table.nodes + v) within) (before w v less v_below)
   | inr last ↦
-      let same : u ≡ w = omega arith in
-      subst (λ x. IsExponent (dist table x v) (slice_index new (x * table.nodes + v))) same
-      (subst (λ p. IsExponent (dist table u v) (slice_index new (p + v))) begins
-      (subst (λ d. IsExponent d (slice_index new (at + v))) (is.each v v_below)
-      (here v (omega (arith, is.count)))))
+      let same : w ≡ u = omega arith in
+      rw (same, ← is.each v v_below, ← begins) (here v (omega (arith, is.count)))
 ]
 
 -- the numbers of a row within a radius are the ball's nodes
