@@ -1,6 +1,5 @@
 -- A network and k have one plan.
-use Rattle.std.proofs.Common.{◌≡◌, ℕ, zero, suc, ◌<◌, Bool, true, List, [], ◌∷◌, length, get_or, refl, sym}
-use Rattle.std.proofs.Common.{◌∙◌, ap, subst, arith}
+use Rattle.std.proofs.Common.{◌≡◌, ℕ, zero, suc, ◌<◌, Bool, true, List, [], ◌∷◌, length, get_or, refl, sym, ◌∙◌, ap, subst, arith}
 use Rattle.std.specs.Prelude.{All}
 use Rattle.std.proofs.lemmas.List.{get_or_default, same_lists}
 use Rattle.std.proofs.lemmas.List.Elements.{All-nil, All-cons, All-append, All-head, All-tail}
@@ -20,10 +19,9 @@ use Rattle.node_set.specs.BallLaws.{ascending-union_of}
 use Rattle.region_plan.specs.Regions.{regions_of}
 use Rattle.mean_cover.specs.Covering.{mean_cluster, mean_clusters, mean_covering}
 use Rattle.region_plan.specs.Coverings.{covering_of}
-use Rattle.region_plan.specs.Meanings.{IsTop, IsClusterOf, AreClustersOf, IsCoveredPlan, IsLevelOf}
+use Rattle.region_plan.specs.Meanings.{IsClusterOf, AreClustersOf, IsCoveredPlan, IsLevelOf, as_tree}
 use Rattle.region_plan.specs.declared.covering.Covering.{Covering}
 use Rattle.region_plan.specs.declared.covering.Covering.TheVariants.{Phased, Mean}
-use Rattle.region_plan.specs.Meanings.{as_tree}
 use Rattle.region_plan.proofs.Covered.{one_phase}
 use Rattle.region_plan.proofs.Spanning.{for_each_listed}
 use Rattle.region_plan.specs.MeaningLaws.{depths_are_one, tops_are_one}
@@ -166,15 +164,13 @@ one_plan one_table one_weight {network} {covering} {one} {two} p q =
     tables = one_table network one.distances two.distances p.distances q.distances
 
     tops : top_of one ≡ top_of two
-    tops = tops_are_one two.distances (top_of one) (top_of two)
-        (subst (λ (t : DistanceTable). IsTop t (top_of one)) tables p.top) q.top
+    tops = tops_are_one two.distances (top_of one) (top_of two) (rw tables at p.top) q.top
 
     count : levels_of one ≡ levels_of two
     count = omega (arith, tops, p.some, q.some)
 
     level : (i : ℕ) → i < levels_of one → level_at one i ≡ level_at two i
-    level i below = same_level one_weight (subst (λ (t : DistanceTable). IsLevelOf network t covering i
-        (level_at one i)) tables (p.each i below)) (q.each i (omega (arith, count)))
+    level i below = same_level one_weight (rw tables at (p.each i below)) (q.each i (omega (arith, count)))
 
     levels : one.levels ≡ two.levels
     levels = same_lists one.levels two.levels count (λ i d below.

@@ -1,6 +1,5 @@
 -- The two coverings have the same laws: their clusters are shaped, and each ball has a home.
-use Rattle.std.proofs.Common.{◌≡◌, ℕ, ◌-◌, ◌*◌, ◌≤◌, List, [], ◌∷◌, map, refl, sym, ◌∙◌}
-use Rattle.std.proofs.Common.{ap, arith}
+use Rattle.std.proofs.Common.{◌≡◌, ℕ, ◌-◌, ◌*◌, ◌≤◌, List, [], ◌∷◌, map, refl, sym, ◌∙◌, ap, arith}
 use Rattle.std.proofs.lemmas.List.{append-nil}
 use Rattle.node_set.specs.Balls.{GrownCluster, centres, home_of}
 use Rattle.coarse_cover.specs.Coarsening.{ClustersAreShaped, HomesAreFound, all_clusters}

@@ -1,11 +1,9 @@
 -- The clusters of each node, while they are written, and the weights beside them.
-use Rattle.std.proofs.Common.{◌≡◌, inl, inr, ℕ, zero, suc, ◌+◌, ◌-◌, ◌<◌, Bool, true, List}
-use Rattle.std.proofs.Common.{length, take, drop, set, get_or, sym, ◌∙◌, ap, subst, arith, add-zero, zero-add}
+use Rattle.std.proofs.Common.{◌≡◌, inl, inr, ℕ, zero, suc, ◌+◌, ◌-◌, ◌<◌, Bool, true, List, length, take, drop, set, get_or, sym, ◌∙◌, ap, arith, add-zero, zero-add}
 use Rattle.std.specs.Prelude.{slice_range}
 use Rattle.std.proofs.lemmas.Bool.{cases_Bool, cases_eq}
 use Rattle.std.proofs.lemmas.Grind.{same_number_lists}
-use Rattle.std.proofs.lemmas.List.{get_or-set_same, get_or-set_other, get_or-drop, get_or-take, length-drop, length-set}
-use Rattle.std.proofs.lemmas.List.{length-take-le}
+use Rattle.std.proofs.lemmas.List.{get_or-set_same, get_or-set_other, get_or-drop, get_or-take, length-drop, length-set, length-take-le}
 use Rattle.node_set.specs.Ascending.{has, IsAscending, sift}
 use Rattle.cluster_tree.specs.PlaceLaws.{beside_place, has_place}
 use Rattle.cluster_tree.specs.Tree.{weight_beside}
@@ -186,8 +184,7 @@ module _ {n : ℕ} {clusters : List PlanCluster} {starts taken readers weights :
             let v_short : v < length taken = omega (arith, below, long) in
             let fits : place - get_or starts v 0 < get_or taken v 0 =
             omega (arith, low, high, room.each v below, all v v_short) in
-            subst (λ p. get_or weights p 0 ≡ weight_in clusters (get_or readers p 0) v) e
-            (filled.weighed v (place - get_or starts v 0) v_short fits
+            rw e at (filled.weighed v (place - get_or starts v 0) v_short fits
             ∙ ap (λ c. weight_in clusters c v) (sym (filled.written v (place - get_or starts v 0) v_short fits)));
       };
     }

@@ -1,13 +1,10 @@
 -- The flat plan is matched.
-use Rattle.std.proofs.Common.{◌≡◌, ℕ, ◌<◌, true, cond, List, [], ◌∷◌, get_or, length, refl, sym, ◌∙◌, ap, subst}
-use Rattle.std.proofs.Common.{arith}
+use Rattle.std.proofs.Common.{◌≡◌, ℕ, ◌<◌, true, cond, List, [], ◌∷◌, get_or, length, refl, sym, ◌∙◌, ap, arith}
 use Rattle.node_set.specs.Ascending.{has, sift}
 use Rattle.distances.specs.Table.{AreDistancesOf, DistanceTable, dist, IsMetric}
 use Rattle.net_graph.specs.Network.{Network}
 use Rattle.cluster_tree.specs.Tree.{weight_beside}
-use Rattle.region_plan.specs.Plan.{Level, PlanData, nodes_of, levels_of, top_of, distance, level_at, level_in}
-use Rattle.region_plan.specs.Plan.{cluster_in, cluster_at}
-use Rattle.region_plan.specs.Plan.{clusters_of, members_of, home, readers, leader, inside}
+use Rattle.region_plan.specs.Plan.{Level, PlanData, nodes_of, levels_of, top_of, distance, level_at, level_in, cluster_in, cluster_at, clusters_of, members_of, home, readers, leader, inside}
 use Rattle.region_plan.specs.Regions.{clusters_with}
 use Rattle.region_plan.specs.Flat.{IsFlat, IsFlatLevel}
 use Rattle.region_plan.specs.Kept.{plan_with}
@@ -50,7 +47,7 @@ module _ (network : Network) (plan : PlanData) (flat : IsFlat network plan) wher
 
   lone_cluster : (i c : ℕ) → i < levels_of plan → c < clusters_of plan i → c ≡ 0
   lone_cluster i c h hc =
-      let below : c < clusters_of plan 0 = subst (λ j. c < clusters_of plan j) (lone_level i h) hc in
+      let below : c < clusters_of plan 0 = rw (lone_level i h) at hc in
       omega (arith, flat.level.one)
 
   top_is : top_of plan ≡ 0

@@ -1,6 +1,5 @@
 -- A level as it is built, and the plan of all levels.
-use Rattle.std.proofs.Common.{◌≡◌, ℕ, ◌+◌, ◌-◌, ◌^◌, ◌<◌, ◌≤◌, List, [], ◌∷◌, ◌++◌, length, refl, sym, ◌∙◌}
-use Rattle.std.proofs.Common.{ap, subst, inl, inr, arith}
+use Rattle.std.proofs.Common.{◌≡◌, ℕ, ◌+◌, ◌-◌, ◌^◌, ◌<◌, ◌≤◌, List, [], ◌∷◌, ◌++◌, length, refl, sym, ◌∙◌, ap, subst, inl, inr, arith}
 use Rattle.std.specs.Prelude.{All, nat_le}
 use Rattle.std.proofs.lemmas.Bool.{cases_lt}
 use Rattle.std.proofs.lemmas.List.{get_or_append_left, get_or_push, length_push}
@@ -10,14 +9,12 @@ use Rattle.node_set.specs.Nodes.{Nodes}
 use Rattle.distances.specs.Table.{DistanceTable, AreDistancesOf, IsMetric, ball_of, dist}
 use Rattle.coarse_cover.specs.Coarsening.{all_clusters}
 use Rattle.coarse_cover.specs.Covers.{IsCover}
-use Rattle.coarse_cover.specs.declared.cover.Cluster.{Cluster}
 use Rattle.coarse_cover.specs.declared.cover.Cover.{Cover}
 use Rattle.node_set.specs.declared.workspace.Workspace.{Workspace}
 use Rattle.node_set.specs.Workspaces.{IsWorkspace}
 use Rattle.region_plan.specs.Plan.{PlanCluster, Level, PlanData, level_in, no_level}
 use Rattle.region_plan.specs.Regions.{balls_of, regions_of, readers_of, threshold_of}
-use Rattle.region_plan.specs.Meanings.{IsTop, AreClustersOf, IsLevelOf}
-use Rattle.region_plan.specs.Meanings.{IsCoveredPlan}
+use Rattle.region_plan.specs.Meanings.{IsTop, AreClustersOf, IsLevelOf, IsCoveredPlan}
 use Rattle.region_plan.specs.Kept.{AreLevelsOf, IsSpanned, IsSized, Shape, level_of, plan_with, shape_with}
 use Rattle.region_plan.specs.Coverings.{CoveringsAreShaped, covering_of, reach_of, trade_off_of}
 use Rattle.region_plan.specs.declared.covering.Covering.{Covering}
@@ -64,7 +61,7 @@ module _ {table : DistanceTable} (metric : IsMetric table) (i : ℕ) (now : List
 
   -- the balls are their own rows
   pub balls_turned : AreTurned (sets now) (sets now)
-  balls_turned = subst (λ (bs : List (List ℕ)). AreTurned bs bs) (sym are) (balls_are_rows metric i)
+  balls_turned = rw are (balls_are_rows metric i)
 
   pub balls_centred : {network : Network} → AreDistancesOf network table → IsNetwork network → AreCentred (sets now)
   balls_centred least sound = subst AreCentred (sym are) (centred metric least sound i)
@@ -99,7 +96,7 @@ module _ {table : DistanceTable} (metric : IsMetric table) (i : ℕ) (now : List
               exponent = refl;
               threshold = refl;
               phases = cover_is.phases;
-              clusters = subst (λ (cs : List Cluster). AreClustersOf network cs rows) cover_is.clusters rows_are;
+              clusters = rw cover_is.clusters at rows_are;
               homes = cover_is.homes;
               readers = ap (λ n. readers_of n rows) homes_count;
             })

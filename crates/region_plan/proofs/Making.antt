@@ -1,11 +1,7 @@
 -- The parts of a level, step by step.
-use Rattle.std.proofs.Common.{◌≡◌, ℕ, zero, suc, ◌+◌, ◌-◌, ◌<◌, ◌≤◌, true, cond, List, [], ◌∷◌, ◌++◌}
-use Rattle.std.proofs.Common.{length, map, take, drop, replicate, get_or, refl, sym, ◌∙◌, ap, subst, arith}
+use Rattle.std.proofs.Common.{◌≡◌, ℕ, zero, suc, ◌+◌, ◌-◌, ◌<◌, ◌≤◌, true, cond, List, [], ◌∷◌, ◌++◌, length, map, take, drop, replicate, get_or, refl, sym, ◌∙◌, ap, subst, arith}
 use Rattle.std.specs.Prelude.{All, Contains, slice_range}
-use Rattle.std.proofs.lemmas.List.{map_push, length-append, length-drop, length-replicate}
-use Rattle.std.proofs.lemmas.List.{get_or_default}
-use Rattle.std.proofs.lemmas.List.{take_all, take-append-le}
-use Rattle.std.proofs.lemmas.List.{drop-append-le, drop_all}
+use Rattle.std.proofs.lemmas.List.{map_push, length-append, length-drop, length-replicate, get_or_default, take_all, take-append-le, drop-append-le, drop_all}
 use Rattle.net_graph.specs.Network.{Network}
 use Rattle.node_set.specs.Ascending.{has, sift}
 use Rattle.node_set.specs.Nodes.{Nodes}
@@ -16,9 +12,8 @@ use Rattle.cluster_tree.specs.Inside.{AreWeightsWritten, make_cluster}
 use Rattle.cluster_tree.specs.Tree.{weight_beside, IsTreeOf}
 use Rattle.region_plan.specs.Plan.{PlanCluster, Level}
 use Rattle.region_plan.specs.Regions.{clusters_with, readers_of}
-use Rattle.region_plan.specs.Meanings.{IsTop, IsClusterOf}
+use Rattle.region_plan.specs.Meanings.{IsTop, IsClusterOf, AreClustersOf}
 use Rattle.region_plan.specs.Flat.{IsWhole, IsWholeAlone, IsFlatLevel}
-use Rattle.region_plan.specs.Meanings.{AreClustersOf}
 use Rattle.region_plan.specs.Kept.{IsSized, level_of, shape_with}
 use Rattle.node_set.specs.Balls.{centres, sets}
 use Rattle.node_set.specs.BallLaws.{below_centre, has_centre, length-map_centres, get_or-map_centres}

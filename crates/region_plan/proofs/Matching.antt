@@ -1,6 +1,5 @@
 -- The plan of a network is matched, and its clusters are within their radius.
-use Rattle.std.proofs.Common.{◌≡◌, ℕ, ◌*◌, ◌^◌, ◌<◌, ◌≤◌, true, List, [], length, get_or, refl, sym, ◌∙◌, ap}
-use Rattle.std.proofs.Common.{subst, arith}
+use Rattle.std.proofs.Common.{◌≡◌, ℕ, ◌*◌, ◌^◌, ◌<◌, ◌≤◌, true, List, [], length, get_or, refl, sym, ◌∙◌, ap, arith}
 use Rattle.std.proofs.lemmas.List.{get_or-map}
 use Rattle.net_graph.specs.Walks.{IsLeastWeight, weight_of, everywhere}
 use Rattle.net_graph.specs.Network.{Network, IsNetwork}
@@ -13,16 +12,14 @@ use Rattle.coarse_cover.specs.Covers.{cluster_list}
 use Rattle.coarse_cover.specs.declared.cover.Cluster.{Cluster}
 use Rattle.coarse_cover.specs.CoverLaws.{cluster_list_nodes, length-cluster_list}
 use Rattle.cluster_tree.specs.Tree.{within}
-use Rattle.region_plan.specs.Plan.{PlanData, nodes_of, levels_of, top_of, distance, level_at, no_cluster, cluster_in}
-use Rattle.region_plan.specs.Plan.{cluster_at, clusters_of, members_of, home, readers, leader, inside}
+use Rattle.region_plan.specs.Plan.{PlanData, nodes_of, levels_of, top_of, distance, level_at, no_cluster, cluster_in, cluster_at, clusters_of, members_of, home, readers, leader, inside}
 use Rattle.region_plan.specs.Regions.{balls_of, regions_of, clusters_with}
 use Rattle.region_plan.specs.Coverings.{CoveringsAreShaped, CoveringsHaveHomes, reach_of, trade_off_of}
 use Rattle.region_plan.specs.Meanings.{IsClusterOf, IsCoveredPlan, IsLevelOf}
 use Rattle.region_plan.specs.declared.covering.Covering.{Covering}
 use Rattle.region_plan.specs.Matched.{IsMatched, IsWithinReach, BoundsFinds}
 use Rattle.region_plan.proofs.Reaching.{to_ball}
-use Rattle.region_plan.proofs.Spanning.{IsClose, centred, listed_close}
-use Rattle.region_plan.proofs.Spanning.{inside as inside_balls}
+use Rattle.region_plan.proofs.Spanning.{IsClose, centred, listed_close, inside as inside_balls}
 use Rattle.node_set.specs.Balls.{GrownCluster, ball, home_of}
 use Rattle.node_set.specs.BallLaws.{union_has, length-map_centres, get_or-map_centres}
 use Rattle.region_plan.proofs.Making.{clusters_count, clusters_at}
@@ -160,13 +157,12 @@ module _ (shape : CoveringsAreShaped) (found : CoveringsHaveHomes) {network : Ne
         ap (has (home plan i u)) (reads v hv)
         ∙ has-passing (λ c. has v (cluster_in (level_at plan i).clusters c).members) (home plan i u) 0
         (clusters_of plan i) (omega arith) (omega (arith, home_below u hu))
-        ∙ near_home u v hu hv (subst (λ e. distance plan u v ≤ 2 ^ e) level.exponent near)
+        ∙ near_home u v hu hv (rw level.exponent at near)
 
     pub all_home : (u v : ℕ) → u < nodes_of plan → v < nodes_of plan → i ≡ top_of plan
         → has u (members_of plan i (home plan i v)) ≡ true
     all_home u v hu hv last =
-        near_home v u hv hu (subst (λ e. distance plan v u ≤ 2 ^ e) (sym last)
-        (omega (arith, is.top.greatest.greatest v u hv hu, is.top.enough)))
+        near_home v u hv hu (rw last (omega (arith, is.top.greatest.greatest v u hv hu, is.top.enough)))
 
   plan_matched : IsMatched plan
   plan_matched =

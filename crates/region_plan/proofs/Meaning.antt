@@ -1,6 +1,5 @@
 -- The plan of a network is what its parts say in words of walks, and the only plan that is.
-use Rattle.std.proofs.Common.{◌≡◌, ℕ, zero, suc, ◌+◌, ◌-◌, ◌*◌, ◌/◌, ◌%◌, ◌^◌, ◌<◌, ◌≤◌, Bool, true, List, [], ◌∷◌, get_or}
-use Rattle.std.proofs.Common.{length, map, refl, sym, ◌∙◌, ap, subst, inl, inr, arith, nat_le}
+use Rattle.std.proofs.Common.{◌≡◌, ℕ, zero, suc, ◌+◌, ◌-◌, ◌*◌, ◌/◌, ◌%◌, ◌^◌, ◌<◌, ◌≤◌, Bool, true, List, [], ◌∷◌, get_or, length, map, refl, sym, ◌∙◌, ap, subst, inl, inr, arith, nat_le}
 use Rattle.std.specs.Prelude.{All}
 use Rattle.std.proofs.lemmas.Bool.{cases_lt, leb-false, leb-true}
 use Rattle.std.proofs.lemmas.List.{length-map, get_or-map}
@@ -11,8 +10,7 @@ use Rattle.net_graph.specs.Network.{Network, IsNetwork}
 use Rattle.node_set.specs.Ascending.{has}
 use Rattle.node_set.specs.Balls.{least}
 use Rattle.node_set.specs.BallLaws.{get_or-map_centres, length-map_centres, least_first, least_passes, least_within}
-use Rattle.distances.specs.Table.{DistanceTable, AreDistancesOf, DistancesAreOne, IsDiameter, IsMetric}
-use Rattle.distances.specs.Table.{NetworksHaveDistances, table_of}
+use Rattle.distances.specs.Table.{DistanceTable, AreDistancesOf, DistancesAreOne, IsDiameter, IsMetric, NetworksHaveDistances, table_of}
 use Rattle.coarse_cover.specs.Coarsening.{CoversAreSparse}
 use Rattle.coarse_cover.specs.Covers.{cluster_list}
 use Rattle.coarse_cover.specs.declared.cover.Cluster.{Cluster}
@@ -23,8 +21,7 @@ use Rattle.mean_cover.specs.Covering.{MeanCoversAreSmall}
 use Rattle.region_plan.specs.Coverings.{CoveringsAreShaped, CoveringsHaveHomes}
 use Rattle.region_plan.specs.Matched.{CoveredPlansBoundFinds, MeanPlansHaveSmallSums, PlansHaveFewReaders}
 use Rattle.region_plan.specs.Measures.{most}
-use Rattle.region_plan.specs.Meanings.{IsTop, IsClusterOf, AreClustersOf, PlansMean}
-use Rattle.region_plan.specs.Meanings.{CoveredPlansMean, CoveredPlansAreOne}
+use Rattle.region_plan.specs.Meanings.{IsTop, IsClusterOf, AreClustersOf, PlansMean, CoveredPlansMean, CoveredPlansAreOne}
 use Rattle.region_plan.specs.Plan.{no_level}
 use Rattle.region_plan.specs.Regions.{covered_plan, level_for, plan_over, regions_of, top_for, weighed}
 use Rattle.region_plan.specs.declared.covering.Covering.TheVariants.{Mean}

@@ -1,6 +1,5 @@
 -- Walks inside unions of balls: a least walk from a centre stays in its ball, so a cluster is spanned from its leader.
-use Rattle.std.proofs.Common.{◌≡◌, ℕ, zero, suc, ◌+◌, ◌*◌, ◌<◌, ◌≤◌, Bool, true, false, ◌||◌, List, [], ◌∷◌, ◌++◌}
-use Rattle.std.proofs.Common.{map, refl, sym, ◌∙◌, ap, subst, inl, inr, arith, eqb, eq-eqb}
+use Rattle.std.proofs.Common.{◌≡◌, ℕ, zero, suc, ◌+◌, ◌*◌, ◌<◌, ◌≤◌, Bool, true, false, ◌||◌, List, [], ◌∷◌, ◌++◌, map, refl, sym, ◌∙◌, ap, subst, inl, inr, arith, eqb, eq-eqb}
 use Rattle.std.specs.Prelude.{All}
 use Rattle.std.proofs.lemmas.Bool.{cases_lt, eqb-true, false≢true, or_cases}
 use Rattle.std.proofs.lemmas.List.{get_or_past}
@@ -12,10 +11,9 @@ use Rattle.node_set.specs.Ascending.{has}
 use Rattle.node_set.specs.SetLaws.{share_gives}
 use Rattle.distances.specs.Table.{DistanceTable, AreDistancesOf, IsMetric, dist, ball_of}
 use Rattle.distances.specs.TableLaws.{ball_members}
-use Rattle.node_set.specs.BallLaws.{next_growth_means, length-map_centres, get_or-map_centres}
+use Rattle.node_set.specs.BallLaws.{next_growth_means, length-map_centres, get_or-map_centres, union_has, union_from, union_more, touches_own, growth_first}
 use Rattle.cluster_tree.specs.Tree.{within}
 use Rattle.node_set.specs.Balls.{ball, union_of, growth, centres}
-use Rattle.node_set.specs.BallLaws.{union_has, union_from, union_more, touches_own, growth_first}
 
 -- ---- walks that aren't heavier
 

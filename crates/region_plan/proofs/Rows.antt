@@ -1,8 +1,5 @@
 -- A cluster's row, and a table's readers, as they are read.
-use Rattle.std.proofs.Common.{◌≡◌, Ok, Err, ℕ, zero, suc, ◌+◌, ◌-◌, ◌<◌, ◌≤◌, true, false, List, [], ◌∷◌, length}
-use Rattle.std.proofs.Common.{drop, get_or}
-use Rattle.std.proofs.Common.{sym}
-use Rattle.std.proofs.Common.{◌∙◌, ap, subst, arith}
+use Rattle.std.proofs.Common.{◌≡◌, Ok, Err, ℕ, zero, suc, ◌+◌, ◌-◌, ◌<◌, ◌≤◌, true, false, List, [], ◌∷◌, length, drop, get_or, sym, ◌∙◌, ap, subst, arith}
 use Rattle.std.specs.List.Sorted.{IsBinarySearchResult}
 use Rattle.std.specs.Ordering.{nat_cmp}
 use Rattle.std.proofs.lemmas.List.Sorted.{searched}
@@ -30,7 +27,7 @@ pub found_member : (xs : List ℕ) (v k : ℕ) → IsAscending xs → IsBinarySe
     → true ≡ has v xs
 found_member xs v k ascending result =
     let at = searched xs v (Ok k) result (rising xs ascending) in
-    sym (subst (λ y. has y xs ≡ true) at.1 (has_place xs k at.0))
+    sym (rw at.1 at (has_place xs k at.0))
 
 pub missed_member : (xs : List ℕ) (v : ℕ) {k : ℕ} → IsAscending xs → IsBinarySearchResult (λ y. nat_cmp y v) xs (Err k)
     → false ≡ has v xs

@@ -1,5 +1,5 @@
 -- Levels over the shapes that they share.
-use Rattle.std.proofs.Common.{◌≡◌, ℕ, suc, ◌<◌, List, [], ◌∷◌, ◌++◌, length, get_or, refl, subst, sym, ◌∙◌, ap, arith, ◌-◌}
+use Rattle.std.proofs.Common.{◌≡◌, ℕ, suc, ◌<◌, List, [], ◌∷◌, ◌++◌, length, get_or, refl, sym, ◌∙◌, ap, arith, ◌-◌}
 use Rattle.std.specs.Prelude.{All}
 use Rattle.std.proofs.lemmas.List.{get_or-map, get_or_append_left, get_or_push, length-map, map_push}
 use Rattle.region_plan.specs.Plan.{Level, level_in, no_level}
@@ -50,8 +50,7 @@ module _ (shapes : List Shape) (heads : List LevelHead) {levels : List Level} {a
     (view : levels_over shapes heads ≡ levels) (some : 0 < length levels)
     (at_is : at ≡ length heads - 1) (here : last ≡ get_or heads at last) where
   pub last_within : All (λ (h : LevelHead). h.table < length shapes) heads → last.table < length shapes
-  last_within below = subst (λ (h : LevelHead). h.table < length shapes) (sym here)
-      (below at last (omega (arith, heads_count shapes heads view)))
+  last_within below = rw here (below at last (omega (arith, heads_count shapes heads view)))
 
   pub level_shared : {new_heads : List LevelHead} (exponent threshold : ℕ) → new_heads
       ≡ heads ++ record { exponent = exponent; threshold = threshold; table = last.table } ∷ []

@@ -1,6 +1,5 @@
 -- Few clusters of a plan overlap: each node reads no more clusters of a level than the level has phases.
-use Rattle.std.proofs.Common.{◌≡◌, ℕ, suc, ◌+◌, ◌*◌, ◌^◌, ◌<◌, ◌≤◌, Bool, cond, List, [], ◌∷◌, length, map}
-use Rattle.std.proofs.Common.{get_or, refl, sym, ◌∙◌, ap, subst, inl, inr, arith, add-zero, zero-add}
+use Rattle.std.proofs.Common.{◌≡◌, ℕ, suc, ◌+◌, ◌*◌, ◌^◌, ◌<◌, ◌≤◌, Bool, cond, List, [], ◌∷◌, length, map, get_or, refl, sym, ◌∙◌, ap, subst, inl, inr, arith, add-zero, zero-add}
 use Rattle.std.specs.List.{count_by, sum_by}
 use Rattle.std.proofs.Math.Nat.{pow-le-pow_left}
 use Rattle.std.proofs.lemmas.Bool.{cases_lt}
@@ -19,8 +18,7 @@ use Rattle.coarse_cover.specs.declared.cover.Cluster.{Cluster}
 use Rattle.region_plan.specs.Matched.{HasFewReaders}
 use Rattle.region_plan.specs.Meanings.{AreClustersOf, IsLevelOf, IsPlanOf}
 use Rattle.region_plan.specs.Measures.{degree_in, degree_of}
-use Rattle.region_plan.specs.Plan.{PlanCluster, PlanData, cluster_in, level_at, levels_of, no_level, nodes_of}
-use Rattle.region_plan.specs.Plan.{readers}
+use Rattle.region_plan.specs.Plan.{PlanCluster, PlanData, cluster_in, level_at, levels_of, no_level, nodes_of, readers}
 use Rattle.region_plan.specs.Regions.{balls_of, clusters_with, regions_of}
 use Rattle.region_plan.specs.declared.covering.Covering.TheVariants.{Phased}
 use Rattle.region_plan.proofs.Measuring.{greatest_in}

@@ -1,8 +1,6 @@
-use Rattle.std.proofs.Common.{◌≡◌, ℕ, arith, subst, sym}
+use Rattle.std.proofs.Common.{◌≡◌, arith}
 use Rattle.std.proofs.lemmas.Result.{IfOk-weaker}
-use Rattle.node_set.specs.Workspaces.{IsWorkspace}
-use Rattle.region_plan.proofs.Levels.{balls_few, balls_rooms, balls_centred, balls_inside, balls_turned}
-use Rattle.region_plan.proofs.Levels.{balls_work, cover_spanned, nodes_work, homes_count, rows_few, level_built, level_fits}
+use Rattle.region_plan.proofs.Levels.{balls_few, balls_rooms, balls_centred, balls_inside, balls_turned, balls_work, cover_spanned, nodes_work, homes_count, rows_few, level_built, level_fits}
 use Rattle.region_plan.specs.Kept.{IsSized, level_of, shape_with}
 use Rattle.region_plan.specs.Meanings.{IsLevelOf}
 use Rattle.region_plan.specs.Regions.{threshold_of}
@@ -85,4 +83,4 @@ returns-clause-sized c =
 
 pub returns-clause-work : goal.returns-clause-work
 returns-clause-work c =
-    subst (λ (n : ℕ). IsWorkspace n c.of_cover.new.work) (sym c.requires.belongs.nodes) c.of_cover.ensures.work
+    rw c.requires.belongs.nodes c.of_cover.ensures.work

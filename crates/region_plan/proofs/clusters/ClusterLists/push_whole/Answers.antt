@@ -1,5 +1,5 @@
-use Rattle.std.proofs.Common.{◌∙◌, ◌∷◌, ◌++◌, ◌<◌, ◌≤◌, [], ℕ, List, length, ap, subst, sym, arith}
-use Rattle.std.specs.Prelude.{All, Contains}
+use Rattle.std.proofs.Common.{◌∙◌, ◌∷◌, ◌++◌, ◌≤◌, [], ℕ, List, ap, subst, sym, arith}
+use Rattle.std.specs.Prelude.{All}
 use Rattle.distances.specs.Table.{IsRowOf}
 use Rattle.node_set.specs.Balls.{centres}
 use Rattle.region_plan.specs.Flat.{IsWholeAlone}
@@ -30,8 +30,7 @@ whole c =
     ∙ ap (λ (xs : List ℕ). xs ++ c.row.result.now) c.requires.weights)) c.row.ensures)
     (omega (arith, c.len.ensures, c.push_numbers.new.list.ok.0))
     (subst (All (λ x. x ≤ c.greatest_weight.result)) c.deref.ensures.value c.greatest_weight.ensures.bound)
-    (subst (λ (xs : List ℕ). 0 < length xs → Contains xs c.greatest_weight.result) c.deref.ensures.value
-    c.greatest_weight.ensures.attained)
+    (rw c.deref.ensures.value at c.greatest_weight.ensures.attained)
 
 pub returns-clause-laid : goal.returns-clause-laid
 returns-clause-laid c = (whole c).0
