@@ -1,9 +1,11 @@
 -- Courses: what one step more makes of the visits, the place, the levels and the trail.
-use Rattle.std.proofs.Common.{◌≡◌, ℕ, suc, ◌≤◌, Bool, true, false, cond, List, [], ◌∷◌, ◌++◌, length, map, drop, refl, sym, ap, ◌∙◌, subst, arith, length-append}
+use Rattle.std.proofs.Common.{◌≡◌, ℕ, suc, ◌≤◌, Bool, true, false, cond, List, [], ◌∷◌, ◌++◌, length, map, drop, sym, ap, ◌∙◌, subst, arith, length-append}
 use Rattle.std.specs.Prelude.{nat_le, ◌==◌, ◌||◌}
 use Rattle.std.proofs.lemmas.List.{map-append, drop-append-le, drop_at}
 use Rattle.std.proofs.lemmas.List.Sums.{fold-append}
+use Rattle.std.proofs.Math.Bool.{or-false}
 use Rattle.node_set.specs.Ascending.{has}
+use Rattle.node_set.specs.SetLaws.{has-append}
 use Rattle.directory.specs.Settings.{Setting, start}
 use Rattle.directory.specs.Courses.{Step, move_to, switch_off, switch_on, Move, Course, course_at, last_stop, base, next_move, after_step, after_steps}
 use Rattle.directory.specs.Writes.{visit_of, visits, step_writes, writes, trail}
@@ -61,16 +63,7 @@ base-within setting sub steps level = base-small setting (course_at (start setti
 
 -- what is in a list with one number more at its end
 has-last : (xs : List ℕ) (x y : ℕ) → has x (xs ++ y ∷ []) ≡ (has x xs || x == y)
-has-last [] x y = at_test (x == y)
-  where
-    at_test : (b : Bool) → (b || false) ≡ b
-    at_test true = refl
-    at_test false = refl
-has-last (z ∷ xs) x y = ap (λ b. x == z || b) (has-last xs x y) ∙ at_test (x == z)
-  where
-    at_test : (b : Bool) → (b || (has x xs || x == y)) ≡ ((b || has x xs) || x == y)
-    at_test true = refl
-    at_test false = refl
+has-last xs x y = has-append x xs (y ∷ []) ∙ ap (λ b. has x xs || b) (or-false (x == y))
 
 -- the trail after a move
 pub trail-after : (setting : Setting) (sub : ℕ) (steps : List Step) (to after node : ℕ) {renews : Bool}
@@ -98,17 +91,13 @@ trail-after setting sub steps to after node {renews} same =
     count : length (course.moves ++ move ∷ []) ≡ suc (length course.moves)
     count = omega (arith, length-append course.moves (move ∷ []))
 
-    ended : (b : Bool) → (b || false) ≡ b
-    ended true = refl
-    ended false = refl
-
     at_test : (b : Bool) → has node (map (λ (m : Move). m.from) (drop (cond b move.number
         (base setting.top course.moves)) ((course.moves ++ move ∷ []) ++ later ∷ [])))
         ≡ (cond b false (has node (trail setting course move)) || node == to)
     at_test true =
         ap (λ ms. has node (map (λ (m : Move). m.from) ms)) (drop_at (course.moves ++ move ∷ []) (later ∷ []) (suc
         (length course.moves)) count)
-        ∙ (ended (node == later.from) ∙ ap (λ n. node == n) (place-after setting course to))
+        ∙ (or-false (node == later.from) ∙ ap (λ n. node == n) (place-after setting course to))
     at_test false =
         let low : base setting.top course.moves ≤ length (course.moves ++ move ∷ []) = omega (
           arith,
