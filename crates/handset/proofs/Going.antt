@@ -145,8 +145,7 @@ goes-next {plan} {handset} next goes at committed late same =
 pub purging-by-count : (plan : PlanData) (handset : HandsetData) (node : ℕ) {count : ℕ} → count ≡ nodes_of plan
     → IsLate (nodes_of plan) handset.last (purging_at (first_with (is_behind handset) node (count - node)))
 purging-by-count plan handset node same =
-    subst (λ n. IsLate (nodes_of plan) handset.last (purging_at (first_with (is_behind handset) node
-    (n - node)))) (sym same) (purging-is-late plan handset node)
+    rw same (purging-is-late plan handset node)
 
 -- what the levels have gathered stays light
 pub light-after : (xs : List ℕ) {ys : List ℕ} {levels : ℕ} (n : ℕ) {more : ℕ} (renewed weight : ℕ) → length xs ≡ levels

@@ -8,7 +8,7 @@ use Rattle.entry_word.specs.declared.visit.Visit.{Visit}
 use Rattle.directory.specs.Settings.{Setting}
 use Rattle.directory.specs.Courses.{Step, Course, last_stop, address_node, next_move, after_step}
 use Rattle.directory.specs.Writes.{visit_of, visits, trail}
-use Rattle.region_plan.specs.Plan.{PlanData}
+use Rattle.region_plan.specs.Plan.{PlanData, nodes_of}
 use Rattle.handset.specs.declared.stage.Stage.{Stage}
 use Rattle.handset.specs.declared.stage.Stage.TheVariants.{Resting, Coming, Renewing, Committing, Confirming, Erasing, Purging, Switching}
 use Rattle.region_plan.specs.Kept.{IsKept}
@@ -18,7 +18,7 @@ use Rattle.handset.specs.StepWrites.{renew_from, due_at, due, left_at, go_on, af
 use Rattle.directory.specs.Amid.{course_of}
 use Rattle.handset.specs.Stands.{switch_to, Shows, StandsAt, StandsForSteps}
 use Rattle.handset.proofs.Lists.{drop-head, drop-tail, drop-inside, drop-none}
-use Rattle.handset.proofs.Going.{IsLate}
+use Rattle.handset.proofs.Going.{IsLate, erasing-is-late, purging-is-late}
 use Rattle.handset.proofs.Showing.{mark-shown, entry-shown, commit-shown}
 use Rattle.handset.proofs.CourseLaws.{course-more}
 use Rattle.handset.proofs.Keeping.{Fits, Keeps, keeps-at, stands-of}
@@ -178,20 +178,11 @@ after-stands {setting} {handset} (Switching false) nodes {steps} {made} unpacks 
     switched-stands f (commit-shown unpacks _ (visits setting handset.sub steps) made handset.place
     (Here handset.number) f.left fits.number refl refl same refl f.shows)
 
-pub made-stands : {setting : Setting} {handset : HandsetData} (nodes : ℕ) (steps : List Step) (made : ℕ) → MarksUnpack
-    → AddressLaw setting → Fits setting handset → ((level : ℕ)
-    → IsLate nodes handset.last (erasing_from setting handset level))
-    → ((node : ℕ) → IsLate nodes handset.last (purging_from setting handset node)) → (handset.stage ≡ Resting → ⊥)
-    → StandsForSteps setting handset steps made → StandsForSteps setting (after_write setting handset handset.stage)
-    steps (suc made)
-made-stands {handset} nodes steps made unpacks law fits erasing purging going f =
-    after-stands handset.stage nodes unpacks law fits erasing purging going f
-
 few-commits : (stage : Stage) {last : ℕ} (number : ℕ) → last ≡ begun_at stage number → last < 2 ^ 32 → number < 2 ^ 32
 few-commits Resting number same few = omega (arith, same, few)
 few-commits stage number same few = omega (arith, same, few)
 
-pub fits-plan : {plan : PlanData} (starts : List ℕ) {handset : HandsetData} → IsKept plan → GoesWith plan handset
+fits-plan : {plan : PlanData} (starts : List ℕ) {handset : HandsetData} → IsKept plan → GoesWith plan handset
     → Fits (setting_of plan starts) handset
 fits-plan starts {handset} kept goes = record {
   addresses = omega (arith, goes.addresses, kept.some);
@@ -206,7 +197,17 @@ fits-plan starts {handset} kept goes = record {
 }
 
 -- a handset that has a write left isn't at rest
-pub going-on : (plan : PlanData) (handset : HandsetData) → IsSome (due (setting_of plan []) handset)
+going-on : (plan : PlanData) (handset : HandsetData) → IsSome (due (setting_of plan []) handset)
     → handset.stage ≡ Resting → ⊥
 going-on plan handset some rests = let impossible = subst (λ s. IsSome (option_map (visit_of handset.sub) (due_at
     (setting_of plan []) handset s))) rests some in cc
+
+-- so a write that is left leaves a handset that stands for one visit more
+pub made-stands : {plan : PlanData} (starts : List ℕ) {handset : HandsetData} (steps : List Step) (made : ℕ)
+    → MarksUnpack → AddressLaw (setting_of plan starts) → IsKept plan → GoesWith plan handset
+    → IsSome (due (setting_of plan []) handset) → StandsForSteps (setting_of plan starts) handset steps made
+    → StandsForSteps (setting_of plan starts) (after_write (setting_of plan starts) handset handset.stage) steps
+    (suc made)
+made-stands {plan} starts {handset} steps made unpacks law kept goes some f =
+    after-stands handset.stage (nodes_of plan) unpacks law (fits-plan starts kept goes) (erasing-is-late plan handset)
+    (purging-is-late plan handset) (going-on plan handset some) f

@@ -1,12 +1,10 @@
 use Rattle.std.proofs.Common.{suc, ◌∙◌, ◌≡◌, Option, Some, None, refl, subst, sym}
 use Rattle.std.specs.Prelude.{IfSome, IsSome}
-use Rattle.region_plan.specs.Plan.{nodes_of}
 use Rattle.region_plan.specs.Settings.{setting_of}
 use Rattle.handset.specs.Entries.{at_entry}
 use Rattle.handset.specs.Stands.{StandsForSteps}
 use Rattle.handset.proofs.Following.{IsNextEntry, next-entry}
-use Rattle.handset.proofs.Going.{erasing-is-late, purging-is-late}
-use Rattle.handset.proofs.Made.{made-stands, next-stands, fits-plan, going-on}
+use Rattle.handset.proofs.Made.{made-stands, next-stands}
 use Rattle.handset.proofs.entries.entry_writes_are_next.Goals as goal
 
 pub returns : goal.returns
@@ -18,10 +16,8 @@ returns c = λ plan handset at write kept goes is.
           sym (next-stands (setting_of plan starts) (at_entry handset at) steps made stands) ∙ entry.due;
       stands = λ starts steps made stands.
           subst (λ h. StandsForSteps (setting_of plan starts) h steps (suc made)) (sym entry.after)
-          (made-stands (nodes_of plan) steps made c.mark_words.ensures.unpacked
-          (c.levels_after_move.ensures.address (setting_of plan starts)) (fits-plan starts kept goes)
-          (erasing-is-late plan (at_entry handset at)) (purging-is-late plan (at_entry handset at))
-          (going-on plan (at_entry handset at) (is-some _ _ entry.due)) stands);
+          (made-stands starts steps made c.mark_words.ensures.unpacked
+          (c.levels_after_move.ensures.address (setting_of plan starts)) kept goes (is-some _ _ entry.due) stands);
       goes = entry.goes;
     }
   where
