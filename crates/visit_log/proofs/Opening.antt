@@ -76,6 +76,12 @@ unmarked true true x y = refl
 unmarked true false x y = refl
 unmarked false b x y = refl
 
+-- the word of what is picked
+picked : {A : Type 0} (word_of : A → ℕ) (b : Bool) (x y : A) → cond (b && true) (word_of x) (word_of y)
+    ≡ word_of (cond b x y)
+picked word_of true x y = refl
+picked word_of false x y = refl
+
 -- the opening words of one subscriber more
 pub opened-more : (plan : PlanData) (starts : List ℕ) (sub : ℕ) {start : ℕ} (key : Key) → 1 ≤ levels_of plan
     → IsPlace plan key → sub < length starts → start ≡ get_or starts sub 0
@@ -91,13 +97,9 @@ opened-more plan starts sub {start} (Presence node other) some place inside begi
         here,
         lt-ltb other (sub + 1) (omega (arith, e)),
         lt-ltb other (length starts) (omega (arith, e, inside)),
-      ) (at_node (node == get_or starts other 0))
+      ) (picked mark_word (node == get_or starts other 0) (Here 0) Empty)
   | inr apart ↦ rw (ne_eqb other sub apart, below-more other sub apart) (unmarked true (node == start) _ _)
 ]
-  where
-    at_node : (b : Bool) → cond (b && true) (mark_word (Here 0)) 0 ≡ mark_word (cond (true && b) (Here 0) Empty)
-    at_node true = refl
-    at_node false = refl
 opened-more plan starts sub {start} (Entry level cluster other) some place inside begins = elim (cases_eq other sub) [
   | inl e ↦
       let here : start ≡ get_or starts other 0 = begins ∙ ap (λ s. get_or starts s 0) (sym e) in
@@ -109,14 +111,8 @@ opened-more plan starts sub {start} (Entry level cluster other) some place insid
         lt-ltb other (sub + 1) (omega (arith, e)),
         lt-ltb other (length starts) (omega (arith, e, inside)),
         lt-ltb level (suc (levels_of plan - 1)) (omega (arith, place.0, some)),
-      ) (at_cluster (cluster == home plan level (get_or starts other 0)) (get_or starts other 0))
+      ) (picked address_word (cluster == home plan level (get_or starts other 0))
+      (Some (record { number = 0; node = get_or starts other 0 })) None)
   | inr apart ↦ rw (ne_eqb other sub apart, below-more other sub apart)
       (unmarked (nat_lt level (levels_of plan)) (cluster == home plan level start) _ _)
 ]
-  where
-    at_cluster : (b : Bool) (n : ℕ) → cond (true && (b && true)) (address_word (Some (record {
-      number = 0;
-      node = n;
-    }))) 0 ≡ address_word (cond ((true && true) && b) (Some (record { number = 0; node = n })) None)
-    at_cluster true n = refl
-    at_cluster false n = refl
