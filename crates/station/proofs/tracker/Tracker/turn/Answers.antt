@@ -6,6 +6,9 @@ use Rattle.station.specs.declared.view.TurnEvent.TheVariants.{Lost, Won}
 use Rattle.station.proofs.Turning.{turns_at}
 use Rattle.station.proofs.tracker.Tracker.turn.Goals as goal
 
+up : (k : ℕ) → k ≢ 0 → k ≡ suc (k - 1)
+up k ne = omega arith
+
 pub compare_exchange_with-found-requires : goal.compare_exchange_with-found-requires
 compare_exchange_with-found-requires c =
     let m = c.args.seat.now.me in
@@ -53,9 +56,6 @@ returns-clause-turn c =
             c.args.seat.now.me.1,
           )) some,
     )
-  where
-    up : (k : ℕ) → k ≢ 0 → k ≡ suc (k - 1)
-    up k ne = omega arith
 
 pub returns-clause-logs : goal.returns-clause-logs
 returns-clause-logs c =
@@ -67,6 +67,3 @@ returns-clause-logs c =
     let some : found ≡ suc (found - 1) = up found c.if-found-eq0.false in
     subst (λ (k : ℕ). Logs old.turns (Lost c.args.actor c.args.node k) log) some
     (subst (λ (a : ℕ). Logs old.turns (Lost a c.args.node found) log) c.requires.low t.3)
-  where
-    up : (k : ℕ) → k ≢ 0 → k ≡ suc (k - 1)
-    up k ne = omega arith
