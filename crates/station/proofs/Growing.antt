@@ -1,5 +1,5 @@
 -- A ticket is drawn: the history has one visit more.
-use Rattle.std.proofs.Common.{◌≡◌, ◌≢◌, ◌⊎◌, ℕ, zero, suc, ◌+◌, ◌*◌, ◌%◌, ◌^◌, ◌<◌, ◌≤◌, ◌==◌, eq-eqb, ne_eqb, Bool, true, false, not, cond, [], ◌∷◌, ◌++◌, length, drop, refl, sym, ap, ◌∙◌, inl, inr, arith, Some}
+use Rattle.std.proofs.Common.{◌≡◌, ◌≢◌, ◌⊎◌, ℕ, zero, suc, ◌+◌, ◌*◌, ◌%◌, ◌^◌, ◌<◌, ◌≤◌, ◌==◌, eq-eqb, ne_eqb, Bool, true, false, not, cond, [], ◌∷◌, ◌++◌, length, drop, refl, sym, ap, ◌∙◌, inl, inr, arith}
 use Rattle.std.specs.Prelude.{if◌then◌else◌}
 use Rattle.std.proofs.lemmas.List.Elements.{filter-append}
 use Rattle.std.proofs.lemmas.List.Sums.{fold-append}
@@ -17,7 +17,6 @@ use Rattle.directory.specs.Keys.{act_node, same_key, opening}
 use Rattle.directory.specs.Histories.{History, cell, changes_here, own, word_after}
 use Rattle.directory.specs.Census.{census}
 use Rattle.station.specs.Views.{visits_at}
-use Rattle.station.specs.Plays.{key_put}
 use Rattle.station.proofs.Staying.{word-elsewhere}
 use Rattle.station.specs.TicketLaws.{own-nil}
 use Rattle.directory.specs.Statements.{SameKey}
@@ -26,16 +25,6 @@ pub cell-push : (setting : Setting) (key : Key) (history : History) (visit : Vis
     → cell setting (history ++ visit ∷ []) key ≡ word_after key (cell setting history key) visit.act
 cell-push setting key history visit = fold-append (λ w (v : Visit). word_after key w v.act)
     (opening setting key) history (visit ∷ [])
-
--- an act leaves the cells that it doesn't put into
-pub word-unput : SameKey → (key : Key) (word : ℕ) (act : Act) → key_put act ≢ Some key → word_after key word act ≡ word
-word-unput law key word (Look other) ne = refl
-word-unput law key word (Put other new) ne = go (same_key key other) refl
-  where
-    go : (b : Bool) → same_key key other ≡ b → (if b then new else word) ≡ word
-    go true e = absurd (ne (ap (λ (k : Key). Some k) (sym ((law key other).0 e))))
-    go false e = refl
-word-unput law key word (Census node) ne = refl
 
 -- the census stays where an act is elsewhere, or changes nobody's being here
 here-same : SameKey → (setting : Setting) (history : History) (node sub : ℕ) (act : Act)

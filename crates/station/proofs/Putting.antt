@@ -36,7 +36,7 @@ use Rattle.station.proofs.Growing.{cell-push}
 use Rattle.station.specs.PutLaws.{puts-append}
 use Rattle.node_set.specs.SetLaws.{length-passing-le}
 use Rattle.directory.specs.StepLaws.{take-more}
-use Rattle.station.proofs.Turning.{same_some}
+use Rattle.station.proofs.Steps.{same_some}
 
 -- a put that is due: into a cell of its subscriber
 pub record IsDue (plan : PlanData) (sub : ℕ) (visit : Visit) : Type 0 where

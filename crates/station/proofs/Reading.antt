@@ -17,8 +17,8 @@ use Rattle.station.specs.Visits.{HasTurn}
 use Rattle.station.specs.declared.view.View.{View}
 use Rattle.station.proofs.Apart.{one_inside, same_number}
 use Rattle.station.proofs.Staying.{cell-stays, census-stays}
-use Rattle.station.proofs.Steps.{St, with}
-use Rattle.station.proofs.Turning.{written_here, tallied_here, no_key}
+use Rattle.station.proofs.Steps.{St, no_some, with}
+use Rattle.station.proofs.Turning.{written_here, tallied_here}
 use Rattle.directory.specs.Statements.{SameKey}
 use Rattle.visit_log.specs.Numbers.{NumbersApart}
 
@@ -76,7 +76,7 @@ reads_cell law same n id {i} m {key} known at turn s o wide me small =
               (λ quiet. subst (λ (k : Key). slice_index s.words i ≡ cell (setting_in setup) m.0.seen k) e
                   (ap (slice_index s.words) at
                   ∙ (o.cells key known (written_here o id m.0 key me (alone o id m.0 me turn.inside) refl
-                  (λ is. no_key (sym quiet ∙ is)))
+                  (λ is. no_some (sym quiet ∙ is)))
                   ∙ cell_seen same o id key me turn))),
               λ is. ap (slice_index s.words) at' ∙ ((o.views id m.0 me).unwritten other is).word,
             ),
