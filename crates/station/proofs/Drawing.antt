@@ -121,8 +121,8 @@ grows law {s} id {x} {new} {v} {act} o me may is =
             had = grown u.had old.has.had;
             kept = λ actor st. same actor st ∙ old.has.kept actor st;
           } grown (λ node at none-there. at-push setting node u.visit_count history visit
-          (λ e. others k u ne there (at ∙ ap (λ (n : ℕ). Some n) (sym e ∙ may.at))) none-there) (λ due. due) (λ _ put. put)
-          (λ node _. words node) (λ node _ _. words _) (λ key _ _ _. words _));
+          (λ e. others k u ne there (at ∙ ap (λ (n : ℕ). Some n) (sym e ∙ may.at))) none-there)
+          (λ due. due) (λ _ put. put) (λ node _. words node) (λ node _ _. words _) (λ key _ _ _. words _));
       actors = λ actor below. owned s o.owner id actor v w me refl refl near (o.actors actor below);
       known = λ actor above. own-other actor history visit (λ e. omega (arith, mine.1, above, e)) ∙ o.known actor above;
       few = λ actor. dite (ℕ_discrete v.low actor)

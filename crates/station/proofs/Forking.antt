@@ -20,7 +20,7 @@ use Rattle.station.specs.declared.view.View.{View}
 use Rattle.std.specs.List.{Contains}
 use Rattle.station.specs.Turns.{HasLogged}
 use Rattle.station.proofs.Logging.{log-nil, logged-same}
-use Rattle.station.proofs.Steps.{seat_below, each_push, each_set, has-kept, no_some, reseated, same_view}
+use Rattle.station.proofs.Steps.{St, seat_below, each_push, each_set, has-kept, no_some, reseated, same_view}
 use Rattle.station.proofs.Writing.{cell_below}
 use Rattle.visit_log.specs.Numbers.{NumbersBelow}
 
@@ -80,7 +80,8 @@ opens below {setup} {words} lies few inside all =
 
 -- a view in no node, as a seat that stands for fewer actors has it
 narrowed : {setup : Setup} {words : List ℕ} {history : History} {before : ℕ → ℕ} {j : ℕ} {v : View}
-    → IsSoundView setup words history before j v → v.inside ≡ None → v.unwritten ≡ None → {owner : ℕ → ℕ} {k low high : ℕ}
+    → IsSoundView setup words history before j v → v.inside ≡ None → v.unwritten ≡ None
+    → {owner : ℕ → ℕ} {k low high : ℕ}
     → ((actor : ℕ) → (low ≤ actor) × (actor < high) → StandsForActor v actor × (owner actor ≡ k))
     → IsSoundView setup words history owner k (record v { low = low; high = high })
 narrowed {v} was out clear {low} {high} stands =
@@ -125,8 +126,10 @@ deals setup id v more out clear s o me =
           (λ k u ne at. let old = o.views k u at in record {
             setup_is = old.setup_is;
             has = old.has;
-            owner_is = λ actor st. let own = old.owner_is actor st in
-                (later actor (λ e. ne (sym own.0 ∙ mine actor (omega (arith, e), omega (arith, e, more)))) ∙ own.0, own.1);
+            owner_is = λ actor st. let own = old.owner_is actor st in (
+              later actor (λ e. ne (sym own.0 ∙ mine actor (omega (arith, e), omega (arith, e, more)))) ∙ own.0,
+              own.1,
+            );
             inside = old.inside;
             unwritten = old.unwritten;
             outside = old.outside;
@@ -164,8 +167,8 @@ pub notes : (setup : Setup) (id : ℕ) (v : View) → Splits (KeepsRule setup) i
 notes setup id v s o me =
     let was = o.views id v me in
     let has = o.logged id v me in
-    subst (λ (vs : List View). KeepsRule setup (record { words = s.words; homes = s.homes; views = vs ++ note_of v ∷ [] }))
-    (sym (set_again s.views id v me)) (reseated {o = o} record {
+    let noted : List View → St = λ vs. record { words = s.words; homes = s.homes; views = vs ++ note_of v ∷ [] } in
+    subst (λ (vs : List View). KeepsRule setup (noted vs)) (sym (set_again s.views id v me)) (reseated {o = o} record {
       sound = each_push (IsSoundView setup s.words o.history o.owner) s.views record {
         setup_is = was.setup_is;
         has = has-kept (note_of v) refl refl refl (λ actor st. absurd (omega (arith, st.1))) was.has;

@@ -51,24 +51,24 @@ longer_is P {one} {other} a b = go (nat_lt (length one) (length other))
     go true = b
     go false = a
 
+pub longer_other : (one other : History) → length one < length other → longer one other ≡ other
+longer_other one other h = ap (λ (c : Bool). if c then other else one) (lt-ltb (length one) (length other) h)
+
+pub longer_one : (one other : History) → length other ≤ length one → longer one other ≡ one
+longer_one one other h = ap (λ (c : Bool). if c then other else one) (le-ltb (length one) (length other) h)
+
 pub longer-own : (actor : ℕ) (one other history : History) → IsFront one history → IsFront other history
     → own actor history ≡ own actor one
     → own actor history ≡ own actor (longer one other)
 longer-own actor one other history f g same = dite (dec_le (length other) (length one))
-    (λ h. subst (λ (c : Bool). own actor history ≡ own actor (if c then other else one)) (sym (le-ltb (length one)
-    (length other) h)) same)
-    (λ h. subst (λ (c : Bool). own actor history ≡ own actor (if c then other else one)) (sym (lt-ltb (length one)
-    (length other) (omega arith)))
-    (own-between actor one other history f g (omega arith) same))
+    (λ h. rw (longer_one one other h) same)
+    (λ h. rw (longer_other one other (omega arith)) (own-between actor one other history f g (omega arith) same))
 
-pub longer_long : (one other : History) → (length one ≤ length (longer one other)) × (length other ≤ length
-    (longer one other))
+pub longer_long : (one other : History)
+    → (length one ≤ length (longer one other)) × (length other ≤ length (longer one other))
 longer_long one other = dite (dec_le (length other) (length one))
-    (λ h. subst (λ (c : Bool). (length one ≤ length (if c then other else one)) × (length other ≤ length
-    (if c then other else one))) (sym (le-ltb (length one) (length other) h)) (omega arith, h))
-    (λ h. subst (λ (c : Bool). (length one ≤ length (if c then other else one)) × (length other ≤ length
-    (if c then other else one))) (sym (lt-ltb (length one) (length other) (omega arith)))
-    (omega arith, omega arith))
+    (λ h. rw (longer_one one other h) (omega arith, h))
+    (λ h. rw (longer_other one other (omega arith)) (omega arith, omega arith))
 
 none_there : {A : Type 0} (o : Option A) → ((x : A) → o ≡ Some x → ⊥) → o ≡ None
 none_there None never = refl
@@ -87,11 +87,13 @@ hears setup id other v w low high out s o me ne at =
       seen = longer_is (λ (l : History). IsFront l o.history) was.has.seen note.has.seen;
       told = note.has.seen;
       had = was.has.seen;
-      visits = λ actor st. longer-own actor v.seen w.seen o.history was.has.seen note.has.seen (was.has.visits actor st);
+      visits = λ actor st. longer-own actor v.seen w.seen o.history was.has.seen note.has.seen
+          (was.has.visits actor st);
       kept = λ actor st. was.has.visits actor st;
     } (λ _ f. f) (λ _ _ none. none) (λ due. due) (λ _ put. put) (λ _ _. refl) (λ _ _ _. refl) (λ _ _ _ _. refl)) in
     restated {o = heard} w at (sym low) (sym high) (sym out)
-    (sym (none_there w.unwritten (λ key is. no_some (sym out ∙ (note.unwritten key is).inside)))) (sym (note.outside out).1)
+    (sym (none_there w.unwritten (λ key is. no_some (sym out ∙ (note.unwritten key is).inside))))
+    (sym (note.outside out).1)
     record {
       in_turn = heard.in_turn;
       strangers = heard.strangers;
@@ -155,9 +157,3 @@ pass_heard {me} {new} w {actor} p e l count =
       room_is = p.room_is;
       few = p.few;
     }
-
-pub longer_other : (one other : History) → length one < length other → longer one other ≡ other
-longer_other one other h = ap (λ (c : Bool). if c then other else one) (lt-ltb (length one) (length other) h)
-
-pub longer_one : (one other : History) → length other ≤ length one → longer one other ≡ one
-longer_one one other h = ap (λ (c : Bool). if c then other else one) (le-ltb (length one) (length other) h)

@@ -5,6 +5,7 @@ use Rattle.std.specs.List.{sum_by}
 use Rattle.std.proofs.Common.{lt-ltb}
 use Rattle.std.proofs.Math.Seq.{take-length}
 use Rattle.node_set.specs.Ascending.{sift}
+use Rattle.node_set.specs.SetLaws.{passing_grows}
 use Rattle.entry_word.specs.declared.visit.Key.{Key}
 use Rattle.entry_word.specs.declared.visit.Key.TheVariants.{Presence}
 use Rattle.entry_word.specs.Marks.{mark_in, says_here, mark_word}
@@ -107,19 +108,12 @@ opening_of plan homes o at actors =
 
 pub passing-more : (f : ℕ → Bool) (v k : ℕ)
     → length (sift f v (suc k)) ≡ length (sift f v k) + cond (f (v + k)) 1 0
-passing-more f v zero = first (f v) (f (v + 0)) (ap f (omega arith))
+passing-more f v k = ap length (passing_grows f v k)
+    ∙ (length-append (sift f v k) (cond (f (v + k)) ((v + k) ∷ []) []) ∙ one (f (v + k)))
   where
-    first : (a b : Bool) → a ≡ b → length (cond a (v ∷ []) []) ≡ 0 + cond b 1 0
-    first true b e = subst (λ x. 1 ≡ 0 + cond x 1 0) e refl
-    first false b e = subst (λ x. 0 ≡ 0 + cond x 1 0) e refl
-passing-more f v (suc k) = go (f v) (passing-more f (suc v) k) (ap f (omega arith))
-  where
-    go : (b : Bool) → length (sift f (suc v) (suc k)) ≡ length (sift f (suc v) k) + cond (f (suc v + k)) 1 0
-        → f (suc v + k) ≡ f (v + suc k)
-        → length (cond b (v ∷ sift f (suc v) (suc k)) (sift f (suc v) (suc k)))
-        ≡ length (cond b (v ∷ sift f (suc v) k) (sift f (suc v) k)) + cond (f (v + suc k)) 1 0
-    go true ih e = omega (arith, ih, ap {B = ℕ} (λ b. cond b 1 0) e)
-    go false ih e = omega (arith, ih, ap {B = ℕ} (λ b. cond b 1 0) e)
+    one : (b : Bool) → length (sift f v k) + length (cond b ((v + k) ∷ []) []) ≡ length (sift f v k) + cond b 1 0
+    one true = refl
+    one false = refl
 
 pub starts-at : (setting : Setting) (node sub : ℕ) → sub < subs setting
     → says_here (mark_in (cell setting [] (Presence node sub))) ≡ (node == start setting sub)

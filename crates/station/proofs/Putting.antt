@@ -34,7 +34,8 @@ use Rattle.station.specs.declared.view.TurnEvent.{TurnEvent}
 use Rattle.station.specs.declared.view.View.{View}
 use Rattle.station.proofs.Growing.{cell-push}
 use Rattle.station.specs.PutLaws.{puts-append}
-use Rattle.node_set.specs.SetLaws.{length-passing-le}
+use Rattle.node_set.specs.SetLaws.{length-passing-le, passing_same}
+use Rattle.station.proofs.Laying.{passing-more}
 use Rattle.directory.specs.StepLaws.{take-more}
 use Rattle.station.proofs.Steps.{same_some}
 
@@ -161,40 +162,29 @@ handset_after {setup} {view} after {new} key word earlier h next mine low seen p
     back e = sym e
 
 -- a census gains one, or loses one
-
 pub passing-gains : (f g : ℕ → Bool) (v n k : ℕ) → v ≤ k → k < v + n → ((s : ℕ) → s ≢ k → f s ≡ g s)
     → f k ≡ false → g k ≡ true
     → length (sift g v n) ≡ length (sift f v n) + 1
 passing-gains f g v zero k low high same off on = absurd (omega arith)
 passing-gains f g v (suc n) k low high same off on =
-    dite (ℕ_discrete v k)
-    (λ e. here (f v) (g v) (ap f e ∙ off) (ap g e ∙ on) (alike (suc v) n (λ s h. same s (λ q. omega (arith, e, q, h)))))
-    (λ ne. subst (λ b. length (cond b (v ∷ sift g (suc v) n) (sift g (suc v) n)) ≡ length (sift f v (suc n)) + 1)
-    (same v ne) (later (f v) (passing-gains f g (suc v) n k (omega arith) (omega arith) same off on)))
-  where
-    alike : (w m : ℕ) → ((s : ℕ) → w ≤ s → f s ≡ g s) → length (sift f w m) ≡ length (sift g w m)
-    alike w zero all = refl
-    alike w (suc m) all = subst (λ b. length (sift f w (suc m)) ≡ length (cond b (w ∷ sift g (suc w) m)
-        (sift g (suc w) m))) (all w (omega arith)) (one (f w) (alike (suc w) m (λ s h. all s (omega arith))))
-      where
-        one : (b : Bool) → length (sift f (suc w) m) ≡ length (sift g (suc w) m)
-            → length (cond b (w ∷ sift f (suc w) m) (sift f (suc w) m))
-            ≡ length (cond b (w ∷ sift g (suc w) m) (sift g (suc w) m))
-        one true h = ap suc h
-        one false h = h
-
-    here : (a b : Bool) → a ≡ false → b ≡ true → length (sift f (suc v) n) ≡ length (sift g (suc v) n)
-        → length (cond b (v ∷ sift g (suc v) n) (sift g (suc v) n))
-        ≡ length (cond a (v ∷ sift f (suc v) n) (sift f (suc v) n)) + 1
-    here false true x y h = omega (arith, h)
-    here true b x y h = absurd (true≢false x)
-    here false false x y h = absurd (true≢false (sym y))
-
-    later : (b : Bool) → length (sift g (suc v) n) ≡ length (sift f (suc v) n) + 1
-        → length (cond b (v ∷ sift g (suc v) n) (sift g (suc v) n))
-        ≡ length (cond b (v ∷ sift f (suc v) n) (sift f (suc v) n)) + 1
-    later true h = omega (arith, h)
-    later false h = h
+    let more = passing-more f v n in
+    let more' = passing-more g v n in
+    dite (ℕ_discrete (v + n) k)
+    (λ e. omega (
+      arith,
+      more,
+      more',
+      ap length (passing_same f g v n (λ s _ below. same s (λ is. omega (arith, e, is, below)))),
+      ap {B = ℕ} (λ b. cond b 1 0) (ap f e ∙ off),
+      ap {B = ℕ} (λ b. cond b 1 0) (ap g e ∙ on),
+    ))
+    (λ ne. omega (
+      arith,
+      more,
+      more',
+      ap {B = ℕ} (λ b. cond b 1 0) (same (v + n) ne),
+      passing-gains f g v n k low (omega (arith, high, ne)) same off on,
+    ))
 
 -- whether a subscriber is at a node
 abbrev was_here : Setting → History → ℕ → ℕ → Bool
@@ -202,28 +192,19 @@ was_here setting history node sub = says_here (mark_in (cell setting history (Pr
 
 put-here : (setting : Setting) (earlier : History) (node sub word actor : ℕ)
     → was_here setting (earlier ++ put_of actor (Presence node sub) word ∷ []) node sub ≡ says_here (mark_in word)
-put-here setting earlier node sub word actor =
-    ap (λ w. says_here (mark_in w)) (cell-push setting (Presence node sub) earlier
-    (put_of actor (Presence node sub) word)
-    ∙ hit (node == node) (sub == sub) (eq-eqb node node refl) (eq-eqb sub sub refl))
-  where
-    hit : (a b : Bool) → a ≡ true → b ≡ true
-        → (if a && b then word else cell setting earlier (Presence node sub)) ≡ word
-    hit true true x y = refl
-    hit true false x y = absurd (true≢false (sym y))
-    hit false b x y = absurd (true≢false (sym x))
+put-here setting earlier node sub word actor = rw (
+  cell-push setting (Presence node sub) earlier (put_of actor (Presence node sub) word),
+  eq-eqb node node refl,
+  eq-eqb sub sub refl,
+) refl
 
 put-else : (setting : Setting) (earlier : History) (node sub word actor s : ℕ) → s ≢ sub
     → was_here setting (earlier ++ put_of actor (Presence node sub) word ∷ []) node s ≡ was_here setting earlier node s
-put-else setting earlier node sub word actor s ne =
-    ap (λ w. says_here (mark_in w)) (cell-push setting (Presence node s) earlier
-    (put_of actor (Presence node sub) word) ∙ miss (node == node) (s == sub) (ne_eqb s sub ne))
-  where
-    miss : (a b : Bool) → b ≡ false
-        → (if a && b then word else cell setting earlier (Presence node s)) ≡ cell setting earlier (Presence node s)
-    miss true false x = refl
-    miss true true x = absurd (true≢false x)
-    miss false b x = refl
+put-else setting earlier node sub word actor s ne = rw (
+  cell-push setting (Presence node s) earlier (put_of actor (Presence node sub) word),
+  eq-eqb node node refl,
+  ne_eqb s sub ne,
+) refl
 
 -- the tally that a put owes
 pub moves : (setup : Setup) (view : View) (earlier : History) {node old : ℕ} (new actor : ℕ) (key : Key)

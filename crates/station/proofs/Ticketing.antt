@@ -67,8 +67,8 @@ pass_after {me} new {actor} left {ticket} {kept} earlier act p less count front 
 
 -- a view that leaves its node has written all, where it did so before
 pub left_by : (there : View) {new : View} {unwritten : Option Key} {owes : Bool}
-    → new ≡ view_outside (record there { unwritten = unwritten; owes = owes }) new.turns → unwritten ≡ None → owes ≡ false
-    → HasLeft there new
+    → new ≡ view_outside (record there { unwritten = unwritten; owes = owes }) new.turns → unwritten ≡ None
+    → owes ≡ false → HasLeft there new
 left_by there e unwritten clear = subst (λ (v : View). HasLeft there v) (sym e) record {
   low = refl;
   high = refl;
@@ -130,8 +130,8 @@ may_draw act log p some at none may = record {
 }
 
 -- a view that has drawn the ticket of an act that puts nothing, and has looked, leaves its node
-look_left : {old two there new : View} {node ticket : ℕ} {act : Act} → Draws old node act ticket two → key_put act ≡ None
-    → ((history : History) → changes_here (setting_in old.setup) history act ≡ false) → there ≡ two
+look_left : {old two there new : View} {node ticket : ℕ} {act : Act} → Draws old node act ticket two
+    → key_put act ≡ None → ((history : History) → changes_here (setting_in old.setup) history act ≡ false) → there ≡ two
     → new ≡ view_outside there new.turns → HasLeft two new
 look_left {two} {new} d none-put calm same gone =
     left_by two (gone ∙ ap (λ (v : View). view_outside v new.turns) same)
@@ -217,10 +217,12 @@ looked {inside} {two} {new} {table} {node} {ticket} {seat} {spare} {act} told lo
     let left = look_left d none-put calm (ap (λ (m : Me Act View). m.0) same) gone in
     let visit = visit_by v act in
     let after : PassData = record { table = table; seat = seat; view = new; spare = spare } in
-    subst (λ (q : PassData). HasVisited q act ticket after × (two.0.seen ≡ before ticket new.seen ++ visit_by q.view act ∷ []))
+    subst (λ (q : PassData). HasVisited q act ticket after
+    × (two.0.seen ≡ before ticket new.seen ++ visit_by q.view act ∷ []))
     told (
       visit_done inside after d left at (subst (λ (a : ℕ). Logs v.turns (Won a node) two.0.turns) (sym low) wins)
-          (subst (λ (m : Me Act View). Logs m.0.turns (GivenBack m.0.low node) new.turns) same back) of_table of_seat less,
+          (subst (λ (m : Me Act View). Logs m.0.turns (GivenBack m.0.low node) new.turns) same back) of_table of_seat
+          less,
       ap (λ (x : View). x.seen) d.view
           ∙ sym (ap (λ l. l ++ visit ∷ []) (before_last d.earlier visit d.count (seen_done v d left))),
     )

@@ -59,7 +59,8 @@ stored law {setup} {s} o j {x} {i} new {v} {unwritten} {owes} me there word not_
     let known = (was.inside x there).known in
     let stays : (k : ℕ) → k ≢ i → slice_index ws k ≡ slice_index s.words k =
     λ k ne. get_or-set_other s.words i k new 0 ne in
-    let at : (F : ℕ → ℕ) (node : ℕ) → v.inside ≡ Some node → F x ≢ i → slice_index ws (F node) ≡ slice_index s.words (F node) =
+    let at : (F : ℕ → ℕ) (node : ℕ) → v.inside ≡ Some node → F x ≢ i
+    → slice_index ws (F node) ≡ slice_index s.words (F node) =
     λ F node is ne. stays (F node) (subst (λ (n : ℕ). F n ≢ i) (same_some (sym there ∙ is)) ne) in
     changed record {
       me = me;
@@ -76,7 +77,8 @@ stored law {setup} {s} o j {x} {i} new {v} {unwritten} {owes} me there word not_
       elsewhere = λ y k iny ne other. else_where law s.words new known iny ne word other;
       mine = resound ws o.history was (has-kept w refl refl refl (λ _ st. st) was.has) (λ _ f. f) (λ _ _ none. none)
           (λ owed. (due owed).0) (λ key is. (put key is).0) (λ node is. at lock_word node is not_lock)
-          (λ node is owed. at (tally_word setup) node is (due owed).1) (λ key is _ _. stays (cell_word setup key) (put key is).1);
+          (λ node is owed. at (tally_word setup) node is (due owed).1)
+          (λ key is _ _. stays (cell_word setup key) (put key is).1);
       alone = alone o j v me there;
       lock = λ actor names. still_held s o.owner j v w me refl refl
           (o.locks x actor known (sym (stays (lock_word x) not_lock) ∙ names));
@@ -137,7 +139,8 @@ tallies law same n id {x} {i} {new} m turn at is s o wide me small =
       view_after_tally v,
       keeps,
       tt,
-      stored law o id new me turn.inside (is_tally at) (λ e. omega (arith, at, e)) (λ e. omega (arith, here.known, at, e))
+      stored law o id new me turn.inside (is_tally at) (λ e. omega (arith, at, e))
+          (λ e. omega (arith, here.known, at, e))
           (λ due. absurd (true≢false (sym due))) (λ key put. (put, not_cell key))
           (λ key known there quiet. get_or-set_other s.words i (cell_word setup key) new 0 (not_cell key)
           ∙ o.cells key known (written_here o id v key me others there quiet))

@@ -35,7 +35,8 @@ returns-clause-made c =
       won = subst (λ (a : ℕ). Logs c.args.seat.now.me.0.turns (Won a c.args.node) there.turns) (sym c.requires.low)
           c.in_ok-ticket.ensures.logs;
       draws = c.in_ok-ticket.ensures.drawn;
-      left = left_by there (ap (λ m. m.0) c.give_back.ensures.left ∙ ap (λ m. view_outside m.0 new.turns) put) refl refl;
+      left = left_by there (ap (λ m. m.0) c.give_back.ensures.left ∙ ap (λ m. view_outside m.0 new.turns) put) refl
+          refl;
       given_back = subst (λ (m : Me Act View). Logs m.0.turns (GivenBack m.0.low c.args.node) new.turns) put
           c.give_back.ensures.logs;
     }

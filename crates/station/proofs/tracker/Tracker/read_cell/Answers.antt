@@ -9,6 +9,6 @@ load-requires c =
     let e : m.0.setup ≡ c.self.inside.table.shared.key = told ∙ sym (ap (λ t. t.setup) c.self.view_is) in (
       search rules,
       search rules,
-      rw (← e) (reads_cell c.cell_numbers.ensures.apart c.same_key_means.ensures _ _ m {key = c.args.key} (rw told c.requires.cell)
-          (rw told c.cell_place-place.ensures.place) (rw (← told) at c.requires.turn)),
+      rw (← e) (reads_cell c.cell_numbers.ensures.apart c.same_key_means.ensures _ _ m {key = c.args.key}
+          (rw told c.requires.cell) (rw told c.cell_place-place.ensures.place) (rw (← told) at c.requires.turn)),
     )

@@ -23,7 +23,8 @@ invariant_of-pass-2 c =
     let d = c.in_ok-ticket.ensures.drawn in
     let kept = c.keep_ticket.ensures in
     pass_is (look_done c.keep_ticket.new.spare c.pass.invariant kept.spare d refl (λ _. refl) c.draw.ensures.slots
-    (c.count_here-count.ensures.same ∙ c.list_here-who.ensures.same) c.give_back.ensures.left) kept.seen kept.tickets kept.room
+    (c.count_here-count.ensures.same ∙ c.list_here-who.ensures.same) c.give_back.ensures.left) kept.seen kept.tickets
+    kept.room
 
 pub returns : goal.returns
 returns c =
