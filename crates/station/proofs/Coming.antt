@@ -31,9 +31,8 @@ node_in (GivenBack actor node) = node
 node_in (Lost actor node word) = node
 
 word_in : TurnEvent → ℕ
-word_in (Won actor node) = 0
-word_in (GivenBack actor node) = 0
 word_in (Lost actor node word) = word
+word_in event = 0
 
 abbrev event_of : ℕ → ℕ → ℕ → ℕ → TurnEvent
 event_of zero actor node word = Won actor node

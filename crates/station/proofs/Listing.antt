@@ -1,9 +1,9 @@
 -- A census as bits.
-use Rattle.std.proofs.Common.{◌≡◌, ℕ, ◌+◌, ◌*◌, ◌%◌, ◌^◌, ◌<◌, ◌==◌, eq-eqb, ne_eqb, bit_or, Bool, true, false, cond, [], ◌∷◌, ◌++◌, refl, sym, ap, ◌∙◌, arith, add-one, w64}
+use Rattle.std.proofs.Common.{◌≡◌, ℕ, ◌+◌, ◌*◌, ◌%◌, ◌^◌, ◌<◌, eq-eqb, ne_eqb, bit_or, Bool, true, false, [], ◌∷◌, sym, ap, ◌∙◌, w64}
 use Rattle.std.specs.Prelude.{◌||◌, if◌then◌else◌}
 use Rattle.std.specs.Int.{bit_at}
-use Rattle.std.proofs.lemmas.List.{append-nil}
 use Rattle.std.proofs.lemmas.Nat.Bits.{bit_at_set_same, bit_at_set_other}
+use Rattle.std.proofs.Math.Bool.{or-false, or-true}
 use mathlib.Core.Logic.{dite}
 use native.Mathlib.Decide.{ℕ_discrete}
 use Rattle.node_set.specs.Ascending.{has, sift}
@@ -22,16 +22,8 @@ hit_bit f who {new} sub small on is all s =
     ap (has s) (passing_takes f sub on) ∙ has-append s (sift f 0 sub) (sub ∷ []) in
     dite (ℕ_discrete s sub)
     (λ e. ap (bit_at new) e ∙ (ap (λ (k : ℕ). bit_at k sub) is ∙ (bit_at_set_same w64 who sub small
-    ∙ ap {B = ℕ} (λ b. if b then 1 else 0) (sym (both ∙ there (has s (sift f 0 sub)) (s == sub) (eq-eqb s sub e))))))
+    ∙ ap {B = ℕ} (λ b. if b then 1 else 0) (sym (both
+    ∙ (ap (λ b. has s (sift f 0 sub) || (b || false)) (eq-eqb s sub e) ∙ or-true (has s (sift f 0 sub))))))))
     (λ ne. ap (λ (k : ℕ). bit_at k s) is ∙ (bit_at_set_other w64 who sub small s ne ∙ (all s
-    ∙ ap {B = ℕ} (λ b. if b then 1 else 0) (sym (both ∙ gone (has s (sift f 0 sub)) (s == sub) (ne_eqb s sub ne))))))
-  where
-    there : (a b : Bool) → b ≡ true → (a || (b || false)) ≡ true
-    there true b e = refl
-    there false true e = refl
-    there false false e = e
-
-    gone : (a b : Bool) → b ≡ false → (a || (b || false)) ≡ a
-    gone true b e = refl
-    gone false false e = refl
-    gone false true e = e
+    ∙ ap {B = ℕ} (λ b. if b then 1 else 0) (sym (both
+    ∙ (ap (λ b. has s (sift f 0 sub) || (b || false)) (ne_eqb s sub ne) ∙ or-false (has s (sift f 0 sub))))))))

@@ -1,6 +1,6 @@
 -- What a handset puts next, and how it moves the tally of its node.
-use Rattle.std.proofs.Common.{◌≡◌, ◌≢◌, ℕ, zero, suc, ◌+◌, ◌^◌, ◌<◌, ◌≤◌, ◌==◌, eq-eqb, ne_eqb, Bool, true, false, true≢false, not, cond, List, [], ◌∷◌, ◌++◌, length, take, refl, sym, ap, ◌∙◌, subst, arith, Option, Some, None, length-append}
-use Rattle.std.specs.Prelude.{slice_get, IfSome, option_map, ◌&&◌, if◌then◌else◌, unwrap_or}
+use Rattle.std.proofs.Common.{◌≡◌, ◌≢◌, ℕ, zero, suc, ◌+◌, ◌^◌, ◌<◌, ◌≤◌, eq-eqb, ne_eqb, Bool, true, false, true≢false, not, cond, List, [], ◌∷◌, ◌++◌, length, take, refl, sym, ap, ◌∙◌, subst, arith, Option, Some, None, length-append}
+use Rattle.std.specs.Prelude.{slice_get, IfSome, option_map, if◌then◌else◌, unwrap_or}
 use mathlib.Core.Logic.{dite}
 use native.Mathlib.Decide.{ℕ_discrete}
 use Rattle.node_set.specs.Ascending.{sift}
@@ -277,24 +277,14 @@ may_put view word log undrawn unwritten clear at few cell mine legal = record {
 go_on-sub : (setting : Setting) (handset : HandsetData) (stage : Stage)
     → (go_on setting handset stage).sub ≡ handset.sub
 go_on-sub setting handset Resting = refl
-go_on-sub setting handset Coming = refl
-go_on-sub setting handset (Renewing level) = refl
-go_on-sub setting handset Committing = refl
-go_on-sub setting handset Confirming = refl
-go_on-sub setting handset (Erasing level) = refl
-go_on-sub setting handset (Purging node) = refl
-go_on-sub setting handset (Switching off) = refl
+go_on-sub setting handset stage = refl
 
 pub write-sub : (setting : Setting) (handset : HandsetData) (stage : Stage)
     → (after_write setting handset stage).sub ≡ handset.sub
-write-sub setting handset Resting = refl
-write-sub setting handset Coming = refl
-write-sub setting handset (Renewing level) = refl
-write-sub setting handset Committing = refl
 write-sub setting handset Confirming = go_on-sub setting handset (erasing_from setting handset 0)
 write-sub setting handset (Erasing level) = go_on-sub setting handset (erasing_from setting handset (suc level))
 write-sub setting handset (Purging node) = go_on-sub setting handset (purging_from setting handset (suc node))
-write-sub setting handset (Switching off) = refl
+write-sub setting handset stage = refl
 
 -- what holds of a put of the subscriber holds of the one that is due
 pub put_due : {o : Option Visit} {sub low : ℕ} (key : Key) (word : ℕ) (P : Visit → Type 0)

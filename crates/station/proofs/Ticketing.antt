@@ -2,6 +2,7 @@
 use Rattle.std.specs.Prelude.{◌||◌, slice_get, unwrap_or}
 use Rattle.node_set.specs.Ascending.{has}
 use Rattle.std.proofs.Common.{get_or, add-one, Some, ne_eqb, ◌≡◌, ℕ, zero, suc, ◌+◌, ◌^◌, ◌<◌, ◌≤◌, ◌==◌, eq-eqb, Bool, true, false, cond, List, [], ◌∷◌, ◌++◌, length, take, refl, sym, ap, ◌∙◌, subst, arith, Option, None, length-append}
+use Rattle.std.proofs.Math.Bool.{or_assoc, or-false}
 use Rattle.std.proofs.Math.Seq.{take-append_seam}
 use Rattle.atomic_table.specs.Seated.{TableId}
 use Rattle.atomic_table.specs.Table.{Me}
@@ -294,16 +295,8 @@ pub has-taken : (x k : ℕ) (xs : List ℕ) (d : ℕ) → k < length xs
     → has x (take (k + 1) xs) ≡ (has x (take k xs) || (x == get_or xs k d))
 has-taken x k xs d h = ap (λ (n : ℕ). has x (take n xs)) (add-one k) ∙ go x k xs h
   where
-    flat : (b : Bool) → (b || false) ≡ b
-    flat true = refl
-    flat false = refl
-
-    shift : (a b c : Bool) → (a || (b || c)) ≡ ((a || b) || c)
-    shift true b c = refl
-    shift false b c = refl
-
     go : (y j : ℕ) (ys : List ℕ) → j < length ys → has y (take (suc j) ys) ≡ (has y (take j ys) || (y == get_or ys j d))
     go y j [] g = absurd (omega arith)
-    go y zero (z ∷ zs) g = flat (y == z)
+    go y zero (z ∷ zs) g = or-false (y == z)
     go y (suc j) (z ∷ zs) g = ap (λ b. (y == z) || b) (go y j zs (omega arith))
-        ∙ shift (y == z) (has y (take j zs)) (y == get_or zs j d)
+        ∙ sym (or_assoc (y == z) (has y (take j zs)) (y == get_or zs j d))

@@ -2,8 +2,6 @@ use Rattle.std.proofs.Common.{rules, arith, subst, sym, ap, ◌∙◌, ◌≡◌
 use Rattle.atomic_table.specs.Table.{Me}
 use Rattle.entry_word.specs.declared.visit.Act.{Act}
 use Rattle.station.specs.Plays.{Draws, view_inside}
-use Rattle.station.specs.Turns.{Logs}
-use Rattle.station.specs.declared.view.TurnEvent.TheVariants.{Won}
 use Rattle.station.specs.declared.view.View.{View}
 use Rattle.station.specs.Visits.{MayDraw}
 use Rattle.station.proofs.Drawing.{draws}
@@ -43,5 +41,4 @@ returns-clause-drawn c =
 
 pub returns-clause-logs : goal.returns-clause-logs
 returns-clause-logs c =
-    subst (λ log. Logs c.args.seat.now.me.0.turns (Won c.args.actor c.args.node) log)
-    (sym (ap (λ (v : View). v.turns) (drawn c).0.view)) c.in_ok-turn.ensures.logs
+    rw (ap (λ (v : View). v.turns) (drawn c).0.view) c.in_ok-turn.ensures.logs

@@ -1,8 +1,7 @@
-use Rattle.std.proofs.Common.{subst, sym, ap, ◌∙◌, ◌<◌, ℕ, refl}
+use Rattle.std.proofs.Common.{subst, sym, ap, ◌∙◌, ℕ, refl}
 use Rattle.entry_word.specs.declared.visit.Act.TheVariants.{Census}
 use Rattle.station.specs.Passes.{PassData, actor_of}
 use Rattle.station.specs.Plays.{view_inside}
-use Rattle.station.specs.Setup.{nodes_in}
 use Rattle.station.specs.Turns.{Logs}
 use Rattle.station.specs.declared.view.TurnEvent.TheVariants.{Won}
 use Rattle.station.proofs.Wholes.{with_view}
@@ -19,8 +18,7 @@ returns c =
         record {
           actor = sym (ap (λ m. m.0.low) t.turn ∙ c.pass.invariant.low);
           inside = ap (λ m. m.0.inside) t.turn;
-          known = subst (λ s. node < nodes_in s) (sym (ap (λ m. m.0.setup) t.turn ∙ (ap (λ q. q.view.setup) p
-              ∙ c.requires.of.setup))) c.requires.node;
+          known = rw (ap (λ m. m.0.setup) t.turn ∙ (ap (λ q. q.view.setup) p ∙ c.requires.of.setup)) c.requires.node;
         },
         with_view _ (λ v. view_inside v node (Census node) log) p t.table t.id refl (ap (λ m. m.0) t.turn),
         subst (λ (q : PassData). Logs q.view.turns (Won (actor_of q) node) log) p (subst (λ (a : ℕ). Logs

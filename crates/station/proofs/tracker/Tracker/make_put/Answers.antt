@@ -1,4 +1,4 @@
-use Rattle.std.proofs.Common.{refl, subst, sym, ap, ◌∙◌, ◌≡◌, ◌<◌, ℕ}
+use Rattle.std.proofs.Common.{refl, subst, sym, ap, ◌∙◌, ◌≡◌, ◌<◌}
 use Rattle.atomic_table.specs.Table.{Me}
 use Rattle.entry_word.specs.declared.visit.Act.{Act}
 use Rattle.directory.specs.Keys.{key_sub, key_node}
@@ -6,7 +6,7 @@ use Rattle.station.specs.Setup.{Setup, setting_in, subs_in}
 use Rattle.station.specs.Handsets.{Moves}
 use Rattle.station.specs.Plays.{view_outside}
 use Rattle.station.specs.Turns.{Logs}
-use Rattle.station.specs.declared.view.TurnEvent.TheVariants.{GivenBack, Won}
+use Rattle.station.specs.declared.view.TurnEvent.TheVariants.{GivenBack}
 use Rattle.station.specs.declared.view.View.{View}
 use Rattle.station.proofs.Ticketing.{left_by}
 use Rattle.station.proofs.Putting.{moves}
@@ -32,8 +32,7 @@ returns-clause-made c =
     let put = c.put_there.ensures.done in
     record {
       there = there;
-      won = subst (λ (a : ℕ). Logs c.args.seat.now.me.0.turns (Won a c.args.node) there.turns) (sym c.requires.low)
-          c.in_ok-ticket.ensures.logs;
+      won = rw c.requires.low c.in_ok-ticket.ensures.logs;
       draws = c.in_ok-ticket.ensures.drawn;
       left = left_by there (ap (λ m. m.0) c.give_back.ensures.left ∙ ap (λ m. view_outside m.0 new.turns) put) refl
           refl;

@@ -1,13 +1,12 @@
-use Rattle.std.proofs.Common.{arith, subst, sym, ap, ◌∙◌, ◌≡◌, ◌<◌, ◌++◌, ◌∷◌, [], length, suc, ℕ, Some}
+use Rattle.std.proofs.Common.{arith, subst, sym, ap, ◌∙◌, ◌≡◌, ◌<◌, [], length, suc, ℕ, Some}
 use Rattle.entry_word.specs.declared.visit.Act.TheVariants.{Put}
 use Rattle.entry_word.specs.declared.visit.Visit.{Visit}
 use Rattle.directory.specs.Histories.{puts_to}
 use Rattle.directory.specs.Keys.{key_node}
-use Rattle.directory.specs.Legal.{IsLegal}
 use Rattle.handset.specs.Condition.{GoesWith}
 use Rattle.handset.specs.Stands.{StandsForSteps}
 use Rattle.region_plan.specs.Settings.{setting_of}
-use Rattle.station.specs.Setup.{Setup, setting_in, subs_in, IsCellOf}
+use Rattle.station.specs.Setup.{Setup, setting_in, subs_in}
 use Rattle.station.specs.Handsets.{HandsetGoesOn, IsHandsetOf, put_of}
 use Rattle.station.specs.Passes.{PassData}
 use Rattle.station.specs.Visits.{HasVisited, Makes}
@@ -24,7 +23,6 @@ make_put-requires-clause-may c =
     let node = c.node_of-node.result in
     let told = c.pass.view_is in
     let setup : v.setup ≡ c.args.self.now.setup = ap (λ q. q.view.setup) told ∙ c.requires.of.setup in
-    let back = sym setup in
     let sub : c.args.handset.now.sub ≡ v.low = c.requires.handset.sub ∙ sym (ap (λ q. q.view.low) told) in
     let spare : 0 < c.pass.inside.spare = omega (arith, c.requires.spare, ap (λ q. q.spare) told) in
     let h : IsHandsetOf c.args.self.now.setup v c.args.handset.now = subst (λ
@@ -33,10 +31,9 @@ make_put-requires-clause-may c =
     let known = c.next_put-key.ensures.cell (subst (λ (s : ℕ). s < subs_in c.args.self.now.setup)
     (sym h.sub) h.script.known) in
     λ log. may_put v word log c.pass.invariant.undrawn c.pass.invariant.unwritten c.pass.invariant.clear
-    (c.node_of-node.ensures.node ∙ ap (λ (s : Setup). key_node (setting_in s) key) back)
-    (own_few c.pass.invariant spare) (subst (λ (s : Setup). IsCellOf s key) back known)
-    (c.next_put-key.ensures.sub ∙ sub) (subst (λ (s : Setup). IsLegal (setting_in s) v.low
-    (v.seen ++ put_of v.low key word ∷ [])) back (c.next_put-key.ensures.legal v h))
+    (rw setup c.node_of-node.ensures.node)
+    (own_few c.pass.invariant spare) (rw setup known) (c.next_put-key.ensures.sub ∙ sub)
+    (rw setup (c.next_put-key.ensures.legal v h))
 
 pub invariant_of-pass-2 : goal.invariant_of-pass-2
 invariant_of-pass-2 c =
