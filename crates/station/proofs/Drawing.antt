@@ -126,13 +126,9 @@ grows law {s} id {x} {new} {v} {act} o me may is =
       actors = λ actor below. owned s o.owner id actor v w me refl refl near (o.actors actor below);
       known = λ actor above. own-other actor history visit (λ e. omega (arith, mine.1, above, e)) ∙ o.known actor above;
       few = λ actor. dite (ℕ_discrete v.low actor)
-          (λ e. let same : own actor history ≡ own actor v.seen = subst (λ
-          (a : ℕ). own a history ≡ own a v.seen) e (was.has.visits v.low stands) in
-          let little : length (own actor v.seen) < 2 ^ 56 = subst (λ (a : ℕ). length
-          (own a v.seen) < 2 ^ 56) e may.few in
-          few_more (own actor history) visit (own actor longer) (own-mine history visit e) (subst (λ
-          (l : History). length l < 2 ^ 56) (sym same) little))
-          (λ ne. subst (λ (l : History). length l ≤ 2 ^ 56) (sym (own-other actor history visit ne)) (o.few actor));
+          (λ e. few_more (own actor history) visit (own actor longer) (own-mine history visit e)
+          (rw (← e, was.has.visits v.low stands) may.few))
+          (λ ne. rw (own-other actor history visit ne) (o.few actor));
       turns = o.turns;
       in_turn = o.in_turn;
       strangers = o.strangers;

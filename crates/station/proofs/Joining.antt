@@ -8,7 +8,6 @@ use Rattle.atomic_table.specs.Table.{Me, Joins, Allows, step, keeps}
 use Rattle.atomic_table.proofs.Lists.{set_else}
 use Rattle.entry_word.specs.declared.visit.Act.{Act}
 use Rattle.directory.specs.Histories.{History, IsFront, own}
-use Rattle.directory.specs.Legal.{IsLegal}
 use Rattle.trail_laws.specs.Within.{HistoryFrontsAreLegal}
 use Rattle.station.specs.Setup.{Setup, setting_in}
 use Rattle.station.specs.Views.{IsSoundView}
@@ -124,7 +123,7 @@ learns law n id i m low short had s o wide me small =
           had = front-of_longer v.had v.seen o.history was.has.had was.has.seen had;
           visits = λ actor st. sym (was.has.visits actor st) ∙ was.has.kept actor st;
           known = λ actor above. own-none_longer actor v.seen o.history was.has.seen (o.known actor above);
-          legal = λ sub known. subst (λ (h : History). IsLegal (setting_in v.setup) sub h) (sym was.has.seen)
+          legal = λ sub known. rw was.has.seen
               (law (setting_in v.setup) sub o.history (length v.seen) low (o.legal sub known));
         },
       ),

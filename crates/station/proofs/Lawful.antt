@@ -33,9 +33,7 @@ legal_more view sub history (Put key word) may front same legal =
     let visit = visit_by view (Put key word) in
     let setting = setting_in view.setup in
     dite (ℕ_discrete view.low sub)
-    (λ e. let own_same : own sub history ≡ own sub view.seen = subst (λ
-    (a : ℕ). own a history ≡ own a view.seen) e same in
-    let puts = puts-seen setting sub view.seen history front own_same legal in
+    (λ e. let puts = puts-seen setting sub view.seen history front (rw (← e) same) legal in
     let both : puts_to sub (view.seen ++ visit ∷ []) ≡ puts_to sub (history ++ visit ∷ []) =
     puts-append sub view.seen (visit ∷ []) ∙ (ap (λ l. l ++ puts_to sub (visit ∷ [])) (sym puts)
     ∙ sym (puts-append sub history (visit ∷ []))) in

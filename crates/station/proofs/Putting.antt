@@ -14,7 +14,7 @@ use Rattle.directory.specs.Settings.{Setting, subs}
 use Rattle.directory.specs.Keys.{key_sub, key_node}
 use Rattle.directory.specs.Histories.{History, cell, changes_here, own, puts_to}
 use Rattle.directory.specs.Census.{census}
-use Rattle.directory.specs.Legal.{ArePuts, IsLegal, IsScript}
+use Rattle.directory.specs.Legal.{IsLegal, IsScript}
 use Rattle.directory.specs.Statements.{ScriptsAreLegal}
 use Rattle.directory.specs.Writes.{Write, mark_at, entry_at, visit_of, visits, write_key, write_word, new_address}
 use Rattle.region_plan.specs.Plan.{PlanData, nodes_of, levels_of}
@@ -115,13 +115,11 @@ due_legal law {setup} {view} key word low h next mine =
     let visit : Visit = put_of view.low key word in
     let made = length (puts_to view.low view.seen) in
     let vs = visits setting view.low h.steps in
-    let next' : slice_get vs made ≡ Some visit =
-    subst (λ (s : ℕ). slice_get (visits setting s h.steps) made ≡ Some visit) h.sub next in
+    let next' = rw h.sub at next in
     let puts : puts_to view.low (view.seen ++ visit ∷ []) ≡ take (suc made) vs =
     put-alone view.seen key word view.low mine ∙ (ap (λ l. l ++ visit ∷ []) h.made
     ∙ sym (take-more vs made visit next')) in
-    subst (λ (l : List Visit). ArePuts setting view.low l) (sym puts) (law setting view.low h.steps
-    (suc made) low h.script)
+    rw puts (law setting view.low h.steps (suc made) low h.script)
 
 -- the handset after its put is the handset of the pass after its visit
 pub handset_after : {setup : Setup} {view : View} (after : View) {handset new : HandsetData} (key : Key) (word : ℕ)
@@ -136,8 +134,7 @@ handset_after {setup} {view} after {new} key word earlier h next mine low seen p
     let visit : Visit = put_of view.low key word in
     let made = length (puts_to view.low view.seen) in
     let vs = visits setting view.low h.steps in
-    let next' : slice_get vs made ≡ Some visit =
-    subst (λ (s : ℕ). slice_get (visits setting s h.steps) made ≡ Some visit) h.sub next in
+    let next' = rw h.sub at next in
     let now : puts_to after.low after.seen ≡ puts_to view.low view.seen ++ visit ∷ [] =
     (λ i. puts_to (low i) (seen i)) ∙ (put-alone earlier key word view.low mine
     ∙ ap (λ l. l ++ visit ∷ []) puts) in

@@ -1,5 +1,5 @@
 -- Loads: the rule is seen, and a cell or a tally is read.
-use Rattle.std.proofs.Common.{◌≡◌, ◌≢◌, ℕ, true≢false, List, [], length, drop, set, refl, sym, ap, ◌∙◌, subst, arith, Some}
+use Rattle.std.proofs.Common.{◌≡◌, ◌≢◌, ℕ, true≢false, [], length, drop, set, refl, sym, ap, ◌∙◌, subst, arith, Some}
 use Rattle.std.specs.Prelude.{slice_index}
 use Rattle.std.proofs.lemmas.List.{set-get_or}
 use mathlib.Core.Option.{none}
@@ -26,9 +26,7 @@ use Rattle.visit_log.specs.Numbers.{NumbersApart}
 pub unmoved : {setup : Setup} {s : St} (i j : ℕ) (v : View) → KeepsRule setup s → IsViewOf s.views j v
     → KeepsRule setup (with (set s.words i (slice_index s.words i)) s j v)
 unmoved {setup} {s} i j v o me =
-    subst (λ (ws : List ℕ). KeepsRule setup (with ws s j v)) (sym (set-get_or s.words i 0))
-    (subst (λ (vs : List View). KeepsRule setup (record { words = s.words; homes = s.homes; views = vs })) (sym
-    (set_again s.views j v me)) o)
+    rw (set-get_or s.words i 0, set_again s.views j v me) o
 
 pub witnesses : (n id i : ℕ) (m : Seat)
     → Allows (KeepsRule m.0.setup) n id m i (λ y. y) (Witnesses (step n i 0 0 none) m)

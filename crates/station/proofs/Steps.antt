@@ -140,13 +140,12 @@ changed {setup} {s} {o} {j} {x} {v} {w} {new} c =
       in_turn = c.goes.in_turn;
       strangers = c.goes.strangers;
       lock_words = λ node known. dite (ℕ_discrete x node)
-          (λ e. subst (λ (n : ℕ). slice_index new (lock_word n) ≡ lock_in c.log n) e c.lock_here)
+          (λ e. rw (← e) c.lock_here)
           (λ ne. c.elsewhere node (lock_word node) known ne (is_lock refl)
           ∙ (o.lock_words node known ∙ sym (c.lock_else node ne)));
       logged = all-logged c.goes;
       locks = λ node actor inside is. dite (ℕ_discrete x node)
-          (λ e. subst (λ (n : ℕ). IsHeld (set s.views j w) o.owner n actor) e (c.lock actor (ap (λ
-          (n : ℕ). slice_index new (lock_word n)) e ∙ is)))
+          (λ e. rw (← e) (c.lock actor (rw e is)))
           (λ ne. let t = o.locks node actor inside (sym (c.elsewhere node (lock_word node) inside ne
           (is_lock refl)) ∙ is) in
           let away : o.owner actor ≢ j = λ e. other_node v node ne c.before
@@ -162,8 +161,7 @@ changed {setup} {s} {o} {j} {x} {v} {w} {new} c =
           (ap (λ (y : View). y.inside) (sym same) ∙ ((o.views k u at).unwritten key is).inside))
           (λ away. quiet k u (set_else s.views j k w away ∙ at) is)));
       tallies = λ node known quiet. dite (ℕ_discrete x node)
-          (λ e. subst (λ (n : ℕ). slice_index new (tally_word setup n) ≡ length (census
-          (setting_in setup) o.history n)) e
+          (λ e. rw (← e)
           (c.tally (λ owes is. quiet j w (set_here s.views j w near) owes (is ∙ ap (λ (n : ℕ). Some n) e))))
           (λ ne. c.elsewhere node (tally_word setup node) known ne (is_tally refl)
           ∙ o.tallies node known (λ k u at owes is.

@@ -9,8 +9,7 @@ use Rattle.atomic_table.specs.Table.{Me}
 use Rattle.entry_word.specs.declared.visit.Act.{Act}
 use Rattle.entry_word.specs.declared.visit.Visit.{Visit}
 use Rattle.directory.specs.Histories.{History, IsFront, before, changes_here, own, tickets, tickets_from}
-use Rattle.directory.specs.Legal.{IsLegal}
-use Rattle.station.specs.Setup.{setting_in, subs_in}
+use Rattle.station.specs.Setup.{setting_in}
 use Rattle.station.specs.Plays.{Draws, view_held, view_inside, view_outside, visit_by, key_put, MayDo}
 use Rattle.station.specs.Passes.{IsPass, PassData, actor_of}
 use Rattle.station.specs.Turns.{HasHadTurn, Logs}
@@ -45,9 +44,7 @@ pub pass_after : {me : Me Act View} (new : Me Act View) {actor seen spare : ℕ}
 pass_after {me} new {actor} left {ticket} {kept} earlier act p less count front visits slots low high real
     undrawn unwritten clear seen_is =
     let visit : Visit = record { actor = me.0.low; act = act } in
-    let own_same : own actor earlier ≡ own actor me.0.seen = subst (λ
-    (a : ℕ). own a earlier ≡ own a me.0.seen) p.low visits in
-    let all = tickets-same actor me.0.seen earlier front own_same in
+    let all = tickets-same actor me.0.seen earlier front (rw (← p.low) visits) in
     let one = length-append kept (ticket ∷ []) in
     record {
       slots = slots;
@@ -163,14 +160,12 @@ visit_done old new {two} {node} d gone_by at wins back table seat less =
       begins = d.seen;
       visits = d.visits;
       seen = gone_by.seen ∙ ap (λ (x : View). x.seen) d.view;
-      legal = subst (λ (l : History). (sub : ℕ) → sub < subs_in v.setup
-          → IsLegal (setting_in v.setup) sub l) (sym gone_by.seen) d.legal;
+      legal = rw gone_by.seen d.legal;
       outside = gone_by.inside;
       turn = subst (λ (n : ℕ). HasHadTurn v.low n v.turns new.view.turns) (sym at) record {
         inside = two.turns;
         won = wins;
-        given_back = subst (λ (a : ℕ). Logs two.turns (GivenBack a node) new.view.turns)
-            (ap (λ (x : View). x.low) d.view) back;
+        given_back = rw (← ap (λ (x : View). x.low) d.view) back;
       };
       lost = gone_by.lost ∙ ap (λ (x : View). x.lost) d.view;
       spare = less;
@@ -186,9 +181,7 @@ pub pass_is : {me : Me Act View} {actor seen seen' spare : ℕ} {kept kept' : Li
     → IsPass me actor seen spare kept room → seen' ≡ seen → kept' ≡ kept → room' ≡ room
     → IsPass me actor seen' spare kept' room'
 pass_is {me} {actor} {seen} {spare} {kept} {kept'} {room'} p a b c =
-    subst (λ (x : ℕ). IsPass me actor x spare kept' room') (sym a)
-    (subst (λ (x : List ℕ). IsPass me actor seen spare x room') (sym b) (subst (λ
-    (x : ℕ). IsPass me actor seen spare kept x) (sym c) p))
+    rw (a, b, c) p
 
 -- what comes before the last visit
 pub before_last : (earlier : History) {seen : History} (visit : Visit) {ticket : ℕ} → length earlier ≡ ticket
@@ -218,10 +211,8 @@ looked {inside} {two} {new} {table} {node} {ticket} {seat} {spare} {act} told lo
     let left = look_left d none-put calm (ap (λ (m : Me Act View). m.0) same) gone in
     let visit = visit_by v act in
     let after : PassData = record { table = table; seat = seat; view = new; spare = spare } in
-    subst (λ (q : PassData). HasVisited q act ticket after
-    × (two.0.seen ≡ before ticket new.seen ++ visit_by q.view act ∷ []))
-    told (
-      visit_done inside after d left at (subst (λ (a : ℕ). Logs v.turns (Won a node) two.0.turns) (sym low) wins)
+    rw (← told) (
+      visit_done inside after d left at (rw low wins)
           (subst (λ (m : Me Act View). Logs m.0.turns (GivenBack m.0.low node) new.turns) same back) of_table of_seat
           less,
       ap (λ (x : View). x.seen) d.view

@@ -96,8 +96,7 @@ writes law below same n id {i} {new} m {key} put known at turn is s o wide me sm
     let x = key_node (setting_in setup) key in
     let ws = set s.words i new in
     let here = (o.views id v me).inside x turn.inside in
-    let near : i < length s.words = subst (λ (k : ℕ). i < k) (sym o.size) (subst (λ (k : ℕ). k < word_count setup)
-    (sym at) (cell_below below setup known)) in
+    let near : i < length s.words = rw (o.size, at) (cell_below below setup known) in
     let others = alone o id v me turn.inside in
     let word : slice_index ws i ≡ cell (setting_in setup) o.history key =
     get_or-set_same s.words i new 0 near ∙ (is ∙ sym (cell_seen same o id key me turn)) in
@@ -109,10 +108,11 @@ writes law below same n id {i} {new} m {key} put known at turn is s o wide me sm
       stored law o id new me turn.inside (is_cell key known refl at) (λ e. first_apart (e ∙ at)) not_lock
           (λ due. (due, not_tally)) (λ _ none. absurd (no_some none))
           (λ other cell_there there quiet. dite (ℕ_discrete (cell_word setup other) i)
-          (λ e. let same_is : key ≡ other = law setup.plan (subs_in setup) key other known cell_there
-          (same_number (nodes_in setup) _ _ (sym at ∙ sym e)) in
-          subst (λ (k : Key). slice_index ws (cell_word setup k) ≡ cell (setting_in setup) o.history k) same_is
-          (ap (slice_index ws) (sym at) ∙ word))
+          (λ e. rw (
+            e,
+            ← law setup.plan (subs_in setup) key other known cell_there
+                (same_number (nodes_in setup) _ _ (sym at ∙ sym e)),
+          ) word)
           (λ ne. get_or-set_other s.words i (cell_word setup other) new 0 ne
           ∙ o.cells other cell_there (written_here o id v other me others there
           (λ had. ne (ap (cell_word setup) (same_some (sym had ∙ put)) ∙ sym at)))))

@@ -1,7 +1,7 @@
 use Rattle.std.proofs.Common.{arith, ◌≡◌, ◌∙◌, ℕ, List, refl, sym, ap, subst, drop, length}
 use Rattle.std.proofs.lemmas.List.{take_at}
 use Rattle.station.specs.Passes.{PassData}
-use Rattle.station.specs.Closing.{ArePresent, HasNoPass, IsOrder}
+use Rattle.station.specs.Closing.{ArePresent, HasNoPass}
 use Rattle.station.proofs.tracker.Tracker.close.Goals as goal
 
 -- the actors that the tracker counts are those that its setup has, and the passes that were looked through are its own
@@ -62,9 +62,7 @@ returns-clause-order c =
     let size = c.stamp_all.auto.order in
     let whole = take_at c.stamp_all.new.order (drop (length c.stamp_all.new.order) c.in-Ok.order.items)
     c.in-Ok.order.len (omega (arith, order, size, c.in-Ok.order.ok)) in
-    subst (IsOrder c.args.self.setup c.args.passes.items) (sym whole)
-    (subst (λ (ps : List PassData). IsOrder c.args.self.setup ps c.stamp_all.new.order) c.gather-longest.ensures.same
-    c.stamp_all.ensures.order)
+    rw (whole, ← c.gather-longest.ensures.same) c.stamp_all.ensures.order
 
 pub returns-clause-present : goal.returns-clause-present
 returns-clause-present c =

@@ -1,9 +1,6 @@
-use Rattle.std.proofs.Common.{subst, sym, ap, ◌∙◌, ℕ, refl}
+use Rattle.std.proofs.Common.{sym, ap, ◌∙◌, refl}
 use Rattle.entry_word.specs.declared.visit.Act.TheVariants.{Census}
-use Rattle.station.specs.Passes.{PassData, actor_of}
 use Rattle.station.specs.Plays.{view_inside}
-use Rattle.station.specs.Turns.{Logs}
-use Rattle.station.specs.declared.view.TurnEvent.TheVariants.{Won}
 use Rattle.station.proofs.Wholes.{with_view}
 use Rattle.station.proofs.tracker.Tracker.enter.Goals as goal
 
@@ -21,7 +18,6 @@ returns c =
           known = rw (ap (λ m. m.0.setup) t.turn ∙ (ap (λ q. q.view.setup) p ∙ c.requires.of.setup)) c.requires.node;
         },
         with_view _ (λ v. view_inside v node (Census node) log) p t.table t.id refl (ap (λ m. m.0) t.turn),
-        subst (λ (q : PassData). Logs q.view.turns (Won (actor_of q) node) log) p (subst (λ (a : ℕ). Logs
-            c.pass.inside.seat.me.0.turns (Won a node) log) (sym c.pass.invariant.low) t.logs),
+        rw (← p, c.pass.invariant.low) t.logs,
       );
     }
