@@ -151,20 +151,16 @@ events-keep actor node log [] of valid foreign = ap (λ l. lock_in l node) (appe
 events-keep actor node log (event ∷ later) of valid foreign =
     let split : (log ++ event ∷ []) ++ later ≡ log ++ event ∷ later = append_assoc log (event ∷ []) later in
     let one = event-keeps node log event of.0 (valid log event later refl) foreign in
-    ap (λ l. lock_in l node) (sym split)
-    ∙ (events-keep actor node (log ++ event ∷ []) later of.1 (subst IsLog (sym split) valid)
-    (subst (IsForeign actor) (sym one) foreign) ∙ one)
+    rw (← split)
+    (events-keep actor node (log ++ event ∷ []) later of.1 (rw split valid) (rw one foreign) ∙ one)
 
 events-kept : (actor node : ℕ) (log more : List TurnEvent) → AreOf actor more
     → IsForeign actor (lock_in (log ++ more) node) → lock_in (log ++ more) node ≡ lock_in log node
 events-kept actor node log [] of foreign = ap (λ l. lock_in l node) (append-nil log)
 events-kept actor node log (event ∷ later) of foreign =
     let split : (log ++ event ∷ []) ++ later ≡ log ++ event ∷ later = append_assoc log (event ∷ []) later in
-    let rest = events-kept actor node (log ++ event ∷ []) later of.1
-    (subst (λ (l : List TurnEvent). IsForeign actor (lock_in l node)) (sym split) foreign) in
-    ap (λ l. lock_in l node) (sym split)
-    ∙ (rest ∙ event-kept node log event of.0 (subst (λ (w : ℕ). IsForeign actor w)
-    (ap (λ l. lock_in l node) (sym split) ∙ rest) foreign))
+    let rest = events-kept actor node (log ++ event ∷ []) later of.1 (rw split foreign) in
+    rw (← split) (rest ∙ event-kept node log event of.0 (rw (← rest, split) foreign))
 
 module _ (setup : Setup) (old new : State Act View) (seat : ℕ) (was : KeepsRule setup old) (is : KeepsRule setup new)
     (s : IsStepOf seat old new) where

@@ -11,7 +11,7 @@ use Rattle.entry_word.specs.declared.visit.Act.{Act}
 use Rattle.entry_word.specs.declared.visit.Visit.{Visit}
 use Rattle.directory.specs.Histories.{History, IsFront, cell, changes_here, own}
 use Rattle.station.specs.Setup.{Setup, setting_in}
-use Rattle.station.specs.Views.{IsSoundView, IsInsideNode, StandsForActor, visits_at}
+use Rattle.station.specs.Views.{IsSoundView, StandsForActor, visits_at}
 use Rattle.station.specs.Rule.{KeepsRule, IsViewOf}
 use Rattle.station.specs.Plays.{Seat, visit_by, key_put, word_before, view_with_ticket, DrawsTicket}
 use Rattle.station.specs.Visits.{MayDraw}
@@ -77,29 +77,28 @@ grows law {s} id {x} {new} {v} {act} o me may is =
           kept = λ _ _. refl;
         };
         owner_is = was.owner_is;
-        inside = λ node at. let e : x ≡ node = same_some (sym may.inside ∙ at) in
-            subst (λ (y : ℕ). IsInsideNode setup ws longer w y) e record {
-              known = here.known;
-              alone = here.alone;
-              lock = words x ∙ here.lock;
-              drawn = λ _. record {
-                earlier = history;
-                visit = visit;
-                begins = front-itself longer;
-                mine = refl;
-                meant = may.intended;
-                at = may.at;
-                count = refl;
-                last = ap (λ l. visits_at setting x l) (drop_all history visit);
-                put = put_word act;
-                word = λ key put. sym (put_before setup history act put);
-                moves = λ due. due;
-                tally = λ _. refl;
-              };
-              owed = λ _. refl;
-              tally = λ _. words _ ∙ o.tallies x here.known
-                  (tallied_here o id x v me others (λ due _. true≢false (sym due ∙ may.clear)));
-            };
+        inside = λ node at. rw (← same_some (sym may.inside ∙ at)) record {
+          known = here.known;
+          alone = here.alone;
+          lock = words x ∙ here.lock;
+          drawn = λ _. record {
+            earlier = history;
+            visit = visit;
+            begins = front-itself longer;
+            mine = refl;
+            meant = may.intended;
+            at = may.at;
+            count = refl;
+            last = ap (λ l. visits_at setting x l) (drop_all history visit);
+            put = put_word act;
+            word = λ key put. sym (put_before setup history act put);
+            moves = λ due. due;
+            tally = λ _. refl;
+          };
+          owed = λ _. refl;
+          tally = λ _. words _ ∙ o.tallies x here.known
+              (tallied_here o id x v me others (λ due _. true≢false (sym due ∙ may.clear)));
+        };
         unwritten = λ key put. let node = put_node setting act put ∙ may.at in record {
           cell = may.cell key put;
           inside = may.inside ∙ ap (λ (n : ℕ). Some n) (sym node);

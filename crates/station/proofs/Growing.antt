@@ -8,9 +8,9 @@ use native.Mathlib.Decide.{ℕ_discrete, dec_le}
 use Rattle.node_set.specs.Ascending.{sift}
 use Rattle.entry_word.specs.Marks.{mark_in, says_here}
 use Rattle.entry_word.specs.declared.visit.Key.{Key}
-use Rattle.entry_word.specs.declared.visit.Key.TheVariants.{Presence, Entry}
+use Rattle.entry_word.specs.declared.visit.Key.TheVariants.{Presence}
 use Rattle.entry_word.specs.declared.visit.Act.{Act}
-use Rattle.entry_word.specs.declared.visit.Act.TheVariants.{Look, Put, Census}
+use Rattle.entry_word.specs.declared.visit.Act.TheVariants.{Put, Census}
 use Rattle.entry_word.specs.declared.visit.Visit.{Visit}
 use Rattle.directory.specs.Settings.{Setting, subs}
 use Rattle.directory.specs.Keys.{act_node, same_key, opening}
@@ -34,9 +34,6 @@ here-same : SameKey → (setting : Setting) (history : History) (node sub : ℕ)
 here-same law setting history node sub act (inl away) =
     ap (λ w. says_here (mark_in w)) (word-elsewhere law setting (Presence node sub) (cell setting history
     (Presence node sub)) act away)
-here-same law setting history node sub (Look key) (inr calm) = refl
-here-same law setting history node sub (Census at) (inr calm) = refl
-here-same law setting history node sub (Put (Entry level cluster other) word) (inr calm) = refl
 here-same law setting history node sub (Put (Presence at other) word) (inr calm) = go (same_key
     (Presence node sub) (Presence at other)) refl
   where
@@ -55,6 +52,7 @@ here-same law setting history node sub (Put (Presence at other) word) (inr calm)
         ∙ ap (λ (k : Key). says_here (mark_in (cell setting history k))) (sym ((law (Presence node sub)
         (Presence at other)).0 e))
     go false e = refl
+here-same law setting history node sub act (inr calm) = refl
 
 pub census-push : SameKey → (setting : Setting) (history : History) (node : ℕ) (visit : Visit)
     → (act_node setting visit.act ≢ node) ⊎ (changes_here setting history visit.act ≡ false)

@@ -149,14 +149,11 @@ handset_after {setup} {view} after {new} key word earlier h next mine low seen p
         steps = h.steps;
         script = subst (λ (s : ℕ). IsScript setting s h.steps) (sym low) h.script;
         stands = subst (λ (k : ℕ). StandsForSteps setting new h.steps k) (sym count) stands;
-        made = whole ∙ (λ i. take (back count i) (visits setting (back low i) h.steps));
+        made = whole ∙ (λ i. take (sym count i) (visits setting (sym low i) h.steps));
       };
       steps_are = refl;
       puts = now;
     }
-  where
-    back : {a b : ℕ} → a ≡ b → b ≡ a
-    back e = sym e
 
 -- a census gains one, or loses one
 pub passing-gains : (f g : ℕ → Bool) (v n k : ℕ) → v ≤ k → k < v + n → ((s : ℕ) → s ≢ k → f s ≡ g s)
@@ -286,5 +283,4 @@ write-sub setting handset stage = refl
 -- what holds of a put of the subscriber holds of the one that is due
 pub put_due : {o : Option Visit} {sub low : ℕ} (key : Key) (word : ℕ) (P : Visit → Type 0)
     → o ≡ Some (put_of sub key word) → sub ≡ low → P (put_of low key word) → IfSome o P
-put_due key word P e same h = subst (λ (p : Option Visit). IfSome p P)
-    (sym (e ∙ ap (λ (a : ℕ). Some (put_of a key word)) same)) h
+put_due key word P e same h = rw (e, same) h

@@ -36,7 +36,7 @@ witnesses n id i m s o wide me small =
 pub all_seen : {setup : Setup} {s : St} (o : KeepsRule setup s) (j : ℕ) {x : ℕ} {v : View} → IsViewOf s.views j v
     → HasTurn v x → visits_at (setting_in setup) x (drop (length v.seen) o.history) ≡ []
 all_seen {setup} o j {x} {v} me turn =
-    subst (λ (k : ℕ). visits_at (setting_in setup) x (drop k o.history) ≡ []) turn.count
+    rw (← turn.count)
     (((o.views j v me).inside x turn.inside).drawn turn.has_drawn).last
 
 -- what the history leaves in a cell there is what the view has seen of it

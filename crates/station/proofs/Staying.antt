@@ -7,7 +7,7 @@ use Rattle.entry_word.specs.Marks.{mark_in, says_here}
 use Rattle.entry_word.specs.declared.visit.Key.{Key}
 use Rattle.entry_word.specs.declared.visit.Key.TheVariants.{Presence}
 use Rattle.entry_word.specs.declared.visit.Act.{Act}
-use Rattle.entry_word.specs.declared.visit.Act.TheVariants.{Look, Put, Census}
+use Rattle.entry_word.specs.declared.visit.Act.TheVariants.{Put}
 use Rattle.entry_word.specs.declared.visit.Visit.{Visit}
 use Rattle.directory.specs.Settings.{Setting, subs}
 use Rattle.directory.specs.Keys.{act_node, key_node, same_key, opening}
@@ -21,9 +21,8 @@ use Rattle.directory.specs.Statements.{SameKey}
 
 -- what an act puts
 pub put_word : (act : Act) (key : Key) → key_put act ≡ Some key → (word : ℕ) × (act ≡ Put key word)
-put_word (Look other) key e = absurd (no_some e)
 put_word (Put other word) key e = (word, ap (λ (k : Key). Put k word) (same_some e))
-put_word (Census node) key e = absurd (no_some e)
+put_word act key e = absurd (no_some e)
 
 pub put_node : (setting : Setting) (act : Act) {key : Key} → key_put act ≡ Some key
     → key_node setting key ≡ act_node setting act
@@ -31,13 +30,12 @@ put_node setting act {key} e = sym (ap (act_node setting) (put_word act key e).1
 
 -- an act leaves the cells that it doesn't put into
 pub word-unput : SameKey → (key : Key) (word : ℕ) (act : Act) → key_put act ≢ Some key → word_after key word act ≡ word
-word-unput law key word (Look other) ne = refl
 word-unput law key word (Put other new) ne = go (same_key key other) refl
   where
     go : (b : Bool) → same_key key other ≡ b → (if b then new else word) ≡ word
     go true e = absurd (ne (ap (λ (k : Key). Some k) (sym ((law key other).0 e))))
     go false e = refl
-word-unput law key word (Census node) ne = refl
+word-unput law key word act ne = refl
 
 -- an act at another node leaves a cell
 pub word-elsewhere : SameKey → (setting : Setting) (key : Key) (word : ℕ) (act : Act)

@@ -12,14 +12,14 @@ use Rattle.entry_word.specs.declared.visit.Key.{Key}
 use Rattle.entry_word.specs.declared.visit.Act.{Act}
 use Rattle.directory.specs.Keys.{key_node}
 use Rattle.station.specs.Setup.{Setup, setting_in, nodes_in, lock_word, tally_word, cell_word}
-use Rattle.station.specs.Views.{IsSoundView, IsInsideNode, turn_at}
+use Rattle.station.specs.Views.{IsSoundView, turn_at}
 use Rattle.station.specs.Rule.{KeepsRule, IsViewOf, IsHeld, IsCellWritten, IsTallied}
 use Rattle.station.specs.Plays.{Seat, view_inside, view_held, Turns, view_outside, Leaves}
 use Rattle.station.specs.declared.view.NodeTurn.{NodeTurn}
 use Rattle.station.specs.declared.view.View.{View}
 use Rattle.std.specs.List.{Contains}
 use Rattle.std.proofs.lemmas.List.Elements.{Contains-push_cases}
-use Rattle.station.specs.Turns.{IsInTurn, Logs, lock_in}
+use Rattle.station.specs.Turns.{IsInTurn, lock_in}
 use Rattle.station.specs.declared.view.TurnEvent.{TurnEvent}
 use Rattle.station.specs.declared.view.TurnEvent.TheVariants.{Won, GivenBack, Lost}
 use Rattle.station.proofs.Logging.{LogGoes, all-logged, lock-back, lock-back_else, lock-push, lock-won, lock-won_else, log-goes, logs}
@@ -106,15 +106,14 @@ entering law {setup} {s} o j x {v} act me known alone idle free =
         setup_is = was.setup_is;
         has = has-kept w refl refl refl (λ _ st. st) was.has;
         owner_is = was.owner_is;
-        inside = λ node is. let e : x ≡ node = same_some is in
-            subst (λ (n : ℕ). IsInsideNode setup new o.history w n) e record {
-              known = known;
-              alone = alone;
-              lock = get_or-set_same s.words (lock_word x) (suc v.low) 0 wide;
-              drawn = λ drawn. absurd (true≢false (sym drawn ∙ (was.outside idle.out).0));
-              owed = λ owes. absurd (true≢false (sym owes ∙ (was.outside idle.out).1));
-              tally = λ owes. absurd (true≢false (sym owes ∙ (was.outside idle.out).1));
-            };
+        inside = λ node is. rw (← same_some is) record {
+          known = known;
+          alone = alone;
+          lock = get_or-set_same s.words (lock_word x) (suc v.low) 0 wide;
+          drawn = λ drawn. absurd (true≢false (sym drawn ∙ (was.outside idle.out).0));
+          owed = λ owes. absurd (true≢false (sym owes ∙ (was.outside idle.out).1));
+          tally = λ owes. absurd (true≢false (sym owes ∙ (was.outside idle.out).1));
+        };
         unwritten = λ key is. absurd (no_some (sym idle.unwritten ∙ is));
         outside = λ is. absurd (some_not_none is);
         others = was.others;
@@ -152,8 +151,7 @@ turns law setup n id x m act known alone idle s o wide me small =
           let a : x ≡ node = omega arith in let b : act ≡ other = some-injective act other said in (
             (λ _. (
               (λ i. (view_inside m.0 (a i) (b i) log, m.1)),
-              subst (λ (n : ℕ). Logs m.0.turns (Won m.0.low n) log) a
-                  (logs o id m.0 (Won m.0.low x) me alone refl (sym (o.lock_words x known) ∙ free)),
+              rw (← a) (logs o id m.0 (Won m.0.low x) me alone refl (sym (o.lock_words x known) ∙ free)),
             )),
             (λ not. absurd (not free)),
           ),
@@ -198,8 +196,7 @@ turns law setup n id x m act known alone idle s o wide me small =
           (λ i. (view_held m.0 (a i) word log, m.1)),
           other,
           few,
-          subst (λ (n : ℕ). Logs m.0.turns (Lost m.0.low n word) log) a
-              (logs o id m.0 (Lost m.0.low x word) me alone refl may),
+          rw (← a) (logs o id m.0 (Lost m.0.low x word) me alone refl may),
         ),
       ),
     ))
@@ -258,8 +255,7 @@ leaves law setup n id {x} m there unwritten owes s o wide me small =
       },
       (
         refl,
-        λ node at. let a : x ≡ node = same_some (sym there ∙ at) in
-            subst (λ (n : ℕ). Logs v.turns (GivenBack v.low n) log) a
+        λ node at. rw (← same_some (sym there ∙ at))
             (logs o id v (GivenBack v.low x) me here.alone refl may),
       ),
     )
@@ -268,14 +264,10 @@ pub turns_at : NumbersApart → (setup : Setup) (n id : ℕ) {x i new : ℕ} (m 
     → m.0.high ≡ suc m.0.low → IsIdle m.0 → i ≡ lock_word x → new ≡ suc m.0.low
     → Allows (KeepsRule setup) n id m i (λ y. either (y == 0) new y) (Turns (step n i 0 new (some act)) m)
 turns_at law setup n id {x} {new} m act known alone idle at is =
-    let P : ℕ → ℕ → Type 0 = λ k w. Allows (KeepsRule setup) n id m k (λ y. either (y == 0) w y) (Turns (step n k 0 w
-    (some act)) m) in
-    subst (λ (k : ℕ). P k new) (sym at) (subst (λ (w : ℕ). P (lock_word x) w) (sym is)
-    (turns law setup n id x m act known alone idle))
+    rw (at, is) (turns law setup n id x m act known alone idle)
 
 pub leaves_at : NumbersApart → (setup : Setup) (n id : ℕ) {x i : ℕ} (m : Seat) → m.0.inside ≡ Some x
     → m.0.unwritten ≡ None → m.0.owes ≡ false → i ≡ lock_word x → Allows (KeepsRule setup) n id m i (λ _. 0)
     (λ _. Leaves (step n i 0 0 none) m 0)
 leaves_at law setup n id m there unwritten owes at =
-    subst (λ (k : ℕ). Allows (KeepsRule setup) n id m k (λ _. 0) (λ _. Leaves (step n k 0 0 none) m 0)) (sym at)
-    (leaves law setup n id m there unwritten owes)
+    rw at (leaves law setup n id m there unwritten owes)
