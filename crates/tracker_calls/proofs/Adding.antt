@@ -47,8 +47,7 @@ logged-visit {setup} {pass} {tried} {new} {act} {ticket} told lost visited =
     let setups : tried.view.setup ≡ setup = ap (λ (q : PassData). q.view.setup) lost.is ∙ told in
     logged-more pass tried new (losses (actor_of pass) (map (turn_at node) lost.words))
     (Won (actor_of pass) node ∷ GivenBack (actor_of pass) node ∷ []) (logged-tried lost)
-    (subst (λ (a : ℕ). HasLoggedMore tried (Won a node ∷ GivenBack a node ∷ []) new) (ap actor_of lost.is)
-    (logged-turn setup tried new act ticket setups visited))
+    (rw (← ap actor_of lost.is) (logged-turn setup tried new act ticket setups visited))
 
 -- nothing is added
 pub added-none : BeginsWithItself → (setup : Setup) (pass : PassData) → pass.view.inside ≡ None
@@ -113,19 +112,16 @@ added-more longer through {setup} {begun} {pass} {tried} {new} {made} {act} {tic
     let turns : VisitTurns = record { node = act_node (setting_in setup) act; words = lost.words } in
     let taken : List TurnEvent = flat_map (turns_taken actor) added.turns in
     let more : own actor new.view.seen ≡ own actor pass.view.seen ++ visit_by tried.view act ∷ [] =
-    subst (λ (h : History). own actor new.view.seen ≡ own actor h ++ visit_by tried.view act ∷ []) seen
-    (subst (λ (a : ℕ). own a new.view.seen ≡ own a tried.view.seen ++ visit_by tried.view act ∷ []) mine
-    (own-visited visited)) in
+    rw (← seen, ← mine) (own-visited visited) in
     let next : tickets actor new.view.seen ≡ tickets actor tried.view.seen ++ ticket ∷ [] =
-    subst (λ (a : ℕ). tickets a new.view.seen ≡ tickets a tried.view.seen ++ ticket ∷ []) mine
+    rw (← mine)
     (ap (tickets (actor_of tried)) visited.seen
     ∙ (tickets-more (actor_of tried) tried.view.seen visited.earlier (visit_by tried.view act) visited.begins
     visited.visits refl
     ∙ ap (λ t. tickets (actor_of tried) tried.view.seen ++ t ∷ []) visited.count)) in
     record {
       begins = through begun.view.seen pass.view.seen new.view.seen added.begins
-          (subst (λ (h : History). IsFront h new.view.seen) seen
-          (visited-front longer through visited));
+          (rw (← seen) (visited-front longer through visited));
       visits = next
           ∙ (ap (λ (h : History). tickets actor h ++ ticket ∷ []) seen
           ∙ (ap (λ l. l ++ ticket ∷ []) added.visits ∙ append_assoc _ made (ticket ∷ [])));
