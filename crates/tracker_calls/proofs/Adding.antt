@@ -132,12 +132,11 @@ added-more longer through {setup} {begun} {pass} {tried} {new} {made} {act} {tic
       count = omega (arith, length-append added.turns (turns ∷ []), added.count, one);
       nodes = nodes-more (setting_in setup) actor begun.view.seen pass.view.seen new.view.seen added.turns turns
           (visit_by tried.view act) more added.nodes refl;
-      logged = subst (λ (l : List TurnEvent). HasLoggedMore begun l new)
-          (ap (λ l. taken ++ l) (sym (append-nil (turns_taken actor turns)))
-          ∙ sym (flat_map-append (turns_taken actor) added.turns (turns ∷ [])))
-          (logged-more begun pass new taken (turns_taken actor turns) added.logged
-          (subst (λ (a : ℕ). HasLoggedMore pass (turns_taken a turns) new) added.same.actor
-          (logged-visit told lost visited)));
+      logged = rw (
+        flat_map-append (turns_taken actor) added.turns (turns ∷ []),
+        append-nil (turns_taken actor turns),
+      ) (logged-more begun pass new taken (turns_taken actor turns) added.logged
+          (rw (← added.same.actor) (logged-visit told lost visited)));
       same = record {
         table = visited.same.table ∙ (ap (λ (q : PassData). q.table) lost.is ∙ added.same.table);
         seat = visited.same.seat ∙ (ap (λ (q : PassData). q.seat) lost.is ∙ added.same.seat);

@@ -245,11 +245,7 @@ stands-for : {setup : Setup} {begun : PassData} {from : HandsetData} {to : ℕ} 
     (length (puts_to (actor_of begun) pass.view.seen))
 stands-for {setup} {to} {pass} {handset} at = (
   at.its.sub ∙ at.same.actor,
-  subst (λ a. StandsForSteps (setting_in setup) handset (at.steps ++ move_to to ∷ [])
-      (length (puts_to a pass.view.seen)))
-      at.same.actor
-      (subst (λ ss. StandsForSteps (setting_in setup) handset ss (length (puts_to pass.view.low pass.view.seen)))
-      at.steps_are at.its.stands),
+  rw (← at.same.actor, ← at.steps_are) at.its.stands,
 )
 
 -- once nothing is left, these are all puts of the move
@@ -264,11 +260,7 @@ put-all {setup} {begun} {to} {pass} {handset} at rests =
     let puts = puts_to sub pass.view.seen in
     let rest = at-rest setting sub handset steps (length puts) stands.0 stands.1 rests in
     let made_are : puts ≡ take (length puts) (visits setting sub steps) =
-    subst (λ a. puts_to a pass.view.seen ≡ take (length (puts_to a pass.view.seen)) (visits setting a steps))
-    at.same.actor
-    (subst (λ ss. puts_to pass.view.low pass.view.seen
-    ≡ take (length (puts_to pass.view.low pass.view.seen)) (visits setting pass.view.low ss)) at.steps_are
-    at.its.made) in
+    rw (← at.same.actor, ← at.steps_are) at.its.made in
     let whole : puts ≡ visits setting sub steps =
     made_are ∙ take_all (length puts) (visits setting sub steps) (omega (arith, rest.all)) in
     append_cancel_left (visits setting sub at.steps) at.put (puts_of_move setting sub at.steps to)

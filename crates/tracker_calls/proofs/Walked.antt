@@ -21,7 +21,7 @@ use Rattle.walk.specs.Walks.{IsWalkOver, WalkData, call_of, pursuit_of}
 use Rattle.handset.specs.Condition.{HandsetData}
 use Rattle.station.specs.Handsets.{IsHandsetOf}
 use Rattle.station.specs.StayLaws.{handset-visited}
-use Rattle.station.specs.Visits.{HasLost, HasVisited}
+use Rattle.station.specs.Visits.{HasVisited}
 use Rattle.station.specs.declared.turns.Held.{Held}
 use Rattle.station.specs.Walking.{HasLookedOn, HasLostLook, MayWalkOn}
 use Rattle.tracker_calls.specs.Added.{HasAdded, HasTried, KeepsHandsets}
@@ -61,9 +61,8 @@ pub tried-look : {setup : Setup} {begun pass new : PassData} {first walk moved :
     → HasTried (key_node (setting_in setup) key) begun new
 tried-look {setup} {pass} {new} {first} {held} {key} wanted same tried on =
     let its : key_of (call_of first) (pursuit_of setup.plan first) ≡ Some on.key =
-    subst (λ (w : WalkData). key_of (call_of w) (pursuit_of setup.plan w) ≡ Some on.key) same on.wanted in
-    tried-again tried (subst (λ (k : Key). HasLost pass (key_node (setting_in setup) k) held new)
-    (one-key on.key key (sym its ∙ wanted)) on.lost)
+    rw (← same) on.wanted in
+    tried-again tried (rw (one-key on.key key (sym its ∙ wanted)) at on.lost)
   where
     one-key : (one two : Key) → ◌≡◌ {A = Option Key} (Some one) (Some two) → one ≡ two
     one-key one two e = cc
