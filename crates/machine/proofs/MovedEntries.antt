@@ -1,5 +1,5 @@
 -- The entries of a move that come next, as loops over its levels find them.
-use Rattle.std.proofs.Common.{◌≡◌, ℕ, suc, ◌+◌, ◌-◌, ◌<◌, ◌≤◌, Bool, true, false, cond, Some, None, [], ap, subst, ◌∙◌, arith}
+use Rattle.std.proofs.Common.{◌≡◌, ℕ, suc, ◌+◌, ◌-◌, ◌<◌, ◌≤◌, Bool, true, false, Some, [], ap, arith}
 use Rattle.std.proofs.lemmas.Bool.{lt-ltb}
 use Rattle.entry_word.specs.Addresses.{address_word}
 use Rattle.region_plan.specs.Plan.{PlanData, home}
@@ -15,8 +15,7 @@ pub first-found : (test : ℕ → Bool) (above last : ℕ) → above ≤ last �
     → first_with test above (suc last - above) ≡ Some above
 first-found test above last low is =
     let count : suc (last - above) ≡ suc last - above = omega (arith, low) in
-    subst (λ k. first_with test above k ≡ Some above) count
-    (ap (λ b. cond b (Some above) (first_with test (suc above) (last - above))) is)
+    rw (← count, is)
 
 -- or it is the next one from the level above on
 pub first-passed : (test : ℕ → Bool) (above last : ℕ) → above ≤ last → test above ≡ false
@@ -25,9 +24,7 @@ first-passed test above last low is =
     let count : suc (last - above) ≡ suc last - above = omega (arith, low) in
     let next : suc above ≡ above + 1 = omega arith in
     let rest : last - above ≡ suc last - (above + 1) = omega arith in
-    subst (λ k. first_with test above k ≡ first_with test (above + 1) (suc last - (above + 1))) count
-    (ap (λ b. cond b (Some above) (first_with test (suc above) (last - above))) is
-    ∙ ap (λ n. first_with test n (last - above)) next ∙ ap (first_with test (above + 1)) rest)
+    rw (← count, is, next, rest)
 
 -- the new address of a level below the last one that the move renews
 pub renewal-at : (plan : PlanData) (handset : HandsetData) (at : ℕ) {cluster word : ℕ} → at < handset.last.renewed
@@ -35,20 +32,8 @@ pub renewal-at : (plan : PlanData) (handset : HandsetData) (at : ℕ) {cluster w
     → address_word (Some (record { number = handset.last.number; node = handset.last.to })) ≡ word
     → entry_write (setting_of plan []) handset (entries.Renewing at)
     ≡ Some (record { level = at; cluster = cluster; word = word; next = entries.Renewing (suc at) })
-renewal-at plan handset at {cluster} {word} below home_is word_is =
-    subst (λ w. entry_write (setting_of plan []) handset (entries.Renewing at)
-    ≡ Some (record { level = at; cluster = cluster; word = w; next = entries.Renewing (suc at) })) word_is
-    (subst (λ c. entry_write (setting_of plan []) handset (entries.Renewing at) ≡ Some (record {
-      level = at;
-      cluster = c;
-      word = address_word (Some (record { number = handset.last.number; node = handset.last.to }));
-      next = entries.Renewing (suc at);
-    })) home_is (ap (λ b. cond b (Some (record {
-      level = at;
-      cluster = home plan at handset.last.to;
-      word = address_word (Some (record { number = handset.last.number; node = handset.last.to }));
-      next = entries.Renewing (suc at);
-    })) None) (lt-ltb at handset.last.renewed below)))
+renewal-at plan handset at below home_is word_is =
+    rw (← home_is, ← word_is, lt-ltb at handset.last.renewed below)
 
 -- a handset that is at an entry
 pub at-stage : (handset : HandsetData) (at : EntryStage) → handset.stage ≡ stage_at at

@@ -74,21 +74,11 @@ cell-due {handset} subs homes goes known is act =
 stays-own : (setting : Setting) (handset : HandsetData) (stage : Stage)
     → (go_on setting handset stage).sub ≡ handset.sub
 stays-own setting handset Resting = refl
-stays-own setting handset Coming = refl
-stays-own setting handset (Renewing level) = refl
-stays-own setting handset Committing = refl
-stays-own setting handset Confirming = refl
-stays-own setting handset (Erasing level) = refl
-stays-own setting handset (Purging node) = refl
-stays-own setting handset (Switching off) = refl
+stays-own setting handset stage = refl
 
 pub same-owner : (setting : Setting) (handset : HandsetData) (stage : Stage)
     → (after_write setting handset stage).sub ≡ handset.sub
-same-owner setting handset Resting = refl
-same-owner setting handset Coming = refl
-same-owner setting handset (Renewing level) = refl
-same-owner setting handset Committing = refl
 same-owner setting handset Confirming = stays-own setting handset (erasing_from setting handset 0)
 same-owner setting handset (Erasing level) = stays-own setting handset (erasing_from setting handset (suc level))
 same-owner setting handset (Purging node) = stays-own setting handset (purging_from setting handset (suc node))
-same-owner setting handset (Switching off) = refl
+same-owner setting handset stage = refl

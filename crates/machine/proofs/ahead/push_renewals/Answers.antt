@@ -1,4 +1,4 @@
-use Rattle.std.proofs.Common.{◌≡◌, ◌<◌, ◌≤◌, ◌+◌, ◌-◌, ℕ, false, suc, [], Some, ap, subst, sym, arith, refl, ◌∙◌, length, get_or}
+use Rattle.std.proofs.Common.{◌≡◌, ◌<◌, ◌≤◌, ◌+◌, ◌-◌, ℕ, false, suc, [], Some, ap, subst, sym, arith, refl, ◌∙◌, length, get_or, add-one}
 use Rattle.std.specs.Prelude.{min}
 use Rattle.std.proofs.Math.Nat.{min-le_left, min-le_right}
 use Rattle.entry_word.specs.declared.visit.Key.TheVariants.{Entry}
@@ -55,10 +55,10 @@ loop-level-init c =
 
 pub bounds-places-level : goal.bounds-places-level
 bounds-places-level c =
-    subst (λ n. c.loop-level.level < n) (sym (c.of-places.ensures.count c.args.plan.now c.requires.homes
-    (subst (λ n. n < nodes_of c.args.plan.now) (sym (ap (λ (r : Renewals). r.node) c.requires.they))
-    c.requires.goes.to))) (level-low c.loop-level.level (c.capacity.result - c.len.result) c.requires.goes
-    c.requires.they c.min.ensures c.loop-level.auto.level c.loop-level-test.true).1
+    rw (c.of-places.ensures.count c.args.plan.now c.requires.homes
+    (rw (ap (λ (r : Renewals). r.node) c.requires.they) c.requires.goes.to)) (level-low c.loop-level.level
+    (c.capacity.result - c.len.result) c.requires.goes c.requires.they c.min.ensures c.loop-level.auto.level
+    c.loop-level-test.true).1
 
 pub loop-level-preserved : goal.loop-level-preserved
 loop-level-preserved c =
@@ -85,9 +85,8 @@ loop-level-preserved c =
     c.entry_writes_are_next.ensures plan handset (entries.Renewing at) write c.plan_is_sound.ensures.sound
     c.loop-level.invariant.goes is
     in
-    let more : suc at ≡ at + 1 = omega arith in
     record {
-      goes = subst (λ n. GoesWith plan (at_entry handset (entries.Renewing n))) more its.goes;
+      goes = rw (add-one at) its.goes;
       fits = omega (
         arith,
         c.loop-level.invariant.fits,
@@ -100,9 +99,7 @@ loop-level-preserved c =
           word = c.args.renewals.word;
         }),
       );
-      ahead = λ subs known.
-          subst (λ n. IsAhead plan subs handset (at_entry handset (entries.Renewing n)) c.args.ahead.now
-          c.push_reserved.new.self) more
+      ahead = λ subs known. rw (add-one at)
           (ahead-more c.push_reserved.new.self (c.loop-level.invariant.ahead subs known) (record {
             visit = entry_put handset.sub write;
             key = Entry at (home plan at handset.last.to) handset.sub;
