@@ -1,7 +1,7 @@
 -- How far a caller is after a look.
-use Rattle.std.proofs.Common.{◌≡◌, ℕ, suc, ◌<◌, ◌≤◌, Bool, true, false, List, [], ◌∷◌, ◌++◌, length, drop, refl, sym, ap, ◌∙◌, arith, Option}
+use Rattle.std.proofs.Common.{◌≡◌, ℕ, suc, ◌≤◌, true, false, List, [], ◌∷◌, ◌++◌, length, drop, refl, sym, ap, ◌∙◌, arith, Option, inl, inr}
 use Rattle.std.specs.Prelude.{Some, None, slice_index, nat_lt, option_map, vec_capacity, unwrap_or, if◌then◌else◌}
-use Rattle.std.proofs.lemmas.Bool.{eq-eqb}
+use Rattle.std.proofs.lemmas.Bool.{eq-eqb, cases_lt, lt-ltb, le-ltb}
 use Rattle.std.proofs.lemmas.Bool.Decides.{nat_tests}
 use Rattle.std.proofs.lemmas.List.{append-nil, length_push, get_or_push}
 use Rattle.std.proofs.Math.ListN.{get_or-append}
@@ -32,16 +32,12 @@ use Rattle.directory.specs.HistoryLaws.{next-caller}
 pub first-is : (first : ℕ) {next : ℕ} (ticket : ℕ) (seen : List ℕ) {kept : Option ℕ}
     → kept ≡ (if nat_lt first next then Some (slice_index seen first) else None) → length seen ≡ next → first ≤ next
     → unwrap_or kept ticket ≡ slice_index (seen ++ ticket ∷ []) first
-first-is first {next} ticket seen {kept} same count low = at_test (nat_lt first next) refl same
-  where
-    at_test : (b : Bool) → nat_lt first next ≡ b → kept ≡ (if b then Some (slice_index seen first) else None)
-        → unwrap_or kept ticket ≡ slice_index (seen ++ ticket ∷ []) first
-    at_test true e h =
-        let less : first < length seen = grind (arith, nat_tests, e, count) in
-        ap (λ o. unwrap_or o ticket) h ∙ sym (get_or-append seen (ticket ∷ []) 0 first less)
-    at_test false e h =
-        let at : length seen ≡ first = grind (arith, nat_tests, e, count, low) in
-        ap (λ o. unwrap_or o ticket) h ∙ sym (get_or_push seen ticket 0 first at)
+first-is first {next} ticket seen same count low = elim (cases_lt first next) [
+  | inl less ↦ rw (same, lt-ltb first next less)
+      (sym (get_or-append seen (ticket ∷ []) 0 first (omega (arith, less, count))))
+  | inr over ↦ rw (same, le-ltb first next over)
+      (sym (get_or_push seen ticket 0 first (omega (arith, count, low, over))))
+]
 
 -- a caller by its parts
 pub by-parts : (input : Contents) (plan : PlanData) (history : History) (actor : ℕ) {seeker : Seeker} {seen : List ℕ}

@@ -56,6 +56,14 @@ made-joined {input} {plan} {after} {history} {actor} {count} {more} {Then} first
       its = subst Then joined then.its;
     }
 
+-- the same turns, whose cells and whose end are known otherwise
+abbrev pub made-as : {input : Contents} {plan : PlanData} {cells after : CellData} {history : History} {actor count : ℕ}
+    {First Then : History → Type 0} (made : AreMade input plan cells history actor count First)
+    → Sees input plan after (history ++ made.visits) → Then (history ++ made.visits)
+    → AreMade input plan after history actor count Then
+made-as made sees its =
+    record { visits = made.visits; turns = made.turns; actors = made.actors; sees = sees; its = its }
+
 -- how many visits there were
 pub made-count : {input : Contents} {plan : PlanData} {cells : CellData} {history : History} {actor count : ℕ}
     {Holds : History → Type 0} (made : AreMade input plan cells history actor count Holds)

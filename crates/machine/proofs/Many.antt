@@ -20,7 +20,7 @@ use Rattle.visit_log.specs.Cells.{CellData, GoWith, Hold}
 use Rattle.machine.specs.Stands.{AreMade, BelongTogether, Sees, setting_over}
 use Rattle.machine.specs.Subscribers.{IsShown, Shown, begun_steps, line_after}
 use Rattle.machine.specs.Owed.{HavePut}
-use Rattle.machine.proofs.Making.{made-none}
+use Rattle.machine.proofs.Making.{made-none, made-as}
 use Rattle.machine.proofs.Written.{under-way, written-more, written-on}
 
 -- the lines of a subscriber behind so many of them
@@ -67,14 +67,7 @@ its-same {input} {plan} {history} {sub} {one} other its handset lines room =
 pub made-so : {input : Contents} {plan : PlanData} {cells : CellData} {history : History} {sub count : ℕ}
     {First : History → Type 0} (Then : History → Type 0) → AreMade input plan cells history sub count First
     → ((later : History) → First later → Then later) → AreMade input plan cells history sub count Then
-made-so {history} Then made so =
-    record {
-      visits = made.visits;
-      turns = made.turns;
-      actors = made.actors;
-      sees = made.sees;
-      its = so (history ++ made.visits) made.its;
-    }
+made-so {history} Then made so = made-as made made.sees (so (history ++ made.visits) made.its)
 
 -- and so are many turns of it
 pub made-same : {input : Contents} {plan : PlanData} {cells : CellData} {history : History} {sub count : ℕ}

@@ -27,7 +27,7 @@ use Rattle.scripts.specs.Laws.{ScriptsAreValid}
 use Rattle.machine.specs.Stands.{AreMade, BelongTogether, Sees, setting_over}
 use Rattle.machine.specs.Subscribers.{IsShown, IsSubscriber, Shown, TakesTurn, begun_steps, line_after}
 use Rattle.machine.proofs.Steps.{line-grows, lines-partial}
-use Rattle.machine.proofs.Making.{made-count, made-joined, made-one}
+use Rattle.machine.proofs.Making.{made-count, made-joined, made-one, made-as}
 use Rattle.machine.proofs.Seen.{HasLast, Seen, last-visit, seen-after, step-allowed, steps-last}
 use Rattle.directory.specs.HistoryLaws.{tickets-count}
 use Rattle.directory.specs.Statements.{MoreIsPlayed, TicketsGrow, OwnGrow, TicketsAreOwn}
@@ -168,14 +168,6 @@ pub ended : {input : Contents} {plan : PlanData} {cells after : CellData} {histo
     (λ later. IsSubscriber input plan later sub mid) → TakesTurn input plan (ticket + count) sub mid new cells after
     Finished → (made : AreMade input plan after history sub count (λ later. IsSubscriber input plan later sub new))
     × (count < most → next (setting_over input plan) (scripts_of input) (history ++ made.visits) sub ≡ None)
-ended {input} {plan} {history} {count} most place made then =
-    let done = then (history ++ made.visits) made.sees (made-count made ∙ ap (λ n. n + count) place) made.its in (
-      record {
-        visits = made.visits;
-        turns = made.turns;
-        actors = made.actors;
-        sees = rw done.2 made.sees;
-        its = done.1;
-      },
-      λ fewer. done.0,
-    )
+ended {history} {count} most place made then =
+    let done = then (history ++ made.visits) made.sees (made-count made ∙ ap (λ n. n + count) place) made.its in
+    (made-as made (rw done.2 made.sees) done.1, λ fewer. done.0)
