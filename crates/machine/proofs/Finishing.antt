@@ -68,14 +68,11 @@ made-idle {entry} {now} {new} {history} {actor} {k} count same first then zero_m
     let reached : History = after_turns (setting_at entry) (scripts_at entry) history (replicate k actor) in
     let none : next (setting_at entry) (scripts_at entry) reached actor ≡ None =
     rw (same.0, same.1) at (then.1 zero_made).0 in
+    let whole : k + (count - k) ≡ count = omega (arith, low) in
     let all : reached ≡ after_turns (setting_at entry) (scripts_at entry) history (replicate count actor) =
     sym (turns-idle (setting_at entry) (scripts_at entry) reached actor none (count - k))
-    ∙ (turns-joined (setting_at entry) (scripts_at entry) history actor k (count - k)
-    ∙ ap (λ n. after_turns (setting_at entry) (scripts_at entry) history (replicate n actor)) {x = k + (count - k)} {y =
-    count} (omega (arith, low))) in (
-      subst (HasHistory new) all (rw zero_made at then.0.stands),
-      sym (ap length all) ∙ first.made,
-    )
+    ∙ rw (turns-joined (setting_at entry) (scripts_at entry) history actor k (count - k), whole) in
+    (subst (HasHistory new) all (rw zero_made at then.0.stands), sym (ap length all) ∙ first.made)
 
 -- one turn: it makes a visit where one is left
 pub turned-once : {old new : Machine} {history : History} {actor : ℕ} (count : ℕ) → count ≤ 1
