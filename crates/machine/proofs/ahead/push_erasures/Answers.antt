@@ -1,9 +1,7 @@
 use Rattle.std.proofs.Common.{◌≡◌, ◌<◌, ◌≤◌, ◌+◌, ◌-◌, ℕ, List, true, false, not, suc, [], Some, ap, subst, sym, arith, refl, ◌∙◌, get_or, add-one}
 use Rattle.std.specs.Prelude.{option_map, slice_index}
 use Rattle.std.proofs.lemmas.Bool.{eq-eqb, ne_eqb}
-use Rattle.entry_word.specs.declared.visit.Act.TheVariants.{Put}
-use Rattle.entry_word.specs.declared.visit.Key.TheVariants.{Entry}
-use Rattle.handset.specs.Entries.{EntryWrite, at_entry, entry_put, entry_write, erasure_to}
+use Rattle.handset.specs.Entries.{EntryWrite, at_entry, entry_write, erasure_to}
 use Rattle.handset.specs.Condition.{GoesWith, HandsetData}
 use Rattle.handset.specs.NextEntries.{IsNextEntry, erasures_from}
 use Rattle.handset.specs.StepWrites.{first_with, is_old}
@@ -13,7 +11,7 @@ use Rattle.region_plan.specs.Plan.{PlanData, home, levels_of, nodes_of}
 use Rattle.region_plan.specs.Settings.{setting_of}
 use Rattle.visit_log.specs.Homes.{home_place}
 use Rattle.machine.specs.Owed.{IsAhead}
-use Rattle.machine.proofs.MovedEntries.{at-stage, first-found, first-passed}
+use Rattle.machine.proofs.MovedEntries.{at-stage, entry-ahead, first-found, first-passed}
 use Rattle.machine.proofs.Owing.{ahead-more, ahead-none}
 use Rattle.machine.proofs.ahead.push_erasures.Goals as goal
 use Rattle.machine.proofs.ahead.push_erasures.Goals.{then-old-new, else-old-new}
@@ -106,29 +104,9 @@ loop-above-preserved c =
             next = ap (λ n. first_with (is_old (setting_of plan []) handset) n (suc handset.last.renewed - n))
                 (sym (add-one above));
             ahead = λ subs known. ahead-more w.push_reserved.new.self (c.loop-above.invariant.ahead subs known)
-                (record {
-                  visit = entry_put handset.sub write;
-                  key = Entry at (home plan at (slice_index handset.addresses at)) handset.sub;
-                  act = ap (Put (Entry at (home plan at (slice_index handset.addresses at)) handset.sub))
-                      (sym c.pack_address-word.ensures);
-                  commits = refl;
-                  cell = record {
-                    cell = record {
-                      place = (
-                        low,
-                        c.plan_is_sound.ensures.matched.homes at (slice_index handset.addresses at) low
-                            (c.requires.goes.inside at low),
-                      );
-                      known = known;
-                    };
-                    owner = refl;
-                    place = c.loop-above.invariant.place;
-                  };
-                  next = its.visit;
-                  stands = its.stands;
-                  goes = its.goes;
-                  its = refl;
-                }) w.push_reserved.ensures.items w.push_reserved.ensures.capacity;
+                (entry-ahead (slice_index handset.addresses at) c.plan_is_sound.ensures.matched its known low
+                (c.requires.goes.inside at low) refl c.loop-above.invariant.place c.pack_address-word.ensures)
+                w.push_reserved.ensures.items w.push_reserved.ensures.capacity;
           })
       | else-old-new w ↦
           let young : is_old (setting_of plan []) handset above ≡ false =

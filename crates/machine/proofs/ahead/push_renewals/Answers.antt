@@ -1,8 +1,7 @@
 use Rattle.std.proofs.Common.{◌≡◌, ◌<◌, ◌≤◌, ◌+◌, ◌-◌, ℕ, false, suc, [], Some, ap, subst, sym, arith, refl, ◌∙◌, length, get_or, add-one}
 use Rattle.std.specs.Prelude.{min}
 use Rattle.std.proofs.Math.Nat.{min-le_left, min-le_right}
-use Rattle.entry_word.specs.declared.visit.Key.TheVariants.{Entry}
-use Rattle.handset.specs.Entries.{EntryWrite, at_entry, entry_put, entry_write}
+use Rattle.handset.specs.Entries.{EntryWrite, at_entry, entry_write}
 use Rattle.handset.specs.Condition.{GoesWith, HandsetData}
 use Rattle.handset.specs.NextEntries.{IsNextEntry, renewals_from}
 use Rattle.handset.specs.declared.entries.EntryStage.TheVariants as entries
@@ -12,7 +11,7 @@ use Rattle.region_plan.specs.Settings.{setting_of}
 use Rattle.std.proofs.lemmas.List.{length_push}
 use Rattle.visit_log.specs.Homes.{home_place}
 use Rattle.machine.specs.Owed.{IsAhead}
-use Rattle.machine.proofs.MovedEntries.{at-stage, renewal-at}
+use Rattle.machine.proofs.MovedEntries.{at-stage, entry-ahead, renewal-at}
 use Rattle.machine.proofs.Owing.{ahead-more, ahead-none}
 use Rattle.machine.proofs.ahead.push_renewals.Goals as goal
 
@@ -100,24 +99,9 @@ loop-level-preserved c =
         }),
       );
       ahead = λ subs known. rw (add-one at)
-          (ahead-more c.push_reserved.new.self (c.loop-level.invariant.ahead subs known) (record {
-            visit = entry_put handset.sub write;
-            key = Entry at (home plan at handset.last.to) handset.sub;
-            act = refl;
-            commits = refl;
-            cell = record {
-              cell = record {
-                place = (low.1, c.plan_is_sound.ensures.matched.homes at handset.last.to low.1 c.requires.goes.to);
-                known = known;
-              };
-              owner = refl;
-              place = there;
-            };
-            next = its.visit;
-            stands = its.stands;
-            goes = its.goes;
-            its = refl;
-          }) c.push_reserved.ensures.items c.push_reserved.ensures.capacity);
+          (ahead-more c.push_reserved.new.self (c.loop-level.invariant.ahead subs known)
+          (entry-ahead handset.last.to c.plan_is_sound.ensures.matched its known low.1 c.requires.goes.to refl there
+          refl) c.push_reserved.ensures.items c.push_reserved.ensures.capacity);
     }
 
 pub returns : goal.returns
