@@ -1,7 +1,7 @@
 -- What becomes of a run in the end.
 use Rattle.std.proofs.Common.{◌≡◌, ◌⊎◌, inl, inr, ℕ, zero, suc, ◌+◌, ◌<◌, ◌≤◌, List, [], ◌∷◌, ◌++◌, length, map, take, drop, get_or, refl, sym, ap, ◌∙◌, subst, arith}
 use Rattle.std.specs.Prelude.{All, Some, slice_get, option_to_list}
-use Rattle.std.proofs.lemmas.List.{get_or-map, length-map, take_all, take-append-le}
+use Rattle.std.proofs.lemmas.List.{get_or-map, length-map}
 use Rattle.std.proofs.lemmas.Bool.{cases_lt}
 use Rattle.directory.specs.Settings.{Setting}
 use Rattle.directory.specs.Histories.{History, IsFront, own}
@@ -27,6 +27,8 @@ use Rattle.runner.specs.Roles.{HasBegunNone, IsSetFor}
 use Rattle.runner.specs.Runs.{AreFreshWorkers, AreWorkersOf, HasFinished, IsOutcomeOfRun, actors_of}
 use Rattle.runner.specs.Workers.{IsFreshWorker, IsWorkerOf, MayServe}
 use Rattle.runner.specs.declared.worker.Worker.{Worker}
+use Rattle.std.proofs.Math.Seq.{take-append_seam}
+use Rattle.runner.proofs.Turning.{get-seam}
 
 get-map : {A B : Type 0} (f : A → B) (xs : List A) (k : ℕ) {x : A} → slice_get xs k ≡ Some x
     → slice_get (map f xs) k ≡ Some (f x)
@@ -191,10 +193,6 @@ one-fresh {tracker} workers {worker} {actor} each last its k one at =
     at_end (suc j) h e = cc
 
 -- what stands between two parts of a list
-get-seam : {A : Type 0} (before later : List A) (x : A) → slice_get (before ++ x ∷ later) (length before) ≡ Some x
-get-seam [] later x = refl
-get-seam (y ∷ before) later x = get-seam before later x
-
 pub at-seam : {A : Type 0} {all : List A} (before : List A) {rest later : List A} {x : A} → all ≡ before ++ rest
     → rest ≡ x ∷ later → slice_get all (length before) ≡ Some x
 at-seam before {later} {x} whole next =
@@ -217,8 +215,7 @@ all-of {tracker} {workers} {passes} are same k d low =
 pub put-back : {A : Type 0} (xs ys : List A) {n : ℕ} → n ≡ length ys → length xs ≡ length ys
     → take n (xs ++ drop (length xs) ys) ≡ xs
 put-back xs ys {n} whole same =
-    take-append-le n xs (drop (length xs) ys) (omega (arith, whole, same))
-    ∙ take_all n xs (omega (arith, whole, same))
+    rw (whole, ← same, take-append_seam)
 
 -- a worker that a call has changed
 pub changed : {input : Contents} {tracker : TrackerData} {argument last old new : Worker} {k : ℕ} → argument ≡ old

@@ -40,8 +40,7 @@ pub returns-then-held-kept-clause-played : goal.returns-then-held-kept-clause-pl
 returns-then-held-kept-clause-played g c = λ input may.
     let gone = c.tries.invariant.gone input may in
     let tracker = c.args.tracker.now in
-    let prepares = c.prepare.ensures.its input tracker.setup c.tries.self.pass.view c.tries.self.pass.spare may.set
-    gone.worker.role in
+    let prepares = c.prepare.ensures.its _ _ _ _ may.set gone.worker.role in
     record {
       lost = c.tries.held;
       gone = prepared-gone c.prepare.new.self gone prepares.0;
@@ -57,8 +56,7 @@ attempt-requires-clause-may g c κs within =
     let input = c.tries.invariant.may.0 in
     let may = c.tries.invariant.may.1 in (
       input,
-      may-try c.prepare.new.self may c.tries-test.true (c.prepare.ensures.its input c.args.tracker.now.setup
-          c.tries.self.pass.view c.tries.self.pass.spare may.set may.worker_is.role),
+      may-try c.prepare.new.self may c.tries-test.true (c.prepare.ensures.its _ _ _ _ may.set may.worker_is.role),
     )
 
 pub tries-smaller-in-Made : goal.tries-smaller-in-Made
@@ -66,8 +64,7 @@ tries-smaller-in-Made g c =
     let input = c.tries.invariant.may.0 in
     let may = c.tries.invariant.may.1 in
     let tried = c.in-Made.ensures.tried input
-    (may-try c.prepare.new.self may c.tries-test.true (c.prepare.ensures.its input c.args.tracker.now.setup
-    c.tries.self.pass.view c.tries.self.pass.spare may.set may.worker_is.role)) in
+    (may-try c.prepare.new.self may c.tries-test.true (c.prepare.ensures.its _ _ _ _ may.set may.worker_is.role)) in
     omega (arith, tried.0.spare, tried.1)
 
 pub tries-preserved-in-Made : goal.tries-preserved-in-Made
@@ -75,8 +72,7 @@ tries-preserved-in-Made g c =
     let tracker = c.args.tracker.now in
     let try_of = λ (input : Contents) (may : MayPlay input tracker c.args.plan.now c.args.distances.now c.tries.self).
     c.in-Made.ensures.tried input
-    (may-try c.prepare.new.self may c.tries-test.true (c.prepare.ensures.its input tracker.setup c.tries.self.pass.view
-    c.tries.self.pass.spare may.set may.worker_is.role)) in
+    (may-try c.prepare.new.self may c.tries-test.true (c.prepare.ensures.its _ _ _ _ may.set may.worker_is.role)) in
     record {
       may = (
         c.tries.invariant.may.0,
@@ -87,9 +83,7 @@ tries-preserved-in-Made g c =
       );
       gone = λ input may.
           let gone = c.tries.invariant.gone input may in
-          let prepares = c.prepare.ensures.its input tracker.setup c.tries.self.pass.view c.tries.self.pass.spare
-          may.set
-          gone.worker.role in
+          let prepares = c.prepare.ensures.its _ _ _ _ may.set gone.worker.role in
           gone-on c.lines_grow.ensures.kept (prepared-gone c.prepare.new.self gone prepares.0)
           (try_of input (record { set = may.set; worker_is = gone.worker })).0 (omega arith);
       few = c.tries.invariant.few;
@@ -102,8 +96,7 @@ tries-smaller-in-Held g c =
     let input = c.tries.invariant.may.0 in
     let may = c.tries.invariant.may.1 in
     let tried = c.in-Held.ensures.tried input
-    (may-try c.prepare.new.self may c.tries-test.true (c.prepare.ensures.its input c.args.tracker.now.setup
-    c.tries.self.pass.view c.tries.self.pass.spare may.set may.worker_is.role)) in
+    (may-try c.prepare.new.self may c.tries-test.true (c.prepare.ensures.its _ _ _ _ may.set may.worker_is.role)) in
     omega (arith, tried.0.spare, tried.1, c.tries.invariant.few, c.if-held-kept.false)
 
 pub tries-preserved-in-Held : goal.tries-preserved-in-Held
@@ -111,8 +104,7 @@ tries-preserved-in-Held g c =
     let tracker = c.args.tracker.now in
     let try_of = λ (input : Contents) (may : MayPlay input tracker c.args.plan.now c.args.distances.now c.tries.self).
     c.in-Held.ensures.tried input
-    (may-try c.prepare.new.self may c.tries-test.true (c.prepare.ensures.its input tracker.setup c.tries.self.pass.view
-    c.tries.self.pass.spare may.set may.worker_is.role)) in
+    (may-try c.prepare.new.self may c.tries-test.true (c.prepare.ensures.its _ _ _ _ may.set may.worker_is.role)) in
     record {
       may = (
         c.tries.invariant.may.0,
@@ -123,9 +115,7 @@ tries-preserved-in-Held g c =
       );
       gone = λ input may.
           let gone = c.tries.invariant.gone input may in
-          let prepares = c.prepare.ensures.its input tracker.setup c.tries.self.pass.view c.tries.self.pass.spare
-          may.set
-          gone.worker.role in
+          let prepares = c.prepare.ensures.its _ _ _ _ may.set gone.worker.role in
           gone-on c.lines_grow.ensures.kept (prepared-gone c.prepare.new.self gone prepares.0)
           (try_of input (record { set = may.set; worker_is = gone.worker })).0 (omega arith);
       few = omega (arith, c.tries.invariant.few, c.if-held-kept.false);
@@ -138,8 +128,7 @@ tries-smaller g c =
     let input = c.tries.invariant.may.0 in
     let may = c.tries.invariant.may.1 in
     let same = c.in-Shut.ensures.tried input
-    (may-try c.prepare.new.self may c.tries-test.true (c.prepare.ensures.its input c.args.tracker.now.setup
-    c.tries.self.pass.view c.tries.self.pass.spare may.set may.worker_is.role)) in
+    (may-try c.prepare.new.self may c.tries-test.true (c.prepare.ensures.its _ _ _ _ may.set may.worker_is.role)) in
     omega (arith, ap (λ (w : Worker). w.pass.spare) same, c.tries.invariant.few, c.if-held-kept.false)
 
 pub tries-preserved : goal.tries-preserved
@@ -147,21 +136,17 @@ tries-preserved g c =
     let tracker = c.args.tracker.now in
     let try_of = λ (input : Contents) (may : MayPlay input tracker c.args.plan.now c.args.distances.now c.tries.self).
     c.in-Shut.ensures.tried input
-    (may-try c.prepare.new.self may c.tries-test.true (c.prepare.ensures.its input tracker.setup c.tries.self.pass.view
-    c.tries.self.pass.spare may.set may.worker_is.role)) in
+    (may-try c.prepare.new.self may c.tries-test.true (c.prepare.ensures.its _ _ _ _ may.set may.worker_is.role)) in
     record {
       may = (
         c.tries.invariant.may.0,
         kept-may c.prepare.new.self c.tries.invariant.may.1
-            (c.prepare.ensures.its c.tries.invariant.may.0 tracker.setup c.tries.self.pass.view c.tries.self.pass.spare
-            c.tries.invariant.may.1.set c.tries.invariant.may.1.worker_is.role).0
+            (c.prepare.ensures.its _ _ _ _ c.tries.invariant.may.1.set c.tries.invariant.may.1.worker_is.role).0
             (try_of c.tries.invariant.may.0 c.tries.invariant.may.1),
       );
       gone = λ input may.
           let gone = c.tries.invariant.gone input may in
-          let prepares = c.prepare.ensures.its input tracker.setup c.tries.self.pass.view c.tries.self.pass.spare
-          may.set
-          gone.worker.role in
+          let prepares = c.prepare.ensures.its _ _ _ _ may.set gone.worker.role in
           kept-gone (prepared-gone c.prepare.new.self gone prepares.0)
           (try_of input (record { set = may.set; worker_is = gone.worker }));
       few = omega (arith, c.tries.invariant.few, c.if-held-kept.false);
@@ -179,8 +164,7 @@ pub returns-clause-played : goal.returns-clause-played
 returns-clause-played g c = λ input may.
     let gone = c.tries.invariant.gone input may in
     let tracker = c.args.tracker.now in
-    let prepares = c.prepare.ensures.its input tracker.setup c.tries.self.pass.view c.tries.self.pass.spare may.set
-    gone.worker.role in
+    let prepares = c.prepare.ensures.its _ _ _ _ may.set gone.worker.role in
     record {
       lost = c.tries.held;
       gone = prepared-gone c.prepare.new.self gone prepares.0;
