@@ -1,17 +1,9 @@
-use Rattle.std.proofs.Common.{◌≡◌, refl, ap, ◌∙◌, arith}
+use Rattle.std.proofs.Common.{refl, ap, ◌∙◌, arith}
 use Rattle.net_reader.specs.Input.{Contents}
 use Rattle.runner.specs.Workers.{MayPlay}
-use Rattle.runner.specs.declared.worker.Attempt.{Attempt}
-use Rattle.runner.specs.declared.worker.Attempt.TheVariants.{Made, Held, Shut}
 use Rattle.runner.specs.declared.worker.Worker.{Worker}
 use Rattle.runner.proofs.Working.{gone-on, kept-gone, kept-may, may-try, prepared-gone, role-gone, some-left}
 use Rattle.runner.proofs.worker.Worker.play.Goals as goal
-
-made-no : ◌≡◌ {A = Attempt} Made Shut → ⊥
-made-no e = cc
-
-held-no : ◌≡◌ {A = Attempt} Held Shut → ⊥
-held-no e = cc
 
 pub tries-init : goal.tries-init
 tries-init g c = record {
@@ -88,7 +80,7 @@ tries-preserved-in-Made g c =
           (try_of input (record { set = may.set; worker_is = gone.worker })).0 (omega arith);
       few = c.tries.invariant.few;
       kept = c.tries.invariant.kept;
-      shut = λ is_shut. absurd (made-no (c.in-Made.ensures.shut is_shut));
+      shut = λ is_shut. cc (c.in-Made.ensures.shut is_shut);
     }
 
 pub tries-smaller-in-Held : goal.tries-smaller-in-Held
@@ -120,7 +112,7 @@ tries-preserved-in-Held g c =
           (try_of input (record { set = may.set; worker_is = gone.worker })).0 (omega arith);
       few = omega (arith, c.tries.invariant.few, c.if-held-kept.false);
       kept = c.tries.invariant.kept;
-      shut = λ is_shut. absurd (held-no (c.in-Held.ensures.shut is_shut));
+      shut = λ is_shut. cc (c.in-Held.ensures.shut is_shut);
     }
 
 pub tries-smaller : goal.tries-smaller
