@@ -1,5 +1,5 @@
 -- What becomes of a run in the end.
-use Rattle.std.proofs.Common.{◌≡◌, ◌⊎◌, inl, inr, ℕ, zero, suc, ◌+◌, ◌<◌, ◌≤◌, List, [], ◌∷◌, ◌++◌, length, map, take, drop, get_or, refl, sym, ap, ◌∙◌, subst, arith}
+use Rattle.std.proofs.Common.{◌≡◌, inl, inr, ℕ, zero, suc, ◌+◌, ◌<◌, List, [], ◌∷◌, ◌++◌, length, map, take, drop, get_or, sym, ap, ◌∙◌, subst, arith}
 use Rattle.std.specs.Prelude.{All, Some, slice_get, option_to_list}
 use Rattle.std.proofs.lemmas.List.{get_or-map, length-map}
 use Rattle.std.proofs.lemmas.Bool.{cases_lt}
@@ -18,7 +18,7 @@ use Rattle.region_plan.specs.Settings.{setting_of}
 use Rattle.scripts.specs.Scripts.{scripts_of}
 use Rattle.station.specs.Closing.{IsOrder}
 use Rattle.station.specs.Opening.{setup_of}
-use Rattle.station.specs.Passes.{IsFreshPass, IsPassOf, PassData, TrackerData, actor_of, fresh_view}
+use Rattle.station.specs.Passes.{IsFreshPass, IsPassOf, PassData, TrackerData, actor_of}
 use Rattle.station.specs.declared.view.View.{View}
 use Rattle.station.specs.Setup.{Setup, setting_in}
 use Rattle.runner.specs.Playing.{IsPlayedBy}
@@ -60,23 +60,19 @@ pub order-played : {input : Contents} {tracker : TrackerData} {workers : List Wo
     → IsPlayed (setting_in tracker.setup) (scripts_of input) its.history
 order-played {input} {tracker} {workers} are count its =
     all-played (setting_in tracker.setup) (scripts_of input) its.history
-    (λ actor. at actor (cases_lt actor (length workers)))
-  where
-    at : (actor : ℕ) → (actor < length workers) ⊎ (length workers ≤ actor)
-        → IsPlayedBy (setting_in tracker.setup) (scripts_of input) actor its.history
-    at actor (inl low) =
-        let found = slice_get-within workers actor low in
-        let worker : Worker = found.0 in
-        let each = are.each actor worker found.1 in
-        let there : slice_get (map (λ (w : Worker). w.pass) workers) actor ≡ Some worker.pass =
-        get-map (λ (w : Worker). w.pass) workers actor found.1 in
-        subst (λ a. IsPlayedBy (setting_in tracker.setup) (scripts_of input) a its.history) each.1
-        (played-in (setting_in tracker.setup) (scripts_of input) (actor_of worker.pass) worker.pass.view.seen
-        its.history
-        (its.seen actor worker.pass there) (its.visits actor worker.pass there) each.0.played)
-    at actor (inr high) = λ ticket visit got mine.
-        absurd (own-none actor its.history ticket visit
-        (its.known actor (omega (arith, high, are.count, count))) got mine)
+    (λ actor. elim (cases_lt actor (length workers)) [
+      | inl low ↦
+          let found = slice_get-within workers actor low in
+          let worker : Worker = found.0 in
+          let each = are.each actor worker found.1 in
+          let there : slice_get (map (λ (w : Worker). w.pass) workers) actor ≡ Some worker.pass =
+          get-map (λ (w : Worker). w.pass) workers actor found.1 in
+          subst (λ a. IsPlayedBy (setting_in tracker.setup) (scripts_of input) a its.history) each.1
+          (played-in (setting_in tracker.setup) (scripts_of input) (actor_of worker.pass) worker.pass.view.seen
+          its.history (its.seen actor worker.pass there) (its.visits actor worker.pass there) each.0.played)
+      | inr high ↦ λ ticket visit got mine. absurd (own-none actor its.history ticket visit
+          (its.known actor (omega (arith, high, are.count, count))) got mine)
+    ])
 
 -- a run is finished
 pub finished : HistoriesAreOrdered → {input : Contents} {tracker : TrackerData} {plan : PlanData}
@@ -127,19 +123,14 @@ at-some (y ∷ ys) (suc i) at = let deep = at-some ys i at in (omega (arith, dee
 pub fresh-serves : {input : Contents} {plan : PlanData} {tracker : TrackerData} {actor : ℕ} {pass : PassData}
     → IsFreshPass tracker actor pass → IsSetFor input tracker.setup plan plan.distances → actor < length input.scripts
     → MayServe input plan pass
-fresh-serves {input} {plan} {tracker} {actor} {pass} fresh set low =
-    subst (λ (p : PassData). MayServe input plan p) (sym (whole pass (fresh_view tracker.setup actor) fresh.view))
-    (record {
-      set = set;
-      outside = refl;
-      known = low;
-      none = refl;
-      bare = refl;
-      few = omega (arith, fresh.spare);
-    })
-  where
-    whole : (p : PassData) (view : View) → p.view ≡ view → p ≡ record p { view = view }
-    whole p view e = subst (λ v. p ≡ record p { view = v }) e refl
+fresh-serves fresh set low = record {
+  set = rw fresh.view set;
+  outside = rw fresh.view;
+  known = rw fresh.view low;
+  none = rw fresh.view;
+  bare = rw fresh.view;
+  few = omega (arith, fresh.spare);
+}
 
 -- and its worker is that of the actor
 pub fresh-actor : {tracker : TrackerData} {actor : ℕ} {pass made : PassData} → IsFreshPass tracker actor pass

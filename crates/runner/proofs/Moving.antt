@@ -230,7 +230,11 @@ pub begun-now : {input : Contents} {setup : Setup} {plan : PlanData} {view : Vie
     → IsUnderWay input setup view spare new
 begun-now {setup} {view} {old} new {call} plan_is part at goes same stands script more =
     let made = length (puts_to view.low view.seen) in
-    let on = begun-more new part at (rw plan_is at goes) same ((rw plan_is at stands) part.its.stands) script more in (
+    let here = subst (λ (p : PlanData). StandsForSteps (setting_of p setup.homes) old.handset part.its.steps made
+    → StandsForSteps (setting_of p setup.homes) new.handset (part.its.steps ++ step_of call ∷ []) made) plan_is stands
+    part.its.stands in
+    let on = begun-more new part at (subst (λ (p : PlanData). GoesWith p new.handset) plan_is goes) same here script
+    more in (
       on.0,
       λ none. absurd (begun-due (setting_in setup) view.low part.its.steps (step_of call) at.all
           (ap (λ s. slice_get (visits (setting_in setup) s on.0.its.steps) made) on.0.its.sub

@@ -244,21 +244,10 @@ tries-lost input setup old new (Ok done) h tries = cc
 tries-lost input setup old new (Err held) h tries = (held, tries)
 
 -- a worker that has gone on, and is prepared
-pub prepared-gone : {input : Contents} {tracker : TrackerData} {old mid : Worker} (role : Role) {held : ℕ}
+pub prepared-gone : CallersKept → {input : Contents} {tracker : TrackerData} {old mid : Worker} (role : Role) {held : ℕ}
     → HasGoneOn input tracker old mid held → IsRole input tracker.setup mid.pass.view mid.pass.spare role
     → HasGoneOn input tracker old (record mid { role = role }) held
-prepared-gone role gone prepared = record {
-  worker = (role-gone role gone.worker prepared).worker;
-  begins = gone.begins;
-  same = gone.same;
-  spare = gone.spare;
-  visits = gone.visits;
-  made = gone.made;
-  events = gone.events;
-  turns = gone.turns;
-  logged = gone.logged;
-  count = gone.count;
-}
+prepared-gone kept role gone prepared = gone-on kept gone (role-gone role gone.worker prepared) (omega arith)
 
 -- what preparing tells
 abbrev pub Prepares : Contents → Setup → PassData → Role → Bool → Type 0

@@ -35,7 +35,7 @@ returns-then-held-kept-clause-played g c = λ input may.
     let prepares = c.prepare.ensures.its _ _ _ _ may.set gone.worker.role in
     record {
       lost = c.tries.held;
-      gone = prepared-gone c.prepare.new.self gone prepares.0;
+      gone = prepared-gone c.lines_grow.ensures.kept c.prepare.new.self gone prepares.0;
       says = (
         some-left input tracker.setup c.tries.self.pass c.prepare.new.self c.tries-test.true prepares,
         c.if-held-kept.true,
@@ -76,7 +76,7 @@ tries-preserved-in-Made g c =
       gone = λ input may.
           let gone = c.tries.invariant.gone input may in
           let prepares = c.prepare.ensures.its _ _ _ _ may.set gone.worker.role in
-          gone-on c.lines_grow.ensures.kept (prepared-gone c.prepare.new.self gone prepares.0)
+          gone-on c.lines_grow.ensures.kept (prepared-gone c.lines_grow.ensures.kept c.prepare.new.self gone prepares.0)
           (try_of input (record { set = may.set; worker_is = gone.worker })).0 (omega arith);
       few = c.tries.invariant.few;
       kept = c.tries.invariant.kept;
@@ -108,7 +108,7 @@ tries-preserved-in-Held g c =
       gone = λ input may.
           let gone = c.tries.invariant.gone input may in
           let prepares = c.prepare.ensures.its _ _ _ _ may.set gone.worker.role in
-          gone-on c.lines_grow.ensures.kept (prepared-gone c.prepare.new.self gone prepares.0)
+          gone-on c.lines_grow.ensures.kept (prepared-gone c.lines_grow.ensures.kept c.prepare.new.self gone prepares.0)
           (try_of input (record { set = may.set; worker_is = gone.worker })).0 (omega arith);
       few = omega (arith, c.tries.invariant.few, c.if-held-kept.false);
       kept = c.tries.invariant.kept;
@@ -139,7 +139,7 @@ tries-preserved g c =
       gone = λ input may.
           let gone = c.tries.invariant.gone input may in
           let prepares = c.prepare.ensures.its _ _ _ _ may.set gone.worker.role in
-          kept-gone (prepared-gone c.prepare.new.self gone prepares.0)
+          kept-gone (prepared-gone c.lines_grow.ensures.kept c.prepare.new.self gone prepares.0)
           (try_of input (record { set = may.set; worker_is = gone.worker }));
       few = omega (arith, c.tries.invariant.few, c.if-held-kept.false);
       kept = λ is_open. absurd (c.in-Shut.ensures.closed is_open refl);
@@ -159,6 +159,6 @@ returns-clause-played g c = λ input may.
     let prepares = c.prepare.ensures.its _ _ _ _ may.set gone.worker.role in
     record {
       lost = c.tries.held;
-      gone = prepared-gone c.prepare.new.self gone prepares.0;
+      gone = prepared-gone c.lines_grow.ensures.kept c.prepare.new.self gone prepares.0;
       says = (prepares.2.0 c.tries-test.false, omega (arith, c.tries.invariant.few));
     }
