@@ -123,7 +123,7 @@ blank-other : (w c : ℕ) (ws text : List ℕ) → is_blank w ≡ false → is_b
 blank-other w c ws text plain blank =
     by-test (eqb w c) (λ (o : Option (List ℕ)). rest_alone o ≡ false) (λ e.
     let is : w ≡ c = (Decides-eqb w c).0 e in
-    let wrong : is_blank c ≡ false = subst (λ (x : ℕ). is_blank x ≡ false) is plain in
+    let wrong : is_blank c ≡ false = rw is at plain in
     absurd (true-not-false (sym blank ∙ wrong))) (λ e. refl)
 
 -- a byte of the word more
@@ -140,8 +140,7 @@ word-more b field w ws short off plain next (c ∷ text) =
     (cond (eqb w c) (word_in ws text) None)) (λ s. not-alone (b ∷ field) (fields_from [] text) short
     ∙ sym (blank-other w c ws text plain s)) (λ s. by-test (eqb w c)
     (λ (o : Option (List ℕ)). is_report_alone (fields_from (b ∷ field ++ c ∷ []) text) ≡ rest_alone o)
-    (λ e. subst (λ (x : ℕ). is_report_alone (fields_from (b ∷ field ++ x ∷ []) text) ≡ rest_alone (word_in ws text))
-    ((Decides-eqb w c).0 e) (next text)) (λ e. off-word b (field ++ c ∷ []) text (off c e)))
+    (λ e. rw ((Decides-eqb w c).0 e) at (next text)) (λ e. off-word b (field ++ c ∷ []) text (off c e)))
 
 -- which byte doesn't go on with the word
 other-byte : (w c : ℕ) (later : Bool) → eqb w c ≡ false → cond (eqb c w) later false ≡ false
@@ -175,8 +174,8 @@ alone-is (c ∷ text) =
     by-same (is_blank c) (λ (fs : List (List ℕ)) (t : List ℕ). is_report_alone fs ≡ rest_alone
     (word_in (codes "report") t)) (λ s. alone-is text) (λ s. by-test (eqb 114 c)
     (λ (o : Option (List ℕ)). is_report_alone (fields_from (c ∷ []) text) ≡ rest_alone o)
-    (λ e. subst (λ (x : ℕ). is_report_alone (fields_from (x ∷ []) text) ≡ rest_alone (word_in (codes "eport") text))
-    ((Decides-eqb 114 c).0 e) (from-r text)) (λ e. off-word c [] text (other-byte 114 c (begins [] (codes "eport")) e)))
+    (λ e. rw ((Decides-eqb 114 c).0 e) at (from-r text)) (λ e. off-word c [] text (other-byte 114 c
+    (begins [] (codes "eport")) e)))
 
 -- the code's test
 pub cut-tested : (line : List ℕ) {text : List ℕ} {found : Option (List ℕ)} → text ≡ behind_blanks (without_return line)
