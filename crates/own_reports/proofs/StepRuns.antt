@@ -39,6 +39,9 @@ move-long setting course move =
 pub part-at : (seen : List ℕ) (p n i : ℕ) → i < n → slice_index (take n (drop p seen)) i ≡ slice_index seen (p + i)
 part-at seen p n i low = get_or-take n (drop p seen) i 0 low ∙ get_or-drop p seen i 0
 
+pub part-first : (seen : List ℕ) (p n : ℕ) → 0 < n → slice_index (take n (drop p seen)) 0 ≡ slice_index seen p
+part-first seen p n some = part-at seen p n 0 some ∙ ap (slice_index seen) (let z : p + 0 ≡ p = omega arith in z)
+
 part-length : (seen : List ℕ) (p n : ℕ) → p + n ≤ length seen → length (take n (drop p seen)) ≡ n
 part-length seen p n fits = omega (arith, length-take n (drop p seen), length-drop p seen, fits)
 
@@ -59,7 +62,7 @@ step-run setting sub course (move_to node) seen p e ends fits =
       (
         (
           omega (arith, ends, long),
-          part-at seen p n 0 (omega (arith, long)) ∙ ap (slice_index seen) (let z : p + 0 ≡ p = omega arith in z),
+          part-first seen p n (omega (arith, long)),
           ap (λ k. slice_index (take n (drop p seen)) (k - 1)) count ∙ part-at seen p n (n - 1) (omega (arith, long))
               ∙ ap (slice_index seen) last_place,
         ),
@@ -71,22 +74,10 @@ step-run setting sub course (move_to node) seen p e ends fits =
         ),
       ),
     )
-step-run setting sub course switch_off seen p e ends fits = (
-  refl,
-  (
-    omega (arith, ends),
-    part-at seen p 1 0 (omega arith)
-        ∙ ap (slice_index seen) (let z : p + 0 ≡ p = omega arith in z),
-  ),
-)
-step-run setting sub course switch_on seen p e ends fits = (
-  refl,
-  (
-    omega (arith, ends),
-    part-at seen p 1 0 (omega arith)
-        ∙ ap (slice_index seen) (let z : p + 0 ≡ p = omega arith in z),
-  ),
-)
+step-run setting sub course switch_off seen p e ends fits =
+    (refl, (omega (arith, ends), part-first seen p 1 (omega arith)))
+step-run setting sub course switch_on seen p e ends fits =
+    (refl, (omega (arith, ends), part-first seen p 1 (omega arith)))
 
 -- a step has a write
 pub some-writes : (setting : Setting) (course : Course) (step : Step) → 0 < length (step_writes setting course step)
