@@ -3,7 +3,7 @@ use Rattle.std.proofs.Common.{◌≡◌, ℕ, suc, ◌≤◌, List, [], ◌∷�
 use Rattle.std.specs.Prelude.{slice_index}
 use Rattle.std.proofs.lemmas.List.{map-append}
 use Rattle.directory.specs.Settings.{Setting, subs}
-use Rattle.directory.specs.Finds.{FindCall, Pursuit, after_word, answer_of, at_origin, chases, climbs, ended, key_of}
+use Rattle.directory.specs.Finds.{FindCall, Pursuit, after_word, answer_of, at_origin, key_of}
 use Rattle.directory.specs.Histories.{History, tickets, words_read}
 use Rattle.directory.specs.HistoryLaws.{next-caller}
 use Rattle.directory.specs.Looks.{look_by}
@@ -97,9 +97,7 @@ calling-in setting scripts history actor =
 -- a find without its answer wants a cell
 wants : (call : FindCall) (pursuit : Pursuit) → answer_of pursuit ≡ None → key_of call pursuit ≡ None → ⊥
 wants call at_origin going none = cc
-wants call (climbs known weight reader later) going none = cc
-wants call (chases chase node) going none = cc
-wants call (ended found) going none = cc
+wants call _ going none = cc
 
 no-calls : (calls : List FindCall) (pursuit : Pursuit) → answer_of pursuit ≡ None → key_in calls pursuit ≡ None
     → calls ≡ []

@@ -177,22 +177,20 @@ module _ (setting : Setting) (small : IsSmall setting) (call : FindCall) (from_i
         → IsNext pursuit (after_word setting call pursuit (cell setting (before t history) key))
     word-next at_origin t key placed wanted =
         let e : Presence call.from call.sub ≡ key = cc in
-        subst (λ k. IsNext at_origin (after_word setting call at_origin (cell setting (before t history) k))) e
+        rw (← e)
         (origin-next (mark_in (cell setting (before t history) (Presence call.from call.sub)))
         (mark-inside (before t history) call.from _
         (marks setting call.sub (before t history) few (legal t) call.from from_inside)))
     word-next (climbs known weight reader later) t key placed wanted =
         let e : Entry reader.level reader.cluster call.sub ≡ key = cc in
-        subst (λ k. IsNext (climbs known weight reader later)
-        (after_word setting call (climbs known weight reader later) (cell setting (before t history) k))) e
+        rw (← e)
         (entry-next known weight reader later
         (address_in (cell setting (before t history) (Entry reader.level reader.cluster call.sub))) placed
         (entry-inside (before t history) reader.level reader.cluster _
         (entries setting call.sub (before t history) few (legal t) reader.level reader.cluster placed.0.0)))
     word-next (chases chase node) t key placed wanted =
         let e : Presence node call.sub ≡ key = cc in
-        subst (λ k. IsNext (chases chase node)
-        (after_word setting call (chases chase node) (cell setting (before t history) k))) e
+        rw (← e)
         (mark-next chase node (mark_in (cell setting (before t history) (Presence node call.sub))) placed.0 placed.1
         (mark-inside (before t history) node _
         (marks setting call.sub (before t history) few (legal t) node placed.0)))

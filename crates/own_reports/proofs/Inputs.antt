@@ -1,5 +1,5 @@
 -- What holds of the plan, the setting and the scripts of a valid input.
-use Rattle.std.proofs.Common.{ℕ, ◌^◌, ◌≤◌, Bool, true, false, List, refl, arith}
+use Rattle.std.proofs.Common.{ℕ, ◌^◌, ◌≤◌, true, false, List, refl, arith}
 use Rattle.std.specs.Prelude.{◌==◌, if◌then◌else◌}
 use Rattle.net_graph.specs.declared.edge.TheConstants.{MAX_NODES}
 use Rattle.net_graph.specs.Network.{IsNetwork, Network}
@@ -24,11 +24,8 @@ abbrev pub network_in : Contents → Network
 network_in contents = record { nodes = contents.nodes; edges = contents.edges }
 
 pub most-within : (format : ℕ) → most_nodes format ≤ MAX_NODES
-most-within format = at (format == 2)
-  where
-    at : (second : Bool) → (if second then 1024 else 256) ≤ MAX_NODES
-    at true = omega arith
-    at false = omega arith
+most-within format = elim (format == 2)
+    as (λ second. (if second then 1024 else 256) ≤ MAX_NODES) [ true ↦ omega arith | false ↦ omega arith ]
 
 pub network-valid : (contents : Contents) → IsValid contents → IsNetwork (network_in contents)
 network-valid contents valid = record {

@@ -38,10 +38,7 @@ finds-no-switch t caller seen (answer ∷ answers) =
 -- what is told is a node, a number and a state
 pub told-true : (off : Bool) (n node q number : ℕ) (o : Bool) → n ≡ node → q ≡ number → o ≡ off
     → (eqb n node && (eqb q number && cond off o (not o))) ≡ true
-told-true true n node q number true a b c = grind (arith, nat_tests)
-told-true true n node q number false a b c = let bad : false ≡ true = c in cc
-told-true false n node q number true a b c = let bad : true ≡ false = c in cc
-told-true false n node q number false a b c = grind (arith, nat_tests)
+told-true off n node q number o a b c = grind (arith, nat_tests)
 
 pub get-take : {A : Type 0} (xs : List A) (k i : ℕ) → i < k → slice_get (take k xs) i ≡ slice_get xs i
 get-take xs zero i low = absurd (omega (arith, low))
