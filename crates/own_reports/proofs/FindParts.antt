@@ -12,7 +12,7 @@ use Rattle.entry_word.specs.declared.mark.PresenceMark.{PresenceMark}
 use Rattle.entry_word.specs.declared.mark.PresenceMark.TheVariants.{Here}
 use Rattle.entry_word.specs.declared.visit.Visit.{Visit}
 use Rattle.directory.specs.Settings.{Setting, start, subs}
-use Rattle.directory.specs.Courses.{Course, Step, after_steps, course_at, move_to, switch_off, switch_on}
+use Rattle.directory.specs.Courses.{Course, Step, after_steps, course_at, move_to}
 use Rattle.directory.specs.Finds.{FindCall}
 use Rattle.directory.specs.Histories.{History, is_put_for, puts_to, through, tickets}
 use Rattle.directory.specs.Looks.{IsQuiet, first_of, last_of, moves_at}
@@ -26,7 +26,7 @@ use Rattle.directory.specs.Writes.{Write, mark_at, numbers_from, visit_of}
 use Rattle.directory.specs.declared.answers.Done.{Done}
 use Rattle.directory.specs.declared.answers.Done.TheVariants.{Moved, Switched, Found as FoundBy, Off as OffBy, Again as AgainBy}
 use Rattle.directory.specs.declared.answers.Found.{Found}
-use Rattle.directory.specs.declared.answers.Found.TheVariants.{At, Off as OffAt, Again}
+use Rattle.directory.specs.declared.answers.Found.TheVariants.{At}
 use Rattle.region_plan.specs.Plan.{PlanData}
 use Rattle.region_plan.specs.Settings.{setting_of}
 use Rattle.region_plan.specs.Measures.{stretch_of}
@@ -274,8 +274,7 @@ module _ (laws : Laws) (count : CallersCount) (plan : PlanData) (homes : List �
       → (first_told (found_line caller call found first last) ≡ first)
       × (last_told (found_line caller call found first last) ≡ last)
   found-ends caller call (At node n level weight) first last = (refl, refl)
-  found-ends caller call (OffAt node n level weight) first last = (refl, refl)
-  found-ends caller call (Again why weight) first last = (refl, refl)
+  found-ends caller call _ first last = (refl, refl)
 
   -- the ends of a find's line are looks
   ends-are : (caller : ℕ) (call : FindCall) (line : Done) → IsFindLine S scripts history caller call line
@@ -311,8 +310,7 @@ module _ (laws : Laws) (count : CallersCount) (plan : PlanData) (homes : List �
 
   step-weighed : (sub : ℕ) (course : Course) (step : Step) (ts : List ℕ) → IsWeighed (step_line S sub course step ts)
   step-weighed sub course (move_to node) ts = refl
-  step-weighed sub course switch_off ts = tt
-  step-weighed sub course switch_on ts = tt
+  step-weighed sub course _ ts = tt
 
   -- each line keeps the parts
   pub line-keeps : (line : Done) → IsMade S scripts history line → IsRightLine S history line

@@ -11,7 +11,7 @@ use Rattle.directory.specs.Orders.{Answer, Caller, IsDone, IsPlayed, Scripts, af
 use Rattle.directory.specs.Outcomes.{answer_line, caller_lines, found_line}
 use Rattle.directory.specs.Statements.{CallersCount}
 use Rattle.directory.specs.declared.answers.Found.{Found}
-use Rattle.directory.specs.declared.answers.Found.TheVariants.{At, Off as OffAt, Again}
+use Rattle.directory.specs.declared.answers.Found.TheVariants.{At}
 use Rattle.directory.specs.CallLines.{actor_of}
 use Rattle.own_reports.proofs.Runs.{HasEnds, HaveRuns, IsRun}
 use Rattle.directory.specs.ListLaws.{option_map-none}
@@ -116,8 +116,7 @@ found-run : (seen : List ℕ) (actor p e first last : ℕ) (call : FindCall) (fo
     → (actor_of (found_line actor call found first last) ≡ actor)
     × IsRun seen p e (found_line actor call found first last)
 found-run seen actor p e first last call (At node number level weight) ends = (refl, ends)
-found-run seen actor p e first last call (OffAt node number level weight) ends = (refl, ends)
-found-run seen actor p e first last call (Again why weight) ends = (refl, ends)
+found-run seen actor p e first last call _ ends = (refl, ends)
 
 find-runs : (seen : List ℕ) (actor p : ℕ) (answers : List Answer) → AreJoined p answers (length seen)
     → HaveRuns actor seen p (map (answer_line actor seen) answers)

@@ -9,7 +9,7 @@ use Rattle.std.proofs.lemmas.Bool.{cases_lt}
 use Rattle.std.proofs.lemmas.Option.{slice_get_within}
 use Rattle.entry_word.specs.declared.visit.Visit.{Visit}
 use Rattle.directory.specs.Settings.{Setting, levels, start}
-use Rattle.directory.specs.Courses.{Course, Step, after_steps, course_at, last_stop, move_to, next_move, switch_off, switch_on}
+use Rattle.directory.specs.Courses.{Course, Step, after_steps, course_at, last_stop, move_to, next_move}
 use Rattle.directory.specs.Finds.{FindCall}
 use Rattle.directory.specs.Histories.{History, before, is_put_for, puts_to, through}
 use Rattle.directory.specs.Looks.{first_of, last_of}
@@ -106,8 +106,7 @@ module _ (plan : PlanData) (homes : List ℕ) (some : 1 ≤ levels_of plan) (sma
     omega (arith, low (suc (suc (next_move S course node).renewed)), few),
     omega (arith, low (length seen - 1), few),
   )
-  step-below sub course switch_off seen low = omega (arith, low 0, few)
-  step-below sub course switch_on seen low = omega (arith, low 0, few)
+  step-below sub course _ seen low = omega (arith, low 0, few)
 
   level-below : (level : Option ℕ) → IsLevelBelow (levels S) level → IsLevelBelow (levels_of plan) level
   level-below None low = tt
@@ -165,8 +164,7 @@ module _ (plan : PlanData) (homes : List ℕ) (some : 1 ≤ levels_of plan) (sma
 call-few : (setting : Setting) (call : Call) → IsSmall setting → most_of setting call ≤ 2 ^ 16
 call-few setting (said.Move to) small = omega (arith, small.nodes, small.top)
 call-few setting (said.Find from sub) small = small.looks from
-call-few setting said.Off small = omega arith
-call-few setting said.On small = omega arith
+call-few setting _ small = omega arith
 
 script-few : (setting : Setting) (script : List Call) → IsSmall setting
     → most_in setting script ≤ length script * 2 ^ 16

@@ -14,7 +14,7 @@ use Rattle.directory.specs.Histories.{History, before, is_put_for, own, puts_to,
 use Rattle.directory.specs.HistoryLaws.{next-caller, next-sub}
 use Rattle.directory.specs.Looks.{AreLooks, IsFind, first_of, last_of, look_by, moves_at, moves_by}
 use Rattle.directory.specs.Orders.{IsPlayed, Scripts, caller_in, next, next_key, steps_of}
-use Rattle.directory.specs.Courses.{Course, Step, after_step, course_at, move_to, switch_off, switch_on}
+use Rattle.directory.specs.Courses.{Course, Step, after_step, course_at, move_to}
 use Rattle.directory.specs.Outcomes.{caller_lines, outcome_in, step_line, step_lines, sub_lines}
 use Rattle.directory.specs.StepLaws.{puts-push, take-more}
 use Rattle.directory.specs.Writes.{Write, entry_at, mark_at, numbers_from, step_writes, visit_of, visits, writes}
@@ -108,8 +108,7 @@ move-own setting scripts history sub t played is =
 line-own : (setting : Setting) (sub : ℕ) (course : Course) (step : Step) (seen : List ℕ)
     → is_of sub (step_line setting sub course step seen) ≡ true
 line-own setting sub course (move_to node) seen = grind (arith, nat_tests)
-line-own setting sub course switch_off seen = grind (arith, nat_tests)
-line-own setting sub course switch_on seen = grind (arith, nat_tests)
+line-own setting sub course _ seen = grind (arith, nat_tests)
 
 lines-own : (setting : Setting) (sub : ℕ) (course : Course) (steps : List Step) (seen : List ℕ) (k : ℕ) (visit : Visit)
     → slice_get (visits setting sub steps) k ≡ Some visit

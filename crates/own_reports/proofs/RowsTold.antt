@@ -8,7 +8,7 @@ use Rattle.std.proofs.lemmas.List.Folds.{list_any-append}
 use Rattle.std.proofs.lemmas.List.Sums.{fold-append}
 use Rattle.directory.specs.Writes.{numbers_from}
 use Rattle.directory.specs.declared.answers.Done.{Done}
-use Rattle.directory.specs.declared.answers.Done.TheVariants.{Moved, Switched, Found, Off, Again}
+use Rattle.directory.specs.declared.answers.Done.TheVariants.{Moved, Switched}
 use Rattle.directory.specs.CallLines.{actor_of}
 use Rattle.report_check.specs.Parts.{at_start, tell, told_before}
 use Rattle.own_reports.proofs.Runs.{HaveRuns}
@@ -41,9 +41,7 @@ module _ (homes : List ℕ) (sub ticket : ℕ) where
       told-push before _ ∙ rw (test-other actor sub commit ticket other) refl
   told-other before (Switched actor off node number at) other =
       told-push before _ ∙ rw (test-other actor sub at ticket other) refl
-  told-other before (Found actor from other node number level weight first last) differs = told-push before _
-  told-other before (Off actor from other node number level weight first last) differs = told-push before _
-  told-other before (Again actor from other why weight first last) differs = told-push before _
+  told-other before call other = told-push before call
 
   -- the lines of another actor tell nothing
   told-skip : (actor : ℕ) (seen : List ℕ) (p : ℕ) (before calls : List Done) → actor ≢ sub

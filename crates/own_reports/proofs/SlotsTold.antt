@@ -15,7 +15,7 @@ use Rattle.directory.specs.declared.answers.Done.{Done}
 use Rattle.directory.specs.declared.answers.Done.TheVariants.{Moved, Switched, Again as AgainBy}
 use Rattle.directory.specs.declared.answers.Why.TheVariants.{NoEntry}
 use Rattle.directory.specs.declared.answers.Found.{Found}
-use Rattle.directory.specs.declared.answers.Found.TheVariants.{At, Off as OffAt, Again}
+use Rattle.directory.specs.declared.answers.Found.TheVariants.{At}
 use Rattle.net_reader.specs.declared.said.Call.{Call}
 use Rattle.net_reader.specs.declared.said.Call.TheVariants as said
 use Rattle.net_reader.specs.Input.{Contents}
@@ -66,8 +66,7 @@ found-slot : (caller : ℕ) (call : FindCall) (found : Found) (first last : ℕ)
     → slot_told (found_line caller call found first last)
     ≡ slot_told (AgainBy caller call.from call.sub NoEntry 0 0 0)
 found-slot caller call (At node number level weight) first last = refl
-found-slot caller call (OffAt node number level weight) first last = refl
-found-slot caller call (Again why weight) first last = refl
+found-slot caller call _ first last = refl
 
 find-slots : (caller place number n count : ℕ) (seen : List ℕ) (answers : List Answer) (script : List Call)
     → map (λ (answer : Answer). answer.call) answers ≡ map find_of script → All (IsSearch n count) script

@@ -4,7 +4,7 @@ use Rattle.std.specs.Prelude.{slice_index}
 use Rattle.std.proofs.lemmas.List.{get_or-drop, get_or-take, length-drop, length-map, length-take, drop-drop}
 use Rattle.entry_word.specs.declared.visit.Visit.{Visit}
 use Rattle.directory.specs.Settings.{Setting, start, subs}
-use Rattle.directory.specs.Courses.{Course, Move, Step, after_step, course_at, move_to, next_move, switch_off, switch_on}
+use Rattle.directory.specs.Courses.{Course, Move, Step, after_step, course_at, move_to, next_move}
 use Rattle.entry_word.specs.declared.mark.PresenceMark.TheVariants.{Gone, Here}
 use Rattle.directory.specs.Writes.{Write, erasure_writes, mark_at, move_writes, new_address, numbers_from, purge_writes, step_writes, visit_of, writes}
 use Rattle.directory.specs.Histories.{History, own, tickets}
@@ -74,16 +74,13 @@ step-run setting sub course (move_to node) seen p e ends fits =
         ),
       ),
     )
-step-run setting sub course switch_off seen p e ends fits =
-    (refl, (omega (arith, ends), part-first seen p 1 (omega arith)))
-step-run setting sub course switch_on seen p e ends fits =
+step-run setting sub course _ seen p e ends fits =
     (refl, (omega (arith, ends), part-first seen p 1 (omega arith)))
 
 -- a step has a write
 pub some-writes : (setting : Setting) (course : Course) (step : Step) → 0 < length (step_writes setting course step)
 some-writes setting course (move_to node) = omega (arith, move-long setting course (next_move setting course node))
-some-writes setting course switch_off = omega arith
-some-writes setting course switch_on = omega arith
+some-writes setting course _ = omega arith
 
 -- the runs of the lines of steps
 pub step-runs : (setting : Setting) (sub : ℕ) (course : Course) (steps : List Step) (seen : List ℕ) (p : ℕ)

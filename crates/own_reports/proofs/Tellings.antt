@@ -33,12 +33,11 @@ test-later sub commit ticket low = grind (arith, nat_tests)
 -- the last commit, its ticket and its weight: the write behind it confirms it
 abbrev pub IsLast : Setting → List ℕ → List Write → Option Commit → Option ℕ → ℕ → Type 0
 IsLast setting seen all None None weight = Unit {0}
-IsLast setting seen all None (Some ticket) weight = ⊥
-IsLast setting seen all (Some commit) None weight = ⊥
 IsLast setting seen all (Some commit) (Some ticket) weight =
     (j : ℕ) × (suc j < length seen) × (ticket ≡ slice_index seen j)
     × (slice_get all (suc j) ≡ Some (mark_at commit.to (Here commit.number)))
     × (weight ≡ setting.distance commit.from commit.to)
+IsLast setting seen all _ _ weight = ⊥
 
 -- what lines tell before a ticket is what these writes tell
 pub record IsToldBy (setting : Setting) (homes : List ℕ) (sub ticket : ℕ) (seen : List ℕ) (all : List Write)
@@ -210,10 +209,7 @@ module _ (setting : Setting) (homes : List ℕ) (sub ticket : ℕ) (seen : List 
       ∙ ap (off_by false) (sym (take_all (length ws) ws (omega arith)))
       ∙ move-on (length ws) setting course (next_move setting course node)
       ∙ sym may.is_on
-  off-after course switch_off done may now =
-      fold-append (λ (last : Bool) write. write_off write) false done _
-  off-after course switch_on done may now =
-      fold-append (λ (last : Bool) write. write_off write) false done _
+  off-after course _ done may now = fold-append (λ (last : Bool) write. write_off write) false done _
 
   -- the lines of steps tell what their writes tell
   pub steps-told : (course : Course) (steps : List Step) (p m : ℕ) (done : List Write) (lines : List Done) → IsCount m
