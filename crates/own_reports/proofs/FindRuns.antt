@@ -120,7 +120,6 @@ found-run seen actor p e first last call _ ends = (refl, ends)
 
 find-runs : (seen : List ℕ) (actor p : ℕ) (answers : List Answer) → AreJoined p answers (length seen)
     → HaveRuns actor seen p (map (answer_line actor seen) answers)
-unfolding HaveRuns
 find-runs seen actor p [] joined = joined
 find-runs seen actor p (answer ∷ answers) joined =
     let here = found-run seen actor p answer.last (slice_index seen answer.first) (slice_index seen answer.last)

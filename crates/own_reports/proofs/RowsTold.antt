@@ -47,7 +47,6 @@ module _ (homes : List ℕ) (sub ticket : ℕ) where
   told-skip : (actor : ℕ) (seen : List ℕ) (p : ℕ) (before calls : List Done) → actor ≢ sub
       → HaveRuns actor seen p calls
       → told_before homes (before ++ calls) sub ticket ≡ told_before homes before sub ticket
-  unfolding HaveRuns
   told-skip actor seen p before [] other runs =
       ap (λ (ls : List Done). told_before homes ls sub ticket) (append-nil before)
   told-skip actor seen p before (call ∷ calls) other runs =

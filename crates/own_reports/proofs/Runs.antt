@@ -30,7 +30,7 @@ IsRun seen p e (Off actor from sub node number level weight first last) = HasEnd
 IsRun seen p e (Again actor from sub why weight first last) = HasEnds seen p e first last
 
 -- calls of an actor have all its tickets from a place on, one after another
-unfoldable pub HaveRuns : ℕ → List ℕ → ℕ → List Done → Type 0
+abbrev pub HaveRuns : ℕ → List ℕ → ℕ → List Done → Type 0
 HaveRuns actor seen p [] = p ≡ length seen
 HaveRuns actor seen p (call ∷ later) =
     (e : ℕ) × (e < length seen) × (actor_of call ≡ actor) × IsRun seen p e call
@@ -110,7 +110,7 @@ runs-hold : (order seen : List ℕ) (actor p : ℕ) (before : Option ℕ) (call 
     → AreTickets order actor seen → next_ticket order actor before ≡ slice_get seen p
     → HaveRuns actor seen p (call ∷ later) → IsFrom (suc actor) rest → HaveTickets order None rest
     → HaveTickets order before (call ∷ later ++ rest)
-unfolding HaveTickets HaveRuns
+unfolding HaveTickets
 runs-hold order seen actor p before call [] rest are next runs others held =
     let here = run-holds order seen actor p runs.0 before call are next runs.1 runs.2 runs.3 in
     let last : is_last call rest ≡ true = other-last actor call rest runs.2 others in
@@ -138,7 +138,6 @@ runs-hold order seen actor p before call (other ∷ later) rest are next runs ot
 runs-join : (order seen : List ℕ) (actor : ℕ) (calls rest : List Done) → AreTickets order actor seen
     → HaveRuns actor seen 0 calls → IsFrom (suc actor) rest → HaveTickets order None rest
     → HaveTickets order None (calls ++ rest) × IsFrom actor (calls ++ rest)
-unfolding HaveRuns
 runs-join order seen actor [] rest are runs others held = (held, weaker rest others)
   where
     weaker : (rest : List Done) → IsFrom (suc actor) rest → IsFrom actor rest

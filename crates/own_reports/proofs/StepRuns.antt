@@ -86,7 +86,7 @@ some-writes setting course _ = omega arith
 pub step-runs : (setting : Setting) (sub : ℕ) (course : Course) (steps : List Step) (seen : List ℕ) (p : ℕ)
     → p + length (writes setting course steps) ≡ length seen
     → HaveRuns sub seen p (step_lines setting sub course steps (drop p seen))
-unfolding writes step_lines HaveRuns
+unfolding writes step_lines
 step-runs setting sub course [] seen p ends = omega (arith, ends)
 step-runs setting sub course (step ∷ steps) seen p ends =
     let n : ℕ = length (step_writes setting course step) in
