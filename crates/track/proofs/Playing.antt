@@ -1,5 +1,5 @@
 -- A machine that has played an order: it stands for the history of its turns.
-use Rattle.std.proofs.Common.{◌≡◌, ℕ, List, [], sym, ap, ◌∙◌, subst}
+use Rattle.std.proofs.Common.{◌≡◌, ℕ, List, [], sym, ap, ◌∙◌}
 use Rattle.directory.specs.Settings.{Setting}
 use Rattle.directory.specs.Orders.{Scripts, after_turns, history_of}
 use Rattle.directory.specs.Outcomes.{outcome_of}
@@ -16,9 +16,7 @@ use Rattle.track.specs.Results.{outcome_over}
 of_same : (P : Setting → Scripts → Type 0) (old new : Machine) → IsSame old new
     → P (setting_at old) (scripts_at old) → P (setting_at new) (scripts_at new)
 of_same P old new same p =
-    subst (λ input. P (setting_of new.plan.now (seen_input input).homes) (scripts_of (seen_input input))) (sym same.0)
-    (subst (λ plan. P (setting_of plan (seen_input old.input.now).homes) (scripts_of (seen_input old.input.now)))
-    (sym same.1) p)
+    rw (same.0, same.1) p
 
 -- the same of the machine behind its turns
 pub play-over : (old : Machine) {new : Machine} (order : List ℕ) → IsSame old new
