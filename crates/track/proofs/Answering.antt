@@ -25,11 +25,8 @@ use Rattle.track.specs.declared.status.Status.{Status}
 
 -- no format has more nodes than a network may have
 most-within : (format : ℕ) → most_nodes format ≤ MAX_NODES
-most-within format = at (format == 2)
-  where
-    at : (second : Bool) → (if second then 1024 else 256) ≤ MAX_NODES
-    at true = omega arith
-    at false = omega arith
+most-within format = elim (format == 2) as (λ second. (if second then 1024 else 256) ≤ MAX_NODES)
+    [ true ↦ omega arith | false ↦ omega arith ]
 
 -- the network of a valid input is one within the limits
 pub network-valid : {contents : Contents} → IsValid contents → IsNetwork (network_of contents)

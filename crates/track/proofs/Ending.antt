@@ -150,10 +150,7 @@ pub ended : {command : Command} → IsPlain command → (answer : Result Answer 
     → EndsAs command status (streams left rf written wf) (streams left' rf' written' wf')
 ended {command} plain answer status {reader} {left'} written written' wf wf' all right is =
     ended-bytes command answer status all.bytes left' written written' wf wf' all.parts all.end all.no_fault
-    (plain.short all.bytes all.short) (IfOk-weaker answer
-    (λ answer. (bytes : List ℕ) → StandsFor reader bytes
-    → IsInputText command bytes answer.status (text_of answer.body))
-    (λ answer. IsText command all.bytes answer.status (text_of answer.body))
+    (plain.short all.bytes all.short) (IfOk-weaker answer _ _
     (λ answer right. plain.text all.bytes answer.status (text_of answer.body) (right all.bytes all.stands)) right) is
 
 -- ---- a text that has a report
@@ -175,10 +172,7 @@ pub ended-check : (answer : Result Answer AllocError) (status : Status) {bytes p
     (streams left' rf' written' wf')
 ended-check answer status {bytes} {part} {report} {left'} written written' wf wf' all p r short right is =
     ended-bytes commands.Check answer status bytes left' written written' wf wf' all.parts all.end all.no_fault
-    (part-short bytes p short all.short) (IfOk-weaker answer
-    (λ answer. IsJudged part report answer.status (text_of answer.body))
-    (λ answer. IsText commands.Check bytes answer.status (text_of answer.body)) (λ answer. judged-text bytes p r) right)
-    is
+    (part-short bytes p short all.short) (IfOk-weaker answer _ _ (λ answer. judged-text bytes p r) right) is
 
 -- ---- JSON
 

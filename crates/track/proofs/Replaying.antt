@@ -76,12 +76,10 @@ census-says listed right scripts means {contents} valid text_is =
 
 -- where each subscriber is after its script tells who is at each node
 place-on : (node : ℕ) (place : Place) → is_place node (node_if_on place) ≡ is_on_at node place
-place-on node place = at_state place.is_off
-  where
-    at_state : (off : Bool) → is_place node (if off then None else Some place.node)
-        ≡ (not off && place.node == node)
-    at_state true = refl
-    at_state false = refl
+place-on node place =
+    elim place.is_off
+    as (λ off. is_place node (if off then None else Some place.node) ≡ (not off && place.node == node))
+    [ true ↦ refl | false ↦ refl ]
 
 who-same : {contents : Contents} {places : List (Option ℕ)} → AreLastPlaces contents places → (node : ℕ)
     → who_at places node ≡ who_ends_at contents.homes (scripts_of contents) node
