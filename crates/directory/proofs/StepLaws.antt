@@ -17,7 +17,7 @@ use Rattle.directory.specs.Writes.{Write, mark_at, entry_at, visit_of, numbers_f
 use Rattle.directory.specs.Puts.{node_put, mark_put, mark_step, steps_from, steps_in, course_in}
 use Rattle.directory.specs.Legal.{IsScript, ArePuts}
 use Rattle.directory.specs.Statements.{FrontsAreLegal, ScriptsAreLegal, DueIsLegal, BeginningIsLegal, NextIsDecided}
-use Rattle.directory.specs.StepLaws.{steps-append, take-append, visits-append, visits_in, take-more}
+use Rattle.directory.specs.StepLaws.{steps-append, take-append, visits-append, visits_in, take-more, may-take}
 use Rattle.directory.specs.ListLaws.{slice_get-right}
 use Rattle.entry_word.specs.MarkLaws.{read-mark}
 
@@ -179,15 +179,6 @@ begun unpacks setting sub course (step ∷ steps) (suc k) sound may =
 begun unpacks setting sub course steps k sound may =
     let none : take {A = Visit} k [] ≡ [] = nothing-taken k in
     record { count = 0; few = omega arith; shown = ap (steps_from course.is_off) none; enough = refl }
-
--- the first steps of some that may come may come
-may-take : (setting : Setting) (course : Course) (steps : List Step) (count : ℕ) → MaySteps setting course steps
-    → MaySteps setting course (take count steps)
-unfolding MaySteps
-may-take setting course steps zero may = tt
-may-take setting course [] (suc count) may = tt
-may-take setting course (step ∷ steps) (suc count) may =
-    (may.0, may-take setting (after_step setting course step) steps count may.1)
 
 -- a front has as many as it has
 own_length : {A : Type 0} (xs ys : List A) (n : ℕ) → xs ≡ take n ys → xs ≡ take (length xs) ys

@@ -17,10 +17,10 @@ use Rattle.handset.specs.Beginning.{begin_move, handset_at, journey_to, renewal_
 use Rattle.directory.specs.Amid.{course_of}
 use Rattle.handset.specs.Stands.{switch_to, commits_in, Shows, StandsAt, StandsForSteps}
 use Rattle.handset.proofs.Lists.{drop-spent, highest-same, numbers-from-zero}
-use Rattle.handset.proofs.CourseLaws.{course-more, visits-more}
+use Rattle.handset.proofs.CourseLaws.{course-more}
 use Rattle.handset.proofs.Settling.{AddressLaw, GatheredLaw, marked}
 use Rattle.handset.proofs.Writing.{coming-left}
-use Rattle.directory.specs.StepLaws.{highest-low}
+use Rattle.directory.specs.StepLaws.{highest-low, visits-more}
 
 -- what a handset at rest stands for
 at_rest : (setting : Setting) (handset : HandsetData) (steps : List Step) (made : ℕ) → handset.stage ≡ Resting

@@ -7,30 +7,16 @@ use Rattle.std.proofs.Math.Bool.{or-false}
 use Rattle.node_set.specs.Ascending.{has}
 use Rattle.node_set.specs.SetLaws.{has-append}
 use Rattle.directory.specs.Settings.{Setting, start}
-use Rattle.directory.specs.Courses.{Step, move_to, switch_off, switch_on, Move, Course, course_at, last_stop, base, next_move, after_step, after_steps}
-use Rattle.directory.specs.Writes.{visit_of, visits, step_writes, writes, trail}
+use Rattle.directory.specs.Courses.{Step, move_to, switch_off, switch_on, Move, Course, course_at, base, next_move, after_step, after_steps}
+use Rattle.directory.specs.Writes.{trail}
 use Rattle.directory.specs.Amid.{course_of}
-use Rattle.directory.specs.StepLaws.{writes-more}
+use Rattle.directory.specs.StepLaws.{last_stop-moved}
 
 -- one step more
 pub course-more : (setting : Setting) (sub : ℕ) (steps : List Step) (step : Step)
     → course_of setting sub (steps ++ step ∷ []) ≡ after_step setting (course_of setting sub steps) step
 course-more setting sub steps step = fold-append (after_step setting) (course_at (start setting sub)) steps
     (step ∷ [])
-
-pub visits-more : (setting : Setting) (sub : ℕ) (steps : List Step) (step : Step)
-    → visits setting sub (steps ++ step ∷ []) ≡ visits setting sub steps ++ map (visit_of sub) (step_writes setting
-    (course_of setting sub steps) step)
-visits-more setting sub steps step =
-    ap (map (visit_of sub)) (writes-more setting (course_at (start setting sub)) steps step)
-    ∙ map-append (visit_of sub) (writes setting (course_at (start setting sub)) steps) (step_writes setting
-    (course_of setting sub steps) step)
-
--- where a move goes
-pub place-after : (setting : Setting) (course : Course) (node : ℕ) → last_stop (after_step setting course
-    (move_to node)) ≡ node
-place-after setting course node = fold-append (λ n (m : Move). m.to) course.start course.moves
-    (next_move setting course node ∷ [])
 
 pub base-more : (level : ℕ) (moves : List Move) (move : Move) → base level (moves ++ move ∷ [])
     ≡ cond (nat_le level move.renewed) move.number (base level moves)
@@ -97,7 +83,7 @@ trail-after setting sub steps to after node {renews} same =
     at_test true =
         ap (λ ms. has node (map (λ (m : Move). m.from) ms)) (drop_at (course.moves ++ move ∷ []) (later ∷ []) (suc
         (length course.moves)) count)
-        ∙ (or-false (node == later.from) ∙ ap (λ n. node == n) (place-after setting course to))
+        ∙ (or-false (node == later.from) ∙ ap (λ n. node == n) (last_stop-moved setting course to))
     at_test false =
         let low : base setting.top course.moves ≤ length (course.moves ++ move ∷ []) = omega (
           arith,
@@ -109,4 +95,4 @@ trail-after setting sub steps to after node {renews} same =
         ∙ (ap (has node) (map-append (λ (m : Move). m.from) (drop (base setting.top course.moves)
         (course.moves ++ move ∷ [])) (later ∷ []))
         ∙ (has-last (trail setting course move) node later.from
-        ∙ ap (λ n. has node (trail setting course move) || node == n) (place-after setting course to)))
+        ∙ ap (λ n. has node (trail setting course move) || node == n) (last_stop-moved setting course to)))

@@ -14,8 +14,9 @@ use Rattle.handset.specs.StepWrites.{settle}
 use Rattle.directory.specs.Amid.{course_of}
 use Rattle.handset.specs.Stands.{Shows, StandsForSteps}
 use Rattle.handset.proofs.Going.{readdressed}
-use Rattle.handset.proofs.CourseLaws.{course-more, place-after, trail-after}
+use Rattle.handset.proofs.CourseLaws.{course-more, trail-after}
 use Rattle.handset.proofs.Keeping.{Fits, Keeps}
+use Rattle.directory.specs.StepLaws.{last_stop-moved}
 
 -- the law of the levels
 abbrev pub AddressLaw : Setting → Type 0
@@ -81,7 +82,7 @@ settled-stands {setting} {handset} {steps} made law fits f shows few left = reco
   over = steps;
   begun = sym (append-nil steps);
   move = tt;
-  place = f.place ∙ sym (ap last_stop course_is ∙ place-after setting before handset.last.to);
+  place = f.place ∙ sym (ap last_stop course_is ∙ last_stop-moved setting before handset.last.to);
   number = f.number ∙ (ap (λ m. m.number) f.move.0 ∙ sym (ap (λ c. length c.moves) course_is
       ∙ (let e : length (before.moves ++ next_move setting before handset.last.to ∷ [])
       ≡ suc (length before.moves) = omega (

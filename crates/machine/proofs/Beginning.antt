@@ -22,10 +22,10 @@ use Rattle.machine.specs.declared.subscriber.Subscriber.{Subscriber}
 use Rattle.machine.specs.Owed.{HasNone}
 use Rattle.machine.specs.Stands.{BelongTogether, setting_over}
 use Rattle.machine.specs.Subscribers.{IsShown, IsSubscriber, Shown, begun_steps, shown_at}
-use Rattle.machine.proofs.Looking.{script-is}
 use Rattle.machine.proofs.Putting.{shown-now}
 use Rattle.scripts.specs.ScriptLaws.{calls-few, steps-are}
 use Rattle.machine.proofs.Rests.{Begins, begins, first-visit}
+use Rattle.machine.specs.ScriptVisits.{script-is}
 
 -- what is known where a step is left
 pub record Ready (input : Input) (plan : PlanData) (history : History) (sub : ℕ) (old : Shown) (script : List Call)

@@ -1,6 +1,6 @@
 -- A caller's look: which cell it is at, which nodes its word names, and how far the caller is after it.
 use Rattle.std.proofs.Common.{◌≡◌, ℕ, ◌-◌, ◌^◌, ◌<◌, ◌≤◌, true, false, List, [], ◌∷◌, length, map, drop, get_or, refl, sym, ap, ◌∙◌, subst, arith, Vec, Global}
-use Rattle.std.specs.Prelude.{All, Some, vec_capacity, vec_len, Result, Ok, Err}
+use Rattle.std.specs.Prelude.{Some, vec_capacity, vec_len, Result, Ok, Err}
 use Rattle.std.proofs.lemmas.List.{get_or-map, length-map, length-drop}
 use Rattle.entry_word.specs.declared.visit.Key.{Key}
 use Rattle.directory.specs.Histories.{History, cell}
@@ -17,7 +17,6 @@ use Rattle.walk.specs.LookLaws.{cell-wanted, word-wanted}
 use Rattle.distances.specs.Table.{DistanceTable}
 use Rattle.net_reader.specs.declared.said.Call.{Call}
 use Rattle.net_reader.specs.Input.{Contents}
-use Rattle.net_reader.specs.Valid.{IsSearch, IsValid}
 use Rattle.visit_log.specs.Cells.{CellData}
 use Rattle.machine.specs.declared.caller.Caller.{Caller}
 use Rattle.scripts.specs.Scripts.{find_of, scripts_of}
@@ -98,23 +97,9 @@ wanted marks entries legal scripts {input} {plan} {distances} {cells} {history} 
           wants;
     }
 
--- the script that the code reads
-pub script-is : (scripts : List (Vec Call Global)) (actor : ℕ) {held : Vec Call Global} {script : List Call}
-    → actor < length (map (λ (s : Vec Call Global). s.items) scripts) → held ≡ get_or scripts actor held
-    → script ≡ held.items → script ≡ get_or (map (λ (s : Vec Call Global). s.items) scripts) actor []
-script-is scripts actor {held} low same its = its ∙ (ap (λ (s : Vec Call Global). s.items) same
-    ∙ sym (get_or-map (λ (s : Vec Call Global). s.items) scripts actor held []
-    (omega (arith, low, length-map scripts (λ (s : Vec Call Global). s.items)))))
-
 pub scripts-low : (scripts : List (Vec Call Global)) (actor : ℕ) → actor < length scripts
     → actor < length (map (λ (s : Vec Call Global). s.items) scripts)
 scripts-low scripts actor low = omega (arith, low, length-map scripts (λ (s : Vec Call Global). s.items))
-
-pub script-searches : {input : Contents} (plan : PlanData) (actor : ℕ) {script : List Call} {count : ℕ} → IsValid input
-    → nodes_of plan ≡ input.nodes → length input.homes ≤ actor → actor < length input.scripts
-    → script ≡ get_or input.scripts actor [] → count ≡ length input.homes → All (IsSearch (nodes_of plan) count) script
-script-searches {input} plan actor {script} {count} valid nodes high low same few =
-    rw (nodes, few, same) (valid.searches actor high low)
 
 -- a caller that has a walk has lines for fewer finds than it makes
 pub finds-left : {input : Contents} {plan : PlanData} {history : History} {actor : ℕ} {caller : Caller}

@@ -21,12 +21,7 @@ use Rattle.machine.specs.ScriptVisits.{in-script}
 use Rattle.machine.proofs.Steps.{may-at}
 use Rattle.directory.specs.HistoryLaws.{next-sub}
 use Rattle.directory.specs.Statements.{TicketsGrow, OwnGrow}
-
--- elements of joined lists
-get-right : {A : Type 0} (xs ys : List A) (i j : ℕ) → i ≡ length xs + j → slice_get (xs ++ ys) i ≡ slice_get ys j
-get-right [] ys i j h = let e : i ≡ j = omega (arith, h) in ap (slice_get ys) e
-get-right (x ∷ xs) ys zero j h = absurd (omega (arith, h))
-get-right (x ∷ xs) ys (suc i) j h = get-right xs ys i j (omega (arith, h))
+use Rattle.directory.specs.ListLaws.{slice_get-right}
 
 actor-of : (sub : ℕ) (ws : List Write) (i : ℕ) {visit : Visit} → slice_get (map (visit_of sub) ws) i ≡ Some visit
     → visit.actor ≡ sub
@@ -67,7 +62,7 @@ last-visit setting sub n before step past h =
     ≡ step_writes setting (after_steps setting course before) step =
     append-nil (step_writes setting (after_steps setting course before) step) in
     ap (λ ws. slice_get (map (visit_of sub) ws) (n - length (writes setting course before))) (sym only)
-    ∙ (sym (get-right (map (visit_of sub) (writes setting course before))
+    ∙ (sym (slice_get-right (map (visit_of sub) (writes setting course before))
     (visits_in setting sub (after_steps setting course before) (step ∷ [])) n
     (n - length (writes setting course before)) back)
     ∙ (ap (λ vs. slice_get vs n) (sym (visits-append setting sub course before (step ∷ []))) ∙ h))

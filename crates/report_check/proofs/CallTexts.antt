@@ -1,6 +1,6 @@
 -- The line of a call that is read is the text that report_text writes of it.
 use Rattle.std.proofs.lemmas.Option.{same_Some}
-use Rattle.std.proofs.Common.{◌≡◌, ℕ, ◌^◌, ◌≤◌, Bool, true, false, cond, List, [], ◌∷◌, ◌++◌, Option, Some, None, refl, ap, sym, ◌∙◌, arith, codes, append_assoc, append-nil}
+use Rattle.std.proofs.Common.{◌≡◌, ℕ, ◌^◌, ◌≤◌, Bool, true, false, cond, List, [], ◌∷◌, ◌++◌, Option, Some, None, refl, ap, sym, ◌∙◌, codes, append_assoc, append-nil}
 use Rattle.outside.specs.Texts.{field, fields}
 use Rattle.directory.specs.declared.answers.Done.{Done}
 use Rattle.directory.specs.declared.answers.Done.TheVariants.{Moved, Switched, Again}
@@ -14,6 +14,7 @@ use Rattle.report_check.specs.declared.slots.Slot.{Slot}
 use Rattle.report_check.specs.declared.slots.Slot.TheVariants.{Move, Switch, Find}
 use Rattle.report_check.specs.Reading.{again_in, answer, answer_in, call_in, closing_in, empty_or_other, found_or_other, given_in, labelled_in, level_in, level_or_dash, most, move_in, number_in, off_or_again, other_why, place_in, switch_in, visits_in, why_in, word_in}
 use Rattle.report_check.proofs.Texts.{bind-elim, number-text, word-text}
+use Rattle.report_check.proofs.ReadBack.{high}
 
 -- words in front of what follows
 word-front : (ws text : List ℕ) {mid : List ℕ} (more rest : List ℕ) → word_in ws text ≡ Some mid → mid ≡ more ++ rest
@@ -44,9 +45,6 @@ value-is {A} x y text rest e = ap (λ (p : A × List ℕ). p.0) (same_Some (x, t
 pub rest-is : {A : Type 0} (x y : A) (text rest : List ℕ)
     → ◌≡◌ {A = Option (A × List ℕ)} (Some (x, text)) (Some (y, rest)) → text ≡ rest
 rest-is {A} x y text rest e = ap (λ (p : A × List ℕ). p.1) (same_Some (x, text) (y, rest) e)
-
-high : most ≤ 2 ^ 63
-high = omega arith
 
 -- a label and a number at the end of a line
 pub closing-front : (label text : List ℕ) {found : ℕ × List ℕ} {rest : List ℕ} → closing_in label text ≡ Some found

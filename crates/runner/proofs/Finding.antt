@@ -1,6 +1,6 @@
 -- A caller's part of a worker: its next look is made.
 use Rattle.std.proofs.Common.{◌≡◌, ℕ, suc, ◌+◌, ◌-◌, ◌<◌, ◌≤◌, ◌^◌, true, List, [], ◌∷◌, Option, length, map, drop, get_or, refl, sym, ap, ◌∙◌, subst, arith}
-use Rattle.std.specs.Prelude.{All, Some, None, sum_by}
+use Rattle.std.specs.Prelude.{Some, None, sum_by}
 use Rattle.std.specs.Option.{is_some}
 use Rattle.std.proofs.lemmas.List.{length-map, length-drop}
 use Rattle.std.proofs.lemmas.List.Sums.{sum_by-cons}
@@ -16,9 +16,8 @@ use Rattle.directory.specs.declared.answers.Found.{Found}
 use Rattle.distances.specs.Table.{DistanceTable}
 use Rattle.machine.specs.Stands.{IsWalking}
 use Rattle.machine.specs.WalkingLaws.{Walks, drop-more, read-on, walking}
-use Rattle.net_reader.specs.declared.said.Call.{Call}
 use Rattle.net_reader.specs.Input.{Contents}
-use Rattle.net_reader.specs.Valid.{IsSearch, IsValid}
+use Rattle.net_reader.specs.Valid.{IsValid}
 use Rattle.region_plan.specs.Plan.{PlanData, nodes_of}
 use Rattle.scripts.specs.Laws.{ScriptsAreValid}
 use Rattle.scripts.specs.ScriptLaws.{calls-few, finds-are}
@@ -109,13 +108,6 @@ look-room {input} {setup} {actor} {seen} {finder} {walk} its some =
       its.room,
       ap (λ cs. looks_after setting cs seeker.pursuit) at.calls_are,
     )
-
--- the finds of a caller's script begin within the plan
-pub script-searches : {input : Contents} (plan : PlanData) (actor : ℕ) {script : List Call} {count : ℕ} → IsValid input
-    → nodes_of plan ≡ input.nodes → length input.homes ≤ actor → actor < length input.scripts
-    → script ≡ get_or input.scripts actor [] → count ≡ length input.homes → All (IsSearch (nodes_of plan) count) script
-script-searches {input} plan actor {script} {count} valid nodes high low same few =
-    rw (nodes, few, same) (valid.searches actor high low)
 
 -- the looks that are left before a first look
 pub looks-origin : (setting : Setting) (finds : List FindCall)

@@ -1,6 +1,6 @@
 -- What becomes of a run in the end.
 use Rattle.std.proofs.Common.{◌≡◌, inl, inr, ℕ, zero, suc, ◌+◌, ◌<◌, List, [], ◌∷◌, ◌++◌, length, map, take, drop, get_or, sym, ap, ◌∙◌, subst, arith}
-use Rattle.std.specs.Prelude.{All, Some, slice_get, option_to_list}
+use Rattle.std.specs.Prelude.{All, Some, slice_get, option_to_list, option_map}
 use Rattle.std.proofs.lemmas.List.{get_or-map, length-map}
 use Rattle.std.proofs.lemmas.Bool.{cases_lt}
 use Rattle.directory.specs.Settings.{Setting}
@@ -29,6 +29,7 @@ use Rattle.runner.specs.Workers.{IsFreshWorker, IsWorkerOf, MayServe}
 use Rattle.runner.specs.declared.worker.Worker.{Worker}
 use Rattle.std.proofs.Math.Seq.{take-append_seam}
 use Rattle.runner.proofs.Turning.{get-seam}
+use Rattle.std.proofs.lemmas.Option.{slice_get-map}
 
 get-map : {A B : Type 0} (f : A → B) (xs : List A) (k : ℕ) {x : A} → slice_get xs k ≡ Some x
     → slice_get (map f xs) k ≡ Some (f x)
@@ -45,6 +46,12 @@ turns-front setting scripts (actor ∷ order) history =
     front-through history one (after_turns setting scripts one order)
     (front-append history (option_to_list (next setting scripts history actor)))
     (turns-front setting scripts order one)
+
+-- the pass of a worker
+pass-at : (workers : List Worker) (k : ℕ) {worker : Worker} → slice_get workers k ≡ Some worker
+    → slice_get (map (λ (w : Worker). w.pass) workers) k ≡ Some worker.pass
+pass-at workers k h =
+    slice_get-map (λ (w : Worker). w.pass) workers k ∙ ap (option_map (λ (w : Worker). w.pass)) h
 
 -- the setting of a tracker is that of its input and its plan
 pub set-over : {input : Contents} {setup : Setup} {plan : PlanData} {distances : DistanceTable}
@@ -87,9 +94,9 @@ finished ordered {input} {tracker} {workers} {order} set are its is =
     let played = order-played are set.actors its in
     record {
       history = its.history;
-      seen = λ k worker at. its.seen k worker.pass (get-map (λ (w : Worker). w.pass) workers k at);
+      seen = λ k worker at. its.seen k worker.pass (pass-at workers k at);
       visits = λ k worker at. subst (λ a. own a its.history ≡ own a worker.pass.view.seen) (are.each k worker at).1
-          (its.visits k worker.pass (get-map (λ (w : Worker). w.pass) workers k at));
+          (its.visits k worker.pass (pass-at workers k at));
       known = λ actor high. its.known actor (omega (arith, high, are.count, set.actors));
       legal = its.legal;
       played = played;

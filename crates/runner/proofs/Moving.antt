@@ -13,14 +13,14 @@ use Rattle.directory.specs.Keys.{act_node}
 use Rattle.directory.specs.HistoryLaws.{next-sub}
 use Rattle.directory.specs.Legal.{IsScript}
 use Rattle.directory.specs.Orders.{AreValid, next, script_visits, steps_of}
-use Rattle.directory.specs.StepLaws.{past-end, take-append, take-more, visits-append, visits_in}
+use Rattle.directory.specs.StepLaws.{past-end, take-append, take-more, visits-append, visits_in, may-take}
 use Rattle.directory.specs.Writes.{visit_of, visits}
 use Rattle.handset.specs.Condition.{GoesWith, HandsetData}
 use Rattle.handset.specs.StepWrites.{due, due_at}
 use Rattle.handset.specs.StageLaws.{IsRestAfter, rests}
 use Rattle.handset.specs.Stands.{StandsForSteps}
 use Rattle.machine.specs.RestLaws.{may-begin}
-use Rattle.machine.specs.ScriptVisits.{in-script, may-at, may-take, step-at, visits-longer}
+use Rattle.machine.specs.ScriptVisits.{in-script, may-at, step-at, visits-longer}
 use Rattle.machine.specs.Subscribers.{MayBegin}
 use Rattle.net_reader.specs.declared.said.Call.{Call}
 use Rattle.net_reader.specs.Input.{Contents}
@@ -38,11 +38,11 @@ use Rattle.station.specs.Visits.{HasLost, HasVisited}
 use Rattle.station.specs.declared.turns.Held.{Held}
 use Rattle.station.specs.declared.view.View.{View}
 use Rattle.runner.specs.Playing.{HasLostNext, HasMadeNext, next_of}
-use Rattle.runner.specs.PlayLaws.{own-next}
 use Rattle.runner.specs.Roles.{HasBegun, IsMover, IsSetFor, IsUnderWay}
 use Rattle.runner.specs.declared.mover.Mover.{Mover}
 use Rattle.directory.specs.ListLaws.{option_map-some}
 use Rattle.runner.proofs.Finding.{set-setting}
+use Rattle.station.specs.TicketLaws.{own-visited}
 
 pub due-some : {A : Type 0} (o : Option A) → IsSome o → (x : A) × (o ≡ Some x)
 due-some None h = cc
@@ -267,7 +267,7 @@ put-made {input} {setup} {old} {new} {first} last {visit} {ticket} part is next 
     ap (λ a. record { actor = a; act = visit.act }) (sym part.its.sub)
     ∙ sym (due-actor (setting_in setup) first.handset is) in
     let mine : own old.view.low new.view.seen ≡ own old.view.low old.view.seen ++ visit ∷ [] =
-    own-next old new visit.act ticket visited ∙ ap (λ v. own old.view.low old.view.seen ++ v ∷ []) same in
+    own-visited visited ∙ ap (λ v. own old.view.low old.view.seen ++ v ∷ []) same in
     let puts : puts_to old.view.low new.view.seen ≡ puts_to old.view.low old.view.seen ++ visit ∷ [] =
     rw low at on.puts in (
       record {

@@ -1,7 +1,7 @@
 -- What a worker does before its first visit, and how many visits it makes at most.
-use Rattle.std.proofs.Common.{◌≡◌, inl, inr, ℕ, ◌<◌, ◌≤◌, List, [], length, map, get_or, refl, sym, ap, ◌∙◌, arith, Vec, Global}
+use Rattle.std.proofs.Common.{◌≡◌, inl, inr, ℕ, ◌<◌, ◌≤◌, List, [], length, map, get_or, refl, sym, ap, ◌∙◌, arith}
 use Rattle.std.proofs.lemmas.Bool.{cases_lt}
-use Rattle.std.proofs.lemmas.List.{get_or-map, length-map}
+use Rattle.std.proofs.lemmas.List.{length-map}
 use Rattle.directory.specs.Settings.{Setting, start}
 use Rattle.directory.specs.Courses.{course_at}
 use Rattle.directory.specs.Finds.{at_origin}
@@ -30,15 +30,8 @@ use Rattle.runner.specs.PlayLaws.{caller-in}
 use Rattle.runner.specs.Roles.{IsFinder, IsMover, IsSetFor, MayStart}
 use Rattle.runner.specs.declared.finder.Finder.{Finder}
 use Rattle.runner.specs.declared.mover.Mover.{Mover}
-use Rattle.runner.proofs.Finding.{looks-origin, room-of, script-searches, set-setting}
-
--- the script that the code reads
-pub script-is : (scripts : List (Vec Call Global)) (actor : ℕ) {held : Vec Call Global} {script : List Call}
-    → actor < length (map (λ (s : Vec Call Global). s.items) scripts) → held ≡ get_or scripts actor held
-    → script ≡ held.items → script ≡ get_or (map (λ (s : Vec Call Global). s.items) scripts) actor []
-script-is scripts actor {held} low same its = its ∙ (ap (λ (s : Vec Call Global). s.items) same
-    ∙ sym (get_or-map (λ (s : Vec Call Global). s.items) scripts actor held []
-    (omega (arith, low, length-map scripts (λ (s : Vec Call Global). s.items)))))
+use Rattle.runner.proofs.Finding.{looks-origin, room-of, set-setting}
+use Rattle.machine.specs.ScriptVisits.{script-searches}
 
 -- all finds of an actor's script begin at nodes of the plan
 step-inside : (nodes : ℕ) (call : Call) → IsStep call → BeginsInside nodes call

@@ -24,12 +24,13 @@ use Rattle.station.specs.Visits.{HasLost, HasVisited}
 use Rattle.station.specs.declared.turns.Held.{Held}
 use Rattle.station.specs.declared.view.TurnEvent.TheVariants.{GivenBack, Lost, Won}
 use Rattle.runner.specs.Playing.{HasLostNext, HasMadeNext, next_of}
-use Rattle.runner.specs.PlayLaws.{own-next, own-none, played-next}
+use Rattle.runner.specs.PlayLaws.{own-none, played-next}
 use Rattle.runner.specs.Roles.{IsPrepared, IsRole, IsRoleAt, IsSetFor, TriesVisit}
 use Rattle.runner.specs.Workers.{HasGoneOn, HaveTurns, IsWorkerOf, MayPlay, MayServe, MayTry}
 use Rattle.runner.proofs.Turning.{first_of, lost-none, next-first, turn-won, turns-append}
 use Rattle.runner.specs.declared.role.Role.{Role}
 use Rattle.runner.specs.declared.worker.Worker.{Worker}
+use Rattle.station.specs.TicketLaws.{own-visited}
 
 -- a visit is made
 pub gone-made : CallersKept → {input : Contents} {tracker : TrackerData} {old : Worker} (new : Worker)
@@ -39,7 +40,7 @@ pub gone-made : CallersKept → {input : Contents} {tracker : TrackerData} {old 
 gone-made kept {input} {tracker} {old} new its made role count =
     let visited : HasVisited old.pass made.act made.ticket new.pass = made.visited in
     let actor : actor_of new.pass ≡ actor_of old.pass = visited.same.actor in
-    let mine = own-next old.pass new.pass made.act made.ticket visited in
+    let mine = own-visited visited in
     let visit : Visit = visit_by old.pass.view made.act in
     let node = act_node (setting_in tracker.setup) made.act in (
       record {

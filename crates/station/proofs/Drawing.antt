@@ -19,7 +19,7 @@ use Rattle.station.specs.declared.view.View.{View}
 use Rattle.station.proofs.Apart.{not_true, resound}
 use Rattle.station.proofs.Logging.{all-logged, log-stays}
 use Rattle.station.proofs.Fronts.{front-longer, own-other, own-mine}
-use Rattle.station.proofs.Steps.{St, with, owned, seat_below, each_set, no_some, same_some, same_view}
+use Rattle.station.proofs.Steps.{St, with, owned, seat_below, each_set, no_some, same_view}
 use Rattle.station.proofs.Turning.{written_here, tallied_here, some_not_none}
 use Rattle.station.proofs.Reading.{alone}
 use Rattle.station.proofs.Writing.{still_held}
@@ -29,6 +29,7 @@ use Rattle.station.proofs.Lawful.{legal_more}
 use Rattle.station.specs.PutLaws.{puts-seen}
 use Rattle.directory.specs.HistoryLaws.{front-itself}
 use Rattle.directory.specs.Statements.{SameKey}
+use Rattle.directory.specs.ListLaws.{same_some}
 
 drop_all : (history : History) (visit : Visit) → drop (suc (length history)) (history ++ visit ∷ []) ≡ []
 drop_all [] visit = refl

@@ -13,7 +13,7 @@ use Rattle.station.specs.Setup.{Setup, CellsLie, setting_in}
 use Rattle.station.specs.Passes.{AreFresh, IsFreshPass, PassData, TrackerData, fresh_view}
 use Rattle.station.specs.Plays.{first_view, view_of_first}
 use Rattle.station.specs.declared.view.View.{View}
-use Rattle.station.proofs.Steps.{same_some}
+use Rattle.directory.specs.ListLaws.{same_some}
 
 -- in a matched plan each cell lies at a node
 pub matched_lies : {plan : PlanData} (homes : List ℕ) (actors : ℕ) → IsMatched plan

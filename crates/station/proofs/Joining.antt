@@ -1,5 +1,5 @@
 -- A seat takes another in.
-use Rattle.std.proofs.Common.{◌≡◌, ℕ, suc, ◌^◌, ◌<◌, ◌≤◌, Bool, true, false, true≢false, List, length, refl, sym, ap, ◌∙◌, subst, arith, Option, Some, None, lt-ltb, le-ltb}
+use Rattle.std.proofs.Common.{◌≡◌, ℕ, suc, ◌^◌, ◌<◌, ◌≤◌, Bool, true, false, true≢false, List, length, refl, sym, ap, ◌∙◌, subst, arith, None, lt-ltb, le-ltb}
 use Rattle.std.specs.Prelude.{nat_lt, if◌then◌else◌}
 use mathlib.Core.Option.{none}
 use mathlib.Core.Logic.{dite}
@@ -22,6 +22,7 @@ use Rattle.station.proofs.Turning.{restated}
 use Rattle.station.proofs.Logging.{log-stays}
 use Rattle.station.proofs.Reading.{unmoved}
 use Rattle.station.specs.TicketLaws.{tickets-same}
+use Rattle.directory.specs.ListLaws.{none_there}
 
 -- a view that is spent stands for nobody
 spent_sound : (setup : Setup) (words : List ℕ) (history : History) (owner : ℕ → ℕ) (seat : ℕ)
@@ -68,10 +69,6 @@ pub longer_long : (one other : History)
 longer_long one other = dite (dec_le (length other) (length one))
     (λ h. rw (longer_one one other h) (omega arith, h))
     (λ h. rw (longer_other one other (omega arith)) (omega arith, omega arith))
-
-none_there : {A : Type 0} (o : Option A) → ((x : A) → o ≡ Some x → ⊥) → o ≡ None
-none_there None never = refl
-none_there (Some x) never = absurd (never x refl)
 
 -- a note is heard: the seat has seen what was noted, and the note is spent
 pub hears : (setup : Setup) (id other : ℕ) (v w : View) → w.low ≡ 0 → w.high ≡ 0 → w.inside ≡ None

@@ -16,13 +16,13 @@ use Rattle.directory.specs.Histories.{History, cell, changes_here, own, puts_to}
 use Rattle.directory.specs.Census.{census}
 use Rattle.directory.specs.Legal.{IsLegal, IsScript}
 use Rattle.directory.specs.Statements.{ScriptsAreLegal}
-use Rattle.directory.specs.Writes.{Write, mark_at, entry_at, visit_of, visits, write_key, write_word, new_address}
+use Rattle.directory.specs.Writes.{Write, mark_at, visit_of, visits, write_key, write_word, new_address}
 use Rattle.region_plan.specs.Plan.{PlanData, nodes_of, levels_of}
 use Rattle.region_plan.specs.Settings.{setting_of}
 use Rattle.region_plan.specs.Cells.{IsPlace}
 use Rattle.visit_log.specs.Cells.{HasHomes}
 use Rattle.handset.specs.Condition.{GoesWith, HandsetData, IsMoveStage}
-use Rattle.handset.specs.StepWrites.{after_write, due, due_at, erasing_from, erasure, go_on, purging_from, switch_mark}
+use Rattle.handset.specs.StepWrites.{due, due_at, erasure, switch_mark}
 use Rattle.handset.specs.Stands.{StandsForSteps}
 use Rattle.handset.specs.declared.stage.Stage.{Stage}
 use Rattle.handset.specs.declared.stage.Stage.TheVariants.{Resting, Coming, Renewing, Committing, Confirming, Erasing, Purging, Switching}
@@ -36,8 +36,8 @@ use Rattle.station.proofs.Growing.{cell-push}
 use Rattle.station.specs.PutLaws.{puts-append}
 use Rattle.node_set.specs.SetLaws.{length-passing-le, passing_same}
 use Rattle.station.proofs.Laying.{passing-more}
-use Rattle.directory.specs.StepLaws.{take-more}
-use Rattle.station.proofs.Steps.{same_some}
+use Rattle.directory.specs.StepLaws.{take-more, key_sub-of_write}
+use Rattle.directory.specs.ListLaws.{same_some}
 
 -- a put that is due: into a cell of its subscriber
 pub record IsDue (plan : PlanData) (sub : ℕ) (visit : Visit) : Type 0 where
@@ -47,10 +47,6 @@ pub record IsDue (plan : PlanData) (sub : ℕ) (visit : Visit) : Type 0 where
   pub actor : visit.actor ≡ sub
   pub key_of : key_sub key ≡ sub
   pub place : IsPlace plan key
-
-key-of_write : (sub : ℕ) (w : Write) → key_sub (write_key sub w) ≡ sub
-key-of_write sub (mark_at node mark) = refl
-key-of_write sub (entry_at level cluster address) = refl
 
 from_write : {plan : PlanData} (sub : ℕ) (w : Write) {visit : Visit} → Some (visit_of sub w) ≡ Some visit
     → IsPlace plan (write_key sub w) → IsDue plan sub visit
@@ -62,7 +58,7 @@ from_write {plan} sub w {visit} e place =
       word = write_word w;
       act = refl;
       actor = refl;
-      key_of = key-of_write sub w;
+      key_of = key_sub-of_write sub w;
       place = place;
     }
 
@@ -266,19 +262,6 @@ may_put view word log undrawn unwritten clear at few cell mine legal = record {
   cell = λ other e. subst (λ (k : Key). IsCellOf view.setup k) (same_some e) cell;
   may = (mine, legal);
 }
-
--- a write leaves whose handset it is
-go_on-sub : (setting : Setting) (handset : HandsetData) (stage : Stage)
-    → (go_on setting handset stage).sub ≡ handset.sub
-go_on-sub setting handset Resting = refl
-go_on-sub setting handset stage = refl
-
-pub write-sub : (setting : Setting) (handset : HandsetData) (stage : Stage)
-    → (after_write setting handset stage).sub ≡ handset.sub
-write-sub setting handset Confirming = go_on-sub setting handset (erasing_from setting handset 0)
-write-sub setting handset (Erasing level) = go_on-sub setting handset (erasing_from setting handset (suc level))
-write-sub setting handset (Purging node) = go_on-sub setting handset (purging_from setting handset (suc node))
-write-sub setting handset stage = refl
 
 -- what holds of a put of the subscriber holds of the one that is due
 pub put_due : {o : Option Visit} {sub low : ℕ} (key : Key) (word : ℕ) (P : Visit → Type 0)

@@ -15,9 +15,10 @@ use Rattle.directory.specs.Histories.{History, IsFront, cell, word_after}
 use Rattle.directory.specs.Census.{census}
 use Rattle.station.specs.Plays.{key_put}
 use Rattle.station.specs.Views.{visits_at}
-use Rattle.station.proofs.Steps.{no_some, same_some}
+use Rattle.station.proofs.Steps.{no_some}
 use Rattle.station.specs.TicketLaws.{front-rest}
 use Rattle.directory.specs.Statements.{SameKey}
+use Rattle.directory.specs.ListLaws.{same_some}
 
 -- what an act puts
 pub put_word : (act : Act) (key : Key) → key_put act ≡ Some key → (word : ℕ) × (act ≡ Put key word)

@@ -20,6 +20,7 @@ use Rattle.station.specs.declared.view.View.{View}
 use Rattle.station.specs.Turns.{HasLogged, IsLog, events_of, lock_in}
 use Rattle.station.proofs.Logging.{LogGoes, all-logged}
 use Rattle.station.proofs.Apart.{IsWordAt, is_lock, is_tally, is_cell, resound}
+use Rattle.directory.specs.ListLaws.{same_some}
 
 abbrev pub St : Type 0
 St = State Act View
@@ -105,10 +106,6 @@ pub record Changes (setup : Setup) (s : St) (o : KeepsRule setup s) (j x : ℕ) 
 
 pub no_some : {A : Type 0} {x : A} → None ≡ Some x → ⊥
 no_some e = cc
-
--- what is given is the same
-pub same_some : {A : Type 0} {x y : A} → Some x ≡ Some y → x ≡ y
-same_some e = cc
 
 other_node : (v : View) {x : ℕ} (y : ℕ) → x ≢ y → (v.inside ≡ None) ⊎ (v.inside ≡ Some x) → v.inside ≢ Some y
 other_node v y ne (inl out) e = no_some (sym out ∙ e)

@@ -1,7 +1,7 @@
 -- The turn at a node: it is won or lost, and given back.
 use Rattle.std.proofs.Common.{◌≡◌, ◌≢◌, ℕ, suc, ◌-◌, ◌<◌, ◌≤◌, ◌==◌, true, false, true≢false, List, [], ◌∷◌, ◌++◌, length, set, refl, sym, ap, ◌∙◌, subst, inl, inr, ⊎_elim, arith, Some, None, get_or-set_other, get_or-set_same, length-set}
 use Rattle.std.specs.Prelude.{slice_index}
-use Rattle.std.proofs.lemmas.List.{set-get_or}
+use Rattle.std.proofs.lemmas.List.{set-get_or, append-nil}
 use mathlib.Core.Option.{some, none, some-injective}
 use mathlib.Core.Logic.{dite}
 use native.Mathlib.Decide.{ℕ_discrete}
@@ -23,10 +23,10 @@ use Rattle.station.specs.Turns.{IsInTurn, lock_in}
 use Rattle.station.specs.declared.view.TurnEvent.{TurnEvent}
 use Rattle.station.specs.declared.view.TurnEvent.TheVariants.{Won, GivenBack, Lost}
 use Rattle.station.proofs.Logging.{LogGoes, all-logged, lock-back, lock-back_else, lock-push, lock-won, lock-won_else, log-goes, logs}
-use Rattle.std.proofs.lemmas.List.{append-nil}
 use Rattle.station.proofs.Apart.{is_lock, else_where, one_inside, behind}
-use Rattle.station.proofs.Steps.{Remains, St, with, owned, seat_below, changed, each_set, has-kept, no_some, reseated, same_some, same_view}
+use Rattle.station.proofs.Steps.{Remains, St, with, owned, seat_below, changed, each_set, has-kept, no_some, reseated, same_view}
 use Rattle.visit_log.specs.Numbers.{NumbersApart}
+use Rattle.directory.specs.ListLaws.{same_some}
 
 -- a view is in no node and has no duty
 pub record IsIdle (view : View) : Type 0 where

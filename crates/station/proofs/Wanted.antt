@@ -2,7 +2,7 @@
 use Rattle.std.proofs.Common.{◌≡◌, ℕ, ◌^◌, ◌<◌, ◌≤◌, subst, arith}
 use Rattle.std.specs.Prelude.{Some}
 use Rattle.entry_word.specs.declared.visit.Key.{Key}
-use Rattle.directory.specs.Histories.{cell}
+use Rattle.directory.specs.Histories.{cell, before}
 use Rattle.directory.specs.Legal.{IsLegal}
 use Rattle.directory.specs.Finds.{key_of}
 use Rattle.trail_laws.specs.Trail.{EntriesTell, MarksTell}
@@ -13,7 +13,6 @@ use Rattle.station.specs.Passes.{PassData}
 use Rattle.station.specs.Setup.{Setup, setting_in, subs_in}
 use Rattle.station.specs.Visits.{HasVisited}
 use Rattle.entry_word.specs.declared.visit.Act.{Act}
-use Rattle.directory.specs.Histories.{before}
 use Rattle.trail_laws.specs.Within.{HistoryFrontsAreLegal}
 use Rattle.walk.specs.LookLaws.{word-wanted}
 use Rattle.station.specs.TicketLaws.{legal-seen}

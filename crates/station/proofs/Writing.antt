@@ -17,11 +17,12 @@ use Rattle.station.specs.Plays.{Seat, view_after_put, view_after_tally, Writes, 
 use Rattle.station.specs.Visits.{HasTurn}
 use Rattle.station.specs.declared.view.View.{View}
 use Rattle.station.proofs.Apart.{IsWordAt, is_tally, is_cell, else_where, behind, behind_tally, resound, same_number}
-use Rattle.station.proofs.Steps.{St, with, seat_below, changed, has-kept, no_some, same_some, same_view}
+use Rattle.station.proofs.Steps.{St, with, seat_below, changed, has-kept, no_some, same_view}
 use Rattle.station.proofs.Turning.{written_here, tallied_here}
 use Rattle.station.proofs.Reading.{cell_seen, census_seen, alone}
 use Rattle.station.proofs.Logging.{log-stays}
 use Rattle.directory.specs.Statements.{SameKey}
+use Rattle.directory.specs.ListLaws.{same_some}
 
 pub cell_below : NumbersBelow → (setup : Setup) {key : Key} → IsCellOf setup key
     → cell_word setup key < word_count setup

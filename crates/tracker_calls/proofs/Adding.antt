@@ -1,5 +1,5 @@
 -- What a pass has added, with one visit more, before which it lost turns at the node.
-use Rattle.std.proofs.Common.{◌≡◌, ℕ, suc, ◌-◌, List, [], ◌∷◌, ◌++◌, None, cond, eq-eqb, length, map, refl, sym, ap, ◌∙◌, subst, arith, append_assoc, length-append}
+use Rattle.std.proofs.Common.{◌≡◌, ℕ, suc, ◌-◌, List, [], ◌∷◌, ◌++◌, None, length, map, refl, sym, ap, ◌∙◌, subst, arith, append_assoc, length-append}
 use Rattle.std.specs.Prelude.{flat_map}
 use Rattle.std.proofs.lemmas.List.{append-nil, get_or_push, map-append}
 use Rattle.std.proofs.lemmas.List.Concat.{flat_map-append}
@@ -9,7 +9,6 @@ use Rattle.directory.specs.Histories.{History, IsFront, own, tickets}
 use Rattle.directory.specs.Keys.{act_node}
 use Rattle.directory.specs.Looks.{last_of}
 use Rattle.directory.specs.Settings.{Setting}
-use Rattle.directory.specs.StepLaws.{own-push}
 use Rattle.station.specs.Passes.{PassData, actor_of}
 use Rattle.station.specs.Plays.{view_held, visit_by}
 use Rattle.station.specs.Setup.{Setup, setting_in}
@@ -21,7 +20,7 @@ use Rattle.station.specs.declared.turns.Held.{Held}
 use Rattle.station.specs.declared.view.NodeTurn.{NodeTurn}
 use Rattle.station.specs.declared.view.TurnEvent.{TurnEvent}
 use Rattle.station.specs.declared.view.TurnEvent.TheVariants.{Won, GivenBack, Lost}
-use Rattle.station.specs.TicketLaws.{legal-seen, tickets-more}
+use Rattle.station.specs.TicketLaws.{legal-seen, tickets-more, own-visited}
 use Rattle.tracker_calls.specs.Added.{HasAdded, HasTried, VisitTurns, turns_taken}
 use Rattle.directory.specs.Statements.{BeginsWithItself, BeginsWithFront, BeginsThrough}
 
@@ -72,16 +71,6 @@ pub visited-front : BeginsWithFront → BeginsThrough → {old new : PassData} {
 visited-front longer through {old} {new} {act} visited =
     through old.view.seen visited.earlier new.view.seen visited.begins
     (subst (IsFront visited.earlier) (sym visited.seen) (longer visited.earlier (visit_by old.view act ∷ [])))
-
--- the visit is its pass's own
-pub own-visited : {old new : PassData} {act : Act} {ticket : ℕ} → HasVisited old act ticket new
-    → own (actor_of old) new.view.seen ≡ own (actor_of old) old.view.seen ++ visit_by old.view act ∷ []
-own-visited {old} {act} visited =
-    ap (own (actor_of old)) visited.seen
-    ∙ (own-push (actor_of old) visited.earlier (visit_by old.view act)
-    ∙ (ap (λ b. own (actor_of old) visited.earlier ++ cond b (visit_by old.view act ∷ []) [])
-    (eq-eqb old.view.low old.view.low refl)
-    ∙ ap (λ l. l ++ visit_by old.view act ∷ []) visited.visits))
 
 -- the node of a visit comes behind those of its actor's earlier ones
 nodes-more : (setting : Setting) (actor : ℕ) (begun pass new : History) (turns : List VisitTurns) (one : VisitTurns)

@@ -28,8 +28,8 @@ use Rattle.station.specs.Visits.{IsSamePass}
 use Rattle.tracker_calls.specs.Added.{HasTried}
 use Rattle.tracker_calls.specs.Moves.{HasStepped}
 use Rattle.tracker_calls.specs.WholeMoves.{MayMoveTo, after_writes, puts_of_move}
-use Rattle.tracker_calls.proofs.Adding.{own-visited}
 use Rattle.directory.specs.Statements.{MovesAreShort}
+use Rattle.station.specs.TicketLaws.{own-visited}
 
 -- a handset rests just where nothing is left
 pub due-rests : (setting : Setting) (handset : HandsetData) (stage : Stage)

@@ -2,9 +2,9 @@ use Rattle.std.proofs.Common.{ℕ, List, [], sym, ap, ◌∙◌, arith, get_or}
 use Rattle.std.proofs.lemmas.List.{get_or_default}
 use Rattle.region_plan.specs.Settings.{setting_of}
 use Rattle.scripts.specs.Scripts.{most_in}
-use Rattle.runner.proofs.Finding.{script-searches}
-use Rattle.runner.proofs.Starting.{begin-inside, finder-at, mover-at, script-is}
+use Rattle.runner.proofs.Starting.{begin-inside, finder-at, mover-at}
 use Rattle.runner.proofs.worker.role_of.Goals as goal
+use Rattle.machine.specs.ScriptVisits.{script-searches, script-is}
 
 pub most_of_script-requires : goal.most_of_script-requires
 most_of_script-requires c = record {

@@ -4,7 +4,7 @@ use Rattle.std.proofs.lemmas.List.{length_push}
 use Rattle.scripts.specs.Scripts.{find_of}
 use Rattle.machine.specs.Stands.{setting_over, IsWalking}
 use Rattle.machine.proofs.Beginning.{on-err}
-use Rattle.machine.proofs.Looking.{ok-of, room-left, wanted, script-is, scripts-low, script-searches, place-low, call-at}
+use Rattle.machine.proofs.Looking.{ok-of, room-left, wanted, scripts-low, place-low, call-at}
 use Rattle.net_reader.specs.Seen.{seen_input}
 use Rattle.region_plan.specs.Plan.{nodes_of}
 use Rattle.walk.specs.Walks.{IsWordBelow}
@@ -13,6 +13,7 @@ use Rattle.machine.proofs.Looked.{looks, looked-on, looked-up}
 use Rattle.scripts.specs.ScriptLaws.{calls-few, finds-are}
 use Rattle.machine.proofs.caller.Caller.look_one.Goals as goal
 use Rattle.machine.proofs.caller.Caller.look_one.Goals.{After-len}
+use Rattle.machine.specs.ScriptVisits.{script-searches, script-is}
 
 pub look-requires-clause-cell : goal.look-requires-clause-cell
 look-requires-clause-cell c =

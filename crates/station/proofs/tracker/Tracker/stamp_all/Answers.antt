@@ -7,9 +7,9 @@ use native.Mathlib.Decide.{ℕ_discrete, dec_le}
 use Rattle.directory.specs.Histories.{History, own}
 use Rattle.station.specs.Passes.{PassData, IsNoteOf, IsPassOf, actor_of}
 use Rattle.station.proofs.Ending.{find_pass, heard_whole, order_is, own_there, stamp_more, taken}
-use Rattle.station.proofs.Steps.{same_some}
 use Rattle.station.proofs.Ticketing.{tickets-has}
 use Rattle.station.proofs.tracker.Tracker.stamp_all.Goals as goal
+use Rattle.directory.specs.ListLaws.{same_some}
 
 pub hear-requires-clause-of : goal.hear-requires-clause-of
 hear-requires-clause-of c =

@@ -9,9 +9,10 @@ use Rattle.station.specs.Handsets.{HandsetGoesOn, IsHandsetOf, put_of}
 use Rattle.station.specs.Passes.{PassData}
 use Rattle.station.specs.Visits.{HasVisited, Makes}
 use Rattle.station.specs.declared.view.View.{View}
-use Rattle.station.proofs.Putting.{may_put, handset_after, put_due, write-sub}
+use Rattle.station.proofs.Putting.{may_put, handset_after, put_due}
 use Rattle.station.proofs.Ticketing.{lost_pass, own_few, pass_done, visit_done, pass_is, seen_done}
 use Rattle.station.proofs.tracker.Tracker.visit_put.Goals as goal
+use Rattle.handset.specs.StageLaws.{write-sub}
 
 pub make_put-requires-clause-may : goal.make_put-requires-clause-may
 make_put-requires-clause-may c =
