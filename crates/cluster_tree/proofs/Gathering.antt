@@ -1,6 +1,5 @@
 -- The members and their weights, one node after another.
-use Rattle.std.proofs.Common.{◌≡◌, ℕ, ◌+◌, ◌<◌, true, false, List, [], ◌∷◌, ◌++◌, Option, Some, length, sym}
-use Rattle.std.proofs.Common.{◌∙◌, ap, subst, inl, inr, arith}
+use Rattle.std.proofs.Common.{◌≡◌, ℕ, ◌+◌, ◌<◌, true, false, List, [], ◌∷◌, ◌++◌, Option, Some, length, sym, ◌∙◌, ap, subst, inl, inr, arith}
 use Rattle.std.proofs.lemmas.List.{length_push}
 use Rattle.std.proofs.lemmas.Bool.{cases_eq, cases_lt}
 use Rattle.net_graph.specs.Trees.{at_node}
@@ -36,8 +35,7 @@ member_taken i w members weights old new member weighs nodes_are weights_are so_
         ∙ beside_old v i w old.nodes.items old.weights.items
         (subst (λ xs. has v xs ≡ true) (sym so_far.nodes) (below_member members i v less v_member)) so_far.count))
     | inr more ↦ let same : i ≡ v = omega arith in
-        subst (λ k. at_node weights k ≡ Some (weight_beside k new.nodes.items new.weights.items)) same
-        (weighs ∙ ap Some (sym (
+        rw (← same) (weighs ∙ ap Some (sym (
         ap (λ xs. weight_beside i xs new.weights.items) nodes_are
         ∙ ap (λ xs. weight_beside i (old.nodes.items ++ i ∷ []) xs) weights_are
         ∙ beside_new i w old.nodes.items old.weights.items

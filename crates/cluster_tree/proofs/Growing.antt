@@ -1,6 +1,5 @@
 -- From the weights of the members to the tree of the cluster.
-use Rattle.std.proofs.Common.{◌≡◌, ℕ, ◌^◌, ◌<◌, ◌≤◌, Bool, true, List, Option, Some, length, get_or, refl, sym, ◌∙◌}
-use Rattle.std.proofs.Common.{subst, arith}
+use Rattle.std.proofs.Common.{◌≡◌, ℕ, ◌^◌, ◌<◌, ◌≤◌, Bool, true, List, Option, Some, length, get_or, refl, sym, ◌∙◌, subst, arith}
 use Rattle.std.specs.Prelude.{All, Contains, IfErr, IsErrAnd, Result, Ok, Err}
 use Rattle.std.proofs.lemmas.List.{get_or_default}
 use Rattle.net_graph.specs.Walks.{IsLeastWeight, among}
@@ -51,20 +50,13 @@ sound_tree leader members weights ascending count leads depth bound attained =
       };
     }
 
-module _ (network : Network) (sound : IsNetwork network) (set : Nodes) (nodes : AreNodes set)
-    (room : set.room ≡ network.nodes)
-    (leader : ℕ) (leads : has leader set.members ≡ true) (flags : List Bool)
+module _ {network : Network} (sound : IsNetwork network) {set : Nodes} (nodes : AreNodes set)
+    (room : set.room ≡ network.nodes) {leader : ℕ} (leads : has leader set.members ≡ true) {flags : List Bool}
     (are_flags : AreFlagsBelow set.room set.members flags) where
-  pub leader_below : leader < network.nodes
+  leader_below : leader < network.nodes
   leader_below = omega (arith, below-has set.room leader set.members nodes.below leads, room)
 
-  pub flags_count : length flags ≡ network.nodes
-  flags_count = are_flags.count ∙ room
-
-  pub leader_flag : among flags leader ≡ true
-  leader_flag = are_flags.each leader (omega (arith, leader_below, room)) ∙ leads
-
-  module _ (weights : List (Option ℕ)) (least : AreLeastWeights network (among flags) leader weights) where
+  module _ {weights : List (Option ℕ)} (least : AreLeastWeights network (among flags) leader weights) where
     to_within : (x : ℕ) → x < network.nodes → among flags x ≡ true → within set.members x ≡ true
     to_within x below h = sym (are_flags.each x (omega (arith, room))) ∙ h
 
@@ -98,7 +90,7 @@ module _ (network : Network) (sound : IsNetwork network) (set : Nodes) (nodes : 
     is_fault (Outside node) missing = is_outside node missing
     is_fault OutOfMemory missing = tt
 
-    module _ (weighed : Weighed) (are_weighed : AreWeighedBelow set.room set.members weights weighed) where
+    module _ {weighed : Weighed} (are_weighed : AreWeighedBelow set.room set.members weights weighed) where
       pub members_are : weighed.nodes.items ≡ set.members
       members_are = are_weighed.nodes ∙ all_members set nodes
 
@@ -118,9 +110,5 @@ module _ (network : Network) (sound : IsNetwork network) (set : Nodes) (nodes : 
           → IsSoundTree (record { leader = leader; members = weighed.nodes.items; weights = weighed.weights.items })
           depth
       is_kept depth bound attained =
-          let ascending : IsAscending weighed.nodes.items =
-          subst (λ xs. IsAscending xs) (sym members_are) nodes.ascending in
-          let leads_here : has leader weighed.nodes.items
-          ≡ true = subst (λ xs. has leader xs ≡ true) (sym members_are) leads in
-          sound_tree leader weighed.nodes.items weighed.weights.items ascending are_weighed.count leads_here depth bound
-          attained
+          sound_tree leader weighed.nodes.items weighed.weights.items (rw members_are nodes.ascending) are_weighed.count
+          (rw members_are leads) depth bound attained

@@ -1,13 +1,12 @@
 -- Where each member is joined to a nearer one, the weights inside a cluster are the distances.
-use Rattle.std.proofs.Common.{◌≡◌, ℕ, zero, suc, ◌+◌, ◌-◌, ◌<◌, ◌≤◌, Bool, true, List, [], ◌∷◌, ◌++◌}
-use Rattle.std.proofs.Common.{length, map, take, drop, get_or, refl, sym, ◌∙◌, ap, subst, inl, inr, arith}
+use Rattle.std.proofs.Common.{◌≡◌, ℕ, zero, suc, ◌+◌, ◌-◌, ◌<◌, ◌≤◌, Bool, true, List, [], ◌∷◌, ◌++◌, length, map, take, drop, get_or, refl, sym, ◌∙◌, ap, subst, inl, inr, arith}
 use Rattle.std.specs.Prelude.{All, Contains, slice_index}
 use Rattle.std.proofs.lemmas.List.{get_or_default, take_more, take_all, drop_at, length-map, length-append}
 use Rattle.std.proofs.lemmas.List.Elements.{All-contains, Contains-push_cases}
 use Rattle.std.proofs.lemmas.Bool.{cases_eq}
 use Rattle.net_graph.specs.declared.neighbours.Arc.{Arc}
 use Rattle.net_graph.specs.Layout.{AreArcsOf, IsArc, make_arc}
-use Rattle.net_graph.specs.Walks.{Step, IsWalk, IsWalkWeight, IsLeastWeight, everywhere}
+use Rattle.net_graph.specs.Walks.{Step, IsWalk, IsWalkWeight, everywhere}
 use Rattle.net_graph.specs.declared.edge.Edge.{Edge}
 use Rattle.net_graph.specs.WalkLaws.{join_turned, walk_further}
 use Rattle.net_graph.specs.Network.{Network}
@@ -55,7 +54,7 @@ one_joined network members listed leader row i d arcs far below of_node far_is n
 pub all_joined : (network : Network) (members listed : List ℕ) (leader : ℕ) (row : List ℕ) (i : ℕ) → length listed ≤ i
     → AreJoined network members (take i listed) leader row → AreJoined network members listed leader row
 all_joined network members listed leader row i past so_far =
-    subst (λ xs. AreJoined network members xs leader row) (take_all i listed past) so_far
+    rw (take_all i listed past) at so_far
 
 -- ---- lists of distances
 
@@ -118,8 +117,7 @@ distances_inside network members leader row old new keep is = record {
   tree = record {
     leader_is = refl;
     members_are = refl;
-    each = λ v member. subst (λ w. IsLeastWeight network.edges (within members) leader v w)
-        (sym (beside_map (slice_index row) v members member)) (keep v member);
+    each = λ v member. rw (beside_map (slice_index row) v members member) (keep v member);
   };
 }
 

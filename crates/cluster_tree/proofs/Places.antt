@@ -1,6 +1,5 @@
 -- Places in ascending lists, and the weights that stand beside them.
-use Rattle.std.proofs.Common.{◌≡◌, ℕ, ◌<◌, true, false, cond, ◌||◌, List, [], ◌∷◌, ◌++◌, length, get_or, refl, sym, ◌∙◌}
-use Rattle.std.proofs.Common.{ap, subst, inl, inr, arith, eqb, eq-eqb, ne_eqb}
+use Rattle.std.proofs.Common.{◌≡◌, ℕ, ◌<◌, true, false, cond, ◌||◌, List, [], ◌∷◌, ◌++◌, length, get_or, refl, sym, ◌∙◌, ap, subst, inl, inr, arith, eqb, eq-eqb, ne_eqb}
 use Rattle.std.proofs.lemmas.Bool.{cases_eq, or_left}
 use Rattle.node_set.specs.Ascending.{has, IsAscending}
 use Rattle.cluster_tree.specs.Tree.{weight_beside}

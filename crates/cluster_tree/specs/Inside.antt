@@ -1,7 +1,6 @@
 -- The weights inside a cluster, written after others in one flat list.
 -- Key law: `inside_weights`, by its clauses `written` and `kept`.
-use Rattle.std.specs.Prelude.{◌≡◌, ◌≢◌, ℕ, suc, ◌+◌, ◌<◌, ◌≤◌, true, List, ◌++◌, length, Contains, nat_lt}
-use Rattle.std.specs.Prelude.{slice_index}
+use Rattle.std.specs.Prelude.{◌≡◌, ◌≢◌, ℕ, suc, ◌+◌, ◌<◌, ◌≤◌, true, List, ◌++◌, length, Contains, nat_lt, slice_index}
 use Rattle.net_graph.specs.declared.neighbours.Arc.{Arc}
 use Rattle.net_graph.specs.Layout.{make_arc}
 use Rattle.net_graph.specs.Walks.{Joins, IsLeastWeight}

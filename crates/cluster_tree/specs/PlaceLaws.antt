@@ -2,15 +2,13 @@
 -- Key laws: `has_place` (what stands at a place is a member), `beside_place` (beside it is its
 -- weight).
 use Rattle.std.specs.Prelude.{slice_index}
-use Rattle.std.proofs.Common.{◌≤◌, Ok, Err, ◌≡◌, ℕ, zero, suc, ◌<◌, true, false, cond, ◌||◌}
-use Rattle.std.proofs.Common.{List, [], ◌∷◌, length, map, refl, sym, ◌∙◌, ap, subst, inl, inr}
-use Rattle.std.proofs.Common.{arith, eqb, eq-eqb, ne_eqb}
+use Rattle.std.proofs.Common.{Ok, Err, ◌≡◌, ℕ, zero, suc, ◌<◌, true, false, cond, ◌||◌, List, [], ◌∷◌, length, map, refl, sym, ◌∙◌, ap, subst, inl, inr, arith, eqb, eq-eqb, ne_eqb}
 use Rattle.std.specs.List.Sorted.{IsBinarySearchResult}
 use Rattle.std.specs.Ordering.{nat_cmp}
 use Rattle.std.proofs.lemmas.List.Sorted.{searched}
 use Rattle.std.proofs.lemmas.Bool.{cases_eq, cases_lt, or_left, or_right}
 use Rattle.node_set.specs.Ascending.{has, IsAscending}
-use Rattle.node_set.specs.SetLaws.{below_each}
+use Rattle.node_set.specs.SetLaws.{below_each, place-stays_or_rises}
 use Rattle.cluster_tree.specs.Tree.{weight_beside}
 
 pub has_place : (xs : List ℕ) (i : ℕ) → i < length xs → has (slice_index xs i) xs ≡ true
@@ -41,28 +39,18 @@ beside_place (x ∷ xs) (w ∷ ws) (suc i) ascending count short =
     (ne_eqb (slice_index xs i) x (λ same. omega (arith, same, above)))
     ∙ beside_place xs ws i ascending.1 (omega arith) (omega arith)
 
-rising : (xs : List ℕ) → IsAscending xs → (i j : ℕ) → i ≤ j → j < length xs
-    → slice_index xs i ≤ slice_index xs j
-rising [] ascending i j order short = absurd (omega arith)
-rising (x ∷ xs) ascending zero zero order short = omega arith
-rising (x ∷ xs) ascending zero (suc j) order short =
-    omega (arith, below_each x xs j ascending.0 (omega arith))
-rising (x ∷ xs) ascending (suc i) zero order short = absurd (omega arith)
-rising (x ∷ xs) ascending (suc i) (suc j) order short =
-    rising xs ascending.1 i j (omega arith) (omega arith)
-
 -- what a search for a member finds
 pub found_place : (xs ws : List ℕ) (v k : ℕ) → IsAscending xs → length ws ≡ length xs
     → IsBinarySearchResult (λ y. nat_cmp y v) xs (Ok k) → (k < length xs)
     × (weight_beside v xs ws ≡ slice_index ws k)
 found_place xs ws v k ascending count result =
-    let at = searched xs v (Ok k) result (rising xs ascending) in
+    let at = searched xs v (Ok k) result (λ i j. place-stays_or_rises xs i j ascending) in
     (at.0, ap (λ x. weight_beside x xs ws) (sym at.1) ∙ beside_place xs ws k ascending count at.0)
 
 pub always_found : (xs : List ℕ) (v k : ℕ) → IsAscending xs → has v xs ≡ true
     → IsBinarySearchResult (λ y. nat_cmp y v) xs (Err k) → ⊥
 always_found xs v k ascending member result =
-    let at = searched xs v (Err k) result (rising xs ascending) in
+    let at = searched xs v (Err k) result (λ i j. place-stays_or_rises xs i j ascending) in
     let place = member_place v xs member in
     elim (cases_lt place.0 k) [
       | inl before ↦ omega (arith, at.1 place.0 before, place.2)

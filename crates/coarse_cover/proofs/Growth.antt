@@ -1,11 +1,9 @@
 -- Growth of one cluster: fewer than k growths are enough.
-use Rattle.std.proofs.Common.{◌≡◌, inl, inr, ℕ, suc, ◌*◌, ◌^◌, ◌<◌, ◌≤◌, true, false, List, ◌∷◌}
-use Rattle.std.proofs.Common.{length, filter, refl, sym, ◌∙◌, ap, subst, arith}
+use Rattle.std.proofs.Common.{◌≡◌, inl, inr, ℕ, suc, ◌*◌, ◌^◌, ◌<◌, ◌≤◌, true, false, List, ◌∷◌, length, filter, refl, sym, ◌∙◌, ap, arith}
 use Rattle.std.proofs.lemmas.Bool.{cases_lt, false≢true, leb-true, leb-false, le-leb, lt-leb}
 use Rattle.std.proofs.Math.Nat.{lt_of_not-le}
 use Rattle.node_set.specs.Balls.{union_of, touches, growth, least}
-use Rattle.node_set.specs.BallLaws.{growth_size}
-use Rattle.node_set.specs.BallLaws.{growth_first, least_passes, least_first, least_is}
+use Rattle.node_set.specs.BallLaws.{growth_size, growth_first, least_passes, least_first, least_is}
 use Rattle.node_set.specs.GrowthLaws.{reached}
 use Rattle.whole_powers.specs.PowerLaws.{outgrows}
 use Rattle.coarse_cover.specs.Coarsening.{is_enough, cluster_of}
@@ -71,9 +69,7 @@ module _ (balls : List (List ℕ)) (k r a : ℕ) (waiting rest : List ℕ) (lead
   pub some_enough : 0 < k → length waiting ≤ r → ((i : ℕ) → i < k → is_enough balls k r waiting a i ≡ false) → ⊥
   some_enough pos fits none =
       let few : least (is_enough balls k r waiting a) k < k =
-      subst (λ (l : List ℕ). length l ≤ r → least (is_enough balls k r l a) k < k) (sym leads)
-      (growths_few balls k r a rest pos) fits
-      in
+      rw leads (growths_few balls k r a rest pos (rw leads at fits)) in
       false≢true (sym (none (least (is_enough balls k r waiting a) k) few)
       ∙ least_passes (is_enough balls k r waiting a) k few)
 
@@ -89,8 +85,7 @@ module _ (balls : List (List ℕ)) (k r a : ℕ) (waiting : List ℕ) (j more si
           → least (is_enough balls k r waiting a) k ≡ j
       stops below none fits =
           least_is (is_enough balls k r waiting a) k j below
-          (enough_is balls k r a waiting j (subst (λ (n : ℕ). n ^ k ≤ r * length (growth balls waiting a j) ^ k)
-          (counted ∙ ap length next) (subst (λ (n : ℕ). more ^ k ≤ r * n ^ k) sized fits))) none
+          (enough_is balls k r a waiting j (rw (counted, next, sized) at fits)) none
 
       pub goes_on : ((i : ℕ) → i < j → is_enough balls k r waiting a i ≡ false) → (more ^ k ≤ r * size ^ k → ⊥)
           → (i : ℕ)
@@ -100,9 +95,5 @@ module _ (balls : List (List ℕ)) (k r a : ℕ) (waiting : List ℕ) (j more si
             | inl before ↦ none i before
             | inr here ↦
                 let same : i ≡ j = omega arith in
-                subst (λ (n : ℕ). is_enough balls k r waiting a n ≡ false) (sym same)
-                (not_enough_is balls k r a waiting j
-                (λ fits. large (subst (λ (n : ℕ). more ^ k ≤ r * n ^ k) (sym sized)
-                (subst (λ (n : ℕ). n ^ k ≤ r * length (growth balls waiting a j) ^ k)
-                (sym (counted ∙ ap length next)) fits))))
+                rw same (not_enough_is balls k r a waiting j (λ fits. large (rw (counted, next, sized) fits)))
           ]

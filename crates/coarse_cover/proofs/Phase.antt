@@ -1,10 +1,9 @@
 -- One phase: its clusters are disjoint, and the balls that they are homes of are many.
-use Rattle.std.proofs.Common.{◌≡◌, inl, inr, ℕ, zero, suc, ◌+◌, ◌*◌, ◌^◌, ◌<◌, ◌≤◌, Bool, true, false, cond, not}
-use Rattle.std.proofs.Common.{◌&&◌, List, [], ◌∷◌, length, filter, refl, sym, ◌∙◌, ap, subst, arith}
+use Rattle.std.proofs.lemmas.Bool.{cases_Bool, false≢true, false_from_ne_true, not-true, and_from, and_parts}
+use Rattle.std.proofs.Common.{◌≡◌, inl, inr, ℕ, zero, suc, ◌+◌, ◌*◌, ◌^◌, ◌<◌, ◌≤◌, Bool, true, false, cond, not, ◌&&◌, List, [], ◌∷◌, length, filter, refl, sym, ◌∙◌, ap, subst, arith}
 use Rattle.std.specs.Prelude.{count_by, All}
 use Rattle.std.proofs.lemmas.List.Elements.{All-nil, All-cons, All-head, All-tail}
 use Rattle.std.proofs.lemmas.List.Sums.{sum_by-cons}
-use Rattle.std.proofs.lemmas.Bool.{false≢true, false_from_ne_true, not-true, and_from, and_parts}
 use Rattle.std.proofs.Math.Nat.{le_trans, pow-le-pow_left, mul-le-mul_left}
 use Rattle.node_set.specs.Ascending.{has, IsBelowAll, share}
 use Rattle.node_set.specs.SetLaws.{share_from, share_gives}
@@ -15,10 +14,8 @@ use Rattle.coarse_cover.specs.HalfMade.{IsReady}
 use Rattle.node_set.specs.Balls.{ball, union_of, touches, growth, least, GrownCluster, IsShaped, is_homed}
 use Rattle.node_set.specs.GrowthLaws.{touching_below}
 use Rattle.node_set.specs.HomeLaws.{homed_here, homed_later, homed_cases}
-use Rattle.node_set.specs.FilterLaws.{filter_keeps, filter-has, filter_twice, filter_halves, filter_fewer, filter_more}
-use Rattle.node_set.specs.FilterLaws.{some_length, ascending-filter}
-use Rattle.node_set.specs.BallLaws.{HoldCentres, union_from, touches_own, growth_waits, growth_leader, growth_picked}
-use Rattle.node_set.specs.BallLaws.{least_passes}
+use Rattle.node_set.specs.FilterLaws.{filter_keeps, filter-has, filter_twice, filter_halves, filter_fewer, filter_more, some_length, ascending-filter}
+use Rattle.node_set.specs.BallLaws.{HoldCentres, union_from, touches_own, growth_waits, growth_leader, growth_picked, least_passes}
 use Rattle.coarse_cover.proofs.Growth.{growths_few, enough_means}
 
 -- ---- one cluster
@@ -124,8 +121,7 @@ module _ (balls : List (List ℕ)) (k r : ℕ) where
       (filter (is_homed (c ∷ cs)) waiting)
   split_homed waiting c cs is =
       let own : length c.homed ≤ length (filter (λ v. is_homed (c ∷ cs) v && touches balls c.members v) waiting) =
-      subst (λ (n : ℕ). n ≤ length (filter (λ v. is_homed (c ∷ cs) v && touches balls c.members v) waiting))
-      (sym (ap length is.picked))
+      rw (ap length is.picked)
       (filter_more (λ v. has v c.homed) (λ v. is_homed (c ∷ cs) v && touches balls c.members v) waiting
       (λ v here h. and_from (is_homed (c ∷ cs) v) (touches balls c.members v) (homed_here c cs v h) (is.touching v h)))
       in
@@ -182,8 +178,7 @@ module _ (balls : List (List ℕ)) (k r : ℕ) where
       → ((v : ℕ) → has v waiting ≡ true → touches balls nodes v ≡ false) → has x nodes ≡ true → has x c.members ≡ false
   cluster_misses nodes waiting c x is none here = false_from_ne_true (has x c.members) (λ there.
       let w : (v : ℕ) × (has v c.homed ≡ true)
-      × (has x (ball balls v) ≡ true) = union_from balls x c.homed (subst (λ (l : List ℕ). has x l ≡ true) is.joined
-      there) in
+      × (has x (ball balls v) ≡ true) = union_from balls x c.homed (rw is.joined at there) in
       false≢true (sym (none w.0 (is.waits w.0 w.1)) ∙ share_from x (ball balls w.0) nodes w.2 here))
 
   pub later_apart : (nodes waiting : List ℕ) (cs : List GrownCluster) → IsPhase balls k r waiting cs →
@@ -225,14 +220,12 @@ module _ (balls : List (List ℕ)) (k r : ℕ) where
   pub phase_once : (waiting : List ℕ) (cs : List GrownCluster) (x : ℕ) → IsPhase balls k r waiting cs
       → count_by (λ c. has x c.members) cs ≤ 1
   phase_once waiting [] x is = omega arith
-  phase_once waiting (c ∷ cs) x is = subst (λ (n : ℕ). n ≤ 1) (sym
-      (sum_by-cons (λ (c : GrownCluster). cond (has x c.members) 1 0) c cs))
-      (at (has x c.members) refl (phase_once (apart balls c.members waiting) cs x is.1))
-    where
-      at : (b : Bool) → has x c.members ≡ b → count_by (λ d. has x d.members) cs ≤ 1
-          → cond b 1 0 + count_by (λ d. has x d.members) cs ≤ 1
-      at true e rest = omega (arith, none_has c.members x cs e (phase_apart waiting c cs is))
-      at false e rest = omega arith
+  phase_once waiting (c ∷ cs) x is = elim (cases_Bool (has x c.members)) [
+    | inl e ↦ rw (sum_by-cons (λ (d : GrownCluster). cond (has x d.members) 1 0) c cs, e)
+        (omega (arith, none_has c.members x cs e (phase_apart waiting c cs is)))
+    | inr e ↦ rw (sum_by-cons (λ (d : GrownCluster). cond (has x d.members) 1 0) c cs, e)
+        (omega (arith, phase_once (apart balls c.members waiting) cs x is.1))
+  ]
 
   -- ---- each cluster is the union of the balls that it is the home of
 

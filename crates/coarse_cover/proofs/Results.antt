@@ -1,22 +1,19 @@
 -- What a finished cover is, and what follows of its clusters.
-use Rattle.std.proofs.Common.{◌≡◌, ℕ, suc, ◌-◌, ◌*◌, ◌^◌, ◌<◌, ◌≤◌, true, false, cond, List, [], ◌∷◌, ◌++◌, length}
-use Rattle.std.proofs.Common.{get_or, map, refl, sym, ◌∙◌, ap, subst, arith}
+use Rattle.std.proofs.lemmas.List.{append-nil, get_or-map, length-map}
+use Rattle.std.proofs.Common.{◌≡◌, ℕ, suc, ◌-◌, ◌*◌, ◌^◌, ◌<◌, ◌≤◌, true, false, cond, List, [], ◌∷◌, ◌++◌, length, get_or, map, refl, sym, ◌∙◌, ap, arith}
 use Rattle.std.specs.Prelude.{count_by, All}
 use Rattle.std.specs.List.{sum_by}
 use Rattle.std.proofs.lemmas.Grind.{same_number_lists}
-use Rattle.std.proofs.lemmas.List.{get_or-map, length-map}
 use Rattle.std.proofs.lemmas.List.Elements.{All-nil, All-append, All-map, All-weaker}
 use Rattle.node_set.specs.Ascending.{has, share}
 use Rattle.whole_powers.specs.Bounds.{PowersAdd, OnePhase}
-use Rattle.coarse_cover.specs.Coarsening.{without_home, all_clusters, coarsening, HomesAreFound}
-use Rattle.coarse_cover.specs.Coarsening.{ClustersAreShaped, CoversAreSparse}
+use Rattle.coarse_cover.specs.Coarsening.{without_home, all_clusters, coarsening, HomesAreFound, ClustersAreShaped, CoversAreSparse}
 use Rattle.coarse_cover.specs.Covers.{cluster_list, as_cluster, IsCover, AreApart, member_lists}
-use Rattle.coarse_cover.specs.HalfMade.{phases_of, Agrees, IsBetween}
+use Rattle.coarse_cover.specs.HalfMade.{Agrees, IsBetween}
 use Rattle.coarse_cover.specs.declared.cover.Cluster.{Cluster}
 use Rattle.coarse_cover.specs.declared.cover.Cover.{Cover}
 use Rattle.coarse_cover.proofs.Phase.{IsPhase, apart, phase_apart}
-use Rattle.coarse_cover.proofs.Whole.{ArePhases, all_homed, few_have, all_joined, phases_few}
-use Rattle.coarse_cover.proofs.Whole.{clusters_within}
+use Rattle.coarse_cover.proofs.Whole.{ArePhases, all_homed, few_have, all_joined, phases_few, clusters_within}
 use Rattle.node_set.specs.HomeLaws.{home_within, home_has}
 use Rattle.node_set.specs.Balls.{ball, union_of, GrownCluster, IsShaped, is_homed, home_of, centres, AreCentred, AreHomes}
 use Rattle.node_set.specs.BallLaws.{union_has, length-centres, get_or-map_centres, has_centre}
@@ -25,24 +22,16 @@ use Rattle.coarse_cover.specs.CoverLaws.{cluster_list_nodes, count_lists, length
 
 -- ---- the end
 
-append_nothing : (xs : List Cluster) → xs ++ [] ≡ xs
-append_nothing [] = refl
-append_nothing (x ∷ xs) = ap (λ (l : List Cluster). x ∷ l) (append_nothing xs)
-
 pub is_cover : {balls : List (List ℕ)} {k : ℕ} {left : List ℕ} (cover : Cover)
     → IsBetween balls k left cover.clusters.items cover.home.items cover.phases → left ≡ []
     → length cover.home.items ≡ length balls → IsCover (length balls) (coarsening balls k) cover
 unfolding cluster_list all_clusters
 is_cover {balls} {k} cover between none sized =
     let over : Agrees (length balls) (coarsening balls k) [] [] cover.clusters.items cover.home.items cover.phases =
-    subst (λ (l : List (List GrownCluster)).
-    Agrees (length balls) (coarsening balls k) l [] cover.clusters.items cover.home.items cover.phases)
-    (phases_of_none balls k)
-    (subst (λ (l : List ℕ). Agrees (length balls) (coarsening balls k) (phases_of balls k l) l cover.clusters.items
-    cover.home.items cover.phases) none between.so_far)
+    rw (phases_of_none balls k) at (rw none at between.so_far)
     in
     record {
-      clusters = sym (append_nothing cover.clusters.items) ∙ over.clusters_so_far;
+      clusters = sym (append-nil cover.clusters.items) ∙ over.clusters_so_far;
       homes = same_number_lists cover.home.items
           (map (home_of (all_clusters (coarsening balls k))) (centres (length balls)))
           (sized ∙ sym (length-map (centres (length balls)) (home_of (all_clusters (coarsening balls k)))
@@ -72,8 +61,7 @@ overlap sparse balls k {n} {cover} x some centred is =
 pub phases_bounded : CoversAreSparse → (balls : List (List ℕ)) (k : ℕ) {n : ℕ} {cover : Cover} → 0 < k
     → AreCentred balls → n ≡ length balls → IsCover n (coarsening balls k) cover → cover.phases ^ k ≤ k ^ k * n
 phases_bounded sparse balls k {n} some centred sized is =
-    subst (λ (m : ℕ). m ^ k ≤ k ^ k * n) (sym is.phases)
-    (subst (λ (m : ℕ). length (coarsening balls k) ^ k ≤ k ^ k * m) (sym sized) (sparse balls k some centred).0)
+    rw is.phases (rw sized (sparse balls k some centred).0)
 
 pub clusters_few : (balls : List (List ℕ)) (k : ℕ) {n : ℕ} {cover : Cover} → 0 < k → AreCentred balls
     → IsCover n (coarsening balls k) cover → length cover.clusters.items ≤ length balls
@@ -116,8 +104,7 @@ home_has_nodes balls k v x left all are waits inside =
     ≡ union_of balls (get_or (all_clusters all) (home_of (all_clusters all) v) no_cluster).homed =
     (all_joined balls k left all are (home_of (all_clusters all) v) no_cluster within).1
     in
-    subst (λ (l : List ℕ). has x l ≡ true) (sym joined)
-    (union_has balls x v (get_or (all_clusters all) (home_of (all_clusters all) v) no_cluster).homed
+    rw joined (union_has balls x v (get_or (all_clusters all) (home_of (all_clusters all) v) no_cluster).homed
     (home_has (all_clusters all) v no_cluster homed) inside)
 
 pub homes_hold : (balls : List (List ℕ)) (k : ℕ) {n : ℕ} {cover : Cover} → 0 < k → AreCentred balls → n ≡ length balls
@@ -137,11 +124,9 @@ homes_hold balls k {n} {cover} some centred size is = λ v h.
     length-map cover.clusters.items (λ (c : Cluster). c.members.members)
     ∙ (ap length is.clusters ∙ length-cluster_list n 0 (coarsening balls k))
     in (
-      subst (λ (i : ℕ). i < length (member_lists cover.clusters.items)) (sym home)
-          (subst (λ (m : ℕ). home_of (all_clusters (coarsening balls k)) v < m) (sym count) within),
-      λ x inside. subst (λ (i : ℕ). has x (get_or (member_lists cover.clusters.items) i []) ≡ true) (sym home)
-          (subst (λ (l : List ℕ). has x l ≡ true)
-          (sym (nodes_at n (home_of (all_clusters (coarsening balls k)) v) (coarsening balls k) is.clusters within))
+      rw home (rw count within),
+      λ x inside. rw home
+          (rw (nodes_at n (home_of (all_clusters (coarsening balls k)) v) (coarsening balls k) is.clusters within)
           (home_has_nodes balls k v x (centres (length balls)) (coarsening balls k) are waits inside)),
     )
 
@@ -185,7 +170,7 @@ module _ (balls : List (List ℕ)) (k n : ℕ) where
   pub clusters_apart : (cover : Cover) → 0 < k → AreCentred balls → IsCover n (coarsening balls k) cover
       → AreApart cover.clusters.items
   clusters_apart cover some centred is =
-      subst (λ (l : List Cluster). AreApart l) (sym is.clusters)
+      rw is.clusters
       (apart_list 0 (centres (length balls)) (coarsening balls k) (coarsening_phases balls k some centred))
 
 pub nothing_in : (xs : List ℕ) → length xs ≤ 0 → xs ≡ []
@@ -211,7 +196,7 @@ homes_found balls k v d some centred below =
 pub covers_sparse : PowersAdd → OnePhase → CoversAreSparse
 covers_sparse adds one_phase balls k some centred =
     let are = coarsening_phases balls k some centred in (
-      subst (λ (m : ℕ). length (coarsening balls k) ^ k ≤ k ^ k * m) (length-centres (length balls))
+      rw (length-centres (length balls)) at
           (phases_few balls k adds one_phase (centres (length balls)) (coarsening balls k) some are),
       λ x. few_have balls k (centres (length balls)) (coarsening balls k) x are,
     )

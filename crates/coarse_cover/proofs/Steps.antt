@@ -1,7 +1,5 @@
 -- What is done, and what the definition gives for the rest.
-use Rattle.std.proofs.Common.{◌≡◌, inl, inr, ℕ, zero, suc, ◌+◌, ◌<◌, ◌≤◌, Bool, true, false, cond, not, ◌&&◌, List, []}
-use Rattle.std.proofs.Common.{◌∷◌, ◌++◌, length, length-append, append_assoc, filter, get_or, map, refl, sym, ◌∙◌, ap}
-use Rattle.std.proofs.Common.{subst, arith}
+use Rattle.std.proofs.Common.{◌≡◌, inl, inr, ℕ, zero, suc, ◌+◌, ◌<◌, ◌≤◌, Bool, true, false, cond, not, ◌&&◌, List, [], ◌∷◌, ◌++◌, length, length-append, append_assoc, filter, get_or, map, refl, sym, ◌∙◌, ap, arith}
 use Rattle.std.proofs.Math.Nat.{le_refl}
 use Rattle.std.proofs.lemmas.Bool.{cases_lt, false≢true, not-true, not_from_false, false_from_ne_true, and_right}
 use Rattle.node_set.specs.Ascending.{has}
@@ -16,8 +14,7 @@ use Rattle.node_set.specs.declared.workspace.Workspace.{Workspace}
 use Rattle.coarse_cover.proofs.Phase.{IsCluster, IsPhase, apart, apart_fewer, cluster_ready, ready_filter, phase_is}
 use Rattle.node_set.specs.Balls.{touches, GrownCluster, is_homed, home_of, centres, AreCentred}
 use Rattle.node_set.specs.FilterLaws.{filter_keeps, filter-has, filter_twice, filter_same, has-filter}
-use Rattle.coarse_cover.proofs.Whole.{ArePhases, phases_are, ready_left, phase_fewer, some_clusters, clusters_within}
-use Rattle.coarse_cover.proofs.Whole.{phases_within}
+use Rattle.coarse_cover.proofs.Whole.{ArePhases, phases_are, ready_left, phase_fewer, some_clusters, clusters_within, phases_within}
 use Rattle.node_set.specs.BallLaws.{length-centres}
 use Rattle.coarse_cover.specs.CoverLaws.{length-cluster_list}
 
@@ -63,9 +60,7 @@ pub phase_of_next : {balls : List (List ℕ)} {k r a : ℕ} {waiting rest : List
     → IsReady balls k r waiting → phase_of balls k r waiting ≡ cluster_of balls k r waiting a ∷ phase_of balls k r
     (apart balls (cluster_of balls k r waiting a).members waiting)
 phase_of_next {balls} {k} {r} {a} leads ready =
-    subst (λ (l : List ℕ). IsReady balls k r l → phase_of balls k r l
-    ≡ cluster_of balls k r l a ∷ phase_of balls k r (apart balls (cluster_of balls k r l a).members l)) (sym leads)
-    (phase_of_lead) ready
+    rw leads (phase_of_lead (rw leads at ready))
 
 phases_none : (balls : List (List ℕ)) (k more : ℕ) → phases balls k more [] ≡ []
 unfolding phases
@@ -180,9 +175,7 @@ agrees_cluster {n} {all} {later} {c} {cs} {left} {before} {after} {home} new_hom
     append_assoc before (as_cluster n p c ∷ [])
         (map (as_cluster n p) cs ++ cluster_list n (suc p) later),
   ) so_far.clusters_so_far;
-  homes_so_far = λ v h. subst (λ (b : Bool).
-      cond b (length after + home_of (cs ++ all_clusters later) v) (get_or new_home v 0) ≡ home_of (all_clusters all) v)
-      (sym (has-filter (λ w. not (has w c.homed)) v left))
+  homes_so_far = λ v h. rw (has-filter (λ w. not (has w c.homed)) v left)
       (home_step (has v left) (has v c.homed) (get_or home v 0) (get_or new_home v 0) (length before) (length after)
       (home_of (cs ++ all_clusters later) v) (home_of (all_clusters all) v) (among v)
       (ap length adds ∙ length-append before (as_cluster n p c ∷ [])) (so_far.homes_so_far v h) (homed v h));
@@ -200,24 +193,17 @@ agrees_phase so_far =
           omega (arith, so_far.phases_so_far);
     }
 
-agrees_as : {n : ℕ} {all later same : List (List GrownCluster)} {left : List ℕ} {clusters : List Cluster}
-    {home : List ℕ} {p : ℕ} → later ≡ same → Agrees n all later left clusters home p
-    → Agrees n all same left clusters home p
-agrees_as {n} {all} {left} {clusters} {home} {p} e so_far =
-    subst (λ (l : List (List GrownCluster)). Agrees n all l left clusters home p) e so_far
-
 -- ---- a phase: its start, its steps, its end
 
 pub in_phase_start : {balls : List (List ℕ)} {k r : ℕ} {waiting left : List ℕ} {clusters : List Cluster} {home : List ℕ}
     {p : ℕ} → IsBetween balls k left clusters home p → 0 < length left → waiting ≡ left → r ≡ length left
     → IsInPhase balls k r waiting left clusters home p
 in_phase_start {balls} {k} {r} {left} {clusters} {home} {p} between some same counted =
-    subst (λ (l : List ℕ). IsInPhase balls k r l left clusters home p) (sym same)
-    (subst (λ (m : ℕ). IsInPhase balls k m left left clusters home p) (sym counted) (record {
+    rw same (rw counted (record {
       ready = between.left_ready;
       left_ready = between.left_ready;
       waiting_left = λ v h. h;
-      so_far = agrees_as (phases_of_next left some between.left_ready) between.so_far;
+      so_far = rw (phases_of_next left some between.left_ready) at between.so_far;
     }))
 
 pub in_phase_end : {balls : List (List ℕ)} {k r : ℕ} {waiting left : List ℕ} {clusters : List Cluster} {home : List ℕ}
@@ -225,16 +211,13 @@ pub in_phase_end : {balls : List (List ℕ)} {k r : ℕ} {waiting left : List �
     → IsBetween balls k left clusters home (suc p)
 in_phase_end {balls} {k} {r} {left} phase none = record {
   left_ready = phase.left_ready;
-  so_far = agrees_phase (agrees_as (ap (λ (cs : List GrownCluster). cs ∷ phases_of balls k (without_home cs left))
-      (ap (phase_of balls k r) none ∙ phase_of_none balls k r) ∙ ap (λ (l : List ℕ). [] ∷ phases_of balls k l)
-      (unhomed_none left)) phase.so_far);
+  so_far = agrees_phase (rw (none, phase_of_none balls k r, unhomed_none left) at phase.so_far);
 }
 
 pub cluster_is : {balls : List (List ℕ)} {k r a : ℕ} {waiting rest : List ℕ} → waiting ≡ a ∷ rest
     → IsReady balls k r waiting → IsCluster balls k r waiting (cluster_of balls k r waiting a)
 cluster_is {balls} {k} {r} {a} leads ready =
-    subst (λ (l : List ℕ). IsReady balls k r l → IsCluster balls k r l (cluster_of balls k r l a)) (sym leads)
-    (cluster_ready) ready
+    rw leads (cluster_ready (rw leads at ready))
 
 first_is : (balls : List (List ℕ)) (k r a : ℕ) (waiting : List ℕ) → (cluster_of balls k r waiting a).first ≡ a
 unfolding cluster_of
@@ -247,8 +230,7 @@ leader_gone {balls} {k} {r} {a} {waiting} leads ready =
     let is : IsCluster balls k r waiting (cluster_of balls k r waiting a) =
     cluster_is leads ready in
     let touched : touches balls (cluster_of balls k r waiting a).members a ≡ true =
-    subst (λ (v : ℕ). touches balls (cluster_of balls k r waiting a).members v ≡ true) (first_is balls k r a waiting)
-    (is.touching (cluster_of balls k r waiting a).first is.leads)
+    rw (first_is balls k r a waiting) at (is.touching (cluster_of balls k r waiting a).first is.leads)
     in
     has-filter (λ v. not (touches balls (cluster_of balls k r waiting a).members v)) a waiting
     ∙ (ap (λ (b : Bool). has a waiting && not b) touched ∙ and_right (has a waiting) false refl)
@@ -277,14 +259,12 @@ in_phase_next {balls} {k} {r} {a} {old} {after} leads phase added =
           (false_from_ne_true (has v (cluster_of balls k r old.waiting.members a).homed) (λ homed.
           false≢true (sym (not-true (touches balls (cluster_of balls k r old.waiting.members a).members v) w.1)
           ∙ is.touching v homed))));
-      so_far = agrees_cluster after.home.items (agrees_as
-          (ap (λ (cs : List GrownCluster). cs ∷ phases_of balls k (without_home cs old.left.members))
-          (phase_of_next leads phase.ready) ∙ ap (λ (l : List ℕ).
-          ((cluster_of balls k r old.waiting.members a)
-          ∷ (phase_of balls k r (apart balls (cluster_of balls k r old.waiting.members a).members old.waiting.members)))
-          ∷ phases_of balls k l) (unhomed_next (cluster_of balls k r old.waiting.members a)
-          (phase_of balls k r (apart balls (cluster_of balls k r old.waiting.members a).members old.waiting.members))
-          old.left.members)) phase.so_far) (λ v h. phase.waiting_left v (is.waits v h)) added.clusters added.homes;
+      so_far = agrees_cluster after.home.items (rw (
+        phase_of_next leads phase.ready,
+        unhomed_next (cluster_of balls k r old.waiting.members a)
+            (phase_of balls k r (apart balls (cluster_of balls k r old.waiting.members a).members old.waiting.members))
+            old.left.members,
+      ) at phase.so_far) (λ v h. phase.waiting_left v (is.waits v h)) added.clusters added.homes;
     })
 
 -- ---- the start and the end of it all
@@ -315,7 +295,7 @@ pub between_start : (balls : List (List ℕ)) (k : ℕ) {left : List ℕ} (home 
     → left ≡ centres (length balls) → IsBetween balls k left [] home 0
 between_start balls k home some centred all = rw all (record {
   left_ready = ready_all balls k some centred;
-  so_far = agrees_as (sym (coarsening_is balls k)) (record {
+  so_far = rw (coarsening_is balls k) (record {
     clusters_so_far = refl;
     homes_so_far = λ v h. rw (has-passing (λ w. true) v 0 (length balls) (omega arith) (omega arith)) (omega arith);
     phases_so_far = omega arith;
@@ -360,6 +340,5 @@ none_next {balls} {k} {r} {a} {old} leads ready gone none v h =
           ∙ ap (λ (b : Bool). b && not (touches balls (cluster_of balls k r old a).members v)) (none v before)
       | inr here ↦
           let same : v ≡ a = omega arith in
-          subst (λ (u : ℕ). has u (apart balls (cluster_of balls k r old a).members old) ≡ false) (sym same)
-          (leader_gone leads ready)
+          rw same (leader_gone leads ready)
     ]

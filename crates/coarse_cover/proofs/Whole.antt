@@ -1,6 +1,6 @@
 -- All phases: how many they are, that each ball finds a home, and how many clusters a node is in.
-use Rattle.std.proofs.Common.{◌≡◌, inl, inr, ℕ, zero, suc, ◌+◌, ◌-◌, ◌*◌, ◌^◌, ◌<◌, ◌≤◌, Bool, true, false, cond, not}
-use Rattle.std.proofs.Common.{List, [], ◌∷◌, ◌++◌, length, length-append, filter, refl, ap, subst, arith}
+use Rattle.node_set.specs.HomeLaws.{homed_cases, homed_here, homed_later}
+use Rattle.std.proofs.Common.{◌≡◌, inl, inr, ℕ, zero, suc, ◌+◌, ◌-◌, ◌*◌, ◌^◌, ◌<◌, ◌≤◌, true, cond, not, List, [], ◌∷◌, ◌++◌, length, length-append, filter, refl, ap, subst, arith}
 use Rattle.std.specs.Prelude.{count_by, All}
 use Rattle.std.proofs.Math.Nat.{le_refl}
 use Rattle.std.proofs.lemmas.List.Elements.{All-nil, All-append}
@@ -13,8 +13,7 @@ use Rattle.coarse_cover.specs.Coarsening.{phase, without_home, phases, all_clust
 use Rattle.coarse_cover.specs.HalfMade.{IsReady}
 use Rattle.node_set.specs.Balls.{GrownCluster, IsShaped, is_homed}
 use Rattle.node_set.specs.FilterLaws.{filter-has, filter_halves, filter_fewer}
-use Rattle.coarse_cover.proofs.Phase.{IsPhase, ready_filter, phase_is, phase_size, phase_count, phase_once}
-use Rattle.coarse_cover.proofs.Phase.{phase_joined}
+use Rattle.coarse_cover.proofs.Phase.{IsPhase, ready_filter, phase_is, phase_size, phase_count, phase_once, phase_joined}
 
 -- the lists are those of the phases of the balls that are left
 abbrev pub ArePhases : List (List ℕ) → ℕ → List ℕ → List (List GrownCluster) → Type 0
@@ -80,8 +79,7 @@ module _ (balls : List (List ℕ)) (k : ℕ) where
       ≡ length left - length (filter (is_homed cs) left) = omega (arith, filter_halves (is_homed cs) left) in
       one_phase k (length left) (length (filter (is_homed cs) left)) (length later) pos
       (omega (arith, are.0, phase_fewer balls k (length left) left cs are.1)) (filter_fewer (is_homed cs) left)
-      (phase_size balls k (length left) adds left cs pos are.1)
-      (subst (λ (n : ℕ). length later ^ k ≤ k ^ k * n) rest
+      (phase_size balls k (length left) adds left cs pos are.1) (rw rest at
       (phases_few adds one_phase (without_home cs left) later pos are.2))
 
   pub phases_within : (left : List ℕ) (all : List (List GrownCluster)) → ArePhases balls k left all
@@ -112,21 +110,15 @@ module _ (balls : List (List ℕ)) (k : ℕ) where
   homed_front : (cs ds : List GrownCluster) (v : ℕ) → is_homed cs v ≡ true → is_homed (cs ++ ds) v ≡ true
   unfolding is_homed
   homed_front [] ds v h = absurd (false≢true h)
-  homed_front (c ∷ cs) ds v h = at (has v c.homed) h (homed_front cs ds v)
-    where
-      at : (b : Bool) → cond b true (is_homed cs v) ≡ true → (is_homed cs v ≡ true → is_homed (cs ++ ds) v ≡ true)
-          → cond b true (is_homed (cs ++ ds) v) ≡ true
-      at true h rest = refl
-      at false h rest = rest h
+  homed_front (c ∷ cs) ds v h = elim (homed_cases c cs v h) [
+    | inl here ↦ homed_here c (cs ++ ds) v here
+    | inr later ↦ homed_later c (cs ++ ds) v (homed_front cs ds v later)
+  ]
 
   homed_end : (cs ds : List GrownCluster) (v : ℕ) → is_homed ds v ≡ true → is_homed (cs ++ ds) v ≡ true
   unfolding is_homed
   homed_end [] ds v h = h
-  homed_end (c ∷ cs) ds v h = at (has v c.homed) (homed_end cs ds v h)
-    where
-      at : (b : Bool) → is_homed (cs ++ ds) v ≡ true → cond b true (is_homed (cs ++ ds) v) ≡ true
-      at true rest = refl
-      at false rest = rest
+  homed_end (c ∷ cs) ds v h = homed_later c (cs ++ ds) v (homed_end cs ds v h)
 
   pub all_homed : (left : List ℕ) (all : List (List GrownCluster)) → ArePhases balls k left all → (v : ℕ) → has v left
       ≡ true → is_homed (all_clusters all) v ≡ true

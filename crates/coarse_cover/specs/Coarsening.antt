@@ -4,11 +4,9 @@
 -- `home_means` (each ball finds a home), `covers_are_sparse` (few clusters overlap), and the
 -- clauses of `coarsen`: `apart` (clusters of one phase are disjoint), `homes` (each ball lies in
 -- its home).
-use Rattle.std.specs.Prelude.{◌≡◌, ℕ, zero, suc, ◌*◌, ◌^◌, ◌<◌, Bool, true, not, List, [], ◌∷◌, slice_index_or}
-use Rattle.std.specs.Prelude.{◌++◌, ◌≤◌, count_by, length, filter, nat_le, All}
+use Rattle.std.specs.Prelude.{◌≡◌, ℕ, zero, suc, ◌*◌, ◌^◌, ◌<◌, Bool, true, not, List, [], ◌∷◌, slice_index_or, ◌++◌, ◌≤◌, count_by, length, filter, nat_le, All}
 use Rattle.node_set.specs.Ascending.{has}
-use Rattle.node_set.specs.Balls.{centres, AreCentred, union_of, touches, growth, least}
-use Rattle.node_set.specs.Balls.{GrownCluster, IsShaped, is_homed, home_of}
+use Rattle.node_set.specs.Balls.{centres, AreCentred, union_of, touches, growth, least, GrownCluster, IsShaped, is_homed, home_of}
 
 -- whether j growths are enough: one more would not multiply the number of balls, to the power k, by
 -- more than r

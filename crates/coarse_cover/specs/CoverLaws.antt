@@ -1,8 +1,7 @@
 -- Short laws of the clusters of a cover, one after another.
 -- Key laws: `length-cluster_list` (as many as the phases have), `cluster_list_nodes` (their nodes
 -- are those of the clusters of the phases), `count_lists` (how many have a node).
-use Rattle.std.proofs.Common.{◌≡◌, ℕ, suc, List, [], ◌∷◌, ◌++◌, length, length-append, map, refl}
-use Rattle.std.proofs.Common.{sym, ◌∙◌, ap, arith, ◌+◌, cond}
+use Rattle.std.proofs.Common.{◌≡◌, ℕ, suc, List, [], ◌∷◌, ◌++◌, length, length-append, map, refl, sym, ◌∙◌, ap, arith, ◌+◌, cond}
 use Rattle.std.specs.List.{count_by, sum_by}
 use Rattle.std.proofs.lemmas.List.Sums.{sum_by-cons}
 use Rattle.node_set.specs.Ascending.{has}

@@ -2,8 +2,7 @@
 -- the balls that are left, is what it gives for all. Only the private functions of this crate speak
 -- of it.
 -- Key law: `make_phase` keeps that the cover is between two phases (`IsBetween`).
-use Rattle.std.specs.Prelude.{◌≡◌, ℕ, ◌+◌, ◌<◌, ◌≤◌, true, cond, not, List, [], ◌∷◌, ◌++◌, length, slice_index}
-use Rattle.std.specs.Prelude.{filter}
+use Rattle.std.specs.Prelude.{◌≡◌, ℕ, ◌+◌, ◌<◌, ◌≤◌, true, cond, not, List, [], ◌∷◌, ◌++◌, length, slice_index, filter}
 use Rattle.node_set.specs.Ascending.{has, IsAscending}
 use Rattle.coarse_cover.specs.Coarsening.{phase, phases, without_home, all_clusters, coarsening}
 use Rattle.coarse_cover.specs.Covers.{cluster_list, as_cluster}

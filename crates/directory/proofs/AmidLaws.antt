@@ -8,9 +8,8 @@ use Rattle.directory.specs.Settings.{Setting, start}
 use Rattle.directory.specs.Courses.{Step, Course, course_at, after_step, after_steps, MaySteps}
 use Rattle.directory.specs.Writes.{Write, visit_of, step_writes, writes, visits}
 use Rattle.directory.specs.Puts.{steps_from, steps_in}
-use Rattle.directory.specs.Amid.{IsAmid}
 use Rattle.directory.specs.Statements.{LegalIsAmid, StepsBeginAtRest}
-use Rattle.directory.proofs.StepLaws.{IsCourse, course-after, one-begun, begun, next-decided, nothing-taken, AreBegun}
+use Rattle.directory.proofs.StepLaws.{IsCourse, course-after, one-begun, begun, next-decided, nothing-taken}
 use Rattle.directory.specs.StepLaws.{steps-append, take-append, visits_in, take-more}
 use Rattle.std.proofs.lemmas.Bool.{cases_lt}
 
@@ -98,12 +97,10 @@ amid unpacks setting sub course steps k sound may = record {
 }
 
 pub legal-amid : MarksUnpack → LegalIsAmid
-legal-amid unpacks setting sub puts low legal = told (amid unpacks setting sub (course_at (start setting sub))
-    (steps_in puts) (length puts) (record { low = low; inside = legal.script.begins; few = omega arith })
-    legal.script.allowed)
-  where
-    told : AreAmid setting sub (course_at (start setting sub)) (steps_in puts) (length puts) → IsAmid setting sub puts
-    told far = record {
+legal-amid unpacks setting sub puts low legal =
+    let far = amid unpacks setting sub (course_at (start setting sub)) (steps_in puts) (length puts)
+    (record { low = low; inside = legal.script.begins; few = omega arith }) legal.script.allowed in
+    record {
       before = far.before;
       under = far.under;
       made = far.made;
@@ -114,34 +111,24 @@ legal-amid unpacks setting sub puts low legal = told (amid unpacks setting sub (
       writes = far.front;
     }
 
-length-front : (xs ys : List Visit) → xs ≡ take (length xs) ys → length xs ≤ length ys
-length-front xs ys h = omega (arith, ap length h, length-take (length xs) ys)
-
 -- a put that begins a step comes where the steps before are done
 pub begins-at_rest : MarksUnpack → StepsBeginAtRest
 unfolding steps_from
-begins-at_rest unpacks setting sub puts visit step low legal legal_more begins = at_cases
-    (cases_lt (length puts) (length (visits setting sub (steps_in puts))))
-  where
-    longer : steps_in (puts ++ visit ∷ []) ≡ steps_in puts ++ step ∷ []
-    longer = steps-append false puts (visit ∷ []) ∙ ap (λ o. steps_in puts ++ cons_option o []) begins
-
-    at_cases : (length puts < length (visits setting sub (steps_in puts)))
-        ⊎ (length (visits setting sub (steps_in puts)) ≤ length puts)
-        → length puts ≡ length (visits setting sub (steps_in puts))
-    at_cases (inr done) = omega (arith, done, length-front puts (visits setting sub (steps_in puts)) legal.front)
-    at_cases (inl left) = absurd (clash (begun unpacks setting sub (course_at (start setting sub)) (steps_in puts)
-        (suc (length puts)) (record { low = low; inside = legal.script.begins; few = omega arith })
-        legal.script.allowed))
-      where
-        due : puts ++ visit ∷ [] ≡ take (suc (length puts)) (visits setting sub (steps_in puts))
-        due = ap (λ xs. xs ++ visit ∷ []) legal.front ∙ sym (take-more (visits setting sub (steps_in puts))
-            (length puts) visit (next-decided setting sub puts visit left legal_more))
-
-        clash : AreBegun setting sub (course_at (start setting sub)) (steps_in puts) (suc (length puts)) → ⊥
-        clash first = omega (
-          arith,
-          ap length (sym longer ∙ (ap (steps_from false) due ∙ first.shown)),
-          length_push (steps_in puts) step,
-          length-take first.count (steps_in puts),
-        )
+begins-at_rest unpacks setting sub puts visit step low legal legal_more begins =
+    let whole = visits setting sub (steps_in puts) in
+    elim (cases_lt (length puts) (length whole)) [
+      | inr done ↦ omega (arith, done, ap length legal.front, length-take (length puts) whole)
+      | inl left ↦
+          let longer : steps_in (puts ++ visit ∷ []) ≡ steps_in puts ++ step ∷ [] =
+          steps-append false puts (visit ∷ []) ∙ ap (λ o. steps_in puts ++ cons_option o []) begins in
+          let due : puts ++ visit ∷ [] ≡ take (suc (length puts)) whole = ap (λ xs. xs ++ visit ∷ []) legal.front
+          ∙ sym (take-more whole (length puts) visit (next-decided setting sub puts visit left legal_more)) in
+          let first = begun unpacks setting sub (course_at (start setting sub)) (steps_in puts) (suc (length puts))
+          (record { low = low; inside = legal.script.begins; few = omega arith }) legal.script.allowed in
+          absurd (omega (
+            arith,
+            ap length (sym longer ∙ (ap (steps_from false) due ∙ first.shown)),
+            length_push (steps_in puts) step,
+            length-take first.count (steps_in puts),
+          ))
+    ]

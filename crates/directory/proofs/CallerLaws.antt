@@ -18,14 +18,13 @@ use Rattle.directory.specs.StepLaws.{by_fronts, own-push}
 use Rattle.directory.specs.HistoryLaws.{next-caller}
 
 -- the most looks that a caller still makes
-unfoldable pub left_of : Setting → List FindCall → Pursuit → ℕ
+abbrev pub left_of : Setting → List FindCall → Pursuit → ℕ
 left_of setting [] pursuit = 0
 left_of setting (call ∷ later) pursuit = looks_left setting call pursuit + sum_by
     (λ (c : FindCall). most_looks setting c.from) later
 
 pub left_at_origin : (setting : Setting) (calls : List FindCall)
     → left_of setting calls at_origin ≡ sum_by (λ (c : FindCall). most_looks setting c.from) calls
-unfolding left_of
 left_at_origin setting [] = refl
 left_at_origin setting (call ∷ later) = sym (sum_by-cons (λ (c : FindCall). most_looks setting c.from) call later)
 
@@ -34,7 +33,6 @@ pursuit_left : (setting : Setting) (caller : Caller) (call : FindCall) (later : 
     → left_of setting (with_pursuit caller call later pursuit answer).calls
     (with_pursuit caller call later pursuit answer).pursuit
     ≤ looks_left setting call pursuit + sum_by (λ (c : FindCall). most_looks setting c.from) later
-unfolding left_of
 pursuit_left setting caller call later pursuit None same =
     subst (λ calls. left_of setting calls pursuit ≤ looks_left setting call pursuit + sum_by
     (λ (c : FindCall). most_looks setting c.from) later) (sym same) (omega arith)
@@ -45,7 +43,6 @@ pub read_left : (setting : Setting) (caller : Caller) (calls : List FindCall) (w
     → caller.calls ≡ calls → key_in calls caller.pursuit ≡ Some key
     → left_of setting (read_by setting caller calls word).calls
     (read_by setting caller calls word).pursuit < left_of setting calls caller.pursuit
-unfolding left_of
 read_left setting caller [] word key same h = cc
 read_left setting caller (call ∷ later) word key same h =
     omega (

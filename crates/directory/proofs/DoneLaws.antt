@@ -1,10 +1,10 @@
 -- A subscriber whose script is done has nothing left to put.
-use Rattle.std.proofs.Common.{◌≡◌, ◌≤◌, ◌<◌, ◌^◌, ◌++◌, ◌∷◌, ℕ, [], List, length, take, drop, refl, sym, ap, ◌∙◌, arith, append-nil, length-append}
+use Rattle.std.proofs.Common.{◌≡◌, ◌+◌, ◌≤◌, ◌<◌, ◌^◌, ◌++◌, ◌∷◌, ℕ, [], List, length, take, drop, refl, sym, ap, ◌∙◌, arith, append-nil, length-append}
 use Rattle.std.proofs.lemmas.List.{drop_all, length-take, take-append-drop, take_all}
 use Rattle.entry_word.specs.Marks.{MarksUnpack}
 use Rattle.directory.specs.Settings.{Setting, start, subs}
 use Rattle.directory.specs.Histories.{History, puts_to}
-use Rattle.directory.specs.Courses.{after_steps, Course, course_at, Step, move_to, switch_off, switch_on}
+use Rattle.directory.specs.Courses.{after_steps, Course, course_at, Step, move_to}
 use Rattle.directory.specs.Writes.{visits, writes}
 use Rattle.directory.specs.Puts.{puts_left, steps_in}
 use Rattle.directory.specs.Orders.{AreValid, IsDone, IsPlayed, script_visits, Scripts, steps_of}
@@ -14,27 +14,21 @@ use Rattle.directory.proofs.StepLaws.{AreBegun, begun}
 use Rattle.directory.proofs.NextLaws.{played-puts}
 use Rattle.directory.proofs.StepsMade.{own-all}
 
--- the visits of a front of some steps are no more than theirs
-fewer-visits : (setting : Setting) (sub : ℕ) (course : Course) (steps : List Step) (k : ℕ)
-    → length (visits_in setting sub course (take k steps)) ≤ length (visits_in setting sub course steps)
-fewer-visits setting sub course steps k =
-    let parted : visits_in setting sub course steps ≡ _ =
-    ap (visits_in setting sub course) (sym (take-append-drop k steps))
-    ∙ visits-append setting sub course (take k steps) (drop k steps) in
-    omega (
-      arith,
-      ap length parted,
-      length-append (visits_in setting sub course (take k steps))
-          (visits_in setting sub (after_steps setting course (take k steps)) (drop k steps)),
-    )
+-- the visits of some steps are those of a front of them, and those of the others
+parted : (setting : Setting) (sub : ℕ) (course : Course) (steps : List Step) (k : ℕ)
+    → length (visits_in setting sub course steps) ≡ length (visits_in setting sub course (take k steps)) + length
+    (visits_in setting sub (after_steps setting course (take k steps)) (drop k steps))
+parted setting sub course steps k =
+    ap (λ xs. length (visits_in setting sub course xs)) (sym (take-append-drop k steps))
+    ∙ (ap length (visits-append setting sub course (take k steps) (drop k steps))
+    ∙ length-append (visits_in setting sub course (take k steps)) _)
 
 -- each step has a visit
 some-visit : (setting : Setting) (sub : ℕ) (course : Course) (step : Step) (steps : List Step)
     → 1 ≤ length (visits_in setting sub course (step ∷ steps))
 unfolding writes
 some-visit setting sub course (move_to node) steps = omega arith
-some-visit setting sub course switch_off steps = omega arith
-some-visit setting sub course switch_on steps = omega arith
+some-visit setting sub course _ steps = omega arith
 
 no-steps : (setting : Setting) (sub : ℕ) (course : Course) (steps : List Step)
     → length (visits_in setting sub course steps) ≡ 0 → steps ≡ []
@@ -47,16 +41,8 @@ whole-front : (setting : Setting) (sub : ℕ) (course : Course) (steps : List St
     → length (visits_in setting sub course steps) ≤ length (visits_in setting sub course (take k steps))
     → take k steps ≡ steps
 whole-front setting sub course steps k all =
-    let parted : visits_in setting sub course steps ≡ _ =
-    ap (visits_in setting sub course) (sym (take-append-drop k steps))
-    ∙ visits-append setting sub course (take k steps) (drop k steps) in
-    let none : length (visits_in setting sub (after_steps setting course (take k steps)) (drop k steps)) ≡ 0 = omega (
-      arith,
-      all,
-      ap length parted,
-      length-append (visits_in setting sub course (take k steps))
-          (visits_in setting sub (after_steps setting course (take k steps)) (drop k steps)),
-    ) in
+    let none : length (visits_in setting sub (after_steps setting course (take k steps)) (drop k steps)) ≡ 0 =
+    omega (arith, all, parted setting sub course steps k) in
     sym (append-nil (take k steps))
     ∙ (ap (λ more. take k steps ++ more)
     (sym (no-steps setting sub (after_steps setting course (take k steps)) (drop k steps) none))
@@ -90,34 +76,22 @@ front-shown setting scripts sub first =
 
 pub done-rests : MarksUnpack → DoneIsRest
 done-rests unpacks setting scripts history sub low valid known played done =
+    let first = all-begun unpacks setting scripts sub low valid known in
+    let course = course_at (start setting sub) in
     ap (puts_left setting sub) (all-put setting scripts history sub known played done)
-    ∙ at_begun (all-begun unpacks setting scripts sub low valid known)
-  where
-    at_begun : AreBegun setting sub (course_at (start setting sub)) (steps_of scripts sub)
-        (length (script_visits setting scripts sub)) → puts_left setting sub (script_visits setting scripts sub) ≡ []
-    at_begun first =
-        ap (λ steps. drop (length (script_visits setting scripts sub)) (visits setting sub steps))
-        (front-shown setting scripts sub first)
-        ∙ drop_all (length (script_visits setting scripts sub))
-        (visits setting sub (take first.count (steps_of scripts sub)))
-        (fewer-visits setting sub (course_at (start setting sub)) (steps_of scripts sub) first.count)
+    ∙ (ap (λ steps. drop (length (script_visits setting scripts sub)) (visits setting sub steps))
+    (front-shown setting scripts sub first)
+    ∙ drop_all (length (script_visits setting scripts sub))
+    (visits setting sub (take first.count (steps_of scripts sub)))
+    (omega (arith, parted setting sub course (steps_of scripts sub) first.count)))
 
 pub done-shows : MarksUnpack → DoneShowsScript
 done-shows unpacks setting scripts history sub low valid known played done =
+    let first = all-begun unpacks setting scripts sub low valid known in
+    let own = script_visits setting scripts sub in
+    let front = visits setting sub (take first.count (steps_of scripts sub)) in
+    let same : own ≡ take (length own) front = sym (take_all (length own) own (omega arith)) ∙ first.enough in
     ap steps_in (all-put setting scripts history sub known played done)
-    ∙ at_begun (all-begun unpacks setting scripts sub low valid known)
-  where
-    at_begun : AreBegun setting sub (course_at (start setting sub)) (steps_of scripts sub)
-        (length (script_visits setting scripts sub))
-        → steps_in (script_visits setting scripts sub) ≡ steps_of scripts sub
-    at_begun first =
-        let same : script_visits setting scripts sub
-        ≡ take (length (script_visits setting scripts sub))
-        (visits setting sub (take first.count (steps_of scripts sub))) =
-        sym (take_all (length (script_visits setting scripts sub)) (script_visits setting scripts sub) (omega arith))
-        ∙ first.enough in
-        let fewer = length-take (length (script_visits setting scripts sub))
-        (visits setting sub (take first.count (steps_of scripts sub))) in
-        front-shown setting scripts sub first
-        ∙ whole-front setting sub (course_at (start setting sub)) (steps_of scripts sub) first.count
-        (omega (arith, ap length same, fewer))
+    ∙ (front-shown setting scripts sub first
+    ∙ whole-front setting sub (course_at (start setting sub)) (steps_of scripts sub) first.count
+    (omega (arith, ap length same, length-take (length own) front)))

@@ -12,6 +12,7 @@ use Rattle.directory.specs.Parts.{AreNothing, climb_weight, lead, known_after, L
 use Rattle.directory.specs.declared.answers.Found.{Found}
 use Rattle.directory.specs.declared.answers.Found.TheVariants.{At}
 use Rattle.directory.specs.Statements.{LooksFall}
+use Rattle.directory.proofs.Tests.{both_ways}
 
 -- an answer stays
 pub ended-stays : (setting : Setting) (call : FindCall) (found : Found) (words : List ℕ)
@@ -59,8 +60,7 @@ pub chase-hops : (setting : Setting) (call : FindCall) (known last_known level :
       known = known;
       level = level;
       weight = weight;
-      hops_left =
-          length words + hops;
+      hops_left = length words + hops;
     }) node) words
     ≡ chases (record { known = last_known; level = level; weight = weight + way; hops_left = hops }) last
 unfolding LeadOn
@@ -94,12 +94,9 @@ mark-left : (setting : Setting) (call : FindCall) (chase : Chase) (node : ℕ) (
     → looks_left setting call (after_mark setting chase node mark) ≤ chase.hops_left
 mark-left setting call chase node (Gone number to) = hop-left setting call
     (known_with number chase.known) chase.level chase.weight chase.hops_left node to
-mark-left setting call chase node (Coming number from) = at_test (is_known number chase.known)
-  where
-    at_test : (b : Bool) → looks_left setting call (cond b (ended (At node number chase.level chase.weight))
-        (hop setting chase.known chase.level chase.weight chase.hops_left node from)) ≤ chase.hops_left
-    at_test true = omega arith
-    at_test false = hop-left setting call chase.known chase.level chase.weight chase.hops_left node from
+mark-left setting call chase node (Coming number from) =
+    both_ways (λ pursuit. looks_left setting call pursuit ≤ chase.hops_left) (is_known number chase.known) (omega arith)
+    (hop-left setting call chase.known chase.level chase.weight chase.hops_left node from)
 mark-left setting call chase node mark = omega arith
 
 entry-left : (setting : Setting) (call : FindCall) (known : Option ℕ) (weight : ℕ) (reader : Reader)

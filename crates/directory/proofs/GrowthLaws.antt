@@ -42,8 +42,7 @@ more_turns setting scripts history actor few many h done =
 
 pub turns-end : TurnsEndAlike
 turns-end setting scripts history actor k played done =
-    elim (cases_lt k (most_turns setting scripts actor)) as (λ _. after_turns setting scripts history
-    (replicate k actor) ≡ after_turns setting scripts history (replicate (most_turns setting scripts actor) actor)) [
+    elim (cases_lt k (most_turns setting scripts actor)) [
       | inl low ↦ sym (more_turns setting scripts history actor k (most_turns setting scripts actor)
           (omega arith) done)
       | inr high ↦ more_turns setting scripts history actor (most_turns setting scripts actor) k high

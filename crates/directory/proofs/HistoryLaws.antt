@@ -1,5 +1,5 @@
 -- Histories, courses and commits, one more at the end; and that being legal has one proof.
-use Rattle.std.proofs.Common.{◌≡◌, ℕ, Bool, true, false, cond, ◌==◌, List, [], ◌∷◌, ◌++◌, refl, ap, ◌∙◌, append_assoc}
+use Rattle.std.proofs.Common.{◌≡◌, ℕ, true, false, cond, ◌==◌, List, [], ◌∷◌, ◌++◌, refl, ap, ◌∙◌, append_assoc}
 use Rattle.std.specs.Prelude.{nat_le, if◌then◌else◌, filter_map}
 use Rattle.std.specs.List.{cons_option}
 use Rattle.std.proofs.lemmas.List.Sums.{fold-append}
@@ -50,9 +50,6 @@ commits-after sub history visit =
     ap (filter_map (λ (v : Visit). commit_of (node_put v.act) (mark_put v.act))) (puts-push sub history visit)
     ∙ (filter_map-append (λ (v : Visit). commit_of (node_put v.act) (mark_put v.act)) (puts_to sub history)
     (cond (is_put_for sub visit.act) (visit ∷ []) [])
-    ∙ ap (λ cs. commits sub history ++ cs) (at_test (is_put_for sub visit.act)))
-  where
-    at_test : (b : Bool) → filter_map (λ (v : Visit). commit_of (node_put v.act) (mark_put v.act))
-        (cond b (visit ∷ []) []) ≡ cond b (cons_option (commit_of (node_put visit.act) (mark_put visit.act)) []) []
-    at_test true = refl
-    at_test false = refl
+    ∙ ap (λ cs. commits sub history ++ cs) (elim (is_put_for sub visit.act)
+    as (λ b. filter_map (λ (v : Visit). commit_of (node_put v.act) (mark_put v.act)) (cond b (visit ∷ []) [])
+    ≡ cond b (cons_option (commit_of (node_put visit.act) (mark_put visit.act)) []) []) [ true ↦ refl | false ↦ refl ]))

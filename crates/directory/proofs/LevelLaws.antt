@@ -13,15 +13,15 @@ use Rattle.directory.proofs.HistoryLaws.{base-after}
 use Rattle.directory.specs.StepLaws.{highest-low}
 use Rattle.node_set.specs.SetLaws.{length-passing-le}
 use Rattle.directory.specs.Statements.{MovesAreShort}
+use Rattle.directory.proofs.Tests.{both_ways}
 
 -- moves are numbered one after another
-unfoldable pub AreNumbered : ℕ → List Move → Type 0
+abbrev pub AreNumbered : ℕ → List Move → Type 0
 AreNumbered n [] = Unit {0}
 AreNumbered n (move ∷ later) = (move.number ≡ suc n) × AreNumbered (suc n) later
 
 numbered-append : (n : ℕ) (moves : List Move) (move : Move) → move.number ≡ suc (n + length moves)
     → AreNumbered n moves → AreNumbered n (moves ++ move ∷ [])
-unfolding AreNumbered
 numbered-append n [] move h f = (h ∙ (let e : suc (n + 0) ≡ suc n = omega arith in e), tt)
 numbered-append n (first ∷ later) move h f = (
   f.0,
@@ -39,17 +39,13 @@ numbered-steps setting course (step ∷ steps) f = numbered-steps setting (after
 
 base-low : (level n low : ℕ) (moves : List Move) → low ≤ n → AreNumbered n moves
     → fold (λ last (m : Move). cond (nat_le level m.renewed) m.number last) low moves ≤ n + length moves
-unfolding AreNumbered
 base-low level n low [] h f = omega (arith, h)
 base-low level n low (move ∷ later) h f =
     let step : fold (λ last (m : Move). cond (nat_le level m.renewed) m.number last)
     (cond (nat_le level move.renewed) move.number low) later ≤ suc n + length later =
     base-low level (suc n) (cond (nat_le level move.renewed) move.number low) later
-    (at_test (nat_le level move.renewed)) f.1 in omega (arith, step)
-  where
-    at_test : (b : Bool) → cond b move.number low ≤ suc n
-    at_test true = omega (arith, f.0)
-    at_test false = omega (arith, h)
+    (both_ways (λ k. k ≤ suc n) (nat_le level move.renewed) (omega (arith, f.0)) (omega (arith, h))) f.1 in
+    omega (arith, step)
 
 base-few : (level : ℕ) (course : Course) → AreNumbered 0 course.moves
     → base level course.moves ≤ length course.moves
@@ -113,7 +109,6 @@ pub gathered_by_move : (setting : Setting) (first : ℕ) (steps : List Step) (no
     (gathered_weight (course_of setting first steps) level + setting.distance
     (fold (λ n (m : Move). m.to) (course_of setting first steps).start (course_of setting first steps).moves)
     node)
-unfolding AreNumbered
 gathered_by_move setting first steps node level = gathered-after setting (course_of setting first steps) node level
     (numbered-steps setting (course_at first) steps tt)
 
@@ -121,25 +116,20 @@ pub address_by_move : (setting : Setting) (first : ℕ) (steps : List Step) (nod
     → address_node (after_step setting (course_of setting first steps) (move_to node)) level
     ≡ cond (nat_le level (next_move setting (course_of setting first steps) node).renewed) node
     (address_node (course_of setting first steps) level)
-unfolding AreNumbered
 address_by_move setting first steps node level = address-after setting (course_of setting first steps) node level
     (numbered-steps setting (course_at first) steps tt)
 
 purging-short : (setting : Setting) (course : Course) (move : Move)
     → length (purge_writes setting course move) ≤ setting.nodes
-purging-short setting course move = at_test (move.renewed == setting.top)
-  where
-    kept : ℕ → Bool
-    kept node = has node (trail setting course move) && not (node == move.to)
-
-    at_test : (b : Bool) → length (cond b (map (λ node. mark_at node Empty) (sift kept 0 setting.nodes)) []) ≤
-        setting.nodes
-    at_test true = omega (
+purging-short setting course move =
+    both_ways (λ ws. length ws ≤ setting.nodes) (move.renewed == setting.top) (omega (
       arith,
       length-map (sift kept 0 setting.nodes) (λ node. mark_at node Empty),
       length-passing-le kept 0 setting.nodes,
-    )
-    at_test false = omega arith
+    )) (omega arith)
+  where
+    kept : ℕ → Bool
+    kept node = has node (trail setting course move) && not (node == move.to)
 
 pub move-short : MovesAreShort
 move-short setting course node =

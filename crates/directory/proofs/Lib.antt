@@ -1,3 +1,4 @@
+mod Tests
 mod StepLaws
 mod FindLaws
 mod HistoryLaws

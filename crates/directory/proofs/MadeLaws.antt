@@ -11,7 +11,7 @@ use Rattle.directory.specs.Looks.{last_of}
 use Rattle.directory.specs.Orders.{Scripts, finds_of, Answer, caller_in, IsPlayed}
 use Rattle.directory.specs.Outcomes.{sub_lines, found_line, answer_line, caller_lines, IsFindLine, IsMade}
 use Rattle.directory.specs.declared.answers.Found.{Found}
-use Rattle.directory.specs.declared.answers.Found.TheVariants.{At, Off as OffAt, Again}
+use Rattle.directory.specs.declared.answers.Found.TheVariants.{At}
 use Rattle.directory.specs.Statements.{LinesAreMade, FindsFollow}
 use Rattle.directory.proofs.StepsMade.{sub_made}
 use Rattle.directory.proofs.UnderWay.{IsAnswered, seen_of, under_way}
@@ -40,8 +40,7 @@ find_made : (setting : Setting) (scripts : Scripts) (history : History) (actor f
     → IsFindLine setting scripts history actor call (found_line actor call found first last)
     → IsMade setting scripts history (found_line actor call found first last)
 find_made setting scripts history actor first last call (At node number level weight) h = h
-find_made setting scripts history actor first last call (OffAt node number level weight) h = h
-find_made setting scripts history actor first last call (Again why weight) h = h
+find_made setting scripts history actor first last call _ h = h
 
 answers_made : (setting : Setting) (scripts : Scripts) (history : History) (actor : ℕ) (ticketed : List ℕ)
     (done : List FindCall) (answers : List Answer) (left : List FindCall)

@@ -26,12 +26,11 @@ write-puts : (sub s : ℕ) (write : Write) → is_put_for s (visit_of sub write)
 write-puts sub s (mark_at node mark) = refl
 write-puts sub s (entry_at level cluster address) = refl
 
-IsOwn : ℕ → ℕ → Visit → Type 0
+abbrev IsOwn : ℕ → ℕ → Visit → Type 0
 IsOwn sub s visit = (visit.actor ≡ sub) × (is_put_for s visit.act ≡ (sub == s))
 
 slice_get-of_map : (sub s : ℕ) (writes : List Write) (i : ℕ) (visit : Visit)
     → slice_get (map (visit_of sub) writes) i ≡ Some visit → IsOwn sub s visit
-unfolding IsOwn
 slice_get-of_map sub s [] i visit h = cc
 slice_get-of_map sub s (write ∷ writes) zero visit h =
     let e : visit_of sub write ≡ visit = cc in
@@ -46,9 +45,8 @@ look-next actor (Some key) visit h = (key, cc)
 -- the next visit of an actor is its own
 pub next-actor : (setting : Setting) (scripts : Scripts) (history : History) (actor : ℕ) (visit : Visit)
     → next setting scripts history actor ≡ Some visit → visit.actor ≡ actor
-unfolding IsOwn
 next-actor setting scripts history actor visit h =
-    elim (cases_lt actor (subs setting)) as (λ _. visit.actor ≡ actor) [
+    elim (cases_lt actor (subs setting)) [
       | inl low ↦ (slice_get-of_map actor 0 _ (length (own actor history)) visit
           (sym (next-sub setting scripts history actor low) ∙ h)).0
       | inr high ↦ let found = look-next actor (next_key (caller_in setting scripts history actor)) visit
@@ -84,8 +82,7 @@ kept_by_play setting scripts P more (actor ∷ order) history now =
 -- a next visit keeps that each visit was its actor's next one
 pub played-push : MoreIsPlayed
 played-push setting scripts history actor visit e played ticket found h =
-    elim (cases_lt ticket (length history)) as (λ _. next setting scripts
-    (take ticket (history ++ visit ∷ [])) found.actor ≡ Some found) [
+    elim (cases_lt ticket (length history)) [
       | inl low ↦ rw (take-append-le ticket history (visit ∷ []) (omega arith))
           (played ticket found (sym (get-left history (visit ∷ []) ticket low) ∙ h))
       | inr high ↦
@@ -127,9 +124,8 @@ after_turns-done setting scripts history (actor ∷ idle) done =
 next-puts : (setting : Setting) (scripts : Scripts) (history : History) (actor sub : ℕ) (visit : Visit)
     → sub < subs setting → next setting scripts history actor ≡ Some visit
     → is_put_for sub visit.act ≡ (visit.actor == sub)
-unfolding IsOwn
 next-puts setting scripts history actor sub visit below h =
-    elim (cases_lt actor (subs setting)) as (λ _. is_put_for sub visit.act ≡ (visit.actor == sub)) [
+    elim (cases_lt actor (subs setting)) [
       | inl low ↦ let found = slice_get-of_map actor sub _ (length (own actor history)) visit
           (sym (next-sub setting scripts history actor low) ∙ h) in
           found.1 ∙ sym (ap (λ a. a == sub) found.0)

@@ -25,7 +25,7 @@ use Rattle.directory.specs.HistoryLaws.{next-sub, next-caller, turn-none}
 -- an actor that isn't done has made fewer visits than it may
 pub next-few : TurnsAreFew
 next-few setting scripts history actor visit played h =
-    elim (cases_lt actor (subs setting)) as (λ _. length (own actor history) < most_turns setting scripts actor) [
+    elim (cases_lt actor (subs setting)) [
       | inl low ↦ rw (lt-ltb actor (subs setting) low)
           (slice_get_within (script_visits setting scripts actor) (length (own actor history)) visit
           (sym (next-sub setting scripts history actor low) ∙ h))
@@ -69,21 +69,20 @@ done-kept setting scripts actor order history done = kept_by_play setting script
             ∙ same in let both : Some visit ≡ None = sym e ∙ (ap (λ a. next setting scripts h a) its ∙ now) in cc
 
 -- after so many turns an actor is done, or has made a visit at each
+abbrev IsCounted : Setting → Scripts → ℕ → ℕ → History → History → Type 0
+IsCounted setting scripts actor k history later =
+    IsDone setting scripts later actor ⊎ (k + length (own actor history) ≤ length (own actor later))
+
 counted : (setting : Setting) (scripts : Scripts) (actor k : ℕ) (history : History)
-    → IsDone setting scripts (after_turns setting scripts history (replicate k actor)) actor
-    ⊎ (k + length (own actor history) ≤ length (own actor
-    (after_turns setting scripts history (replicate k actor))))
+    → IsCounted setting scripts actor k history (after_turns setting scripts history (replicate k actor))
 counted setting scripts actor zero history = inr (omega arith)
 counted setting scripts actor (suc k) history = at_next (next setting scripts history actor) refl
     (counted setting scripts actor k)
   where
     at_next : (n : Option Visit) → next setting scripts history actor ≡ n
-        → ((h : History) → IsDone setting scripts (after_turns setting scripts h (replicate k actor)) actor
-        ⊎ (k + length (own actor h) ≤ length (own actor (after_turns setting scripts h (replicate k actor)))))
-        → IsDone setting scripts (after_turns setting scripts (after_turn setting scripts history actor)
-        (replicate k actor)) actor
-        ⊎ (suc k + length (own actor history) ≤ length
-        (own actor (after_turns setting scripts (after_turn setting scripts history actor) (replicate k actor))))
+        → ((h : History) → IsCounted setting scripts actor k h (after_turns setting scripts h (replicate k actor)))
+        → IsCounted setting scripts actor (suc k) history
+        (after_turns setting scripts (after_turn setting scripts history actor) (replicate k actor))
     at_next None e more = inl (done-kept setting scripts actor (replicate k actor) _
         (subst (λ h. IsDone setting scripts h actor) (sym (turn-none setting scripts history actor e)) e))
     at_next (Some visit) e more =
@@ -92,13 +91,7 @@ counted setting scripts actor (suc k) history = at_next (next setting scripts hi
         (eq-eqb visit.actor actor (next-actor setting scripts history actor visit e)))
         ∙ length_push (own actor history) visit in
         rw (turn-some setting scripts history actor visit e)
-        (elim (more (history ++ visit ∷ [])) as (λ _. IsDone setting scripts
-        (after_turns setting scripts (history ++ visit ∷ []) (replicate k actor)) actor
-        ⊎ (suc k + length (own actor history) ≤ length
-        (own actor (after_turns setting scripts (history ++ visit ∷ []) (replicate k actor))))) [
-          | inl done ↦ inl done
-          | inr many ↦ inr (omega arith)
-        ])
+        (elim (more (history ++ visit ∷ [])) [ inl done ↦ inl done | inr many ↦ inr (omega arith) ])
 
 pub played-kept : (setting : Setting) (scripts : Scripts) (order : List ℕ) (history : History)
     → IsPlayed setting scripts history → IsPlayed setting scripts (after_turns setting scripts history order)
@@ -108,25 +101,19 @@ played-kept setting scripts order history played = kept_by_play setting scripts 
 pub done-after : (setting : Setting) (scripts : Scripts) (actor : ℕ) (history : History)
     → IsPlayed setting scripts history → IsDone setting scripts
     (after_turns setting scripts history (replicate (most_turns setting scripts actor) actor)) actor
-done-after setting scripts actor history played = at_next
-    (next setting scripts (after_turns setting scripts history (replicate (most_turns setting scripts actor) actor))
-    actor) refl
+done-after setting scripts actor history played = at_next (next setting scripts late actor) refl
   where
-    at_next : (n : Option Visit) → next setting scripts
-        (after_turns setting scripts history (replicate (most_turns setting scripts actor) actor)) actor ≡ n
-        → IsDone setting scripts (after_turns setting scripts history
-        (replicate (most_turns setting scripts actor) actor)) actor
+    late : History
+    late = after_turns setting scripts history (replicate (most_turns setting scripts actor) actor)
+
+    at_next : (n : Option Visit) → next setting scripts late actor ≡ n → IsDone setting scripts late actor
     at_next None e = e
     at_next (Some visit) e =
-        let few : length (own actor (after_turns setting scripts history
-        (replicate (most_turns setting scripts actor) actor))) < most_turns setting scripts actor =
-        next-few setting scripts _ actor visit (played-kept setting scripts
+        let few = next-few setting scripts late actor visit (played-kept setting scripts
         (replicate (most_turns setting scripts actor) actor) history played) e in
-        elim (counted setting scripts actor (most_turns setting scripts actor) history)
-        as (λ _. IsDone setting scripts (after_turns setting scripts history
-        (replicate (most_turns setting scripts actor) actor)) actor) [
+        elim (counted setting scripts actor (most_turns setting scripts actor) history) [
           | inl done ↦ done
-          | inr many ↦ absurd (omega arith)
+          | inr many ↦ absurd (omega (arith, few, many))
         ]
 
 pub after_turns-append : (setting : Setting) (scripts : Scripts) (history : History) (one other : List ℕ)
@@ -135,31 +122,30 @@ pub after_turns-append : (setting : Setting) (scripts : Scripts) (history : Hist
 after_turns-append setting scripts history one other = fold-append (after_turn setting scripts) history one other
 
 -- after enough turns of each of some actors these are done
+abbrev turns_of : Setting → Scripts → List ℕ → List ℕ
+turns_of setting scripts actors = flat_map (λ actor. replicate (most_turns setting scripts actor) actor) actors
+
 done-each : (setting : Setting) (scripts : Scripts) (actor : ℕ) (actors : List ℕ) (history : History)
     → has actor actors ≡ true → IsPlayed setting scripts history
-    → IsDone setting scripts (after_turns setting scripts history
-    (flat_map (λ a. replicate (most_turns setting scripts a) a) actors)) actor
+    → IsDone setting scripts (after_turns setting scripts history (turns_of setting scripts actors)) actor
 done-each setting scripts actor [] history inside played = cc
 done-each setting scripts actor (first ∷ others) history inside played =
     rw (after_turns-append setting scripts history (replicate (most_turns setting scripts first) first)
-    (flat_map (λ a. replicate (most_turns setting scripts a) a) others))
+    (turns_of setting scripts others))
     (at_test (actor == first) refl inside (done-each setting scripts actor others))
   where
+    behind : History
+    behind = after_turns setting scripts history (replicate (most_turns setting scripts first) first)
+
     at_test : (b : Bool) → (actor == first) ≡ b → (b || has actor others) ≡ true
         → ((h : History) → has actor others ≡ true → IsPlayed setting scripts h
-        → IsDone setting scripts (after_turns setting scripts h
-        (flat_map (λ a. replicate (most_turns setting scripts a) a) others)) actor)
-        → IsDone setting scripts (after_turns setting scripts
-        (after_turns setting scripts history (replicate (most_turns setting scripts first) first))
-        (flat_map (λ a. replicate (most_turns setting scripts a) a) others)) actor
-    at_test true e h later =
-        let same : actor ≡ first = eqb-true actor first e in
-        done-kept setting scripts actor (flat_map (λ a. replicate (most_turns setting scripts a) a) others)
-        (after_turns setting scripts history (replicate (most_turns setting scripts first) first))
+        → IsDone setting scripts (after_turns setting scripts h (turns_of setting scripts others)) actor)
+        → IsDone setting scripts (after_turns setting scripts behind (turns_of setting scripts others)) actor
+    at_test true e h later = done-kept setting scripts actor (turns_of setting scripts others) behind
         (subst (λ a. IsDone setting scripts (after_turns setting scripts history
-        (replicate (most_turns setting scripts a) a)) actor) same
+        (replicate (most_turns setting scripts a) a)) actor) (eqb-true actor first e)
         (done-after setting scripts actor history played))
-    at_test false e h later = later _ h (played-kept setting scripts
+    at_test false e h later = later behind h (played-kept setting scripts
         (replicate (most_turns setting scripts first) first) history played)
 
 -- one who is no actor has no visit
@@ -182,8 +168,7 @@ stranger-done setting scripts history actor high =
 -- when an order is played to its end all scripts are done
 pub all-done : OrdersAreDone
 all-done setting scripts order actor =
-    elim (cases_lt actor (actors setting scripts)) as (λ _. IsDone setting scripts
-    (history_of setting scripts order) actor) [
+    elim (cases_lt actor (actors setting scripts)) [
       | inl low ↦ rw (after_turns-append setting scripts [] order (last_turns setting scripts))
           (done-each setting scripts actor (numbers_from 0 (actors setting scripts))
           (after_turns setting scripts [] order) (has-passing (λ p. true) actor 0 (actors setting scripts)

@@ -1,25 +1,25 @@
 -- Where a subscriber stands: the commits of a legal history are the first moves of its course, so it stands at a stop.
-use Rattle.std.proofs.Common.{◌≡◌, ℕ, zero, suc, ◌-◌, ◌≤◌, Bool, true, false, cond, ◌==◌, List, [], ◌∷◌, ◌++◌, Some, None, length, map, take, fold, refl, sym, ap, ◌∙◌, subst, arith, append_assoc, length-append}
-use Rattle.std.specs.Prelude.{slice_index, filter_map}
+use Rattle.std.proofs.Common.{◌≡◌, ℕ, zero, suc, ◌-◌, ◌≤◌, Bool, true, false, cond, List, [], ◌∷◌, ◌++◌, Some, None, length, map, take, fold, refl, sym, ap, ◌∙◌, subst, arith, append_assoc, length-append}
+use Rattle.std.specs.Prelude.{slice_index, filter_map, All}
 use Rattle.std.specs.List.{cons_option}
 use Rattle.std.proofs.lemmas.List.{append-nil, length-take-le, length-map}
-use Rattle.std.proofs.lemmas.List.Elements.{filter_map-append}
-use Rattle.entry_word.specs.declared.mark.PresenceMark.TheVariants.{Empty, Here, Gone, Coming}
+use Rattle.std.proofs.lemmas.List.Elements.{All-cons, All-head, All-map, All-nil, All-tail, All-take, filter_map-append}
+use Rattle.entry_word.specs.declared.mark.PresenceMark.TheVariants.{Here, Gone, Coming}
 use Rattle.directory.specs.Settings.{Setting, start}
 use Rattle.directory.specs.Histories.{puts_to}
 use Rattle.directory.specs.Courses.{Step, move_to, Move, Course, course_at, next_move, after_step, after_steps}
-use Rattle.directory.specs.Writes.{Write, mark_at, entry_at, numbers_from, new_address, erasure_writes, purge_writes, move_writes, step_writes, writes}
+use Rattle.directory.specs.Writes.{Write, mark_at, numbers_from, new_address, erasure_writes, purge_writes, move_writes, step_writes, writes}
 use Rattle.directory.specs.Puts.{steps_in, course_in}
 use Rattle.directory.specs.Standing.{Commit, commit_by, commits, number}
 use Rattle.directory.specs.States.{write_commit}
 use Rattle.directory.proofs.StateLaws.{commits-told}
-use Rattle.directory.proofs.StepLaws.{Each, each-append, each-map, each-take, nothing-taken}
+use Rattle.directory.proofs.StepLaws.{all-ends, nothing-taken}
 use Rattle.entry_word.specs.Marks.{MarksUnpack}
 use Rattle.directory.specs.Statements.{CommitsAreMoves, StandsAtStop}
 use Rattle.directory.specs.StepLaws.{take-append, start-kept}
 
 -- the moves that steps add to a course
-unfoldable pub added : Setting → Course → List Step → List Move
+abbrev pub added : Setting → Course → List Step → List Move
 added setting course [] = []
 added setting course (move_to node ∷ steps) = next_move setting course node ∷ added setting
     (after_step setting course (move_to node)) steps
@@ -27,7 +27,6 @@ added setting course (step ∷ steps) = added setting (after_step setting course
 
 pub moves-added : (setting : Setting) (course : Course) (steps : List Step)
     → (after_steps setting course steps).moves ≡ course.moves ++ added setting course steps
-unfolding added
 moves-added setting course [] = sym (append-nil course.moves)
 moves-added setting course (move_to node ∷ steps) =
     moves-added setting (after_step setting course (move_to node)) steps
@@ -39,58 +38,50 @@ moves-added setting course (step ∷ steps) = moves-added setting (after_step se
 abbrev IsNoCommit : Write → Type 0
 IsNoCommit write = write_commit write ≡ None
 
-none-listed : (xs : List Write) → Each IsNoCommit xs → filter_map write_commit xs ≡ []
-unfolding Each
-none-listed [] f = refl
-none-listed (x ∷ xs) f = ap (λ o. cons_option o (filter_map write_commit xs)) f.0 ∙ none-listed xs f.1
+none-listed : (xs : List Write) → All IsNoCommit xs → filter_map write_commit xs ≡ []
+none-listed [] all = refl
+none-listed (x ∷ xs) all = ap (λ o. cons_option o (filter_map write_commit xs)) (All-head IsNoCommit x xs all)
+    ∙ none-listed xs (All-tail IsNoCommit x xs all)
 
 -- whether a front of this length goes past a place
-is_past : ℕ → ℕ → Bool
+abbrev is_past : ℕ → ℕ → Bool
 is_past place zero = false
 is_past zero (suc k) = true
 is_past (suc place) (suc k) = is_past place k
 
 not-past : (place k : ℕ) → is_past place k ≡ false → k ≤ place
-unfolding is_past
 not-past place zero h = omega arith
 not-past zero (suc k) h = cc
 not-past (suc place) (suc k) h = omega (arith, not-past place k h)
 
 -- a front of a list with one commit has it or not
-one-listed : (xs : List Write) (y : Write) (zs : List Write) (commit : Commit) (k : ℕ) → Each IsNoCommit xs
-    → Each IsNoCommit zs → write_commit y ≡ Some commit
+one-listed : (xs : List Write) (y : Write) (zs : List Write) (commit : Commit) (k : ℕ) → All IsNoCommit xs
+    → All IsNoCommit zs → write_commit y ≡ Some commit
     → filter_map write_commit (take k (xs ++ y ∷ zs)) ≡ cond (is_past (length xs) k) (commit ∷ []) []
-unfolding Each is_past
 one-listed [] y zs commit zero f g h = refl
 one-listed [] y zs commit (suc k) f g h = ap (λ o. cons_option o (filter_map write_commit (take k zs))) h
-    ∙ ap (λ cs. commit ∷ cs) (none-listed (take k zs) (each-take IsNoCommit k zs g))
+    ∙ ap (λ cs. commit ∷ cs) (none-listed (take k zs) (All-take IsNoCommit k zs g))
 one-listed (x ∷ xs) y zs commit zero f g h = refl
-one-listed (x ∷ xs) y zs commit (suc k) f g h = ap (λ o. cons_option o
-    (filter_map write_commit (take k (xs ++ y ∷ zs)))) f.0 ∙ one-listed xs y zs commit k f.1 g h
-
-no-purges : (setting : Setting) (course : Course) (move : Move) → Each IsNoCommit (purge_writes setting course move)
-unfolding Each
-no-purges setting course move = at_test (move.renewed == setting.top) _
-  where
-    at_test : (b : Bool) (nodes : List ℕ) → Each IsNoCommit (cond b (map (λ node. mark_at node Empty) nodes) [])
-    at_test true nodes = each-map IsNoCommit (λ node. mark_at node Empty) (λ i. refl) nodes
-    at_test false nodes = tt
+one-listed (x ∷ xs) y zs commit (suc k) f g h =
+    ap (λ o. cons_option o (filter_map write_commit (take k (xs ++ y ∷ zs)))) (All-head IsNoCommit x xs f)
+    ∙ one-listed xs y zs commit k (All-tail IsNoCommit x xs f) g h
 
 move-listed : (setting : Setting) (course : Course) (move : Move) (k : ℕ)
     → filter_map write_commit (take k (move_writes setting course move))
     ≡ cond (is_past (suc (length (map (new_address setting move) (numbers_from 0 (suc move.renewed))))) k)
     (commit_by move ∷ []) []
-unfolding Each is_past
 move-listed setting course move k =
     one-listed (mark_at move.to (Coming move.number move.from) ∷ map (new_address setting move)
     (numbers_from 0 (suc move.renewed))) (mark_at move.from (Gone move.number move.to))
     (mark_at move.to (Here move.number) ∷ (erasure_writes setting course move ++ purge_writes setting course move))
     (commit_by move) k
-    (refl, each-map IsNoCommit (new_address setting move) (λ i. refl) (numbers_from 0 (suc move.renewed))) (
-      refl,
-      each-append IsNoCommit (erasure_writes setting course move) (purge_writes setting course move)
-          (each-map IsNoCommit (λ level. entry_at level _ None) (λ i. refl) _) (no-purges setting course move),
-    ) refl
+    (All-cons IsNoCommit _ (map (new_address setting move) numbers) refl
+    (All-map IsNoCommit (new_address setting move) numbers (λ i d h. refl)))
+    (All-cons IsNoCommit _ (erasure_writes setting course move ++ purge_writes setting course move) refl
+    (all-ends IsNoCommit setting course move (λ level cluster. refl) (λ node. refl))) refl
+  where
+    numbers : List ℕ
+    numbers = numbers_from 0 (suc move.renewed)
 
 -- the first visits of steps commit to the first moves that they add
 record AreCommitted (setting : Setting) (course : Course) (steps : List Step) (k : ℕ) : Type 0 where
@@ -111,7 +102,7 @@ parted setting course step steps k =
     (take (k - length (step_writes setting course step)) (writes setting (after_step setting course step) steps))
 
 committed : (setting : Setting) (course : Course) (steps : List Step) (k : ℕ) → AreCommitted setting course steps k
-unfolding added writes Each
+unfolding writes
 committed setting course [] k = record {
   count = 0;
   few = omega arith;
@@ -179,36 +170,27 @@ committed setting course (step ∷ steps) k = switched
       listed = parted setting course step steps k
           ∙ (ap (λ cs. cs ++ filter_map write_commit (take (k - 1)
           (writes setting (after_step setting course step) steps)))
-          (none-listed (take k (step_writes setting course step)) (each-take IsNoCommit k _ (refl, tt)))
+          (none-listed (take k (step_writes setting course step))
+          (All-take IsNoCommit k _ (All-cons IsNoCommit _ [] refl (All-nil IsNoCommit))))
           ∙ later.listed);
     }
 
 -- the commits of a legal history are the first moves of its course
 pub commits-are_moves : MarksUnpack → CommitsAreMoves
-commits-are_moves unpacks setting sub history low legal = at_committed
-    (committed setting (course_at (start setting sub)) (steps_in (puts_to sub history))
-    (length (puts_to sub history)))
-  where
-    moves : List Move
-    moves = added setting (course_at (start setting sub)) (steps_in (puts_to sub history))
-
-    same : (course_in setting sub (puts_to sub history)).moves ≡ moves
-    same = moves-added setting (course_at (start setting sub)) (steps_in (puts_to sub history))
-
-    at_committed : AreCommitted setting (course_at (start setting sub)) (steps_in (puts_to sub history))
-        (length (puts_to sub history))
-        → (number sub history ≤ length (course_in setting sub (puts_to sub history)).moves)
-        × (commits sub history ≡ map commit_by (take (number sub history)
-        (course_in setting sub (puts_to sub history)).moves))
-    at_committed made =
-        let listed : commits sub history ≡ map commit_by
-        (take made.count moves) = commits-told unpacks setting sub history low legal ∙ made.listed in
-        let count : number sub history ≡ made.count = ap length listed
-        ∙ (length-map (take made.count moves) commit_by ∙ length-take-le made.count moves made.few) in (
-          subst (λ (ms : List Move). number sub history ≤ length ms) (sym same) (omega (arith, count, made.few)),
-          listed ∙ (ap (λ n. map commit_by (take n moves)) (sym count)
-              ∙ ap (λ ms. map commit_by (take (number sub history) ms)) (sym same)),
-        )
+commits-are_moves unpacks setting sub history low legal =
+    let course = course_at (start setting sub) in
+    let steps = steps_in (puts_to sub history) in
+    let moves = added setting course steps in
+    let same = moves-added setting course steps in
+    let made = committed setting course steps (length (puts_to sub history)) in
+    let listed : commits sub history ≡ map commit_by (take made.count moves) =
+    commits-told unpacks setting sub history low legal ∙ made.listed in
+    let count : number sub history ≡ made.count = ap length listed
+    ∙ (length-map (take made.count moves) commit_by ∙ length-take-le made.count moves made.few) in (
+      subst (λ (ms : List Move). number sub history ≤ length ms) (sym same) (omega (arith, count, made.few)),
+      listed ∙ (ap (λ n. map commit_by (take n moves)) (sym count)
+          ∙ ap (λ ms. map commit_by (take (number sub history) ms)) (sym same)),
+    )
 
 -- the node after the first moves of a list
 last-stop : (start count : ℕ) (moves : List Move) → count ≤ length moves

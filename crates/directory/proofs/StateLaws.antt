@@ -1,27 +1,29 @@
 -- A cell after a legal history holds what the writes that are made have left; and these fit into their words.
-use Rattle.std.proofs.Common.{◌≡◌, ℕ, zero, suc, ◌<◌, ◌≤◌, ◌^◌, Bool, true, false, cond, ◌==◌, ◌&&◌, List, [], ◌∷◌, ◌++◌, Option, Some, None, length, map, take, fold, refl, ap, ◌∙◌, arith}
-use Rattle.std.specs.Prelude.{unwrap_or, filter_map}
+use Rattle.std.proofs.Common.{◌≡◌, ℕ, ◌<◌, ◌≤◌, ◌^◌, Bool, true, false, cond, ◌==◌, ◌&&◌, List, [], ◌∷◌, Option, None, length, map, fold, refl, ap, ◌∙◌, arith}
+use Rattle.std.specs.Prelude.{unwrap_or, filter_map, All}
+use Rattle.std.proofs.lemmas.List.Elements.{All-append, All-cons, All-head, All-nil, All-tail, All-take}
+use Rattle.directory.proofs.Tests.{both_ways}
 use Rattle.std.specs.List.{cons_option}
 use Rattle.std.proofs.lemmas.Bool.{eq-eqb}
 use Rattle.std.proofs.lemmas.List.{take-map}
 use Rattle.entry_word.specs.Marks.{mark_word, mark_in, says_off, IsSmallMark, MarksUnpack}
 use Rattle.entry_word.specs.Addresses.{address_word, address_in, IsSmallAddress, EntriesUnpack}
 use Rattle.entry_word.specs.declared.mark.PresenceMark.{PresenceMark}
-use Rattle.entry_word.specs.declared.mark.PresenceMark.TheVariants.{Empty, Here}
+use Rattle.entry_word.specs.declared.mark.PresenceMark.TheVariants.{Empty}
 use Rattle.entry_word.specs.declared.address.Address.{Address}
 use Rattle.entry_word.specs.declared.visit.Key.TheVariants.{Presence, Entry}
 use Rattle.entry_word.specs.declared.visit.Visit.{Visit}
 use Rattle.directory.specs.Settings.{Setting, start}
 use Rattle.directory.specs.Keys.{is_start, is_start_home}
 use Rattle.directory.specs.Histories.{History, word_after, cell, puts_to}
-use Rattle.directory.specs.Courses.{Step, move_to, switch_off, switch_on, Move, Course, course_at, next_move, after_step, MayStep, MaySteps}
-use Rattle.directory.specs.Writes.{Write, mark_at, entry_at, visit_of, numbers_from, new_address, erasure_writes, purge_writes, move_writes, step_writes, writes}
+use Rattle.directory.specs.Courses.{Step, move_to, switch_off, switch_on, Course, course_at, last_stop, next_move, after_step, MayStep, MaySteps}
+use Rattle.directory.specs.Writes.{Write, mark_at, entry_at, visit_of, step_writes, writes}
 use Rattle.directory.specs.Puts.{mark_put, node_put, steps_in}
 use Rattle.directory.specs.Standing.{commit_of, off}
 use Rattle.directory.specs.Legal.{IsLegal}
 use Rattle.directory.specs.States.{AreSmall, IsSmallWrite, opening_mark, opening_entry, mark_after, entry_after, mark_left, entry_left, write_commit, write_off, writes_made}
 use Rattle.directory.proofs.CellLaws.{cell-of_puts}
-use Rattle.directory.proofs.StepLaws.{IsCourse, course-after}
+use Rattle.directory.proofs.StepLaws.{IsCourse, after_coming, all-after, course-after}
 use Rattle.directory.specs.Statements.{MarksAreLeft, EntriesAreLeft, CommitsAreTold, OffIsTold}
 use Rattle.entry_word.specs.MarkLaws.{read-mark}
 
@@ -29,11 +31,9 @@ use Rattle.entry_word.specs.MarkLaws.{read-mark}
 mark-write : (sub node : ℕ) (mark : PresenceMark) (write : Write)
     → word_after (Presence node sub) (mark_word mark) (visit_of sub write).act
     ≡ mark_word (mark_after node mark write)
-mark-write sub node mark (mark_at other new) = rw (eq-eqb sub sub refl) (at_test (node == other))
-  where
-    at_test : (b : Bool) → cond (b && true) (mark_word new) (mark_word mark) ≡ mark_word (cond b new mark)
-    at_test true = refl
-    at_test false = refl
+mark-write sub node mark (mark_at other new) = rw (eq-eqb sub sub refl)
+    (elim (node == other) as (λ b. cond (b && true) (mark_word new) (mark_word mark) ≡ mark_word (cond b new mark))
+    [ true ↦ refl | false ↦ refl ])
 mark-write sub node mark (entry_at level cluster address) = refl
 
 entry-write : (sub level cluster : ℕ) (address : Option Address) (write : Write)
@@ -41,12 +41,8 @@ entry-write : (sub level cluster : ℕ) (address : Option Address) (write : Writ
     ≡ address_word (entry_after level cluster address write)
 entry-write sub level cluster address (mark_at node mark) = refl
 entry-write sub level cluster address (entry_at other c new) = rw (eq-eqb sub sub refl)
-    (at_test (level == other && cluster == c))
-  where
-    at_test : (b : Bool) → cond (b && true) (address_word new) (address_word address)
-        ≡ address_word (cond b new address)
-    at_test true = refl
-    at_test false = refl
+    (elim (level == other && cluster == c) as (λ b. cond (b && true) (address_word new) (address_word address)
+    ≡ address_word (cond b new address)) [ true ↦ refl | false ↦ refl ])
 
 -- some writes: a cell holds the word of what they leave
 writes-left : {A : Type 0} (f : ℕ → Visit → ℕ) (after : A → Write → A) (word : A → ℕ) (sub : ℕ)
@@ -83,65 +79,37 @@ entry-word_left setting sub history legal level cluster =
     (writes_made setting sub (puts_to sub history)))
 
 -- the writes of steps fit into their words
-small-append : (xs ys : List Write) → AreSmall xs → AreSmall ys → AreSmall (xs ++ ys)
-unfolding AreSmall
-small-append [] ys f g = g
-small-append (x ∷ xs) ys f g = (f.0, small-append xs ys f.1 g)
-
-pub small-take : (k : ℕ) (xs : List Write) → AreSmall xs → AreSmall (take k xs)
-unfolding AreSmall
-small-take zero xs f = tt
-small-take (suc k) [] f = tt
-small-take (suc k) (x ∷ xs) f = (f.0, small-take k xs f.1)
-
-small-map : (h : ℕ → Write) → ((i : ℕ) → IsSmallWrite (h i)) → (xs : List ℕ) → AreSmall (map h xs)
-unfolding AreSmall
-small-map h f [] = tt
-small-map h f (x ∷ xs) = (f x, small-map h f xs)
-
-small-move : (setting : Setting) (course : Course) (move : Move) → move.number < 2 ^ 32 → move.from < 2 ^ 16
-    → move.to < 2 ^ 16 → AreSmall (move_writes setting course move)
-unfolding AreSmall
-small-move setting course move few from to = (
-  (few, from),
-  small-append (map (new_address setting move) (numbers_from 0 (suc move.renewed))) _
-      (small-map (new_address setting move) (λ level. (few, to)) (numbers_from 0 (suc move.renewed))) (
-        (few, to),
-        (
-          few,
-          small-append (erasure_writes setting course move) (purge_writes setting course move)
-              (small-map (λ level. entry_at level _ None) (λ level. tt) _) (at_test (move.renewed == setting.top) _),
-        ),
-      ),
-)
-  where
-    at_test : (b : Bool) (nodes : List ℕ) → AreSmall (cond b (map (λ node. mark_at node Empty) nodes) [])
-    at_test true nodes = small-map (λ node. mark_at node Empty) (λ node. tt) nodes
-    at_test false nodes = tt
-
-pub small-writes : (setting : Setting) (course : Course) (steps : List Step) → IsCourse setting course
-    → MaySteps setting course steps → AreSmall (writes setting course steps)
-unfolding AreSmall writes MaySteps
-small-writes setting course [] sound may = tt
+small-writes : (setting : Setting) (course : Course) (steps : List Step) → IsCourse setting course
+    → MaySteps setting course steps → All IsSmallWrite (writes setting course steps)
+unfolding writes MaySteps
+small-writes setting course [] sound may = All-nil IsSmallWrite
 small-writes setting course (step ∷ steps) sound may =
-    small-append (step_writes setting course step) _ (at_step step may.0)
-    (small-writes setting (after_step setting course step) steps
-    (course-after setting course step sound may.0) may.1)
+    All-append IsSmallWrite (step_writes setting course step) _ (at_step step may.0)
+    (small-writes setting (after_step setting course step) steps (course-after setting course step sound may.0) may.1)
   where
-    at_step : (s : Step) → MayStep setting course s → AreSmall (step_writes setting course s)
+    at_step : (s : Step) → MayStep setting course s → All IsSmallWrite (step_writes setting course s)
     at_step (move_to node) h =
-        small-move setting course (next_move setting course node) h.few (omega (arith, sound.low, sound.inside))
-        (omega (arith, sound.low, h.inside))
-    at_step switch_off h = (sound.few, tt)
-    at_step switch_on h = (sound.few, tt)
+        let from : last_stop course < 2 ^ 16 = omega (arith, sound.low, sound.inside) in
+        let to : node < 2 ^ 16 = omega (arith, sound.low, h.inside) in
+        let move = next_move setting course node in
+        All-cons IsSmallWrite _ (after_coming setting course move) (h.few, from)
+        (all-after IsSmallWrite setting course move (λ level. (h.few, to)) (h.few, to) h.few (λ level cluster. tt)
+        (λ node. tt))
+    at_step switch_off h = All-cons IsSmallWrite _ [] sound.few (All-nil IsSmallWrite)
+    at_step switch_on h = All-cons IsSmallWrite _ [] sound.few (All-nil IsSmallWrite)
+
+small-each : (ws : List Write) → All IsSmallWrite ws → AreSmall ws
+unfolding AreSmall
+small-each [] all = tt
+small-each (write ∷ ws) all =
+    (All-head IsSmallWrite write ws all, small-each ws (All-tail IsSmallWrite write ws all))
 
 pub small-made : (setting : Setting) (sub : ℕ) (history : History) → setting.nodes ≤ 2 ^ 16
     → IsLegal setting sub history → AreSmall (writes_made setting sub (puts_to sub history))
 small-made setting sub history low legal =
-    small-take (length (puts_to sub history)) (writes setting (course_at (start setting sub))
-    (steps_in (puts_to sub history)))
+    small-each _ (All-take IsSmallWrite (length (puts_to sub history)) _
     (small-writes setting (course_at (start setting sub)) (steps_in (puts_to sub history))
-    (record { low = low; inside = legal.script.begins; few = omega arith }) legal.script.allowed)
+    (record { low = low; inside = legal.script.begins; few = omega arith }) legal.script.allowed))
 
 -- what is left fits into its word
 small-left : {A : Type 0} (IsSmall : A → Type 0) (after : A → Write → A)
@@ -154,21 +122,14 @@ small-left IsSmall after one a (write ∷ ws) small all =
 
 small-mark_after : (node : ℕ) (mark : PresenceMark) (write : Write) → IsSmallMark mark → IsSmallWrite write
     → IsSmallMark (mark_after node mark write)
-small-mark_after node mark (mark_at other new) small fits = at_test (node == other)
-  where
-    at_test : (b : Bool) → IsSmallMark (cond b new mark)
-    at_test true = fits
-    at_test false = small
+small-mark_after node mark (mark_at other new) small fits = both_ways IsSmallMark (node == other) fits small
 small-mark_after node mark (entry_at level cluster address) small fits = small
 
 small-entry_after : (level cluster : ℕ) (address : Option Address) (write : Write) → IsSmallAddress address
     → IsSmallWrite write → IsSmallAddress (entry_after level cluster address write)
 small-entry_after level cluster address (mark_at node mark) small fits = small
-small-entry_after level cluster address (entry_at other c new) small fits = at_test (level == other && cluster == c)
-  where
-    at_test : (b : Bool) → IsSmallAddress (cond b new address)
-    at_test true = fits
-    at_test false = small
+small-entry_after level cluster address (entry_at other c new) small fits =
+    both_ways IsSmallAddress (level == other && cluster == c) fits small
 
 -- so what is read of a legal history is what its writes have left
 pub mark-read : MarksUnpack → MarksAreLeft
@@ -177,12 +138,8 @@ mark-read unpacks setting sub history low legal node =
     ∙ ap (λ m. unwrap_or m Empty) (unpacks (mark_left setting sub
     (writes_made setting sub (puts_to sub history)) node)
     (small-left IsSmallMark (mark_after node) (small-mark_after node) (opening_mark setting sub node) _
-    (at_test (is_start setting node sub))
+    (both_ways IsSmallMark (is_start setting node sub) (omega arith) tt)
     (small-made setting sub history low legal)))
-  where
-    at_test : (b : Bool) → IsSmallMark (cond b (Here 0) Empty)
-    at_test true = omega arith
-    at_test false = tt
 
 pub entry-read : EntriesUnpack → EntriesAreLeft
 entry-read unpacks setting sub history low legal level cluster =
@@ -191,13 +148,9 @@ entry-read unpacks setting sub history low legal level cluster =
     (writes_made setting sub (puts_to sub history)) level cluster)
     (small-left IsSmallAddress (entry_after level cluster) (small-entry_after level cluster)
     (opening_entry setting sub level cluster) _
-    (at_test (is_start_home setting level cluster sub) legal.script.begins low)
+    (both_ways IsSmallAddress (is_start_home setting level cluster sub)
+    (omega arith, omega (arith, legal.script.begins, low)) tt)
     (small-made setting sub history low legal)))
-  where
-    at_test : (b : Bool) → start setting sub < setting.nodes → setting.nodes ≤ 2 ^ 16
-        → IsSmallAddress (cond b (Some (record { number = 0; node = start setting sub })) None)
-    at_test true h g = (omega arith, omega arith)
-    at_test false h g = tt
 
 -- the writes tell the commits, and whether the subscriber is off
 commits-of_visits : MarksUnpack → (sub : ℕ) (ws : List Write) → AreSmall ws

@@ -1,6 +1,8 @@
 -- Steps: more of them add writes at the end, puts show which were begun, and a front of legal puts is legal.
-use Rattle.std.proofs.Common.{◌≡◌, ℕ, zero, suc, ◌+◌, ◌-◌, ◌<◌, ◌≤◌, ◌^◌, Bool, true, false, cond, List, [], ◌∷◌, ◌++◌, Some, None, length, map, take, fold, refl, sym, ap, ◌∙◌, subst, arith, length-append, ◌==◌}
-use Rattle.std.specs.Prelude.{slice_get}
+use Rattle.std.proofs.Common.{◌≡◌, ℕ, zero, suc, ◌+◌, ◌-◌, ◌<◌, ◌≤◌, ◌^◌, false, List, [], ◌∷◌, ◌++◌, Some, None, length, map, take, fold, refl, sym, ap, ◌∙◌, subst, arith, length-append, ◌==◌}
+use Rattle.std.specs.Prelude.{slice_get, All}
+use Rattle.std.proofs.lemmas.List.Elements.{All-append, All-cons, All-head, All-map, All-nil, All-tail, All-take}
+use Rattle.directory.proofs.Tests.{both_ways}
 use Rattle.std.specs.List.{cons_option}
 use Rattle.std.proofs.lemmas.List.{take-append-le, take_all, map-append}
 use Rattle.std.proofs.lemmas.List.Sums.{fold-append}
@@ -11,39 +13,13 @@ use Rattle.entry_word.specs.declared.visit.Visit.{Visit}
 use Rattle.directory.specs.Settings.{Setting, start}
 use Rattle.directory.specs.Histories.{IsFront}
 use Rattle.directory.specs.Courses.{Step, move_to, switch_off, switch_on, Move, Course, course_at, last_stop, next_move, after_step, after_steps, MayStep, MaySteps}
-use Rattle.directory.specs.Writes.{Write, mark_at, visit_of, numbers_from, new_address, erasure_writes, purge_writes, step_writes, writes, visits}
+use Rattle.directory.specs.Writes.{Write, mark_at, entry_at, visit_of, numbers_from, new_address, erasure_writes, purge_writes, step_writes, writes, visits}
 use Rattle.directory.specs.Puts.{node_put, mark_put, mark_step, steps_from, steps_in, course_in}
 use Rattle.directory.specs.Legal.{IsScript, ArePuts}
 use Rattle.directory.specs.Statements.{FrontsAreLegal, ScriptsAreLegal, DueIsLegal, BeginningIsLegal, NextIsDecided}
-use Rattle.directory.specs.StepLaws.{steps-append, take-append, visits-append, visits_in, take-more}
+use Rattle.directory.specs.StepLaws.{steps-append, take-append, visits-append, visits_in, take-more, may-take}
 use Rattle.directory.specs.ListLaws.{slice_get-right}
 use Rattle.entry_word.specs.MarkLaws.{read-mark}
-
--- what holds of each of a list
-unfoldable pub Each : {A : Type 0} (P : A → Type 0) → List A → Type 0
-Each P [] = Unit {0}
-Each P (x ∷ later) = P x × Each P later
-
-pub each-append : {A : Type 0} (P : A → Type 0) (xs ys : List A) → Each P xs → Each P ys → Each P (xs ++ ys)
-unfolding Each
-each-append P [] ys f g = g
-each-append P (x ∷ xs) ys f g = (f.0, each-append P xs ys f.1 g)
-
-pub each-take : {A : Type 0} (P : A → Type 0) (k : ℕ) (xs : List A) → Each P xs → Each P (take k xs)
-unfolding Each
-each-take P zero xs f = tt
-each-take P (suc k) [] f = tt
-each-take P (suc k) (x ∷ xs) f = (f.0, each-take P k xs f.1)
-
-pub each-map : {A B : Type 0} (P : B → Type 0) (h : A → B) → ((x : A) → P (h x)) → (xs : List A) → Each P (map h xs)
-unfolding Each
-each-map P h f [] = tt
-each-map P h f (x ∷ xs) = (f x, each-map P h f xs)
-
-each-image : {A B : Type 0} (P : B → Type 0) (h : A → B) (xs : List A) → Each (λ x. P (h x)) xs → Each P (map h xs)
-unfolding Each
-each-image P h [] f = tt
-each-image P h (x ∷ xs) f = (f.0, each-image P h xs f.1)
 
 -- a put that begins no step, when no Off was put before it, and is none itself
 abbrev IsPlain : Visit → Type 0
@@ -51,12 +27,13 @@ IsPlain visit = (mark_step false (node_put visit.act) (mark_put visit.act) ≡ N
     × (says_off (mark_put visit.act) ≡ false)
 
 -- plain puts show no step
-plain-skipped : (xs ys : List Visit) → Each IsPlain xs → steps_from false (xs ++ ys) ≡ steps_from false ys
-unfolding Each steps_from
-plain-skipped [] ys f = refl
-plain-skipped (x ∷ xs) ys f =
-    ap (λ o. cons_option o (steps_from (says_off (mark_put x.act)) (xs ++ ys))) f.0.0
-    ∙ (ap (λ b. steps_from b (xs ++ ys)) f.0.1 ∙ plain-skipped xs ys f.1)
+plain-skipped : (xs ys : List Visit) → All IsPlain xs → steps_from false (xs ++ ys) ≡ steps_from false ys
+unfolding steps_from
+plain-skipped [] ys all = refl
+plain-skipped (x ∷ xs) ys all =
+    let one = All-head IsPlain x xs all in
+    ap (λ o. cons_option o (steps_from (says_off (mark_put x.act)) (xs ++ ys))) one.0
+    ∙ (ap (λ b. steps_from b (xs ++ ys)) one.1 ∙ plain-skipped xs ys (All-tail IsPlain x xs all))
 
 plain-mark : MarksUnpack → (sub node : ℕ) (mark : PresenceMark) → IsSmallMark mark → mark_step false node mark ≡ None
     → says_off mark ≡ false → IsPlain (visit_of sub (mark_at node mark))
@@ -67,34 +44,43 @@ plain-mark unpacks sub node mark small none on = (
 )
 
 -- what a move puts after its Coming
-abbrev after_coming : Setting → Course → Move → List Write
+abbrev pub after_coming : Setting → Course → Move → List Write
 after_coming setting course move =
     map (new_address setting move) (numbers_from 0 (suc move.renewed))
     ++ (mark_at move.from (Gone move.number move.to)
     ∷ (mark_at move.to (Here move.number)
     ∷ (erasure_writes setting course move ++ purge_writes setting course move)))
 
-plain-after : MarksUnpack → (setting : Setting) (sub : ℕ) (course : Course) (move : Move) → move.number < 2 ^ 32
-    → move.to < 2 ^ 16 → Each IsPlain (map (visit_of sub) (after_coming setting course move))
-unfolding Each
-plain-after unpacks setting sub course move few low = each-image IsPlain (visit_of sub)
-    (after_coming setting course move)
-    (each-append IsPlainWrite (map (new_address setting move) (numbers_from 0 (suc move.renewed))) _
-    (each-map IsPlainWrite (new_address setting move) (λ i. (refl, refl)) (numbers_from 0 (suc move.renewed))) (
-      plain-mark unpacks sub move.from (Gone move.number move.to) (few, low) refl refl,
-      (
-        plain-mark unpacks sub move.to (Here move.number) few refl refl,
-        each-append IsPlainWrite (erasure_writes setting course move) (purge_writes setting course move)
-            (each-map IsPlainWrite _ (λ i. (refl, refl)) _) (at_test (move.renewed == setting.top) _),
-      ),
-    ))
-  where
-    IsPlainWrite : Write → Type 0
-    IsPlainWrite write = IsPlain (visit_of sub write)
+-- what holds of each write behind the commit, and of each after the Coming
+pub all-ends : (P : Write → Type 0) (setting : Setting) (course : Course) (move : Move)
+    → ((level cluster : ℕ) → P (entry_at level cluster None)) → ((node : ℕ) → P (mark_at node Empty))
+    → All P (erasure_writes setting course move ++ purge_writes setting course move)
+all-ends P setting course move erased purged =
+    All-append P (erasure_writes setting course move) (purge_writes setting course move)
+    (All-map P _ _ (λ i d h. erased _ _)) (both_ways (All P) (move.renewed == setting.top)
+    (All-map P (λ node. mark_at node Empty) _ (λ i d h. purged _)) (All-nil P))
 
-    at_test : (b : Bool) (nodes : List ℕ) → Each IsPlainWrite (cond b (map (λ node. mark_at node Empty) nodes) [])
-    at_test true nodes = each-map IsPlainWrite (λ node. mark_at node Empty) (λ i. (refl, refl)) nodes
-    at_test false nodes = tt
+pub all-after : (P : Write → Type 0) (setting : Setting) (course : Course) (move : Move)
+    → ((level : ℕ) → P (new_address setting move level)) → P (mark_at move.from (Gone move.number move.to))
+    → P (mark_at move.to (Here move.number)) → ((level cluster : ℕ) → P (entry_at level cluster None))
+    → ((node : ℕ) → P (mark_at node Empty)) → All P (after_coming setting course move)
+all-after P setting course move new gone here erased purged =
+    All-append P (map (new_address setting move) (numbers_from 0 (suc move.renewed))) _
+    (All-map P (new_address setting move) (numbers_from 0 (suc move.renewed)) (λ i d h. new _))
+    (All-cons P _ (mark_at move.to (Here move.number) ∷ ends) gone
+    (All-cons P _ ends here (all-ends P setting course move erased purged)))
+  where
+    ends : List Write
+    ends = erasure_writes setting course move ++ purge_writes setting course move
+
+plain-after : MarksUnpack → (setting : Setting) (sub : ℕ) (course : Course) (move : Move) → move.number < 2 ^ 32
+    → move.to < 2 ^ 16 → All IsPlain (map (visit_of sub) (after_coming setting course move))
+plain-after unpacks setting sub course move few low =
+    All-map IsPlain (visit_of sub) (after_coming setting course move)
+    (all-after (λ write. IsPlain (visit_of sub write)) setting course move (λ level. (refl, refl))
+    (plain-mark unpacks sub move.from (Gone move.number move.to) (few, low) refl refl)
+    (plain-mark unpacks sub move.to (Here move.number) few refl refl) (λ level cluster. (refl, refl))
+    (λ node. (refl, refl)))
 
 -- the steps that the first k visits of some steps begin: they show just these, and are visits of these
 pub record AreBegun (setting : Setting) (sub : ℕ) (course : Course) (steps : List Step) (k : ℕ) : Type 0 where
@@ -125,8 +111,7 @@ course-after setting course (move_to node) sound may =
       inside = subst (λ p. p < setting.nodes) (sym there) may.inside;
       few = omega (arith, more, may.few);
     }
-course-after setting course switch_off sound may = record { low = sound.low; inside = sound.inside; few = sound.few }
-course-after setting course switch_on sound may = record { low = sound.low; inside = sound.inside; few = sound.few }
+course-after setting course _ sound may = record { low = sound.low; inside = sound.inside; few = sound.few }
 
 pub nothing-taken : {A : Type 0} (k : ℕ) → take {A = A} k [] ≡ []
 nothing-taken zero = refl
@@ -148,7 +133,7 @@ one-begun unpacks setting sub course (move_to node) k later sound may =
     let rest : List Visit = map (visit_of sub) (after_coming setting course (next_move setting course node)) in
     ap (λ m. cons_option (mark_step course.is_off node m) (steps_from (says_off m) (take k rest ++ later))) read
     ∙ ap (λ xs. move_to node ∷ xs) (plain-skipped (take k rest) later
-    (each-take IsPlain k rest (plain-after unpacks setting sub course (next_move setting course node) few low))
+    (All-take IsPlain k rest (plain-after unpacks setting sub course (next_move setting course node) few low))
     ∙ ap (λ b. steps_from b later) (sym may.is_on))
 one-begun unpacks setting sub course switch_off k later sound may =
     ap (λ vs. steps_from course.is_off (visit_of sub (mark_at (last_stop course) (Off (length course.moves))) ∷
@@ -195,15 +180,6 @@ begun unpacks setting sub course steps k sound may =
     let none : take {A = Visit} k [] ≡ [] = nothing-taken k in
     record { count = 0; few = omega arith; shown = ap (steps_from course.is_off) none; enough = refl }
 
--- the first steps of some that may come may come
-may-take : (setting : Setting) (course : Course) (steps : List Step) (count : ℕ) → MaySteps setting course steps
-    → MaySteps setting course (take count steps)
-unfolding MaySteps
-may-take setting course steps zero may = tt
-may-take setting course [] (suc count) may = tt
-may-take setting course (step ∷ steps) (suc count) may =
-    (may.0, may-take setting (after_step setting course step) steps count may.1)
-
 -- a front has as many as it has
 own_length : {A : Type 0} (xs ys : List A) (n : ℕ) → xs ≡ take n ys → xs ≡ take (length xs) ys
 own_length {A = A} xs ys n same = subst (λ (zs : List A). zs ≡ take (length zs) ys) (sym same) (itself n ys)
@@ -222,21 +198,18 @@ take-both (suc m) (suc n) (x ∷ xs) h = ap (λ zs. x ∷ zs) (take-both m n xs 
 -- the first visits of steps that a subscriber may make are legal
 pub script-legal : MarksUnpack → ScriptsAreLegal
 script-legal unpacks setting sub steps k low script =
-    at_begun (begun unpacks setting sub (course_at (start setting sub)) steps k
-    (record { low = low; inside = script.begins; few = omega arith }) script.allowed)
-  where
-    at_begun : AreBegun setting sub (course_at (start setting sub)) steps k
-        → ArePuts setting sub (take k (visits setting sub steps))
-    at_begun first = record {
+    let course = course_at (start setting sub) in
+    let sound : IsCourse setting course = record { low = low; inside = script.begins; few = omega arith } in
+    let first = begun unpacks setting sub course steps k sound script.allowed in
+    record {
       script = record {
         known = script.known;
         begins = script.begins;
-        allowed = subst (MaySteps setting (course_at (start setting sub))) (sym first.shown)
-            (may-take setting (course_at (start setting sub)) steps first.count script.allowed);
+        allowed = subst (MaySteps setting course) (sym first.shown) (may-take setting course steps first.count
+            script.allowed);
       };
       front = subst (λ xs. IsFront (take k (visits setting sub steps)) (visits setting sub xs)) (sym first.shown)
-          (own_length (take k (visits setting sub steps))
-          (visits setting sub (take first.count steps)) k first.enough);
+          (own_length (take k (visits setting sub steps)) (visits setting sub (take first.count steps)) k first.enough);
     }
 
 -- a front of legal puts is legal

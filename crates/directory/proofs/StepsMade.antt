@@ -8,7 +8,7 @@ use Rattle.node_set.specs.Ascending.{IsAscending}
 use Rattle.entry_word.specs.declared.visit.Visit.{Visit}
 use Rattle.directory.specs.Settings.{Setting, subs, start}
 use Rattle.directory.specs.Histories.{History, own, tickets}
-use Rattle.directory.specs.Courses.{Step, move_to, switch_off, switch_on, Course, course_at, after_step, after_steps}
+use Rattle.directory.specs.Courses.{Step, move_to, Course, course_at, after_step, after_steps}
 use Rattle.directory.specs.Writes.{Write, step_writes, visit_of, writes}
 use Rattle.directory.specs.Orders.{Scripts, steps_of, script_visits, IsPlayed, IsDone}
 use Rattle.directory.specs.Outcomes.{step_line, step_lines, sub_lines, IsStepLine, IsMade}
@@ -42,8 +42,7 @@ step_made : (setting : Setting) (scripts : Scripts) (history : History) (sub : �
     → IsStepLine setting scripts history sub (step_line setting sub course step seen)
     → IsMade setting scripts history (step_line setting sub course step seen)
 step_made setting scripts history sub course (move_to node) seen h = h
-step_made setting scripts history sub course switch_off seen h = h
-step_made setting scripts history sub course switch_on seen h = h
+step_made setting scripts history sub course _ seen h = h
 
 steps_made : (setting : Setting) (scripts : Scripts) (history : History) (sub : ℕ) (done left : List Step)
     (seen : List ℕ) → steps_of scripts sub ≡ done ++ left → IsAscending seen

@@ -6,7 +6,7 @@ use Rattle.std.proofs.lemmas.Bool.{eqb-true}
 use Rattle.std.proofs.lemmas.List.{append-nil, map-append, length_push, length-drop, length-take-le, take_all, take-append-le, drop-append-le}
 use Rattle.std.proofs.lemmas.List.Sums.{fold-append}
 use Rattle.std.proofs.Math.ListN.{drop_of_length-le}
-use Rattle.std.proofs.lemmas.List.Elements.{All-cons, All-nil, All-append, All-head, All-tail}
+use Rattle.std.proofs.lemmas.List.Elements.{All-cons, All-nil, All-append, All-weaker}
 use Rattle.std.proofs.lemmas.Option.{slice_get_within}
 use Rattle.entry_word.specs.declared.visit.Key.{Key}
 use Rattle.entry_word.specs.declared.visit.Visit.{Visit}
@@ -23,7 +23,7 @@ use Rattle.directory.proofs.TicketLaws.{tickets-push}
 use Rattle.directory.specs.StepLaws.{by_fronts}
 use Rattle.directory.specs.LookLaws.{pursuit_after, pursuit-step, answer-ends}
 
-unfoldable pub after_last : ℕ → List ℕ → ℕ
+abbrev pub after_last : ℕ → List ℕ → ℕ
 after_last earliest [] = earliest
 after_last earliest (ticket ∷ later) = after_last (suc ticket) later
 
@@ -58,7 +58,7 @@ looks-push : (setting : Setting) (history : History) (actor : ℕ) (call : FindC
     → key_of call (pursuit_after setting history call pursuit sofar) ≡ Some key
     → slice_get history ticket ≡ Some (look_by actor key)
     → AreLooks setting history actor call earliest pursuit (sofar ++ ticket ∷ [])
-unfolding AreLooks after_last
+unfolding AreLooks
 looks-push setting history actor call [] earliest pursuit ticket key looks low wanted is_look =
     (low, (key, wanted, is_look, tt))
 looks-push setting history actor call (t ∷ sofar) earliest pursuit ticket key
@@ -77,7 +77,6 @@ looks-push setting history actor call (t ∷ sofar) earliest pursuit ticket key
 
 after_last-push : (earliest : ℕ) (sofar : List ℕ) (ticket : ℕ)
     → after_last earliest (sofar ++ ticket ∷ []) ≡ suc ticket
-unfolding after_last
 after_last-push earliest [] ticket = refl
 after_last-push earliest (t ∷ sofar) ticket = after_last-push (suc t) sofar ticket
 
@@ -99,21 +98,20 @@ pub record IsAnswered (setting : Setting) (history : History) (actor : ℕ) (tic
   pub find : IsFind setting history actor answer.call answer.found (seen_of ticketed answer)
 
 -- where the last of some answers ends
-unfoldable pub end_place : ℕ → List Answer → ℕ
+abbrev pub end_place : ℕ → List Answer → ℕ
 end_place place [] = place
 end_place place (answer ∷ later) = end_place (suc answer.last) later
 
 follow-push : (place : ℕ) (answers : List Answer) (answer : Answer) → FollowEachOther place answers
     → end_place place answers ≤ answer.first → answer.first ≤ answer.last
     → FollowEachOther place (answers ++ answer ∷ [])
-unfolding FollowEachOther end_place
+unfolding FollowEachOther
 follow-push place [] answer follow low order = (low, order, tt)
 follow-push place (one ∷ answers) answer follow low order =
     (follow.0, follow.1, follow-push (suc one.last) answers answer follow.2 low order)
 
 end_place-push : (place : ℕ) (answers : List Answer) (answer : Answer)
     → end_place place (answers ++ answer ∷ []) ≡ suc answer.last
-unfolding end_place
 end_place-push place [] answer = refl
 end_place-push place (one ∷ answers) answer = end_place-push (suc one.last) answers answer
 
@@ -129,11 +127,10 @@ pub record IsUnderWay (setting : Setting) (history : History) (actor : ℕ) (fin
   pub follow : FollowEachOther 0 caller.answers
   pub ends : end_place 0 caller.answers ≤ caller.first
 
-later_than : (setting : Setting) (history : History) (actor : ℕ) (call : FindCall) (now more : ℕ) (pursuit : Pursuit)
-    (seen : List ℕ) → now ≤ more → IsAt setting history actor call now pursuit seen
+later_than : {setting : Setting} {history : History} {actor : ℕ} {call : FindCall} {now more : ℕ} {pursuit : Pursuit}
+    {seen : List ℕ} → now ≤ more → IsAt setting history actor call now pursuit seen
     → IsAt setting history actor call more pursuit seen
-later_than setting history actor call now more pursuit seen h far = record
-    { looks = far.looks; reads = far.reads; low = omega (arith, h, far.low) }
+later_than h far = record { looks = far.looks; reads = far.reads; low = omega (arith, h, far.low) }
 
 -- the tickets of a find that was answered stay
 seen-more : (ticketed more : List ℕ) (answer : Answer) → answer.first ≤ answer.last → answer.last < length ticketed
@@ -146,22 +143,14 @@ seen-more ticketed more answer order within =
 answered-more : (setting : Setting) (history : History) (actor : ℕ) (ticketed more : List ℕ) (answers : List Answer)
     → All (IsAnswered setting history actor ticketed) answers
     → All (IsAnswered setting history actor (ticketed ++ more)) answers
-answered-more setting history actor ticketed more [] all = All-nil
-    (IsAnswered setting history actor (ticketed ++ more))
-answered-more setting history actor ticketed more (answer ∷ answers) all =
-    All-cons (IsAnswered setting history actor (ticketed ++ more)) answer answers
-    (one (All-head (IsAnswered setting history actor ticketed) answer answers all))
-    (answered-more setting history actor ticketed more answers
-    (All-tail (IsAnswered setting history actor ticketed) answer answers all))
-  where
-    one : IsAnswered setting history actor ticketed answer
-        → IsAnswered setting history actor (ticketed ++ more) answer
-    one h = record {
+answered-more setting history actor ticketed more answers =
+    All-weaker (IsAnswered setting history actor ticketed) (IsAnswered setting history actor (ticketed ++ more))
+    (λ answer h. record {
       within = omega (arith, h.within, length-append ticketed more);
       order = h.order;
-      find = subst (λ seen. IsFind setting history actor answer.call answer.found seen)
+      find = subst (IsFind setting history actor answer.call answer.found)
           (sym (seen-more ticketed more answer h.order h.within)) h.find;
-    }
+    }) answers
 
 -- one look more of a caller
 look_more : (setting : Setting) (history : History) (actor : ℕ) (finds : List FindCall) (ticketed : List ℕ) (now : ℕ)
@@ -173,7 +162,7 @@ look_more : (setting : Setting) (history : History) (actor : ℕ) (finds : List 
     → IsUnderWay setting history actor finds (ticketed ++ now ∷ []) (suc now)
     (with_pursuit caller call later (after_word setting call caller.pursuit (cell setting (before now history) key))
     o)
-unfolding AreLooks after_last
+unfolding AreLooks
 look_more setting history actor finds ticketed now caller call later key far calls wanted is_look o answer = at_answer
     o answer
   where
@@ -259,7 +248,7 @@ pub under_way : (setting : Setting) (scripts : Scripts) (history : History) (act
     → IsPlayed setting scripts history
     → IsUnderWay setting history actor (finds_of setting scripts actor) (tickets actor history) (length history)
     (caller_in setting scripts history actor)
-unfolding words_after tickets_from AreLooks after_last FollowEachOther end_place
+unfolding words_after tickets_from AreLooks FollowEachOther
 under_way setting scripts history actor high played =
     by_fronts (λ front. Under front) history
     (record {
@@ -289,8 +278,7 @@ under_way setting scripts history actor high played =
           low = far.low;
           done = far.done;
           script = far.script;
-          current = λ call later same. later_than setting history actor call (length (take t history))
-              (length (take t history ++ visit ∷ [])) _ _ (omega (arith, length_push (take t history) visit))
+          current = λ call later same. later_than (omega (arith, length_push (take t history) visit))
               (far.current call later same);
           follow = far.follow;
           ends = far.ends;

@@ -1,7 +1,7 @@
 -- Short laws of lists and of options that the crates above share: an entry in front of others and
 -- behind others, and the last one; what an option is of which the image or the test is known.
-use Rattle.std.proofs.Common.{◌≡◌, ℕ, zero, suc, ◌+◌, false, List, [], ◌∷◌, ◌++◌, Option, Some, None, length, refl, ap, arith}
-use Rattle.std.specs.Prelude.{slice_get, option_map, is_some}
+use Rattle.std.proofs.Common.{◌≡◌, ℕ, zero, suc, ◌+◌, false, List, [], ◌∷◌, ◌++◌, Option, Some, None, length, refl, ap, arith, sym, ◌∙◌}
+use Rattle.std.specs.Prelude.{slice_get, option_map, is_some, Result, Ok, SomeIff, ok_or}
 use Rattle.std.specs.List.{last_or}
 
 -- an entry in front of others stays
@@ -39,3 +39,18 @@ option_map-none f (Some x) h = cc
 pub is_some-none : {A : Type 0} (o : Option A) → is_some o ≡ false → o ≡ None
 is_some-none None h = refl
 is_some-none (Some x) h = cc
+
+-- what a checked sum comes to
+pub added : {E : Type 0} (P : Type 0) {sum most : ℕ} (r : Option ℕ) (e : E) {q : Result ℕ E}
+    → SomeIff r P sum → q ≡ ok_or r e → q ≡ Ok most → most ≡ sum
+added P None e h a b = cc
+added P {most} (Some x) e h a b = let same : x ≡ most = cc in sym same ∙ h.1
+
+-- two options that hold the same
+pub same_some : {A : Type 0} {x y : A} → Some x ≡ Some y → x ≡ y
+same_some e = cc
+
+-- what holds nothing that it could hold holds nothing
+pub none_there : {A : Type 0} (o : Option A) → ((x : A) → o ≡ Some x → ⊥) → o ≡ None
+none_there None never = refl
+none_there (Some x) never = absurd (never x refl)

@@ -9,15 +9,17 @@ use Rattle.std.proofs.lemmas.List.{map-append, take_all, append-nil}
 use Rattle.std.proofs.lemmas.List.Elements.{filter-append}
 use Rattle.entry_word.specs.Marks.{says_off}
 use Rattle.entry_word.specs.declared.visit.Visit.{Visit}
-use Rattle.directory.specs.Settings.{Setting}
+use Rattle.directory.specs.Settings.{Setting, start}
 use Rattle.directory.specs.Histories.{History, is_put_for, puts_to}
-use Rattle.directory.specs.Courses.{Step, Course, Move, after_step, after_steps, highest, move_to, next_move, switch_off, switch_on}
+use Rattle.directory.specs.Courses.{Step, Course, Move, after_step, after_steps, highest, move_to, next_move, switch_off, switch_on, course_at, last_stop, MaySteps}
 use Rattle.directory.specs.Places.{place_after_step, place_of}
 use Rattle.std.proofs.lemmas.List.Sums.{fold-append}
-use Rattle.directory.specs.Writes.{visit_of, step_writes, writes}
+use Rattle.directory.specs.Writes.{visit_of, step_writes, writes, visits, write_key, Write, mark_at, entry_at}
 use Rattle.directory.specs.Puts.{node_put, mark_put, mark_step, steps_from}
 use Rattle.std.proofs.lemmas.Option.{slice_get_cases}
 use Rattle.directory.specs.Statements.{OwnGrow}
+use Rattle.directory.specs.Amid.{course_of}
+use Rattle.directory.specs.Keys.{key_sub}
 
 -- the part of a list that is left out of a front
 pub take-append : {A : Type 0} (k : ℕ) (xs ys : List A)
@@ -184,3 +186,33 @@ place-after_steps setting course [] = refl
 place-after_steps setting course (step ∷ steps) =
     ap (λ p. fold place_after_step p steps) (place-after_step setting course step)
     ∙ place-after_steps setting (after_step setting course step) steps
+
+-- the visits of one step more
+pub visits-more : (setting : Setting) (sub : ℕ) (steps : List Step) (step : Step)
+    → visits setting sub (steps ++ step ∷ []) ≡ visits setting sub steps
+    ++ map (visit_of sub) (step_writes setting (course_of setting sub steps) step)
+visits-more setting sub steps step =
+    ap (map (visit_of sub)) (writes-more setting (course_at (start setting sub)) steps step)
+    ∙ map-append (visit_of sub) (writes setting (course_at (start setting sub)) steps)
+    (step_writes setting (course_of setting sub steps) step)
+
+-- a move leads to its node
+pub last_stop-moved : (setting : Setting) (course : Course) (node : ℕ)
+    → last_stop (after_step setting course (move_to node)) ≡ node
+last_stop-moved setting course node =
+    fold-append (λ n (m : Move). m.to) course.start course.moves
+    (next_move setting course node ∷ [])
+
+-- the first of steps that may come may come
+pub may-take : (setting : Setting) (course : Course) (steps : List Step) (count : ℕ)
+    → MaySteps setting course steps → MaySteps setting course (take count steps)
+unfolding MaySteps
+may-take setting course steps zero may = tt
+may-take setting course [] (suc count) may = tt
+may-take setting course (step ∷ steps) (suc count) may =
+    (may.0, may-take setting (after_step setting course step) steps count may.1)
+
+-- a write's cell is its subscriber's
+pub key_sub-of_write : (sub : ℕ) (write : Write) → key_sub (write_key sub write) ≡ sub
+key_sub-of_write sub (mark_at node mark) = refl
+key_sub-of_write sub (entry_at level cluster address) = refl

@@ -26,7 +26,7 @@ closing_step {n} {width} {u} {rows} {old} {new} wide u_below is so_far count cop
     | inr last ↦
         let here : a ≡ u = omega arith in
         let at : u * n + v - u * n ≡ v = omega arith in
-        subst (λ i. cell_at n new i v ≡ cell_at width rows i v) (sym here)
+        rw here
         (copied (u * n + v) 0 (omega arith) (omega (arith, is))
         ∙ ap (λ i. get_or old (u * width + i) 0) at
         ∙ so_far.rest u v (omega arith) u_below v_below)

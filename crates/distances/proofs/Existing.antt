@@ -1,7 +1,7 @@
 -- The table of a network's distances has the least weights of walks, and is a metric.
-use Rattle.std.proofs.Common.{◌≡◌, ℕ, ◌+◌, ◌*◌, ◌/◌, ◌%◌, ◌<◌, length, refl, sym, ◌∙◌, ap, subst, arith}
+use Rattle.std.proofs.Common.{◌≡◌, ℕ, ◌+◌, ◌*◌, ◌/◌, ◌%◌, ◌<◌, length, refl, sym, ◌∙◌, ap, arith}
 use Rattle.std.proofs.lemmas.Nat.{mul-add-lt, div-mul-add, mod-mul-add}
-use Rattle.net_graph.specs.Walks.{IsLeastWeight, everywhere}
+use Rattle.net_graph.specs.Walks.{everywhere}
 use Rattle.net_graph.specs.LeastWeights.{LeastWeightsAreBounded, LeastWeightsAreFound, least_weight}
 use Rattle.net_graph.specs.Network.{Network, IsNetwork}
 use Rattle.node_set.specs.BallLaws.{get_or-map_centres, length-map_centres}
@@ -29,9 +29,7 @@ module _ (bounds : LeastWeightsAreBounded) (network : Network) (sound : IsNetwor
   table_least = record {
     nodes = refl;
     count = count;
-    each = λ u v u_below v_below. subst (λ w. IsLeastWeight network.edges everywhere u v w)
-        (sym (cell_is u v u_below v_below))
-        (least u v u_below v_below);
+    each = λ u v u_below v_below. rw (cell_is u v u_below v_below) (least u v u_below v_below);
   }
 
   table_metric : IsMetric (table_of network)

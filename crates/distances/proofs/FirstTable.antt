@@ -1,12 +1,11 @@
 -- The table that elimination begins with, and what it ends with.
-use Rattle.std.proofs.Common.{◌≡◌, ℕ, ◌+◌, ◌-◌, ◌*◌, ◌<◌, ◌≤◌, List, length, replicate, take, ◌++◌, refl, sym, ◌∙◌, ap, subst, inl, inr, arith}
+use Rattle.std.proofs.Common.{◌≡◌, ℕ, ◌+◌, ◌*◌, ◌<◌, ◌≤◌, List, length, replicate, take, ◌++◌, refl, sym, ◌∙◌, ap, subst, inl, inr, arith}
 use Rattle.std.proofs.lemmas.List.{get_or-replicate, length-replicate, take_at}
 use Rattle.std.proofs.lemmas.List.Elements.{All-contains, All-replicate}
 use Rattle.std.proofs.lemmas.Nat.{same_from_place, row_fits}
 use Rattle.net_graph.specs.declared.edge.Edge.{Edge}
-use Rattle.net_graph.specs.declared.edge.TheConstants.{MAX_WEIGHT}
 use Rattle.net_graph.specs.declared.neighbours.Arc.{Arc}
-use Rattle.net_graph.specs.Walks.{Joins, IsLeastWeight, everywhere}
+use Rattle.net_graph.specs.Walks.{Joins, everywhere}
 use Rattle.net_graph.specs.LeastWeights.{LeastWeightsAreBounded, LeastWeightsAreFound, least_weight}
 use Rattle.net_graph.specs.Network.{Network, IsNetwork}
 use Rattle.net_graph.specs.Layout.{AreArcsOf, IsArc, make_arc}
@@ -100,10 +99,9 @@ rows_of least_of bounds {network} sound {width} wide {first} {table} is_first el
     record {
       count = closed.count;
       each = λ a v a_below v_below.
-          subst (λ w. IsLeastWeight network.edges everywhere a v w) (sym (is a v a_below v_below))
-          (least a v a_below v_below);
+          rw (is a v a_below v_below) (least a v a_below v_below);
       bounded = λ a v a_below v_below.
-          subst (λ w. w ≤ (network.nodes - 1) * MAX_WEIGHT) (sym (is a v a_below v_below))
+          rw (is a v a_below v_below)
           (bounded bounds network sound d least a v a_below v_below);
     }
 
@@ -115,10 +113,7 @@ pub rows_made : LeastWeightsAreFound → LeastWeightsAreBounded → {network : N
 rows_made least_of bounds {network} sound {n} is_n {width} n_wide {first} {filled} more {wide} {closed} {k} is_first
     seen_is
     count eliminated wide_is is_closed =
-    let here : IsEliminated network.nodes width first filled =
-    subst (λ i. IsEliminated i width first filled) is_n (subst (λ xs. IsEliminated n width xs filled) seen_is
-    eliminated) in
+    let here : IsEliminated network.nodes width first filled = rw (← is_n, ← seen_is) eliminated in
     let same : length filled ≡ k = here.count ∙ sym is_first.count ∙ sym (ap length seen_is) ∙ count in
     let rows_are : wide ≡ filled = wide_is ∙ take_at filled more k same in
-    rows_of least_of bounds sound (subst (λ i. i ≤ width) is_n n_wide) is_first here
-    (subst (λ i. AreClosed i width filled closed) is_n (subst (λ xs. AreClosed n width xs closed) rows_are is_closed))
+    rows_of least_of bounds sound (rw (← is_n) n_wide) is_first here (rw (← is_n, ← rows_are) is_closed)

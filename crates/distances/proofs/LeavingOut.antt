@@ -1,5 +1,5 @@
 -- Leaving out all nodes, one after another.
-use Rattle.std.proofs.Common.{◌≡◌, ◌≢◌, ◌⊎◌, ℕ, ◌+◌, ◌-◌, ◌*◌, ◌<◌, ◌≤◌, Bool, true, false, cond, min, List, Some, [], ◌∷◌, ◌++◌, length, get_or, set, replicate, refl, sym, ◌∙◌, ap, subst, inl, inr, arith}
+use Rattle.std.proofs.Common.{◌≡◌, ◌≢◌, ◌⊎◌, ℕ, ◌+◌, ◌*◌, ◌<◌, ◌≤◌, Bool, true, false, cond, min, List, Some, [], ◌∷◌, ◌++◌, length, get_or, set, replicate, refl, sym, ◌∙◌, ap, subst, inl, inr, arith}
 use Rattle.std.specs.Prelude.{All, Contains}
 use Rattle.std.proofs.lemmas.List.{length-set, get_or-set_same, get_or-set_other, get_or_past, get_or-replicate, length-replicate}
 use Rattle.std.proofs.lemmas.List.Elements.{All-nil, All-pop, All-push, All-contains, All-weaker}
@@ -139,8 +139,11 @@ module _ (n width : ℕ) (wide : n ≤ width) (first : List ℕ) (left : List Bo
     (are_near : AreNearBelow (length row) row (λ x. among (set left v false) x ≡ true) s.near.items)
     (table : List ℕ) (lowered : IsLowered (Among s.near.items (λ a. Among s.near.items (PairOffer width a))) old table)
   where
-    now : ℕ → Type 0
-    now x = among (set left v false) x ≡ true
+    abbrev was : ℕ → Type 0
+    was = λ x. among left x ≡ true
+
+    abbrev now : ℕ → Type 0
+    now = λ x. among (set left v false) x ≡ true
 
     below : (x : ℕ) → among left x ≡ true → x < n
     below x h = (so_far.left_is_fresh x h).0
@@ -160,28 +163,20 @@ module _ (n width : ℕ) (wide : n ≤ width) (first : List ℕ) (left : List Bo
         rest left v v_left x (so_far.fresh_is_left x (h.0, parts.0)) (λ e. parts.1 (s_node ∙ sym e))
 
     next_keeps : (d : ℕ → ℕ → ℕ) → AreLengths n d → KeepsLengths (λ x. x < n) (cell_at width first) d
-        → KeepsLengths (λ x. among (set left v false) x ≡ true) (cell_at width table) d
+        → KeepsLengths now (cell_at width table) d
     next_keeps d lengths begun =
-        kept_without n d lengths (λ x. among left x ≡ true) (λ x. among (set left v false) x ≡ true) v below v_left
-        (fewer left v v_left) (rest left v v_left) (cell_at width old) (cell_at width table)
-        (so_far.keeps d lengths begun)
-        (pairs_lowered n width wide v (λ x. among (set left v false) x ≡ true) row s.near.items old table below_now
-        row_count
-        is_row are_near so_far.count so_far.light lowered)
+        kept_without n d lengths was now v below v_left (fewer left v v_left) (rest left v v_left) (cell_at width old)
+        (cell_at width table) (so_far.keeps d lengths begun)
+        (pairs_lowered n width wide v now row s.near.items old table below_now row_count is_row are_near so_far.count
+        so_far.light lowered)
 
     next_left_out : (d : ℕ → ℕ → ℕ) → AreLengths n d → KeepsLengths (λ x. x < n) (cell_at width first) d
-        → IsLeftOut (λ x. among (set left v false) x ≡ true) d v s.near.items
+        → IsLeftOut now d v s.near.items
     next_left_out d lengths begun =
-        is_left_out n d lengths (λ x. among left x ≡ true) (λ x. among (set left v false) x ≡ true) v below v_left
-        (fewer left v v_left) (rest left v v_left) (cell_at width old) (cell_at width table)
-        (so_far.keeps d lengths begun)
-        s.near.items
-        (near_sound n width wide v (λ x. among (set left v false) x ≡ true) row s.near.items old table below_now
-        row_count is_row
-        are_near)
-        (near_whole n width wide v (λ x. among (set left v false) x ≡ true) row s.near.items old table below_now
-        row_count is_row
-        are_near)
+        is_left_out n d lengths was now v below v_left (fewer left v v_left) (rest left v v_left) (cell_at width old)
+        (cell_at width table) (so_far.keeps d lengths begun) s.near.items
+        (near_sound n width wide v now row s.near.items old table below_now row_count is_row are_near)
+        (near_whole n width wide v now row s.near.items old table below_now row_count is_row are_near)
 
     pub leaving_step : IsLeavingSome n width first (set left v false) (left_out ++ s ∷ []) table
     leaving_step = record {
@@ -189,18 +184,15 @@ module _ (n width : ℕ) (wide : n ≤ width) (first : List ℕ) (left : List Bo
       count = lowered.count ∙ so_far.count;
       light = lowered_light FAR lowered so_far.light;
       within = All-push (IsLeftOutWithin n) left_out s so_far.within (record {
-        node = subst (λ x. x < n) (sym s_node) (below v v_left);
-        near = near_within n width wide v (λ x. among (set left v false) x ≡ true) row s.near.items old table below_now
-            row_count
-            is_row are_near;
+        node = rw s_node (below v v_left);
+        near = near_within n width wide v now row s.near.items old table below_now row_count is_row are_near;
       });
       left_is_fresh = now_fresh;
       fresh_is_left = fresh_now;
       keeps = next_keeps;
       holds = λ d lengths begun. more left_out s (left_out ++ s ∷ []) refl (so_far.holds d lengths begun)
           (left_out_as (IsFresh n (left_out ++ s ∷ [])) now_fresh fresh_now
-          (subst (λ x. IsLeftOut (λ x. among (set left v false) x ≡ true) d x s.near.items) (sym s_node)
-          (next_left_out d lengths begun)));
+          (subst (λ x. IsLeftOut now d x s.near.items) (sym s_node) (next_left_out d lengths begun)));
     }
 
 -- the beginning, and the end
@@ -211,27 +203,15 @@ leaving_begins n width first count light = record {
   count = count;
   light = light;
   within = All-nil (IsLeftOutWithin n);
-  left_is_fresh = λ x h. (
-    elim (cases_lt x n) [
-      | inl below ↦ below
-      | inr past ↦
-          let none_there : get_or (replicate n true) x false ≡ false =
-          get_or_past (replicate n true) x false (omega (arith, length-replicate n true)) in
-          let both : false ≡ true = sym none_there ∙ h in cc
-    ],
-    All-nil (λ (s : LeftOut). s.node ≢ x),
-  );
+  left_is_fresh = λ x h. (inside x h, All-nil (λ (s : LeftOut). s.node ≢ x));
   fresh_is_left = λ x h. get_or-replicate n x true false h.0;
   keeps = λ d lengths begun. keeps_as (λ x. among (replicate n true) x ≡ true)
-      (λ x below. get_or-replicate n x true false below) (λ x h. elim (cases_lt x n) [
-        | inl below ↦ below
-        | inr past ↦
-            let none_there : get_or (replicate n true) x false ≡ false =
-            get_or_past (replicate n true) x false (omega (arith, length-replicate n true)) in
-            let both : false ≡ true = sym none_there ∙ h in cc
-      ]) begun;
+      (λ x below. get_or-replicate n x true false below) inside begun;
   holds = λ d lengths begun. none;
 }
+  where
+    inside : (x : ℕ) → among (replicate n true) x ≡ true → x < n
+    inside x h = omega (arith, v_in (replicate n true) x h, length-replicate n true)
 
 pub leaving_ends : {n width : ℕ} {first : List ℕ} {left : List Bool} {left_out : List LeftOut} {table : List ℕ}
     → IsLeavingSome n width first left left_out table → ((x : ℕ) → among left x ≡ true → ⊥)
@@ -263,13 +243,11 @@ leaving_next {n} {width} wide {first} {left} {left_out} {old} {table} {v} s so_f
     later_is =
     let end_fits : v * width + n ≤ length old =
     row_ends wide so_far v v_left.1 in
-    subst (λ xs. IsLeavingSome n width first (set left v false) xs table) (sym later_is)
+    rw later_is
     (leaving_step n width wide first left left_out old so_far v v_left.1 (between (v * width) (v * width + n) old)
-    (length-between old (v * width) (v * width + n) end_fits ∙ (let e : v * width + n - v * width ≡ n = omega arith in
-    e))
+    (length-between old (v * width) (v * width + n) end_fits ∙ omega arith)
     (λ x below. get_or-between old (v * width) (v * width + n) x 0 (omega arith))
-    s s_node are_near table
-    (subst (λ xs. IsLowered (Among xs (λ a. Among xs (PairOffer width a))) old table) near_is lowered))
+    s s_node are_near table (rw (← near_is) lowered))
 
 pub none_left_in : (left : List Bool) → ((x : ℕ) → x < length left → among left x ≡ true → ⊥)
     → (x : ℕ) → among left x ≡ true → ⊥

@@ -30,10 +30,7 @@ last_left_out : {n : ℕ} {d : ℕ → ℕ → ℕ} (earlier : List LeftOut) (s 
 last_left_out earlier s none is = absurd
     (let e : 0 ≡ length (earlier ++ s ∷ []) = ap length is in omega (arith, length-append earlier (s ∷ [])))
 last_left_out {n} {d} earlier s {left_out} (more other t _ same before holds) is =
-    let e = same_from_push other earlier t s (sym same ∙ is) in (
-      subst (λ xs. AreLeftOut n d xs) e.0 before,
-      subst (λ (x : LeftOut). IsLeftOut (IsFresh n left_out) d x.node x.near.items) e.1 holds,
-    )
+    let e = same_from_push other earlier t s (sym same ∙ is) in (rw (← e.0) before, rw (← e.1) holds)
 
 -- the row of a node that is taken back
 module _ (n width : ℕ) (d : ℕ → ℕ → ℕ) (lengths : AreLengths n d) (fresh : ℕ → Type 0) (v : ℕ) (near : List Near)
@@ -68,6 +65,14 @@ module _ (n width : ℕ) (d : ℕ → ℕ → ℕ) (lengths : AreLengths n d) (f
       ] in
       omega (arith, known on.node b by.0 b_fresh, on.short)
 
+-- a row in which its own node is at 0
+module _ {v : ℕ} (folded : List ℕ) {mine : List ℕ} (zeroed : mine ≡ set folded v 0) where
+  at_node : v < length folded → get_or mine v 0 ≡ 0
+  at_node inside = ap (λ xs. get_or xs v 0) zeroed ∙ get_or-set_same folded v 0 0 inside
+
+  at_other : (x : ℕ) → x ≢ v → get_or mine x 0 ≡ get_or folded x 0
+  at_other x other = ap (λ xs. get_or xs x 0) zeroed ∙ get_or-set_other folded v x 0 0 other
+
 -- one more node is back
 module _ (n width : ℕ) (all : List LeftOut) (left_out earlier : List LeftOut) (s : LeftOut)
     (is : left_out ≡ earlier ++ s ∷ []) (back old : List ℕ)
@@ -77,13 +82,6 @@ module _ (n width : ℕ) (all : List LeftOut) (left_out earlier : List LeftOut) 
     (written : IsNodeWritten n width s.node back mine old table) (light : All (λ w. w ≤ FAR) table) where
   parts : All (IsLeftOutWithin n) earlier × IsLeftOutWithin n s
   parts = All-pop (IsLeftOutWithin n) left_out earlier (Some s) is so_far.within
-
-  at_node : get_or mine s.node 0 ≡ 0
-  at_node = ap (λ xs. get_or xs s.node 0) zeroed
-      ∙ get_or-set_same folded s.node 0 0 (omega (arith, lowered.count, length-replicate n FAR, parts.1.node))
-
-  at_other : (x : ℕ) → x ≢ s.node → get_or mine x 0 ≡ get_or folded x 0
-  at_other x other = ap (λ xs. get_or xs x 0) zeroed ∙ get_or-set_other folded s.node x 0 0 other
 
   still : (x : ℕ) → IsFresh n earlier x → x ≢ s.node → IsFresh n left_out x
   still x fresh other = (
@@ -96,7 +94,7 @@ module _ (n width : ℕ) (all : List LeftOut) (left_out earlier : List LeftOut) 
       (none_fresh : (x : ℕ) → IsFresh n all x → ⊥) where
     from_node : (b : ℕ) → IsFresh n earlier b → b ≢ s.node → get_or mine b 0 ≡ d s.node b
     from_node b fresh other =
-        at_other b other
+        at_other folded zeroed b other
         ∙ row_known n width d lengths (IsFresh n left_out) s.node s.near.items parts.1.node (λ x h. h.0)
         (last_left_out earlier s (so_far.holds d lengths begun) is).1 old folded
         (so_far.lengths d lengths begun none_fresh) lowered
@@ -106,8 +104,9 @@ module _ (n width : ℕ) (all : List LeftOut) (left_out earlier : List LeftOut) 
     next_lengths a b a_fresh b_fresh = elim (cases_eq a s.node) [
       | inl a_is ↦ subst (λ i. cell_at width table i b ≡ d i b) (sym a_is)
           (written.row b b_fresh.0 ∙ elim (cases_eq b s.node) [
-            | inl b_is ↦ subst (λ i. get_or mine i 0 ≡ d s.node i) (sym b_is)
-                (at_node ∙ sym (lengths.zero s.node parts.1.node))
+            | inl b_is ↦ rw b_is
+                (at_node folded zeroed (omega (arith, lowered.count, length-replicate n FAR, parts.1.node))
+                ∙ sym (lengths.zero s.node parts.1.node))
             | inr b_other ↦ from_node b b_fresh b_other
           ])
       | inr a_other ↦ elim (cases_eq b s.node) [
@@ -171,16 +170,12 @@ module _ (n width : ℕ) (all : List LeftOut) (left_out earlier : List LeftOut) 
     mine_light : (x : ℕ) → x < n → get_or mine x 0 ≤ FAR
     mine_light x below = elim (cases_eq x s.node) [
       | inl same ↦
-          let zero_there : get_or (set taken.folded s.node 0) s.node 0 ≡ 0 =
-          get_or-set_same taken.folded s.node 0 0
+          let zero_there = at_node taken.folded taken.zeroed
           (omega (arith, taken.lowered.count, length-replicate n FAR, left_out_within.node)) in
-          let here : get_or mine x 0 ≡ 0 = ap (λ xs. get_or xs x 0) taken.zeroed
-          ∙ ap (λ i. get_or (set taken.folded s.node 0) i 0) same ∙ zero_there in
-          omega arith
+          rw same (omega (arith, zero_there))
       | inr other ↦
-          let here : get_or mine x 0 ≡ get_or taken.folded x 0 = ap (λ xs. get_or xs x 0) taken.zeroed
-          ∙ get_or-set_other taken.folded s.node x 0 0 other in
-          omega (arith, taken.lowered.falls x, get_or-replicate n x FAR 0 below)
+          let kept = at_other taken.folded taken.zeroed x other in
+          omega (arith, kept, taken.lowered.falls x, get_or-replicate n x FAR 0 below)
     ]
 
     pub fill_next : IsFilling n width all earlier (back ++ s.node ∷ []) table

@@ -4,12 +4,10 @@ use Rattle.std.proofs.Common.{◌≡◌, ℕ, ◌+◌, ◌*◌, ◌/◌, ◌%◌
 use Rattle.std.specs.Prelude.{◌↔◌, nat_le, slice_range, slice_index}
 use Rattle.node_set.specs.Ascending.{has, IsAscending}
 use Rattle.node_set.specs.SetLaws.{has-passing, passing_over, ascending-passing}
-use Rattle.std.proofs.lemmas.List.{get_or_default, same_lists}
+use Rattle.std.proofs.lemmas.List.{get_or_default, same_lists, length-drop, length-take, get_or-take, get_or-drop}
 use Rattle.std.proofs.lemmas.Bool.{cases_lt}
-use Rattle.std.proofs.lemmas.Nat.{div-add-mod', div_below}
+use Rattle.std.proofs.lemmas.Nat.{div-add-mod', div_below, row_fits}
 use Rattle.net_graph.specs.Trees.{AreDistancesFrom}
-use Rattle.std.proofs.lemmas.List.{length-drop, length-take, get_or-take, get_or-drop}
-use Rattle.std.proofs.lemmas.Nat.{row_fits}
 use Rattle.net_graph.specs.Walks.{IsLeastWeight, everywhere}
 use Rattle.net_graph.specs.Network.{Network}
 use Rattle.net_graph.specs.WalkLaws.{least_weight_one}

@@ -1,8 +1,8 @@
 -- What a handset stands for goes on with each step that it begins.
 use Rattle.std.proofs.Common.{◌≡◌, ℕ, suc, ◌+◌, ◌<◌, ◌≤◌, Bool, true, false, cond, List, [], ◌∷◌, ◌++◌, length, map, fold, take, drop, replicate, refl, sym, ap, ◌∙◌, subst, arith, length-append}
 use Rattle.std.specs.Prelude.{get_or, nat_le, slice_set, ◌==◌, ◌||◌}
-use Rattle.std.proofs.lemmas.Bool.Decides.{nat_tests}
-use Rattle.std.proofs.lemmas.List.{append-nil, take-append-le, get_or-set_same, get_or-set_other, get_or-replicate, length-replicate, length-set}
+use Rattle.std.proofs.Math.Bool.{or-false}
+use Rattle.std.proofs.lemmas.List.{append-nil, take-append-le, get_or-replicate, length-replicate, length-set}
 use Rattle.node_set.specs.Ascending.{has}
 use Rattle.entry_word.specs.declared.mark.PresenceMark.TheVariants.{Off, Here}
 use Rattle.directory.specs.Settings.{Setting, levels, start}
@@ -17,10 +17,10 @@ use Rattle.handset.specs.Beginning.{begin_move, handset_at, journey_to, renewal_
 use Rattle.directory.specs.Amid.{course_of}
 use Rattle.handset.specs.Stands.{switch_to, commits_in, Shows, StandsAt, StandsForSteps}
 use Rattle.handset.proofs.Lists.{drop-spent, highest-same, numbers-from-zero}
-use Rattle.handset.proofs.CourseLaws.{course-more, visits-more}
-use Rattle.handset.proofs.Settling.{AddressLaw, GatheredLaw}
+use Rattle.handset.proofs.CourseLaws.{course-more}
+use Rattle.handset.proofs.Settling.{AddressLaw, GatheredLaw, marked}
 use Rattle.handset.proofs.Writing.{coming-left}
-use Rattle.directory.specs.StepLaws.{highest-low}
+use Rattle.directory.specs.StepLaws.{highest-low, visits-more}
 
 -- what a handset at rest stands for
 at_rest : (setting : Setting) (handset : HandsetData) (steps : List Step) (made : ℕ) → handset.stage ≡ Resting
@@ -75,40 +75,38 @@ begun-shows {setting} {handset} after steps made step sub place number off few s
       is_off = off ∙ shows.is_off;
     })
 
+-- its writes are what is left
+few-more : (setting : Setting) (sub : ℕ) (steps : List Step) (made : ℕ) (step : Step)
+    → made ≤ length (visits setting sub steps) → made ≤ length (visits setting sub (steps ++ step ∷ []))
+few-more setting sub steps made step few = simp (visits-more setting sub steps step, length-append) (omega arith)
+
+left-more : (setting : Setting) (sub : ℕ) (steps : List Step) (made : ℕ) (step : Step)
+    → made ≤ length (visits setting sub steps) → drop made (visits setting sub steps) ≡ []
+    → drop made (visits setting sub (steps ++ step ∷ []))
+    ≡ map (visit_of sub) (step_writes setting (course_of setting sub steps) step)
+left-more setting sub steps made step few left =
+    ap (drop made) (visits-more setting sub steps step) ∙ drop-spent made (visits setting sub steps) _ few left
+
 pub switch-stands : (setting : Setting) (handset : HandsetData) (steps : List Step) (made : ℕ) (off : Bool)
     → handset.stage ≡ Resting → StandsForSteps setting handset steps made
     → StandsForSteps setting (record handset { stage = Switching off }) (steps ++ switch_to off ∷ []) made
-switch-stands setting handset steps made off rests stands = begins (at_rest setting handset steps made rests stands)
-  where
-    begins : StandsAt setting handset Resting steps made → StandsForSteps setting (record handset {
-      stage =
-          Switching off;
-    }) (steps ++ switch_to off ∷ []) made
-    begins f =
-        record {
-          over = f.over;
-          begun = ap (λ xs. xs ++ switch_to off ∷ []) (f.begun ∙ append-nil f.over);
-          move = tt;
-          place = f.place;
-          number = f.number;
-          is_off = f.is_off;
-          addresses = f.addresses;
-          gathered = λ level h. f.gathered level h ∙ sym (switch-gathered setting handset.sub steps off level);
-          trail = f.trail;
-          shows = begun-shows (record handset { stage = Switching off }) steps made (switch_to off) refl refl refl refl
-              f.few f.shows;
-          few = subst (λ vs. made ≤ length vs) (sym (visits-more setting handset.sub steps (switch_to off)))
-              (omega (
-                arith,
-                f.few,
-                length-append (visits setting handset.sub steps) (map (visit_of handset.sub)
-                    (step_writes setting (course_of setting handset.sub steps) (switch_to off))),
-              ));
-          left = ap (drop made) (visits-more setting handset.sub steps (switch_to off))
-              ∙ (drop-spent made (visits setting handset.sub steps) (map (visit_of handset.sub)
-              (step_writes setting (course_of setting handset.sub steps) (switch_to off))) f.few f.left
-              ∙ switch-writes off f);
-        }
+switch-stands setting handset steps made off rests stands =
+    let f = at_rest setting handset steps made rests stands in
+    record {
+      over = f.over;
+      begun = ap (λ xs. xs ++ switch_to off ∷ []) (f.begun ∙ append-nil f.over);
+      move = tt;
+      place = f.place;
+      number = f.number;
+      is_off = f.is_off;
+      addresses = f.addresses;
+      gathered = λ level h. f.gathered level h ∙ sym (switch-gathered setting handset.sub steps off level);
+      trail = f.trail;
+      shows = begun-shows (record handset { stage = Switching off }) steps made (switch_to off) refl refl refl refl
+          f.few f.shows;
+      few = few-more setting handset.sub steps made (switch_to off) f.few;
+      left = left-more setting handset.sub steps made (switch_to off) f.few f.left ∙ switch-writes off f;
+    }
 
 -- a move
 same-move : {a b c d e f g h : ℕ} (to : ℕ) → a ≡ b → c ≡ d → e ≡ f → g ≡ h
@@ -131,7 +129,46 @@ pub begin-stands : (setting : Setting) (handset : HandsetData) (steps : List Ste
     → handset.stage ≡ Resting → handset.is_off ≡ false → StandsForSteps setting handset steps made
     → StandsForSteps setting (begin_move setting handset to) (steps ++ move_to to ∷ []) made
 begin-stands setting handset steps made to address_law gathered_law count rests is_on stands =
-    begins (at_rest setting handset steps made rests stands)
+    let f = at_rest setting handset steps made rests stands in
+    let before : Course = course_of setting handset.sub f.over in
+    let over : steps ≡ f.over = f.begun ∙ append-nil f.over in
+    let kept : (level : ℕ) → level < levels setting
+    → get_or handset.gathered level 0 ≡ gathered_weight before level =
+    λ level h. f.gathered level h ∙ ap (λ xs. gathered_weight (course_of setting handset.sub xs) level) over in
+    let far : setting.distance handset.place to ≡ setting.distance (last_stop before) to =
+    ap (λ n. setting.distance n to) f.place in
+    let is_move : move ≡ next_move setting before to = same-move to (ap suc f.number) f.place far
+    (same-renewal setting before handset.gathered far kept) in
+    let all : map (visit_of handset.sub) (move_writes setting (course_of setting handset.sub steps)
+    (next_move setting (course_of setting handset.sub steps) to)) ≡ map (visit_of handset.sub)
+    (left_at setting (begin_move setting handset to) Coming) =
+    ap (λ xs. map (visit_of handset.sub) (move_writes setting (course_of setting handset.sub xs)
+    (next_move setting (course_of setting handset.sub xs) to))) over
+    ∙ (ap (λ m. map (visit_of handset.sub) (move_writes setting before m)) (sym is_move)
+    ∙ ap (map (visit_of handset.sub)) (coming-left setting before (begin_move setting handset to) low f.addresses
+    (λ node h. f.trail to node h ∙ ap (λ m. has node (trail setting before m)) (sym is_move)))) in
+    record {
+      over = f.over;
+      begun = ap (λ xs. xs ++ move_to to ∷ []) over;
+      move = (is_move, sym f.is_off ∙ is_on);
+      place = f.place;
+      number = f.number;
+      is_off = f.is_off;
+      addresses = f.addresses;
+      gathered = λ level h.
+          numbers-from-zero (λ k. gathered_then (get_or handset.gathered k 0) move.renewed move.weight k)
+          (length handset.gathered) level (omega (arith, h, count))
+          ∙ (ap (λ m. gathered_then (get_or handset.gathered level 0) m.renewed m.weight level) is_move
+          ∙ (ap (λ w. gathered_then w (next_move setting before to).renewed (setting.distance
+          (last_stop before) to) level) (kept level h)
+          ∙ sym (ap (λ xs. gathered_weight (course_of setting handset.sub (xs ++ move_to to ∷ [])) level) over
+          ∙ (ap (λ c. gathered_weight c level) (course-more setting handset.sub f.over (move_to to))
+          ∙ gathered_law (start setting handset.sub) f.over to level))));
+      trail = f.trail;
+      shows = begun-shows (begin_move setting handset to) steps made (move_to to) refl refl refl refl f.few f.shows;
+      few = few-more setting handset.sub steps made (move_to to) f.few;
+      left = left-more setting handset.sub steps made (move_to to) f.few f.left ∙ all;
+    }
   where
     move : Move
     move = journey_to setting handset to
@@ -139,58 +176,6 @@ begin-stands setting handset steps made to address_law gathered_law count rests 
     low : move.renewed ≤ setting.top
     low = highest-low (λ level. nat_le (setting.threshold level) (get_or handset.gathered level 0 + move.weight))
         setting.top
-
-    begins : StandsAt setting handset Resting steps made → StandsForSteps setting (begin_move setting handset to)
-        (steps ++ move_to to ∷ []) made
-    begins f =
-        let before : Course = course_of setting handset.sub f.over in
-        let over : steps ≡ f.over = f.begun ∙ append-nil f.over in
-        let kept : (level : ℕ) → level < levels setting
-        → get_or handset.gathered level 0 ≡ gathered_weight before level =
-        λ level h. f.gathered level h ∙ ap (λ xs. gathered_weight (course_of setting handset.sub xs) level) over in
-        let far : setting.distance handset.place to ≡ setting.distance (last_stop before) to =
-        ap (λ n. setting.distance n to) f.place in
-        let is_move : move ≡ next_move setting before to = same-move to (ap suc f.number) f.place far
-        (same-renewal setting before handset.gathered far kept) in
-        let all : map (visit_of handset.sub) (move_writes setting (course_of setting handset.sub steps)
-        (next_move setting (course_of setting handset.sub steps) to)) ≡ map (visit_of handset.sub)
-        (left_at setting (begin_move setting handset to) Coming) =
-        ap (λ xs. map (visit_of handset.sub) (move_writes setting (course_of setting handset.sub xs)
-        (next_move setting (course_of setting handset.sub xs) to))) over
-        ∙ (ap (λ m. map (visit_of handset.sub) (move_writes setting before m)) (sym is_move)
-        ∙ ap (map (visit_of handset.sub)) (coming-left setting before (begin_move setting handset to) low f.addresses
-        (λ node h. f.trail to node h ∙ ap (λ m. has node (trail setting before m)) (sym is_move)))) in
-        record {
-          over = f.over;
-          begun = ap (λ xs. xs ++ move_to to ∷ []) over;
-          move = (is_move, sym f.is_off ∙ is_on);
-          place = f.place;
-          number = f.number;
-          is_off = f.is_off;
-          addresses = f.addresses;
-          gathered = λ level h.
-              numbers-from-zero (λ k. gathered_then (get_or handset.gathered k 0) move.renewed move.weight k)
-              (length handset.gathered) level (omega (arith, h, count))
-              ∙ (ap (λ m. gathered_then (get_or handset.gathered level 0) m.renewed m.weight level) is_move
-              ∙ (ap (λ w. gathered_then w (next_move setting before to).renewed (setting.distance
-              (last_stop before) to) level) (kept level h)
-              ∙ sym (ap (λ xs. gathered_weight (course_of setting handset.sub (xs ++ move_to to ∷ [])) level) over
-              ∙ (ap (λ c. gathered_weight c level) (course-more setting handset.sub f.over (move_to to))
-              ∙ gathered_law (start setting handset.sub) f.over to level))));
-          trail = f.trail;
-          shows = begun-shows (begin_move setting handset to) steps made (move_to to) refl refl refl refl f.few f.shows;
-          few = subst (λ vs. made ≤ length vs) (sym (visits-more setting handset.sub steps (move_to to)))
-              (omega (
-                arith,
-                f.few,
-                length-append (visits setting handset.sub steps) (map (visit_of handset.sub)
-                    (step_writes setting (course_of setting handset.sub steps) (move_to to))),
-              ));
-          left = ap (drop made) (visits-more setting handset.sub steps (move_to to))
-              ∙ (drop-spent made (visits setting handset.sub steps) (map (visit_of handset.sub)
-              (step_writes setting (course_of setting handset.sub steps) (move_to to))) f.few f.left
-              ∙ all);
-        }
 
 -- a handset at rest at its home
 pub new-stands : (setting : Setting) (plan : PlanData) (sub : ℕ) {home : ℕ} → setting.nodes ≡ nodes_of plan
@@ -212,25 +197,14 @@ new-stands setting plan sub {home} nodes count starts inside = record {
   left = refl;
 }
   where
-    at_test : (node : ℕ) → node < nodes_of plan → (b : Bool) → (node == home) ≡ b → get_or (slice_set (replicate
-        (nodes_of plan) false) home true) node false ≡ (b || false)
-    at_test node h true test =
-        let same : node ≡ home = grind (arith, nat_tests) in
-        ap (λ n. get_or (slice_set (replicate (nodes_of plan) false) home true) n false) same
-        ∙ get_or-set_same (replicate (nodes_of plan) false) home true false (omega (
-          arith,
-          inside,
-          length-replicate
-              (nodes_of plan) false,
-        ))
-    at_test node h false test =
-        let other : node ≡ home → ⊥ = λ e. (let t : (node == home) ≡ true = grind (arith, nat_tests) in cc) in
-        get_or-set_other (replicate (nodes_of plan) false) home node true false other
-        ∙ get_or-replicate (nodes_of plan) node false false h
-
     at_start : (node : ℕ) → node < nodes_of plan → get_or (slice_set (replicate
         (nodes_of plan) false) home true) node false ≡ (node == start setting sub || false)
-    at_start node h = at_test node h (node == home) refl ∙ ap (λ n. node == n || false) (sym starts)
+    at_start node h =
+        let count = length-replicate (nodes_of plan) false in
+        marked (replicate (nodes_of plan) false) false home node (omega (arith, inside, count))
+        (omega (arith, h, count))
+        ∙ (ap (λ b. b || node == home) (get_or-replicate (nodes_of plan) node false false h)
+        ∙ (sym (or-false (node == home)) ∙ ap (λ n. node == n || false) (sym starts)))
 
 -- it goes with its plan
 pub new-goes : {plan : PlanData} (sub home : ℕ) → IsKept plan → home < nodes_of plan

@@ -1,34 +1,22 @@
 -- Courses: what one step more makes of the visits, the place, the levels and the trail.
-use Rattle.std.proofs.Common.{◌≡◌, ℕ, suc, ◌≤◌, Bool, true, false, cond, List, [], ◌∷◌, ◌++◌, length, map, drop, refl, sym, ap, ◌∙◌, subst, arith, length-append}
+use Rattle.std.proofs.Common.{◌≡◌, ℕ, suc, ◌≤◌, Bool, true, false, cond, List, [], ◌∷◌, ◌++◌, length, map, drop, sym, ap, ◌∙◌, subst, arith, length-append}
 use Rattle.std.specs.Prelude.{nat_le, ◌==◌, ◌||◌}
 use Rattle.std.proofs.lemmas.List.{map-append, drop-append-le, drop_at}
 use Rattle.std.proofs.lemmas.List.Sums.{fold-append}
+use Rattle.std.proofs.Math.Bool.{or-false}
 use Rattle.node_set.specs.Ascending.{has}
+use Rattle.node_set.specs.SetLaws.{has-append}
 use Rattle.directory.specs.Settings.{Setting, start}
-use Rattle.directory.specs.Courses.{Step, move_to, switch_off, switch_on, Move, Course, course_at, last_stop, base, next_move, after_step, after_steps}
-use Rattle.directory.specs.Writes.{visit_of, visits, step_writes, writes, trail}
+use Rattle.directory.specs.Courses.{Step, move_to, switch_off, switch_on, Move, Course, course_at, base, next_move, after_step, after_steps}
+use Rattle.directory.specs.Writes.{trail}
 use Rattle.directory.specs.Amid.{course_of}
-use Rattle.directory.specs.StepLaws.{writes-more}
+use Rattle.directory.specs.StepLaws.{last_stop-moved}
 
 -- one step more
 pub course-more : (setting : Setting) (sub : ℕ) (steps : List Step) (step : Step)
     → course_of setting sub (steps ++ step ∷ []) ≡ after_step setting (course_of setting sub steps) step
 course-more setting sub steps step = fold-append (after_step setting) (course_at (start setting sub)) steps
     (step ∷ [])
-
-pub visits-more : (setting : Setting) (sub : ℕ) (steps : List Step) (step : Step)
-    → visits setting sub (steps ++ step ∷ []) ≡ visits setting sub steps ++ map (visit_of sub) (step_writes setting
-    (course_of setting sub steps) step)
-visits-more setting sub steps step =
-    ap (map (visit_of sub)) (writes-more setting (course_at (start setting sub)) steps step)
-    ∙ map-append (visit_of sub) (writes setting (course_at (start setting sub)) steps) (step_writes setting
-    (course_of setting sub steps) step)
-
--- where a move goes
-pub place-after : (setting : Setting) (course : Course) (node : ℕ) → last_stop (after_step setting course
-    (move_to node)) ≡ node
-place-after setting course node = fold-append (λ n (m : Move). m.to) course.start course.moves
-    (next_move setting course node ∷ [])
 
 pub base-more : (level : ℕ) (moves : List Move) (move : Move) → base level (moves ++ move ∷ [])
     ≡ cond (nat_le level move.renewed) move.number (base level moves)
@@ -61,16 +49,7 @@ base-within setting sub steps level = base-small setting (course_at (start setti
 
 -- what is in a list with one number more at its end
 has-last : (xs : List ℕ) (x y : ℕ) → has x (xs ++ y ∷ []) ≡ (has x xs || x == y)
-has-last [] x y = at_test (x == y)
-  where
-    at_test : (b : Bool) → (b || false) ≡ b
-    at_test true = refl
-    at_test false = refl
-has-last (z ∷ xs) x y = ap (λ b. x == z || b) (has-last xs x y) ∙ at_test (x == z)
-  where
-    at_test : (b : Bool) → (b || (has x xs || x == y)) ≡ ((b || has x xs) || x == y)
-    at_test true = refl
-    at_test false = refl
+has-last xs x y = has-append x xs (y ∷ []) ∙ ap (λ b. has x xs || b) (or-false (x == y))
 
 -- the trail after a move
 pub trail-after : (setting : Setting) (sub : ℕ) (steps : List Step) (to after node : ℕ) {renews : Bool}
@@ -98,17 +77,13 @@ trail-after setting sub steps to after node {renews} same =
     count : length (course.moves ++ move ∷ []) ≡ suc (length course.moves)
     count = omega (arith, length-append course.moves (move ∷ []))
 
-    ended : (b : Bool) → (b || false) ≡ b
-    ended true = refl
-    ended false = refl
-
     at_test : (b : Bool) → has node (map (λ (m : Move). m.from) (drop (cond b move.number
         (base setting.top course.moves)) ((course.moves ++ move ∷ []) ++ later ∷ [])))
         ≡ (cond b false (has node (trail setting course move)) || node == to)
     at_test true =
         ap (λ ms. has node (map (λ (m : Move). m.from) ms)) (drop_at (course.moves ++ move ∷ []) (later ∷ []) (suc
         (length course.moves)) count)
-        ∙ (ended (node == later.from) ∙ ap (λ n. node == n) (place-after setting course to))
+        ∙ (or-false (node == later.from) ∙ ap (λ n. node == n) (last_stop-moved setting course to))
     at_test false =
         let low : base setting.top course.moves ≤ length (course.moves ++ move ∷ []) = omega (
           arith,
@@ -120,4 +95,4 @@ trail-after setting sub steps to after node {renews} same =
         ∙ (ap (has node) (map-append (λ (m : Move). m.from) (drop (base setting.top course.moves)
         (course.moves ++ move ∷ [])) (later ∷ []))
         ∙ (has-last (trail setting course move) node later.from
-        ∙ ap (λ n. has node (trail setting course move) || node == n) (place-after setting course to)))
+        ∙ ap (λ n. has node (trail setting course move) || node == n) (last_stop-moved setting course to)))

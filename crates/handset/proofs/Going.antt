@@ -9,7 +9,7 @@ use Rattle.region_plan.specs.Plan.{PlanData, nodes_of, levels_of, distance}
 use Rattle.region_plan.specs.Kept.{IsKept}
 use Rattle.region_plan.specs.Settings.{setting_of}
 use Rattle.handset.specs.declared.stage.Stage.{Stage}
-use Rattle.handset.specs.declared.stage.Stage.TheVariants.{Resting, Coming, Renewing, Committing, Confirming, Erasing, Purging, Switching}
+use Rattle.handset.specs.declared.stage.Stage.TheVariants.{Resting, Erasing, Purging}
 use Rattle.handset.specs.Condition.{HandsetData, GoesWith, IsMoveStage, begun_at}
 use Rattle.handset.specs.StepWrites.{first_with, is_old, is_behind, purging_at, purging_from, erasing_at, erasing_from, settle, go_on}
 use Rattle.handset.specs.Beginning.{gathered_then, gathered_after, journey_to, begin_move}
@@ -20,13 +20,9 @@ use Rattle.node_set.specs.SetLaws.{length-passing_all}
 -- a stage behind the confirm, or rest
 abbrev pub IsLate : ℕ → Move → Stage → Type 0
 IsLate nodes move Resting = Unit {0}
-IsLate nodes move Coming = ⊥
-IsLate nodes move (Renewing level) = ⊥
-IsLate nodes move Committing = ⊥
-IsLate nodes move Confirming = ⊥
 IsLate nodes move (Erasing level) = level ≤ move.renewed
 IsLate nodes move (Purging node) = node < nodes
-IsLate nodes move (Switching off) = ⊥
+IsLate nodes move stage = ⊥
 
 late-purging : (nodes : ℕ) (handset : HandsetData) (node : ℕ) (o : Option ℕ)
     → first_with (is_behind handset) node (nodes - node) ≡ o → IsLate nodes handset.last (purging_at o)
@@ -134,48 +130,22 @@ pub goes-on : {plan : PlanData} {handset : HandsetData} (next : Stage) → GoesW
     → handset.last.number ≡ handset.number → IsLate (nodes_of plan) handset.last next
     → GoesWith plan (go_on (setting_of plan []) handset next)
 goes-on Resting goes done late = goes-settled goes done
-goes-on Coming goes done late = absurd late
-goes-on (Renewing level) goes done late = absurd late
-goes-on Committing goes done late = absurd late
-goes-on Confirming goes done late = absurd late
 goes-on (Erasing level) goes done late = goes-late (Erasing level) goes done late
 goes-on (Purging node) goes done late = goes-late (Purging node) goes done late
-goes-on (Switching off) goes done late = absurd late
+goes-on stage goes done late = absurd late
 
 -- a handset that goes on from a stage behind the commit
-abbrev pub IsCommitted : Stage → Type 0
-IsCommitted Resting = ⊥
-IsCommitted Coming = ⊥
-IsCommitted (Renewing level) = ⊥
-IsCommitted Committing = ⊥
-IsCommitted Confirming = Unit {0}
-IsCommitted (Erasing level) = Unit {0}
-IsCommitted (Purging node) = Unit {0}
-IsCommitted (Switching off) = ⊥
-
-counted-at : (stage : Stage) {last : ℕ} (number : ℕ) → IsCommitted stage → last ≡ begun_at stage number → last ≡ number
-counted-at Resting number committed same = absurd committed
-counted-at Coming number committed same = absurd committed
-counted-at (Renewing level) number committed same = absurd committed
-counted-at Committing number committed same = absurd committed
-counted-at Confirming number committed same = same
-counted-at (Erasing level) number committed same = same
-counted-at (Purging node) number committed same = same
-counted-at (Switching off) number committed same = absurd committed
-
 pub goes-next : {plan : PlanData} {handset after : HandsetData} {stage : Stage} (next : Stage) → GoesWith plan handset
-    → handset.stage ≡ stage → IsCommitted stage → IsLate (nodes_of plan) handset.last next
-    → after ≡ go_on (setting_of plan []) handset next → GoesWith plan after
-goes-next {plan} {handset} {stage} next goes at committed late same =
+    → handset.stage ≡ stage → begun_at stage handset.number ≡ handset.number
+    → IsLate (nodes_of plan) handset.last next → after ≡ go_on (setting_of plan []) handset next → GoesWith plan after
+goes-next {plan} {handset} next goes at committed late same =
     subst (GoesWith plan) (sym same)
-    (goes-on next goes (counted-at stage handset.number committed
-    (goes.counted ∙ ap (λ s. begun_at s handset.number) at)) late)
+    (goes-on next goes (goes.counted ∙ (ap (λ s. begun_at s handset.number) at ∙ committed)) late)
 
 pub purging-by-count : (plan : PlanData) (handset : HandsetData) (node : ℕ) {count : ℕ} → count ≡ nodes_of plan
     → IsLate (nodes_of plan) handset.last (purging_at (first_with (is_behind handset) node (count - node)))
 purging-by-count plan handset node same =
-    subst (λ n. IsLate (nodes_of plan) handset.last (purging_at (first_with (is_behind handset) node
-    (n - node)))) (sym same) (purging-is-late plan handset node)
+    rw same (purging-is-late plan handset node)
 
 -- what the levels have gathered stays light
 pub light-after : (xs : List ℕ) {ys : List ℕ} {levels : ℕ} (n : ℕ) {more : ℕ} (renewed weight : ℕ) → length xs ≡ levels

@@ -40,40 +40,6 @@ pub record Keeps (setting : Setting) (handset : HandsetData) (stage : Stage) (st
       ≡ has node (trail setting (course_of setting handset.sub over) (next_move setting
       (course_of setting handset.sub over) to))
 
-pub keeps-of : {setting : Setting} {handset : HandsetData} {stage : Stage} {steps : List Step} {made : ℕ}
-    → StandsAt setting handset stage steps made → Keeps setting handset stage steps
-keeps-of f = record {
-  over = f.over;
-  begun = f.begun;
-  move = f.move;
-  place = f.place;
-  number = f.number;
-  is_off = f.is_off;
-  addresses = f.addresses;
-  gathered = f.gathered;
-  trail = f.trail;
-}
-
-pub stands-of : {setting : Setting} {handset : HandsetData} {stage : Stage} {steps : List Step} (made : ℕ)
-    → Keeps setting handset stage steps → Shows setting handset (take made (visits setting handset.sub steps))
-    → made ≤ length (visits setting handset.sub steps) → drop made (visits setting handset.sub steps)
-    ≡ map (visit_of handset.sub) (left_at setting (record handset { stage = stage }) stage)
-    → StandsForSteps setting (record handset { stage = stage }) steps made
-stands-of made f shows few left = record {
-  over = f.over;
-  begun = f.begun;
-  move = f.move;
-  place = f.place;
-  number = f.number;
-  is_off = f.is_off;
-  addresses = f.addresses;
-  gathered = f.gathered;
-  trail = f.trail;
-  shows = record { place = shows.place; number = shows.number; is_off = shows.is_off };
-  few = few;
-  left = left;
-}
-
 -- at two stages a step is as far, but for its visits
 abbrev pub AreAlike : Setting → Move → Stage → Stage → Type 0
 AreAlike setting move stage next =
@@ -82,9 +48,11 @@ AreAlike setting move stage next =
     × ((course : Course) → place_at course move stage ≡ place_at course move next)
     × ((course : Course) → number_at course move stage ≡ number_at course move next)
 
-pub keeps-on : {setting : Setting} {handset : HandsetData} {stage : Stage} (next : Stage) {steps : List Step}
-    → AreAlike setting handset.last stage next → Keeps setting handset stage steps → Keeps setting handset next steps
-keeps-on {setting} {handset} next alike f = record {
+-- so what a handset stands for at one it stands for at the other
+pub keeps-at : {setting : Setting} {handset : HandsetData} {stage : Stage} (next : Stage) {steps : List Step} {made : ℕ}
+    → AreAlike setting handset.last stage next → StandsAt setting handset stage steps made
+    → Keeps setting handset next steps
+keeps-at {setting} {handset} next alike f = record {
   over = f.over;
   begun = f.begun ∙ ap (λ under. f.over ++ under) alike.0;
   move = alike.1 (course_of setting handset.sub f.over) f.move;
@@ -94,4 +62,25 @@ keeps-on {setting} {handset} next alike f = record {
   addresses = f.addresses;
   gathered = f.gathered;
   trail = f.trail;
+}
+
+pub stands-of : {setting : Setting} {handset : HandsetData} {stage : Stage} (next : Stage) {steps : List Step}
+    → AreAlike setting handset.last stage next → (made : ℕ) → Keeps setting handset stage steps
+    → Shows setting handset (take made (visits setting handset.sub steps))
+    → made ≤ length (visits setting handset.sub steps) → drop made (visits setting handset.sub steps)
+    ≡ map (visit_of handset.sub) (left_at setting (record handset { stage = next }) next)
+    → StandsForSteps setting (record handset { stage = next }) steps made
+stands-of {setting} {handset} next alike made f shows few left = record {
+  over = f.over;
+  begun = f.begun ∙ ap (λ under. f.over ++ under) alike.0;
+  move = alike.1 (course_of setting handset.sub f.over) f.move;
+  place = f.place ∙ alike.2 (course_of setting handset.sub f.over);
+  number = f.number ∙ alike.3 (course_of setting handset.sub f.over);
+  is_off = f.is_off;
+  addresses = f.addresses;
+  gathered = f.gathered;
+  trail = f.trail;
+  shows = record { place = shows.place; number = shows.number; is_off = shows.is_off };
+  few = few;
+  left = left;
 }

@@ -8,7 +8,7 @@ use Rattle.entry_word.specs.declared.visit.Visit.{Visit}
 use Rattle.directory.specs.Settings.{Setting}
 use Rattle.directory.specs.Courses.{Step, Course, last_stop, address_node, next_move, after_step}
 use Rattle.directory.specs.Writes.{visit_of, visits, trail}
-use Rattle.region_plan.specs.Plan.{PlanData}
+use Rattle.region_plan.specs.Plan.{PlanData, nodes_of}
 use Rattle.handset.specs.declared.stage.Stage.{Stage}
 use Rattle.handset.specs.declared.stage.Stage.TheVariants.{Resting, Coming, Renewing, Committing, Confirming, Erasing, Purging, Switching}
 use Rattle.region_plan.specs.Kept.{IsKept}
@@ -18,10 +18,10 @@ use Rattle.handset.specs.StepWrites.{renew_from, due_at, due, left_at, go_on, af
 use Rattle.directory.specs.Amid.{course_of}
 use Rattle.handset.specs.Stands.{switch_to, Shows, StandsAt, StandsForSteps}
 use Rattle.handset.proofs.Lists.{drop-head, drop-tail, drop-inside, drop-none}
-use Rattle.handset.proofs.Going.{IsLate}
+use Rattle.handset.proofs.Going.{IsLate, erasing-is-late, purging-is-late}
 use Rattle.handset.proofs.Showing.{mark-shown, entry-shown, commit-shown}
 use Rattle.handset.proofs.CourseLaws.{course-more}
-use Rattle.handset.proofs.Keeping.{Fits, Keeps, keeps-of, keeps-on, stands-of}
+use Rattle.handset.proofs.Keeping.{Fits, Keeps, keeps-at, stands-of}
 use Rattle.handset.proofs.Settling.{AddressLaw, settled-stands}
 use Rattle.handset.proofs.Writing.{purging-left, erasing-left, renewing-left, renewing-first}
 use Rattle.entry_word.specs.Marks.{MarksUnpack}
@@ -31,13 +31,7 @@ head-due : (setting : Setting) (handset : HandsetData) (stage : Stage) (n : ℕ)
     → drop n vs ≡ map (visit_of handset.sub) (left_at setting handset stage) → slice_get vs n
     ≡ option_map (visit_of handset.sub) (due_at setting handset stage)
 head-due setting handset Resting n vs h = drop-none n vs h
-head-due setting handset Coming n vs h = drop-head n vs h
-head-due setting handset (Renewing level) n vs h = drop-head n vs h
-head-due setting handset Committing n vs h = drop-head n vs h
-head-due setting handset Confirming n vs h = drop-head n vs h
-head-due setting handset (Erasing level) n vs h = drop-head n vs h
-head-due setting handset (Purging node) n vs h = drop-head n vs h
-head-due setting handset (Switching off) n vs h = drop-head n vs h
+head-due setting handset stage n vs h = drop-head n vs h
 
 pub next-stands : (setting : Setting) (handset : HandsetData) (steps : List Step) (made : ℕ)
     → StandsForSteps setting handset steps made
@@ -54,15 +48,11 @@ gone-on-stands : {setting : Setting} {handset : HandsetData} (next : Stage) (nod
     made
 gone-on-stands Resting nodes made law fits f shows late few left =
     settled-stands made law fits f shows few left
-gone-on-stands Coming nodes made law fits f shows late few left = absurd late
-gone-on-stands (Renewing level) nodes made law fits f shows late few left = absurd late
-gone-on-stands Committing nodes made law fits f shows late few left = absurd late
-gone-on-stands Confirming nodes made law fits f shows late few left = absurd late
 gone-on-stands (Erasing level) nodes made law fits f shows late few left =
-    stands-of made (keeps-on (Erasing level) (refl, λ c m. m, λ c. refl, λ c. refl) f) shows few left
+    stands-of (Erasing level) (refl, λ c m. m, λ c. refl, λ c. refl) made f shows few left
 gone-on-stands (Purging node) nodes made law fits f shows late few left =
-    stands-of made (keeps-on (Purging node) (refl, λ c m. m, λ c. refl, λ c. refl) f) shows few left
-gone-on-stands (Switching off) nodes made law fits f shows late few left = absurd late
+    stands-of (Purging node) (refl, λ c m. m, λ c. refl, λ c. refl) made f shows few left
+gone-on-stands stage nodes made law fits f shows late few left = absurd late
 
 -- a handset goes on before the commit
 renewing-stands : {setting : Setting} {handset : HandsetData} (level : ℕ) {steps : List Step} (made : ℕ)
@@ -81,9 +71,9 @@ renewing-stands {setting} {handset} level {steps} made f shows few left = at_tes
     at_test : (b : Bool) → nat_lt level handset.last.renewed ≡ b → StandsForSteps setting (record handset {
       stage = cond b (Renewing (suc level)) Committing;
     }) steps made
-    at_test true same = stands-of made (keeps-on (Renewing (suc level)) (refl, λ c m. m, λ c. refl, λ c. refl) f) shows
-        few (left_then true same)
-    at_test false same = stands-of made (keeps-on Committing (refl, λ c m. m, λ c. refl, λ c. refl) f) shows few
+    at_test true same = stands-of (Renewing (suc level)) (refl, λ c m. m, λ c. refl, λ c. refl) made f shows few
+        (left_then true same)
+    at_test false same = stands-of Committing (refl, λ c m. m, λ c. refl, λ c. refl) made f shows few
         (left_then false same)
 
 -- a switch leaves the course but for whether it is off
@@ -129,13 +119,14 @@ after-stands : {setting : Setting} {handset : HandsetData} (stage : Stage) (node
     (suc made)
 after-stands Resting nodes unpacks law fits erasing purging going f = absurd (going refl)
 after-stands {setting} {handset} Coming nodes {steps} {made} unpacks law fits erasing purging going f =
-    stands-of (suc made) (keeps-on (Renewing 0) (refl, λ c m. m, λ c. refl, λ c. refl) (keeps-of f))
+    stands-of (Renewing 0) (refl, λ c m. m, λ c. refl, λ c. refl) (suc made)
+    (keeps-at Coming (refl, λ c m. m, λ c. refl, λ c. refl) f)
     (mark-shown unpacks (visits setting handset.sub steps) made handset.last.to
     (ComingMark handset.last.number handset.last.from) f.left (fits.numbered, omega (arith, fits.low, fits.from)) refl
     (f.is_off ∙ f.move.1) f.shows) (drop-inside made _ f.left)
     (drop-tail made _ f.left ∙ ap (map (visit_of handset.sub)) (renewing-first setting handset))
 after-stands {setting} {handset} (Renewing level) nodes {steps} {made} unpacks law fits erasing purging going f =
-    renewing-stands level (suc made) (keeps-on Coming (refl, λ c m. m, λ c. refl, λ c. refl) (keeps-of f))
+    renewing-stands level (suc made) (keeps-at Coming (refl, λ c m. m, λ c. refl, λ c. refl) f)
     (entry-shown (visits setting handset.sub steps) made level _
     (Some (record { number = handset.last.number; node = handset.last.to })) f.left (f.is_off ∙ f.move.1) f.shows)
     (drop-inside made _ f.left) (drop-tail made _ f.left)
@@ -161,19 +152,20 @@ after-stands {setting} {handset} Committing nodes {steps} {made} unpacks law fit
       left = drop-tail made _ f.left;
     }
 after-stands {setting} {handset} Confirming nodes {steps} {made} unpacks law fits erasing purging going f =
-    gone-on-stands (erasing_from setting handset 0) nodes (suc made) law fits (keeps-of f)
+    gone-on-stands (erasing_from setting handset 0) nodes (suc made) law fits
+    (keeps-at Confirming (refl, λ c m. m, λ c. refl, λ c. refl) f)
     (mark-shown unpacks (visits setting handset.sub steps) made handset.last.to (Here handset.last.number) f.left
     fits.numbered refl (f.is_off ∙ f.move.1) f.shows) (erasing 0) (drop-inside made _ f.left)
     (drop-tail made _ f.left ∙ ap (map (visit_of handset.sub)) (erasing-left setting handset 0))
 after-stands {setting} {handset} (Erasing level) nodes {steps} {made} unpacks law fits erasing purging going f =
     gone-on-stands (erasing_from setting handset (suc level)) nodes (suc made) law fits
-    (keeps-on Confirming (refl, λ c m. m, λ c. refl, λ c. refl) (keeps-of f))
+    (keeps-at Confirming (refl, λ c m. m, λ c. refl, λ c. refl) f)
     (entry-shown (visits setting handset.sub steps) made level _ None f.left (f.is_off ∙ f.move.1) f.shows)
     (erasing (suc level)) (drop-inside made _ f.left) (drop-tail made _ f.left
     ∙ ap (map (visit_of handset.sub)) (erasing-left setting handset (suc level)))
 after-stands {setting} {handset} (Purging node) nodes {steps} {made} unpacks law fits erasing purging going f =
     gone-on-stands (purging_from setting handset (suc node)) nodes (suc made) law fits
-    (keeps-on Confirming (refl, λ c m. m, λ c. refl, λ c. refl) (keeps-of f))
+    (keeps-at Confirming (refl, λ c m. m, λ c. refl, λ c. refl) f)
     (mark-shown unpacks (visits setting handset.sub steps) made node Empty f.left tt refl (f.is_off ∙ f.move.1) f.shows)
     (purging (suc node)) (drop-inside made _ f.left) (drop-tail made _ f.left
     ∙ ap (map (visit_of handset.sub)) (purging-left setting handset (suc node)))
@@ -186,26 +178,11 @@ after-stands {setting} {handset} (Switching false) nodes {steps} {made} unpacks 
     switched-stands f (commit-shown unpacks _ (visits setting handset.sub steps) made handset.place
     (Here handset.number) f.left fits.number refl refl same refl f.shows)
 
-pub made-stands : {setting : Setting} {handset : HandsetData} (nodes : ℕ) (steps : List Step) (made : ℕ) → MarksUnpack
-    → AddressLaw setting → Fits setting handset → ((level : ℕ)
-    → IsLate nodes handset.last (erasing_from setting handset level))
-    → ((node : ℕ) → IsLate nodes handset.last (purging_from setting handset node)) → (handset.stage ≡ Resting → ⊥)
-    → StandsForSteps setting handset steps made → StandsForSteps setting (after_write setting handset handset.stage)
-    steps (suc made)
-made-stands {handset} nodes steps made unpacks law fits erasing purging going f =
-    after-stands handset.stage nodes unpacks law fits erasing purging going f
-
 few-commits : (stage : Stage) {last : ℕ} (number : ℕ) → last ≡ begun_at stage number → last < 2 ^ 32 → number < 2 ^ 32
 few-commits Resting number same few = omega (arith, same, few)
-few-commits Coming number same few = omega (arith, same, few)
-few-commits (Renewing level) number same few = omega (arith, same, few)
-few-commits Committing number same few = omega (arith, same, few)
-few-commits Confirming number same few = omega (arith, same, few)
-few-commits (Erasing level) number same few = omega (arith, same, few)
-few-commits (Purging node) number same few = omega (arith, same, few)
-few-commits (Switching off) number same few = omega (arith, same, few)
+few-commits stage number same few = omega (arith, same, few)
 
-pub fits-plan : {plan : PlanData} (starts : List ℕ) {handset : HandsetData} → IsKept plan → GoesWith plan handset
+fits-plan : {plan : PlanData} (starts : List ℕ) {handset : HandsetData} → IsKept plan → GoesWith plan handset
     → Fits (setting_of plan starts) handset
 fits-plan starts {handset} kept goes = record {
   addresses = omega (arith, goes.addresses, kept.some);
@@ -220,7 +197,17 @@ fits-plan starts {handset} kept goes = record {
 }
 
 -- a handset that has a write left isn't at rest
-pub going-on : (plan : PlanData) (handset : HandsetData) → IsSome (due (setting_of plan []) handset)
+going-on : (plan : PlanData) (handset : HandsetData) → IsSome (due (setting_of plan []) handset)
     → handset.stage ≡ Resting → ⊥
 going-on plan handset some rests = let impossible = subst (λ s. IsSome (option_map (visit_of handset.sub) (due_at
     (setting_of plan []) handset s))) rests some in cc
+
+-- so a write that is left leaves a handset that stands for one visit more
+pub made-stands : {plan : PlanData} (starts : List ℕ) {handset : HandsetData} (steps : List Step) (made : ℕ)
+    → MarksUnpack → AddressLaw (setting_of plan starts) → IsKept plan → GoesWith plan handset
+    → IsSome (due (setting_of plan []) handset) → StandsForSteps (setting_of plan starts) handset steps made
+    → StandsForSteps (setting_of plan starts) (after_write (setting_of plan starts) handset handset.stage) steps
+    (suc made)
+made-stands {plan} starts {handset} steps made unpacks law kept goes some f =
+    after-stands handset.stage (nodes_of plan) unpacks law (fits-plan starts kept goes) (erasing-is-late plan handset)
+    (purging-is-late plan handset) (going-on plan handset some) f

@@ -1,6 +1,7 @@
 -- What a handset stands for when its move is over.
 use Rattle.std.proofs.Common.{◌≡◌, ℕ, suc, ◌+◌, ◌<◌, ◌≤◌, Bool, true, false, cond, List, [], ◌∷◌, ◌++◌, length, take, drop, replicate, refl, sym, ap, ◌∙◌, arith, length-append}
 use Rattle.std.specs.Prelude.{get_or, nat_le, nat_lt, slice_set, ◌==◌, ◌||◌}
+use Rattle.std.proofs.Math.Bool.{or-false, or-true}
 use Rattle.std.proofs.lemmas.Bool.Decides.{nat_tests}
 use Rattle.std.proofs.lemmas.List.{append-nil, get_or-set_same, get_or-set_other, get_or-replicate, length-replicate}
 use Rattle.node_set.specs.Ascending.{has}
@@ -13,8 +14,9 @@ use Rattle.handset.specs.StepWrites.{settle}
 use Rattle.directory.specs.Amid.{course_of}
 use Rattle.handset.specs.Stands.{Shows, StandsForSteps}
 use Rattle.handset.proofs.Going.{readdressed}
-use Rattle.handset.proofs.CourseLaws.{course-more, place-after, trail-after}
+use Rattle.handset.proofs.CourseLaws.{course-more, trail-after}
 use Rattle.handset.proofs.Keeping.{Fits, Keeps}
+use Rattle.directory.specs.StepLaws.{last_stop-moved}
 
 -- the law of the levels
 abbrev pub AddressLaw : Setting → Type 0
@@ -32,30 +34,14 @@ GatheredLaw setting = (first : ℕ) (steps : List Step) (node level : ℕ)
 
 -- the tests of a level that is renewed
 turned : (a b x y : ℕ) → cond (nat_lt a b) x y ≡ cond (nat_le b a) y x
-turned a b x y = at_tests (nat_lt a b) (nat_le b a) refl refl
-  where
-    at_tests : (s t : Bool) → nat_lt a b ≡ s → nat_le b a ≡ t → cond s x y ≡ cond t y x
-    at_tests true true h l = absurd (let one : a < b = grind (arith, nat_tests) in
-        let two : b ≤ a = grind (arith, nat_tests) in omega arith)
-    at_tests true false h l = refl
-    at_tests false true h l = refl
-    at_tests false false h l = absurd (let one : b ≤ a = grind (arith, nat_tests) in
-        let two : a < b = grind (arith, nat_tests) in omega arith)
+turned a b x y = grind (arith, nat_tests)
 
 -- where the highest level is the top, the top is renewed
 top-renewed : (top renewed : ℕ) → renewed ≤ top → (renewed == top) ≡ nat_le top renewed
-top-renewed top renewed h = at_tests (renewed == top) (nat_le top renewed) refl refl
-  where
-    at_tests : (s t : Bool) → (renewed == top) ≡ s → nat_le top renewed ≡ t → s ≡ t
-    at_tests true true a b = refl
-    at_tests true false a b = absurd (let one : renewed ≡ top = grind (arith, nat_tests) in
-        let two : renewed < top = grind (arith, nat_tests) in omega arith)
-    at_tests false true a b = absurd (let two : top ≤ renewed = grind (arith, nat_tests) in
-        let one : renewed ≡ top = omega arith in let e : (renewed == top) ≡ true = grind (arith, nat_tests) in cc)
-    at_tests false false a b = refl
+top-renewed top renewed h = grind (arith, nat_tests)
 
 -- the trail that is kept after a move
-marked : (trail : List Bool) (renews : Bool) (to node : ℕ) → to < length trail → node < length trail
+pub marked : (trail : List Bool) (renews : Bool) (to node : ℕ) → to < length trail → node < length trail
     → get_or (slice_set (cond renews (replicate (length trail) false) trail) to true) node false
     ≡ (cond renews false (get_or trail node false) || node == to)
 marked trail renews to node h l = at_test (node == to) refl
@@ -73,14 +59,6 @@ marked trail renews to node h l = at_test (node == to) refl
           | false ↦ refl
         ]
 
-    with_true : (b : Bool) → true ≡ (b || true)
-    with_true true = refl
-    with_true false = refl
-
-    with_false : (b : Bool) → b ≡ (b || false)
-    with_false true = refl
-    with_false false = refl
-
     at_test : (b : Bool) → (node == to) ≡ b → get_or (slice_set (cond renews (replicate
         (length trail) false) trail) to true) node false ≡ (cond renews false (get_or trail node false) || b)
     at_test true test =
@@ -88,11 +66,11 @@ marked trail renews to node h l = at_test (node == to) refl
         let inside : to < length (cond renews (replicate (length trail) false) trail) = omega (arith, h, count) in
         ap (λ n. get_or (slice_set (cond renews (replicate (length trail) false) trail) to true) n false) same
         ∙ (get_or-set_same (cond renews (replicate (length trail) false) trail) to true false inside
-        ∙ with_true (cond renews false (get_or trail node false)))
+        ∙ sym (or-true (cond renews false (get_or trail node false))))
     at_test false test =
         let other : node ≡ to → ⊥ = λ e. (let t : (node == to) ≡ true = grind (arith, nat_tests) in cc) in
         get_or-set_other (cond renews (replicate (length trail) false) trail) to node true false other
-        ∙ (kept ∙ with_false (cond renews false (get_or trail node false)))
+        ∙ (kept ∙ sym (or-false (cond renews false (get_or trail node false))))
 
 -- a move that is over
 pub settled-stands : {setting : Setting} {handset : HandsetData} {steps : List Step} (made : ℕ) → AddressLaw setting
@@ -104,7 +82,7 @@ settled-stands {setting} {handset} {steps} made law fits f shows few left = reco
   over = steps;
   begun = sym (append-nil steps);
   move = tt;
-  place = f.place ∙ sym (ap last_stop course_is ∙ place-after setting before handset.last.to);
+  place = f.place ∙ sym (ap last_stop course_is ∙ last_stop-moved setting before handset.last.to);
   number = f.number ∙ (ap (λ m. m.number) f.move.0 ∙ sym (ap (λ c. length c.moves) course_is
       ∙ (let e : length (before.moves ++ next_move setting before handset.last.to ∷ [])
       ≡ suc (length before.moves) = omega (

@@ -2,7 +2,7 @@
 -- Key laws: `rest-means` (a stage at rest is Resting), `stage-rests` (so is that of a handset which
 -- has nothing to write), `rests` (such a handset is where the course of its steps ends, and has
 -- made all their visits).
-use Rattle.std.proofs.Common.{◌≡◌, true, refl, ℕ, List, length, ap, ◌∙◌, subst, sym, arith}
+use Rattle.std.proofs.Common.{◌≡◌, true, refl, ℕ, List, length, ap, ◌∙◌, subst, sym, arith, suc}
 use Rattle.std.specs.Prelude.{None}
 use Rattle.handset.specs.Beginning.{is_rest}
 use Rattle.handset.specs.declared.stage.Stage.{Stage}
@@ -14,7 +14,7 @@ use Rattle.directory.specs.Courses.{Step, last_stop}
 use Rattle.directory.specs.ListLaws.{option_map-none}
 use Rattle.directory.specs.Writes.{visit_of, visits}
 use Rattle.handset.specs.Condition.{HandsetData}
-use Rattle.handset.specs.StepWrites.{due, due_at}
+use Rattle.handset.specs.StepWrites.{due, due_at, after_write, go_on, erasing_from, purging_from}
 use Rattle.handset.specs.Stands.{StandsAt, StandsForSteps}
 
 -- a stage at rest is Resting
@@ -79,3 +79,19 @@ pub rests : (setting : Setting) (handset : HandsetData) (steps : List Step) (mad
     → IsRestAfter setting handset.sub handset steps made
 rests setting handset steps made stands none =
     rest-after setting handset steps made stands (stage-rests setting handset none)
+
+-- a handset keeps its subscriber, whatever it writes
+go_on-sub : (setting : Setting) (handset : HandsetData) (stage : Stage)
+    → (go_on setting handset stage).sub ≡ handset.sub
+go_on-sub setting handset Resting = refl
+go_on-sub setting handset stage = refl
+
+pub write-sub : (setting : Setting) (handset : HandsetData) (stage : Stage)
+    → (after_write setting handset stage).sub ≡ handset.sub
+write-sub setting handset Confirming = go_on-sub setting handset (erasing_from setting handset 0)
+write-sub setting handset (Erasing level) =
+    go_on-sub setting handset (erasing_from setting handset (suc level))
+write-sub setting handset (Purging node) =
+    go_on-sub setting handset (purging_from setting handset (suc node))
+write-sub setting handset Resting = refl
+write-sub setting handset stage = refl

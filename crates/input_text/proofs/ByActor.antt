@@ -73,12 +73,6 @@ calls-step scripts done actor {script} below is grown so_far =
     ∙ ap (λ ss. done ++ calls_from actor ss) (sym here)
     ∙ so_far
 
-pub get-map : {V : Type 0} (f : V → List Call) (xs : List V) (i : ℕ) (d : V) → i < length xs
-    → get_or (map f xs) i [] ≡ f (get_or xs i d)
-get-map f [] i d below = absurd (omega arith)
-get-map f (x ∷ xs) zero d below = refl
-get-map f (x ∷ xs) (suc i) d below = get-map f xs i d (omega arith)
-
 first : (actor : ℕ) (script : List Call) (scripts : List (List Call))
     → script_of actor (said_from actor (script ∷ scripts)) ≡ script
 first actor script scripts =

@@ -135,11 +135,11 @@ word-fields word (n ∷ numbers) dense small =
     (word-fields (decimal n) numbers here.dense (All-tail IsSmall n numbers small)
     ∙ ap (λ l. l ++ map decimal numbers) (piece-some (decimal n) here.some))
 
-numbers-read : (numbers : List ℕ) → All IsSmall numbers → numbers_of (map decimal numbers) ≡ Some numbers
-numbers-read [] small = refl
-numbers-read (n ∷ numbers) small =
+pub line-numbers : (numbers : List ℕ) → All IsSmall numbers → numbers_of (map decimal numbers) ≡ Some numbers
+line-numbers [] small = refl
+line-numbers (n ∷ numbers) small =
     let here = written (All-head IsSmall n numbers small) in
-    rw (here.reads, numbers-read numbers (All-tail IsSmall n numbers small)) refl
+    rw (here.reads, line-numbers numbers (All-tail IsSmall n numbers small)) refl
 
 fields-inside : (numbers : List ℕ) → All IsSmall numbers → list_all is_inside (fields numbers) ≡ true
 fields-inside [] small = refl
@@ -176,6 +176,3 @@ line-fields word numbers some dense small =
     (fields-inside numbers small)))
     ∙ word-fields word numbers dense small
     ∙ ap (λ l. l ++ map decimal numbers) (piece-some word some)
-
-pub line-numbers : (numbers : List ℕ) → All IsSmall numbers → numbers_of (map decimal numbers) ≡ Some numbers
-line-numbers = numbers-read

@@ -8,13 +8,7 @@ use Rattle.serde_json.specs.View.{items_view, view}
 use Rattle.serde_json.specs.declared.value.Value.{Value}
 use Rattle.word_line.specs.Forms.{◌>>=◌}
 use Rattle.json_form.specs.Shapes.{each_in}
-
-abbrev or-else : {A : Type 0} → A → Option A → A
-or-else a None = a
-or-else a (Some b) = b
-
-pub some-injective : {A : Type 0} {a b : A} → Some a ≡ Some b → a ≡ b
-some-injective {a} e = ap (or-else a) e
+use Rattle.directory.specs.ListLaws.{same_some, none_there}
 
 -- two lists, where both are read
 abbrev pub both : {A : Type 0} → Option (List A) → Option (List A) → Option (List A)
@@ -47,11 +41,7 @@ cons-length : {A : Type 0} (x : Option A) (ys : Option (List A)) {xs : List A} {
     → ((zs : List A) → ys ≡ Some zs → length zs ≡ n) → cons x ys ≡ Some xs → length xs ≡ suc n
 cons-length None ys count e = absurd cc
 cons-length (Some x) None count e = absurd cc
-cons-length (Some x) (Some ys) count e = ap length (sym (some-injective e)) ∙ ap suc (count ys refl)
-
-none-at : {A : Type 0} (o : Option A) → ((a : A) → o ≡ Some a → ⊥) → o ≡ None
-none-at None never = refl
-none-at (Some a) never = absurd (never a refl)
+cons-length (Some x) (Some ys) count e = ap length (sym (same_some e)) ∙ ap suc (count ys refl)
 
 take-more : (vs : List Value) (i : ℕ) (d : Value) → i < length vs
     → take (suc i) vs ≡ take i vs ++ get_or vs i d ∷ []
@@ -94,7 +84,7 @@ module _ {A : Type 0} (read : Data → Option A) where
 
   -- as many are read as there are items
   pub each-length : (vs : List Value) (xs : List A) → each_in read (items_view vs) ≡ Some xs → length xs ≡ length vs
-  each-length [] xs is = ap length (sym (some-injective is))
+  each-length [] xs is = ap length (sym (same_some is))
   each-length (v ∷ vs) xs is =
       cons-length (read (view v)) (each_in read (items_view vs)) (λ ys e. each-length vs ys e)
       (sym (cons-is (read (view v)) (each_in read (items_view vs))) ∙ is)
@@ -103,13 +93,13 @@ module _ {A : Type 0} (read : Data → Option A) where
   pub none-by-count : (vs : List Value)
       → ((xs : List A) → each_in read (items_view vs) ≡ Some xs → length xs ≡ length vs → ⊥)
       → each_in read (items_view vs) ≡ None
-  none-by-count vs differs = none-at (each_in read (items_view vs)) (λ xs e. differs xs e (each-length vs xs e))
+  none-by-count vs differs = none_there (each_in read (items_view vs)) (λ xs e. differs xs e (each-length vs xs e))
 
 -- what was read, written: how many lines, and which
 pub option-map-some : {A B : Type 0} (f : A → B) (o : Option A) {b : B} → option_map f o ≡ Some b
     → (a : A) × (o ≡ Some a) × (f a ≡ b)
 option-map-some f None e = absurd cc
-option-map-some f (Some a) e = (a, refl, some-injective e)
+option-map-some f (Some a) e = (a, refl, same_some e)
 
 map-cons : {A B : Type 0} (f : A → B) (x : Option A) (ys : Option (List A))
     → cons (option_map f x) (option_map (map f) ys) ≡ option_map (map f) (cons x ys)

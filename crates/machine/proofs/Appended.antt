@@ -1,5 +1,5 @@
 -- The parts of items, one behind the other, behind a list.
-use Rattle.std.proofs.Common.{◌≡◌, ◌+◌, ◌<◌, ◌≤◌, ℕ, suc, List, [], ◌∷◌, ◌++◌, length, take, drop, get_or, ap, sym, ◌∙◌, arith, add-one, append_assoc, append-nil, drop-cons, length-append}
+use Rattle.std.proofs.Common.{◌≡◌, ◌+◌, ◌<◌, ◌≤◌, ℕ, List, ◌++◌, length, take, drop, get_or, ap, sym, ◌∙◌, arith, add-one, append_assoc, append-nil, drop-cons, length-append}
 use Rattle.std.specs.Prelude.{flat_map}
 use Rattle.std.proofs.Math.Seq.{take-suc}
 use Rattle.std.proofs.lemmas.Grind.{flat_map-append}
@@ -12,10 +12,7 @@ module _ {A B : Type 0} (f : A → List B) (xs : List A) (i : ℕ) (item : A) (p
   -- the parts that are left begin with that of the item
   parts-left : length (flat_map f (drop i xs)) ≡ length part + length (flat_map f (drop (i + 1) xs))
   parts-left =
-      ap (λ ys. length (flat_map f ys)) (drop-cons xs i item low)
-      ∙ (length-append (f (get_or xs i item)) (flat_map f (drop (suc i) xs))
-      ∙ (ap (λ ys. length ys + length (flat_map f (drop (suc i) xs))) its-part
-      ∙ ap (λ n. length part + length (flat_map f (drop n xs))) (sym (add-one i))))
+      rw (drop-cons xs i item low, its-part, add-one i, length-append)
 
   pub part-fits : (held capacity : ℕ) → held + length (flat_map f (drop i xs)) ≤ capacity
       → held + length part ≤ capacity
@@ -29,8 +26,4 @@ module _ {A B : Type 0} (f : A → List B) (xs : List A) (i : ℕ) (item : A) (p
   pub one-more : (old now new : List B) → now ≡ old ++ flat_map f (take i xs) → new ≡ now ++ part
       → new ≡ old ++ flat_map f (take (i + 1) xs)
   one-more old now new items added =
-      added ∙ (ap (λ ys. ys ++ part) items ∙ (append_assoc old (flat_map f (take i xs)) part
-      ∙ ap (λ ys. old ++ ys) (sym (ap (λ n. flat_map f (take n xs)) (add-one i)
-      ∙ (ap (flat_map f) (take-suc xs i item low)
-      ∙ (flat_map-append f (take i xs) (get_or xs i item ∷ [])
-      ∙ ap (λ ys. flat_map f (take i xs) ++ ys) (append-nil (f (get_or xs i item)) ∙ its-part)))))))
+      rw (added, items, add-one i, take-suc xs i item low, flat_map-append, append-nil, its-part, append_assoc)

@@ -1,8 +1,8 @@
 -- A subscriber's next step, as the code reads it.
-use Rattle.std.proofs.Common.{◌≡◌, ℕ, ◌-◌, ◌<◌, ◌≤◌, ◌^◌, true, false, List, [], ◌∷◌, ◌++◌, length, get_or, refl, sym, ap, ◌∙◌, subst, arith, Vec, Global}
+use Rattle.std.proofs.Common.{◌≡◌, ℕ, ◌-◌, ◌<◌, ◌^◌, true, false, List, [], ◌∷◌, ◌++◌, length, get_or, refl, sym, ap, ◌∙◌, subst, arith, Vec, Global}
 use Rattle.std.specs.Prelude.{Option, Some, None, Result, Ok, Err, OnErr, OnOk, OnSome, slice_get}
 use Rattle.std.specs.Result.{is_err}
-use Rattle.std.proofs.lemmas.List.{length-map}
+use Rattle.std.proofs.lemmas.List.{length-map, get_or_default}
 use Rattle.entry_word.specs.declared.visit.Visit.{Visit}
 use Rattle.directory.specs.Histories.{History, own}
 use Rattle.directory.specs.Orders.{steps_of}
@@ -22,11 +22,10 @@ use Rattle.machine.specs.declared.subscriber.Subscriber.{Subscriber}
 use Rattle.machine.specs.Owed.{HasNone}
 use Rattle.machine.specs.Stands.{BelongTogether, setting_over}
 use Rattle.machine.specs.Subscribers.{IsShown, IsSubscriber, Shown, begun_steps, shown_at}
-use Rattle.machine.proofs.Looking.{script-is}
 use Rattle.machine.proofs.Putting.{shown-now}
 use Rattle.scripts.specs.ScriptLaws.{calls-few, steps-are}
-use Rattle.std.proofs.lemmas.List.{get_or_default}
 use Rattle.machine.proofs.Rests.{Begins, begins, first-visit}
+use Rattle.machine.specs.ScriptVisits.{script-is}
 
 -- what is known where a step is left
 pub record Ready (input : Input) (plan : PlanData) (history : History) (sub : ℕ) (old : Shown) (script : List Call)
@@ -42,13 +41,7 @@ pub script-of : (input : Input) {plan : PlanData} {distances : DistanceTable} (s
     → held ≡ get_or input.scripts.items sub held → script ≡ held.items → script ≡ get_or (seen_input input).scripts sub
     []
 script-of input sub together low reads same =
-    script-is input.scripts.items sub (omega (
-      arith,
-      low,
-      together.valid.scripts,
-      length-map input.scripts.items
-          (λ (s : Vec Call Global). s.items),
-    )) reads same
+    script-is input.scripts.items sub (omega (arith, low, together.valid.scripts)) reads same
 
 pub ready : ScriptsAreValid → (input : Input) {plan : PlanData} {distances : DistanceTable} {history : History}
     {sub : ℕ} {subscriber : Subscriber} {held : Vec Call Global} {script : List Call} {place : ℕ} (default : Call)
@@ -67,7 +60,7 @@ ready scripts input {plan} {history} {sub} {subscriber} {script} {place} default
     let steps : length (steps_of (scripts_of (seen_input input)) sub) ≡ length script =
     ap length (steps-are (seen_input input) sub together.valid low)
     ∙ (length-map (get_or (seen_input input).scripts sub []) step_of ∙ ap length (sym script_is)) in
-    let short : place < length script = strictly place (length script) (omega (arith, here, its.few, steps)) other in
+    let short : place < length script = omega (arith, here, its.few, steps, other) in
     let call : Call = get_or script place default in
     record {
       begin = begins scripts together low its rests (omega (arith, here, short, ap length script_is))
@@ -79,9 +72,6 @@ ready scripts input {plan} {history} {sub} {subscriber} {script} {place} default
       left = omega (arith, here, short, steps);
       shown = its;
     }
-  where
-    strictly : (a b : ℕ) → a ≤ b → (a ≡ b → ⊥) → a < b
-    strictly a b h n = omega (arith, h, n)
 
 pub on-some : {A : Type 0} (P : Type 0) {r : Option A} {x : A} → r ≡ Some x → OnSome r P → P
 on-some P e h = subst (λ o. OnSome o P) e h
@@ -104,9 +94,7 @@ its-visit {input} {plan} {history} {sub} {old} {script} {place} {default} at sam
     let first = first-visit (setting_over (seen_input input) plan) sub (begun_steps (seen_input input) sub old)
     (step_of (get_or script place default)) at.begin.all in (
       first.0,
-      visit ∙ (ap (λ s. slice_get (visits (setting_over (seen_input input) plan) s
-          (begun_steps (seen_input input) sub old ++ step_of (get_or script place default) ∷ []))
-          (length (own sub history))) (same ∙ at.shown.its) ∙ first.1),
+      visit ∙ rw (same, at.shown.its) first.1,
     )
 
 -- so a write of it is ahead
@@ -118,11 +106,9 @@ pub first-ahead : {input : Input} {plan : PlanData} {history : History} {sub : �
     → (ahead ≡ [] → HasNone plan begun) → 0 < length ahead
 first-ahead {input} {history} {sub} {old} {script} {place} {default} [] at same stands rests =
     let found = its-visit at same refl in
-    absurd (never-both found.1 ((rests refl).next (seen_input input).homes
+    let none = (rests refl).next (seen_input input).homes
     (begun_steps (seen_input input) sub old ++ step_of (get_or script place default) ∷ []) (length (own sub history))
-    stands))
-  where
-    never-both : {r : Option Visit} {v : Visit} → r ≡ Some v → r ≡ None → ⊥
-    never-both h e = cc
+    stands in
+    cc (found.1, none)
 first-ahead (write ∷ writes) at same stands rests =
     omega arith

@@ -7,12 +7,21 @@ use Rattle.region_plan.specs.Matched.{IsMatched}
 use Rattle.region_plan.specs.Plan.{PlanData, nodes_of}
 use Rattle.visit_log.specs.Cells.{CellData, GoWith, width_of, word_at, word_beside}
 use Rattle.visit_log.specs.Numbers.{NumbersBelow}
-use Rattle.visit_log.specs.Routes.{IsRung, Rung, entry_place, reader_at, rung_past}
+use Rattle.visit_log.specs.Routes.{IsRung, Rung, entry_place, reader_at, rung_past, AreRoutes, IsAt, RouteData}
 use Rattle.walk.specs.declared.progress.Climb.{Climb}
 use Rattle.walk.specs.Climbs.{IsClimbOver, climb_past, cluster_at}
 use Rattle.region_plan.specs.ReaderLaws.{reader-held}
 use Rattle.machine.specs.Climbs.{rung_of}
 use Rattle.machine.proofs.Climbing.{climb-is}
+
+-- a climb is at a reader
+pub climb-at : {plan : PlanData} {routes : RouteData} {climb : Climb} → AreRoutes plan routes → IsClimbOver plan climb
+    → IsAt plan routes climb.from (rung_of climb)
+climb-at are over = record {
+  are = are;
+  inside = over.from;
+  is = record { level = over.progress.0; index = over.progress.1 };
+}
 
 -- the place of a reader's entries is one of a subscriber's
 pub place-below : NumbersBelow → {plan : PlanData} {node : ℕ} {rung : Rung} → IsMatched plan → node < nodes_of plan

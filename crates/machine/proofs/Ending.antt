@@ -1,5 +1,5 @@
 -- The end: when no actor has a visit left, the lines of all actors are those of the outcome.
-use Rattle.std.proofs.Common.{◌≡◌, ℕ, zero, suc, ◌+◌, ◌<◌, ◌≤◌, List, [], ◌∷◌, ◌++◌, length, map, take, drop, fold, get_or, refl, sym, ap, ◌∙◌, subst, arith, length-append, Option}
+use Rattle.std.proofs.Common.{◌≡◌, ℕ, suc, ◌+◌, ◌<◌, ◌≤◌, List, [], ◌∷◌, ◌++◌, length, map, drop, fold, get_or, refl, sym, ap, ◌∙◌, arith, length-append, Option, take-append-drop}
 use Rattle.std.specs.Prelude.{None, Some, flat_map, vec_capacity}
 use Rattle.std.proofs.lemmas.List.{length-map, length-drop, take_all, get_or-drop}
 use Rattle.directory.specs.Settings.{Setting, start}
@@ -8,7 +8,7 @@ use Rattle.directory.specs.Histories.{History, own, tickets, words_read}
 use Rattle.directory.specs.Finds.{FindCall, Pursuit, after_word, answer_of}
 use Rattle.directory.specs.Writes.{numbers_from, step_writes, visit_of, visits, writes}
 use Rattle.directory.specs.Orders.{Caller as Seeker, after_read, caller_at, caller_in, finds_of, read_by, script_visits, steps_of, with_pursuit, IsDone}
-use Rattle.directory.specs.Outcomes.{answer_line, caller_lines, outcome_in, step_lines, sub_lines}
+use Rattle.directory.specs.Outcomes.{answer_line, caller_lines, outcome_in, sub_lines}
 use Rattle.directory.specs.StepLaws.{writes-append, past-end}
 use Rattle.directory.specs.declared.answers.Done.{Done}
 use Rattle.directory.specs.declared.answers.Found.{Found}
@@ -26,11 +26,6 @@ use Rattle.machine.specs.Machines.{HasHistory, input_at, scripts_at, setting_at}
 use Rattle.scripts.specs.ScriptLaws.{finds-are, steps-are}
 use Rattle.machine.specs.ScriptVisits.{some-write}
 use Rattle.directory.specs.HistoryLaws.{next-sub}
-
-take-drop : {A : Type 0} (n : ℕ) (xs : List A) → take n xs ++ drop n xs ≡ xs
-take-drop zero xs = refl
-take-drop (suc n) [] = refl
-take-drop (suc n) (x ∷ xs) = ap (λ zs. x ∷ zs) (take-drop n xs)
 
 none-left : (setting : Setting) (course : Course) (before left : List Step) (made : ℕ)
     → length (writes setting course (before ++ left)) ≤ made → made ≤ length (writes setting course before)
@@ -55,47 +50,23 @@ pub lines-done : (input : Contents) (plan : PlanData) (history : History) (sub :
     → IsDone (setting_over input plan) (scripts_of input) history sub
     → subscriber.lines.items ≡ sub_lines (setting_over input plan) (scripts_of input) history sub
 lines-done input plan history sub subscriber low is done =
-    is.shown.lines ∙ ap
-    (λ steps. step_lines (setting_over input plan) sub (course_at (start (setting_over input plan) sub)) steps
-    (tickets sub history)) all_begun
-  where
-    script : List Step
-    script = steps_of (scripts_of input) sub
-
-    begun : List Step
-    begun = begun_steps input sub (shown_at is.handset subscriber)
-
-    left : List Step
-    left = drop (length subscriber.lines.items) script
-
-    course : Course
-    course = course_at (start (setting_over input plan) sub)
-
-    whole : begun ++ left ≡ script
-    whole = take-drop (length subscriber.lines.items) script
-
-    made : length (script_visits (setting_over input plan) (scripts_of input) sub) ≤ length (own sub history)
-    made = past-end (script_visits (setting_over input plan) (scripts_of input) sub) (length (own sub history))
-        (sym (next-sub (setting_over input plan) (scripts_of input) history sub low) ∙ done)
-
-    few : length (own sub history) ≤ length (visits (setting_over input plan) sub begun)
-    few = subst
-        (λ s. length (own sub history) ≤ length (visits (setting_over input plan) s begun)) is.shown.its
-        is.shown.handset.few
-
-    nothing : left ≡ []
-    nothing = none-left (setting_over input plan) course begun left (length (own sub history))
-        (omega (
-          arith,
-          made,
-          ap (λ xs. length (writes (setting_over input plan) course xs)) whole,
-          length-map (writes (setting_over input plan) course script) (visit_of sub),
-        ))
-        (omega (arith, few, length-map (writes (setting_over input plan) course begun) (visit_of sub)))
-
-    all_begun : begun ≡ script
-    all_begun = take_all (length subscriber.lines.items) script
-        (omega (arith, ap length nothing, length-drop (length subscriber.lines.items) script))
+    let setting : Setting = setting_over input plan in
+    let script : List Step = steps_of (scripts_of input) sub in
+    let begun : List Step = begun_steps input sub (shown_at is.handset subscriber) in
+    let left : List Step = drop (length subscriber.lines.items) script in
+    let course : Course = course_at (start setting sub) in
+    let whole : begun ++ left ≡ script = take-append-drop (length subscriber.lines.items) script in
+    let made : length (script_visits setting (scripts_of input) sub) ≤ length (own sub history) =
+    past-end (script_visits setting (scripts_of input) sub) (length (own sub history))
+    (sym (next-sub setting (scripts_of input) history sub low) ∙ done) in
+    let few : length (own sub history) ≤ length (visits setting sub begun) =
+    rw is.shown.its at is.shown.handset.few in
+    let nothing : left ≡ [] = none-left setting course begun left (length (own sub history))
+    (rw whole (omega (arith, made, length-map (writes setting course script) (visit_of sub))))
+    (omega (arith, few, length-map (writes setting course begun) (visit_of sub))) in
+    let all_begun : begun ≡ script = take_all (length subscriber.lines.items) script
+    (omega (arith, ap length nothing, length-drop (length subscriber.lines.items) script)) in
+    rw all_begun at is.shown.lines
 
 -- what each of a list gives, when each number gives the same
 pub flat-each : {X A : Type 0} (f : X → List A) (g : ℕ → List A) (xs : List X) (k : ℕ)
@@ -179,6 +150,7 @@ pub room-for_both : {machine : Machine} {history : History} → HasHistory machi
     → length (flat_map (λ (one : Subscriber). one.lines.items) machine.subscribers.items) + length
     (flat_map (λ (one : Caller). one.lines.items) machine.callers.items) ≤ vec_capacity machine.calls
 room-for_both {machine} {history} is =
+    let input : Contents = input_at machine in
     omega (
       arith,
       flat-few (λ (one : Subscriber). one.lines.items) machine.subscribers.items input.scripts
@@ -210,9 +182,6 @@ room-for_both {machine} {history} is =
           )),
       is.total,
     )
-  where
-    input : Contents
-    input = input_at machine
 
 -- the lines of all actors are those of the outcome
 pub lines-all : {machine : Machine} {history : History} → HasHistory machine history
@@ -221,6 +190,10 @@ pub lines-all : {machine : Machine} {history : History} → HasHistory machine h
     (λ (one : Caller). one.lines.items) machine.callers.items
     ≡ (outcome_in (setting_at machine) (scripts_at machine) history).calls
 lines-all {machine} {history} is done =
+    let input : Contents = input_at machine in
+    let finds_count : length (scripts_at machine).finds ≡ input.callers =
+    length-map (drop (length input.homes) input.scripts) (map find_of)
+    ∙ omega (arith, length-drop (length input.homes) input.scripts, is.together.valid.scripts) in
     rw (
       flat-each (λ (one : Subscriber). one.lines.items) (sub_lines (setting_at machine) (scripts_at machine) history)
           machine.subscribers.items 0 (λ s d h. lines-done input machine.plan.now history s
@@ -234,11 +207,4 @@ lines-all {machine} {history} is done =
       is.subscribers_count,
       is.callers_count,
       finds_count,
-    ) refl
-  where
-    input : Contents
-    input = input_at machine
-
-    finds_count : length (scripts_at machine).finds ≡ input.callers
-    finds_count = length-map (drop (length input.homes) input.scripts) (map find_of)
-        ∙ omega (arith, length-drop (length input.homes) input.scripts, is.together.valid.scripts)
+    )

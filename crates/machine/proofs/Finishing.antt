@@ -1,5 +1,5 @@
 -- The turns of an actor until it is done, and those of all actors.
-use Rattle.std.proofs.Common.{◌≡◌, ◌↔◌, ℕ, zero, suc, ◌+◌, ◌-◌, ◌<◌, ◌≤◌, List, [], ◌∷◌, ◌++◌, length, map, drop, refl, sym, ap, ◌∙◌, subst, arith, append_assoc}
+use Rattle.std.proofs.Common.{◌≡◌, ◌↔◌, ℕ, zero, suc, ◌+◌, ◌-◌, ◌<◌, ◌≤◌, List, [], ◌∷◌, ◌++◌, length, map, drop, refl, sym, ap, ◌∙◌, subst, arith}
 use Rattle.std.specs.Prelude.{None, flat_map, replicate}
 use Rattle.std.proofs.lemmas.List.{append-nil, length-map, length-drop, replicate-append-replicate}
 use Rattle.std.proofs.lemmas.List.Sums.{fold-append}
@@ -7,34 +7,20 @@ use Rattle.entry_word.specs.declared.visit.Visit.{Visit}
 use Rattle.directory.specs.Settings.{Setting}
 use Rattle.directory.specs.Histories.{History}
 use Rattle.directory.specs.Writes.{numbers_from}
-use Rattle.directory.specs.Orders.{Scripts, actors, after_turn, after_turns, last_turns, most_turns, next, IsDone}
+use Rattle.directory.specs.Orders.{Scripts, actors, after_turn, after_turns, last_turns, most_turns, next}
 use Rattle.directory.specs.Statements.{TurnsEndAlike}
 use Rattle.net_reader.specs.Input.{Contents}
-use Rattle.net_reader.specs.Seen.{seen_input}
 use Rattle.net_reader.specs.Valid.{IsValid}
 use Rattle.machine.specs.declared.machine.Machine.{Machine}
 use Rattle.scripts.specs.Laws.{VisitsAreFew}
-use Rattle.scripts.specs.Scripts.{find_of, most_visits, scripts_of}
-use Rattle.machine.specs.Stands.{over, setting_over}
+use Rattle.scripts.specs.Scripts.{find_of, most_visits}
+use Rattle.machine.specs.Stands.{over}
 use Rattle.machine.specs.Machines.{IsSame, HasHistory, HasMade, HasStridden, input_at, scripts_at, setting_at}
 use Rattle.directory.specs.HistoryLaws.{turn-none}
-
--- a machine that keeps its input and its plan keeps its setting and its scripts
-pub same-setting : (old new : Machine) → IsSame old new → setting_at new ≡ setting_at old
-same-setting old new same =
-    ap (λ input. setting_over (seen_input input) new.plan.now) same.0
-    ∙ ap (λ plan. setting_over (input_at old) plan) same.1
-
-pub same-scripts : (old new : Machine) → IsSame old new → scripts_at new ≡ scripts_at old
-same-scripts old new same = ap (λ input. scripts_of (seen_input input)) same.0
+use Rattle.std.proofs.lemmas.Grind.{flat_map-append}
 
 pub same-through : (one two three : Machine) → IsSame one two → IsSame two three → IsSame one three
 same-through one two three p q = (q.0 ∙ p.0, q.1 ∙ p.1, q.2 ∙ p.2)
-
--- a turn more
-pub replicate-push : (k x : ℕ) → replicate (suc k) x ≡ replicate k x ++ x ∷ []
-replicate-push zero x = refl
-replicate-push (suc k) x = ap (λ xs. x ∷ xs) (replicate-push k x)
 
 -- turns behind turns
 pub turns-joined : (setting : Setting) (scripts : Scripts) (history : History) (actor k n : ℕ)
@@ -52,11 +38,7 @@ made-joined {entry} {now} {new} {history} {actor} {k} {n} same first then =
     let joined : after_turns (setting_at now) (scripts_at now)
     (after_turns (setting_at entry) (scripts_at entry) history (replicate k actor)) (replicate n actor)
     ≡ after_turns (setting_at entry) (scripts_at entry) history (replicate (k + n) actor) =
-    ap (λ setting. after_turns setting (scripts_at now) (after_turns (setting_at entry) (scripts_at entry) history
-    (replicate k actor)) (replicate n actor)) (same-setting entry now same)
-    ∙ (ap (λ scripts. after_turns (setting_at entry) scripts (after_turns (setting_at entry) (scripts_at entry) history
-    (replicate k actor)) (replicate n actor)) (same-scripts entry now same)
-    ∙ turns-joined (setting_at entry) (scripts_at entry) history actor k n) in
+    rw (same.0, same.1) (turns-joined (setting_at entry) (scripts_at entry) history actor k n) in
     record {
       stands = subst (HasHistory new) joined then.stands;
       made = sym (ap length joined) ∙ (then.made ∙ omega (arith, first.made));
@@ -85,19 +67,12 @@ pub made-idle : {entry now new : Machine} {history : History} {actor k : ℕ} (c
 made-idle {entry} {now} {new} {history} {actor} {k} count same first then zero_made low =
     let reached : History = after_turns (setting_at entry) (scripts_at entry) history (replicate k actor) in
     let none : next (setting_at entry) (scripts_at entry) reached actor ≡ None =
-    sym (ap (λ setting. next setting (scripts_at now) reached actor) (same-setting entry now same)
-    ∙ ap (λ scripts. next (setting_at entry) scripts reached actor) (same-scripts entry now same))
-    ∙ (then.1 zero_made).0 in
+    rw (same.0, same.1) at (then.1 zero_made).0 in
+    let whole : k + (count - k) ≡ count = omega (arith, low) in
     let all : reached ≡ after_turns (setting_at entry) (scripts_at entry) history (replicate count actor) =
     sym (turns-idle (setting_at entry) (scripts_at entry) reached actor none (count - k))
-    ∙ (turns-joined (setting_at entry) (scripts_at entry) history actor k (count - k)
-    ∙ ap (λ n. after_turns (setting_at entry) (scripts_at entry) history (replicate n actor)) {x = k + (count - k)} {y =
-    count} (omega (arith, low))) in (
-      subst (HasHistory new) all
-          (subst (λ n. HasHistory new (after_turns (setting_at now) (scripts_at now) reached (replicate n actor)))
-          zero_made then.0.stands),
-      sym (ap length all) ∙ first.made,
-    )
+    ∙ rw (turns-joined (setting_at entry) (scripts_at entry) history actor k (count - k), whole) in
+    (subst (HasHistory new) all (rw zero_made at then.0.stands), sym (ap length all) ∙ first.made)
 
 -- one turn: it makes a visit where one is left
 pub turned-once : {old new : Machine} {history : History} {actor : ℕ} (count : ℕ) → count ≤ 1
@@ -130,9 +105,7 @@ pub visits-fewer : VisitsAreFew → {old new : Machine} {history : History} {act
 visits-fewer few {old} {new} {history} {actor} {count} same is made some =
     let after : History = after_turns (setting_at old) (scripts_at old) history (replicate count actor) in
     let most : most_visits (setting_at new) (input_at new).scripts
-    ≡ most_visits (setting_at old) (input_at old).scripts =
-    ap (λ setting. most_visits setting (input_at new).scripts) (same-setting old new same)
-    ∙ ap (λ input. most_visits (setting_at old) (seen_input input).scripts) same.0 in
+    ≡ most_visits (setting_at old) (input_at old).scripts = rw (same.0, same.1) in
     omega (
       arith,
       some,
@@ -153,15 +126,8 @@ pub turns-ended : TurnsEndAlike → (entry now new : Machine) (history : History
     → HasHistory new (after_turns (setting_at entry) (scripts_at entry) history
     (replicate (most_turns (setting_at entry) (scripts_at entry) actor) actor))
 turns-ended alike entry now new history actor k same is none goes =
-    subst (HasHistory new)
-    (alike (setting_at entry) (scripts_at entry) history actor k is.sees.played done) goes
-  where
-    reached : History
-    reached = after_turns (setting_at entry) (scripts_at entry) history (replicate k actor)
-
-    done : IsDone (setting_at entry) (scripts_at entry) reached actor
-    done = sym (ap (λ setting. next setting (scripts_at now) reached actor) (same-setting entry now same)
-        ∙ ap (λ scripts. next (setting_at entry) scripts reached actor) (same-scripts entry now same)) ∙ none
+    subst (HasHistory new) (alike (setting_at entry) (scripts_at entry) history actor k is.sees.played
+    (rw (same.0, same.1) at none)) goes
 
 -- the turns of the actors by number, one actor more
 numbers-push : (x k : ℕ) → numbers_from x (suc k) ≡ numbers_from x k ++ (x + k) ∷ []
@@ -170,8 +136,7 @@ numbers-push x (suc k) = ap (λ xs. x ∷ xs) (numbers-push (suc x) k
     ∙ ap (λ y. numbers_from (suc x) k ++ y ∷ []) (let e : suc x + k ≡ x + suc k = omega arith in e))
 
 flat-push : (f : ℕ → List ℕ) (xs : List ℕ) (x : ℕ) → flat_map f (xs ++ x ∷ []) ≡ flat_map f xs ++ f x
-flat-push f [] x = append-nil (f x)
-flat-push f (y ∷ xs) x = ap (λ zs. f y ++ zs) (flat-push f xs x) ∙ sym (append_assoc (f y) (flat_map f xs) (f x))
+flat-push f xs x = rw (flat_map-append, append-nil)
 
 -- all turns that the first actors may have
 abbrev pub turns_of : Setting → Scripts → ℕ → List ℕ
@@ -198,33 +163,29 @@ pub turns-following : (entry now : Machine) {new : Machine} (history : History) 
     → HasHistory new (after_turns (setting_at entry) (scripts_at entry) history
     (turns_of (setting_at entry) (scripts_at entry) (suc actor)))
 turns-following entry now {new} history actor same goes =
+    let setting : setting_at now ≡ setting_at entry = rw (same.0, same.1) in
+    let scripts : scripts_at now ≡ scripts_at entry = rw same.0 in
+    let reached : History = after_turns (setting_at entry) (scripts_at entry) history
+    (turns_of (setting_at entry) (scripts_at entry) actor) in
     subst (HasHistory new)
-    (ap (λ setting. after_turns setting (scripts_at now) reached
-    (replicate (most_turns setting (scripts_at now) actor) actor)) (same-setting entry now same)
-    ∙ (ap (λ scripts. after_turns (setting_at entry) scripts reached
-    (replicate (most_turns (setting_at entry) scripts actor) actor)) (same-scripts entry now same)
-    ∙ turns-next (setting_at entry) (scripts_at entry) history actor)) goes
-  where
-    reached : History
-    reached = after_turns (setting_at entry) (scripts_at entry) history
-        (turns_of (setting_at entry) (scripts_at entry) actor)
+    (ap (λ s. after_turns s (scripts_at now) reached (replicate (most_turns s (scripts_at now) actor) actor)) setting
+    ∙ ap (λ s. after_turns (setting_at entry) s reached (replicate (most_turns (setting_at entry) s actor) actor))
+    scripts
+    ∙ turns-next (setting_at entry) (scripts_at entry) history actor) goes
 
 -- and these are the last turns, where all actors have had them
 pub turns-all : (machine : Machine) → IsValid (input_at machine)
     → turns_of (setting_at machine) (scripts_at machine) (length (input_at machine).scripts)
     ≡ last_turns (setting_at machine) (scripts_at machine)
-turns-all machine valid = ap (turns_of (setting_at machine) (scripts_at machine)) count
-  where
-    input : Contents
-    input = input_at machine
-
-    count : length input.scripts ≡ actors (setting_at machine) (scripts_at machine)
-    count = omega (
+turns-all machine valid =
+    let input : Contents = input_at machine in
+    let count : length input.scripts ≡ actors (setting_at machine) (scripts_at machine) = omega (
       arith,
       length-map (drop (length input.homes) input.scripts) (map find_of),
       length-drop (length input.homes) input.scripts,
       valid.scripts,
-    )
+    ) in
+    ap (turns_of (setting_at machine) (scripts_at machine)) count
 
 -- and so many visits more
 pub counted-once : {old new : Machine} {history : History} {actor : ℕ} (count : ℕ) → count ≤ 1

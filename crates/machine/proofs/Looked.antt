@@ -1,7 +1,7 @@
 -- How far a caller is after a look.
-use Rattle.std.proofs.Common.{◌≡◌, ℕ, suc, ◌<◌, ◌≤◌, Bool, true, false, cond, List, [], ◌∷◌, ◌++◌, length, drop, refl, sym, ap, ◌∙◌, subst, arith, Option}
-use Rattle.std.specs.Prelude.{Some, None, slice_index, nat_lt, option_map, option_to_list, vec_capacity, unwrap_or, if◌then◌else◌}
-use Rattle.std.proofs.lemmas.Bool.{eq-eqb}
+use Rattle.std.proofs.Common.{◌≡◌, ℕ, suc, ◌≤◌, true, false, List, [], ◌∷◌, ◌++◌, length, drop, refl, sym, ap, ◌∙◌, arith, Option, inl, inr}
+use Rattle.std.specs.Prelude.{Some, None, slice_index, nat_lt, option_map, vec_capacity, unwrap_or, if◌then◌else◌}
+use Rattle.std.proofs.lemmas.Bool.{eq-eqb, cases_lt, lt-ltb, le-ltb}
 use Rattle.std.proofs.lemmas.Bool.Decides.{nat_tests}
 use Rattle.std.proofs.lemmas.List.{append-nil, length_push, get_or_push}
 use Rattle.std.proofs.Math.ListN.{get_or-append}
@@ -32,16 +32,12 @@ use Rattle.directory.specs.HistoryLaws.{next-caller}
 pub first-is : (first : ℕ) {next : ℕ} (ticket : ℕ) (seen : List ℕ) {kept : Option ℕ}
     → kept ≡ (if nat_lt first next then Some (slice_index seen first) else None) → length seen ≡ next → first ≤ next
     → unwrap_or kept ticket ≡ slice_index (seen ++ ticket ∷ []) first
-first-is first {next} ticket seen {kept} same count low = at_test (nat_lt first next) refl same
-  where
-    at_test : (b : Bool) → nat_lt first next ≡ b → kept ≡ (if b then Some (slice_index seen first) else None)
-        → unwrap_or kept ticket ≡ slice_index (seen ++ ticket ∷ []) first
-    at_test true e h =
-        let less : first < length seen = grind (arith, nat_tests, e, count) in
-        ap (λ o. unwrap_or o ticket) h ∙ sym (get_or-append seen (ticket ∷ []) 0 first less)
-    at_test false e h =
-        let at : length seen ≡ first = grind (arith, nat_tests, e, count, low) in
-        ap (λ o. unwrap_or o ticket) h ∙ sym (get_or_push seen ticket 0 first at)
+first-is first {next} ticket seen same count low = elim (cases_lt first next) [
+  | inl less ↦ rw (same, lt-ltb first next less)
+      (sym (get_or-append seen (ticket ∷ []) 0 first (omega (arith, less, count))))
+  | inr over ↦ rw (same, le-ltb first next over)
+      (sym (get_or_push seen ticket 0 first (omega (arith, count, low, over))))
+]
 
 -- a caller by its parts
 pub by-parts : (input : Contents) (plan : PlanData) (history : History) (actor : ℕ) {seeker : Seeker} {seen : List ℕ}
@@ -54,9 +50,8 @@ pub by-parts : (input : Contents) (plan : PlanData) (history : History) (actor :
     → IsCaller input plan history actor caller
 by-parts input plan history actor {seen} caller e t walks first lines left room =
     record {
-      walk = subst (λ (s : Seeker). IsWalking plan s.calls s.pursuit caller.walk) (sym e) walks;
-      first = first ∙ (ap (λ s. first_ticket s seen) (sym e)
-          ∙ ap (first_ticket (caller_in (setting_over input plan) (scripts_of input) history actor)) (sym t));
+      walk = rw e walks;
+      first = rw (e, t) first;
       lines = lines;
       left = ap (λ (s : Seeker). s.calls) e ∙ left;
       room = room;
@@ -91,15 +86,9 @@ looks grow {input} {plan} {history} {actor} {caller} {walk} next_walk {key} high
       calls_are = at.calls_are;
       turn = next-caller (setting_over input plan) (scripts_of input) history actor high
           ∙ ap (option_map (look_by actor)) (sym (key-wanted seeker at) ∙ wants);
-      pursuit = saw
-          ∙ (ap (after_word (setting_of plan []) (call_of walk) (pursuit_of plan walk)) reads
-          ∙ (ap (λ s. after_word (setting_of plan []) (call_of walk) s (cell (setting_over input plan) history key))
-          at.so_far
-          ∙ ap (λ c. after_word (setting_of plan []) c seeker.pursuit (cell (setting_over input plan) history key))
-          at.its));
+      pursuit = rw (saw, reads, at.so_far, at.its);
       its = same ∙ at.its;
-      seen = grow actor history (look_by actor key)
-          ∙ ap (λ b. tickets actor history ++ cond b (length history ∷ []) []) (eq-eqb actor actor refl);
+      seen = rw (grow actor history (look_by actor key), eq-eqb actor actor refl);
     }
 
 -- the find goes on
@@ -125,21 +114,17 @@ looked-on read grow count {input} {plan} {history} {actor} {ticket} {old} {key} 
     let first : unwrap_or old.first ticket ≡ slice_index (tickets actor history ++ ticket ∷ []) seeker.first =
     first-is seeker.first ticket (tickets actor history) its.first (sym counted.0) counted.1 in
     let seen : tickets actor (history ++ look_by actor key ∷ []) ≡ tickets actor history ++ ticket ∷ [] =
-    at.seen ∙ ap (λ n. tickets actor history ++ n ∷ []) place in
-    let low : nat_lt seeker.first (suc seeker.next) ≡ true = grind (arith, nat_tests, counted.1) in
-    let there : IsCaller input plan (history ++ look_by actor key ∷ []) actor
-    (record old { walk = Some walk; first = Some (unwrap_or old.first ticket) }) =
-    by-parts input plan (history ++ look_by actor key ∷ []) actor
-    (record old { walk = Some walk; first = Some (unwrap_or old.first ticket) }) after seen
-    (subst (λ cs. IsWalking plan cs pursuit (Some walk)) (sym at.calls_are) (at.its, at.pursuit, goes, unanswered))
-    (ap Some first ∙ sym (ap (λ b. if b then Some (slice_index (tickets actor history ++ ticket ∷ []) seeker.first) else
-    None) low)) (its.lines ∙ (sym (append-nil (caller_lines setting scripts history actor))
-    ∙ sym (grow setting scripts history actor key at.call at.later high sees.played at.calls_are
-    ∙ ap (λ o. caller_lines setting scripts history actor ++ option_to_list
-    (option_map (λ found. found_line actor at.call found
-    (slice_index (tickets actor history ++ length history ∷ []) seeker.first) (length history)) o)) unanswered)))
-    its.left its.room in
-    (key, at.turn, subst (IsCaller input plan (history ++ look_by actor key ∷ []) actor) (sym same) there)
+    rw (at.seen, place) in
+    let low : nat_lt seeker.first (suc seeker.next) ≡ true = grind (arith, nat_tests, counted.1) in (
+      key,
+      at.turn,
+      rw same (by-parts input plan (history ++ look_by actor key ∷ []) actor _ after seen
+          (rw at.calls_are (at.its, at.pursuit, goes, unanswered)) (rw (low, first)) (rw (
+            grow setting scripts history actor key at.call at.later high sees.played at.calls_are,
+            unanswered,
+            append-nil,
+          ) its.lines) its.left its.room),
+    )
 
 -- the find has its answer
 pub looked-up : CallersRead → CallerLinesGrow → CallersCount → {input : Contents} {plan : PlanData} {cells : CellData}
@@ -170,7 +155,7 @@ looked-up read grow count {input} {plan} {history} {actor} {ticket} {old} new {k
     let first : unwrap_or old.first ticket ≡ slice_index (tickets actor history ++ ticket ∷ []) seeker.first =
     first-is seeker.first ticket (tickets actor history) its.first (sym counted.0) counted.1 in
     let seen : tickets actor (history ++ look_by actor key ∷ []) ≡ tickets actor history ++ ticket ∷ [] =
-    at.seen ∙ ap (λ n. tickets actor history ++ n ∷ []) place in
+    rw (at.seen, place) in
     let late : nat_lt (suc seeker.next) (suc seeker.next) ≡ false = grind (arith, nat_tests) in
     let rest : at.call ∷ at.later ≡ drop (length old.lines.items) (finds_of setting scripts actor) =
     sym at.calls_are ∙ its.left in
@@ -179,20 +164,15 @@ looked-up read grow count {input} {plan} {history} {actor} {ticket} {old} new {k
     ap length lines ∙ omega (arith, length_push old.lines.items line) in
     let told : line ≡ found_line actor at.call found
     (slice_index (tickets actor history ++ length history ∷ []) seeker.first) (length history) =
-    line_is at.call at.later rest
-    ∙ (ap (λ f. found_line actor at.call found f ticket) first
-    ∙ ap (λ n. found_line actor at.call found (slice_index (tickets actor history ++ n ∷ []) seeker.first) n)
-    (sym place)) in
-    let there : IsCaller input plan (history ++ look_by actor key ∷ []) actor new =
-    by-parts input plan (history ++ look_by actor key ∷ []) actor new after seen
-    (subst (λ cs. IsWalking plan cs at_origin new.walk)
-    (ap (λ n. drop n (finds_of setting scripts actor)) left_is ∙ sym more.1) walks)
-    (first_is ∙ sym (ap (λ b. if b then Some (slice_index (tickets actor history ++ ticket ∷ []) (suc seeker.next)) else
-    None) late)) (lines ∙ (ap (λ ls. ls ++ line ∷ []) its.lines
-    ∙ (ap (λ l. caller_lines setting scripts history actor ++ l ∷ []) told
-    ∙ sym (grow setting scripts history actor key at.call at.later high sees.played at.calls_are
-    ∙ ap (λ o. caller_lines setting scripts history actor ++ option_to_list
-    (option_map (λ found. found_line actor at.call found
-    (slice_index (tickets actor history ++ length history ∷ []) seeker.first) (length history)) o)) ends))))
-    (more.1 ∙ ap (λ n. drop n (finds_of setting scripts actor)) (sym longer)) (omega (arith, its.room, room)) in
-    (key, at.turn, there)
+    rw (line_is at.call at.later rest, first, place) in (
+      key,
+      at.turn,
+      by-parts input plan (history ++ look_by actor key ∷ []) actor new after seen (rw (more.1, ← left_is) walks)
+          (rw (late, first_is)) (rw (
+            grow setting scripts history actor key at.call at.later high sees.played at.calls_are,
+            ends,
+            lines,
+            its.lines,
+            told,
+          )) (rw longer more.1) (omega (arith, its.room, room)),
+    )

@@ -1,40 +1,35 @@
 -- A caller's look: which cell it is at, which nodes its word names, and how far the caller is after it.
-use Rattle.std.proofs.Common.{◌≡◌, ℕ, ◌-◌, ◌^◌, ◌<◌, ◌≤◌, true, false, List, [], ◌∷◌, length, map, drop, get_or, refl, sym, ap, ◌∙◌, subst, arith}
-use Rattle.std.specs.Prelude.{All, Some, vec_capacity, vec_len}
+use Rattle.std.proofs.Common.{◌≡◌, ℕ, ◌-◌, ◌^◌, ◌<◌, ◌≤◌, true, false, List, [], ◌∷◌, length, map, drop, get_or, refl, sym, ap, ◌∙◌, subst, arith, Vec, Global}
+use Rattle.std.specs.Prelude.{Some, vec_capacity, vec_len, Result, Ok, Err}
 use Rattle.std.proofs.lemmas.List.{get_or-map, length-map, length-drop}
 use Rattle.entry_word.specs.declared.visit.Key.{Key}
 use Rattle.directory.specs.Histories.{History, cell}
 use Rattle.directory.specs.Finds.{FindCall, key_of}
-use Rattle.directory.specs.Orders.{AreValid, Caller as Seeker, IsFindCall, caller_in, finds_of, key_in, next_key}
+use Rattle.directory.specs.Orders.{AreValid, Caller as Seeker, IsFindCall, caller_in, finds_of, next_key}
 use Rattle.directory.specs.Statements.{PlayedIsLegal}
 use Rattle.trail_laws.specs.Trail.{EntriesTell, MarksTell}
 use Rattle.region_plan.specs.Matched.{IsMatched}
 use Rattle.region_plan.specs.Plan.{PlanData, nodes_of}
 use Rattle.region_plan.specs.Cells.{IsCell}
 use Rattle.walk.specs.Walks.{IsWalkOver, IsWordBelow, WalkData, call_of, pursuit_of}
-use Rattle.std.specs.Prelude.{Result, Ok, Err}
 use Rattle.std.specs.Result.{is_err, is_ok}
 use Rattle.walk.specs.LookLaws.{cell-wanted, word-wanted}
 use Rattle.distances.specs.Table.{DistanceTable}
 use Rattle.net_reader.specs.declared.said.Call.{Call}
 use Rattle.net_reader.specs.Input.{Contents}
-use Rattle.net_reader.specs.Valid.{IsSearch}
 use Rattle.visit_log.specs.Cells.{CellData}
 use Rattle.machine.specs.declared.caller.Caller.{Caller}
 use Rattle.scripts.specs.Scripts.{find_of, scripts_of}
 use Rattle.machine.specs.Stands.{BelongTogether, Sees, over, setting_over}
 use Rattle.machine.specs.Callers.{IsCaller}
 use Rattle.machine.specs.WalkingLaws.{Walks, drop-more, walking}
-use Rattle.std.proofs.Common.{Vec, Global}
-use Rattle.net_reader.specs.Valid.{IsValid}
 use Rattle.scripts.specs.Laws.{ScriptsAreValid}
 use Rattle.scripts.specs.ScriptLaws.{finds-are}
 
 pub key-wanted : {plan : PlanData} (seeker : Seeker) {walk : WalkData} → Walks plan seeker.calls seeker.pursuit walk
     → key_of (call_of walk) (pursuit_of plan walk) ≡ next_key seeker
 key-wanted seeker {walk} at =
-    ap (λ s. key_of (call_of walk) s) at.so_far
-    ∙ (ap (λ c. key_of c seeker.pursuit) at.its ∙ sym (ap (λ cs. key_in cs seeker.pursuit) at.calls_are))
+    rw (at.so_far, at.its, at.calls_are)
 
 -- the find that a caller is at is one of its script
 pub call-known : (input : Contents) (plan : PlanData) (actor n : ℕ) {call : FindCall} {later : List FindCall}
@@ -102,25 +97,9 @@ wanted marks entries legal scripts {input} {plan} {distances} {cells} {history} 
           wants;
     }
 
--- the script that the code reads
-pub script-is : (scripts : List (Vec Call Global)) (actor : ℕ) {held : Vec Call Global} {script : List Call}
-    → actor < length scripts → held ≡ get_or scripts actor held → script ≡ held.items
-    → script ≡ get_or (map (λ (s : Vec Call Global). s.items) scripts) actor []
-script-is scripts actor {held} low same its = its ∙ (ap (λ (s : Vec Call Global). s.items) same
-    ∙ sym (get_or-map (λ (s : Vec Call Global). s.items) scripts actor held [] low))
-
 pub scripts-low : (scripts : List (Vec Call Global)) (actor : ℕ) → actor < length scripts
     → actor < length (map (λ (s : Vec Call Global). s.items) scripts)
 scripts-low scripts actor low = omega (arith, low, length-map scripts (λ (s : Vec Call Global). s.items))
-
-pub script-searches : {input : Contents} (plan : PlanData) (actor : ℕ) {script : List Call} {count : ℕ} → IsValid input
-    → nodes_of plan ≡ input.nodes → length input.homes ≤ actor → actor < length input.scripts
-    → script ≡ get_or input.scripts actor [] → count ≡ length input.homes → All (IsSearch (nodes_of plan) count) script
-script-searches {input} plan actor {script} {count} valid nodes high low same few =
-    subst (λ n. All (IsSearch n count) script) (sym nodes)
-    (subst (λ n. All (IsSearch input.nodes n) script) (sym few)
-    (subst (λ s. All (IsSearch input.nodes (length input.homes)) s) (sym same)
-    (valid.searches actor high low)))
 
 -- a caller that has a walk has lines for fewer finds than it makes
 pub finds-left : {input : Contents} {plan : PlanData} {history : History} {actor : ℕ} {caller : Caller}
@@ -161,8 +140,7 @@ pub call-at : (input : Contents) (plan : PlanData) (actor n : ℕ) {script : Lis
 call-at input plan actor n {script} {call} {later} default high low same short left =
     let more = drop-more n (finds_of (setting_over input plan) (scripts_of input) actor) call later left in
     sym (get_or-map find_of script n default call short)
-    ∙ (ap (λ s. get_or (map find_of s) n call) same
-    ∙ (ap (λ fs. get_or fs n call) (sym (finds-are input (setting_over input plan) actor refl high low)) ∙ more.2 call))
+    ∙ rw (same, ← finds-are input (setting_over input plan) actor refl high low) (more.2 call)
 
 -- a push that didn't fail
 pub ok-of : {T E : Type 0} (r : Result T E) → is_err r ≡ false → is_ok r ≡ true

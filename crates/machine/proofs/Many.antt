@@ -1,31 +1,26 @@
 -- Many writes of entries at once: what as many turns make.
 use Rattle.std.proofs.Common.{◌≡◌, ℕ, zero, suc, ◌+◌, ◌-◌, ◌<◌, ◌≤◌, false, List, [], ◌∷◌, ◌++◌, length, set, take, get_or, refl, sym, ap, ◌∙◌, subst, arith}
-use Rattle.std.specs.Prelude.{Some, slice_get, vec_capacity}
+use Rattle.std.specs.Prelude.{Some, vec_capacity}
 use Rattle.std.proofs.lemmas.List.{get_or-set_same, length-set, length_push}
 use Rattle.entry_word.specs.Marks.{MarksUnpack}
 use Rattle.entry_word.specs.declared.visit.Visit.{Visit}
-use Rattle.directory.specs.Histories.{History, own, tickets}
-use Rattle.directory.specs.Courses.{course_at}
+use Rattle.directory.specs.Histories.{History, own}
 use Rattle.directory.specs.Orders.{Scripts, next, steps_of}
-use Rattle.directory.specs.Outcomes.{step_lines}
-use Rattle.directory.specs.Settings.{Setting, start}
+use Rattle.directory.specs.Settings.{Setting}
 use Rattle.directory.specs.Statements.{MoreIsPlayed, TicketsGrow, OwnGrow, TicketsAreOwn}
-use Rattle.directory.specs.Writes.{visits}
 use Rattle.directory.specs.declared.answers.Done.{Done}
-use Rattle.directory.specs.declared.answers.Done.TheVariants.{Moved, Switched, Found as FoundBy, Off as OffBy, Again as AgainBy}
+use Rattle.directory.specs.declared.answers.Done.TheVariants.{Moved}
 use Rattle.distances.specs.Table.{DistanceTable}
-use Rattle.handset.specs.Condition.{GoesWith, HandsetData}
-use Rattle.handset.specs.Stands.{StandsForSteps}
+use Rattle.handset.specs.Condition.{HandsetData}
 use Rattle.net_reader.specs.Input.{Contents}
 use Rattle.region_plan.specs.Plan.{PlanData}
 use Rattle.scripts.specs.Laws.{ScriptsAreValid}
 use Rattle.scripts.specs.Scripts.{scripts_of}
 use Rattle.visit_log.specs.Cells.{CellData, GoWith, Hold}
-use Rattle.machine.specs.declared.subscriber.Subscriber.{Subscriber}
 use Rattle.machine.specs.Stands.{AreMade, BelongTogether, Sees, setting_over}
-use Rattle.machine.specs.Subscribers.{IsShown, IsSubscriber, MakesTurns, MayTakeTurn, Shown, begun_steps, line_after}
+use Rattle.machine.specs.Subscribers.{IsShown, Shown, begun_steps, line_after}
 use Rattle.machine.specs.Owed.{HavePut}
-use Rattle.machine.proofs.Making.{made-count, made-joined, made-none}
+use Rattle.machine.proofs.Making.{made-none, made-as}
 use Rattle.machine.proofs.Written.{under-way, written-more, written-on}
 
 -- the lines of a subscriber behind so many of them
@@ -59,18 +54,20 @@ its-same {input} {plan} {history} {sub} {one} other its handset lines room =
     let begun : begun_steps input sub one ≡ begun_steps input sub other =
     ap (λ (ls : List Done). take (length ls) (steps_of (scripts_of input) sub)) (sym lines) in
     record {
-      handset = subst (λ h. StandsForSteps (setting_over input plan) h (begun_steps input sub other)
-          (length (own sub history))) (sym handset)
-          (subst (λ ss. StandsForSteps (setting_over input plan) one.handset ss (length (own sub history))) begun
-          its.handset);
-      goes = subst (GoesWith plan) (sym handset) its.goes;
-      its = ap (λ (h : HandsetData). h.sub) handset ∙ its.its;
-      lines = lines ∙ (its.lines ∙ ap (λ ss. step_lines (setting_over input plan) sub
-          (course_at (start (setting_over input plan) sub)) ss (tickets sub history)) begun);
+      handset = rw (handset, ← begun) its.handset;
+      goes = rw handset its.goes;
+      its = rw handset its.its;
+      lines = rw (← begun, lines) its.lines;
       few = omega (arith, its.few, ap length lines);
       under = λ before step split. its.under before step (begun ∙ split);
       room = omega (arith, its.room, room);
     }
+
+-- what is known of the history behind many turns, by what is known else
+pub made-so : {input : Contents} {plan : PlanData} {cells : CellData} {history : History} {sub count : ℕ}
+    {First : History → Type 0} (Then : History → Type 0) → AreMade input plan cells history sub count First
+    → ((later : History) → First later → Then later) → AreMade input plan cells history sub count Then
+made-so {history} Then made so = made-as made made.sees (so (history ++ made.visits) made.its)
 
 -- and so are many turns of it
 pub made-same : {input : Contents} {plan : PlanData} {cells : CellData} {history : History} {sub count : ℕ}
@@ -78,23 +75,15 @@ pub made-same : {input : Contents} {plan : PlanData} {cells : CellData} {history
     (λ later. IsShown input plan later sub one) → other.handset ≡ one.handset → other.lines.items ≡ one.lines.items
     → vec_capacity one.lines ≤ vec_capacity other.lines → AreMade input plan cells history sub count
     (λ later. IsShown input plan later sub other)
-made-same other made handset lines room =
-    record {
-      visits = made.visits;
-      turns = made.turns;
-      actors = made.actors;
-      sees = made.sees;
-      its = its-same other made.its handset lines room;
-    }
+made-same {input} {plan} {sub} other made handset lines room =
+    made-so (λ later. IsShown input plan later sub other) made
+    (λ later its. its-same other its handset lines room)
 
 -- of two visits that don't commit a line keeps the later ticket
 later-line : (line : Done) (first last : ℕ) → line_after (line_after line false first) false last
     ≡ line_after line false last
 later-line (Moved actor number from to weight begun commit end) first last = refl
-later-line (Switched actor off node number end) first last = refl
-later-line (FoundBy actor from sub node number level weight begun end) first last = refl
-later-line (OffBy actor from sub node number level weight begun end) first last = refl
-later-line (AgainBy actor from sub why weight begun end) first last = refl
+later-line line first last = refl
 
 -- an element that is set twice
 set-twice : {A : Type 0} (xs : List A) (i : ℕ) (a b : A) → set (set xs i a) i b ≡ set xs i b
@@ -115,11 +104,12 @@ lines-more lines line ticket (suc count) some =
     let size : length (set lines last before) ≡ length lines = length-set lines last before in
     let here : get_or (set lines last before) last line ≡ before =
     get_or-set_same lines last before line (omega (arith, some)) in
-    sym (ap (λ n. set (set lines last before) (n - 1) (line_after (get_or (set lines last before) (n - 1) line) false
-    (ticket + suc count))) size
-    ∙ (ap (λ l. set (set lines last before) last (line_after l false (ticket + suc count))) here
-    ∙ (ap (set (set lines last before) last) (later-line (get_or lines last line) (ticket + count) (ticket + suc count))
-    ∙ set-twice lines last before (line_after (get_or lines last line) false (ticket + suc count)))))
+    rw (
+      size,
+      here,
+      later-line (get_or lines last line) (ticket + count) (ticket + suc count),
+      set-twice lines last before (line_after (get_or lines last line) false (ticket + suc count)),
+    )
 
 -- as many turns make them
 pub written-many : MarksUnpack → OwnGrow → TicketsGrow → TicketsAreOwn → ScriptsAreValid → MoreIsPlayed
@@ -133,9 +123,8 @@ pub written-many : MarksUnpack → OwnGrow → TicketsGrow → TicketsAreOwn →
     (behind old handset line ticket count))
 written-many unpack own_law ticket_law tell scripts more mine {input} {plan} {history} {ticket} {sub} {old} line
     together low place sees its zero handset after puts =
-    made-same (behind old handset line ticket 0) (subst
-    (λ k. AreMade input plan k history sub 0 (λ later. IsShown input plan later sub old)) (sym puts.1)
-    (made-none sub (λ later. IsShown input plan later sub old) sees its)) puts.0 refl (omega arith)
+    rw puts.1 (made-same (behind old handset line ticket 0)
+    (made-none sub (λ later. IsShown input plan later sub old) sees its) puts.0 refl (omega arith))
 written-many unpack own_law ticket_law tell scripts more mine {input} {plan} {history} {ticket} {sub} {old} line
     together low place sees its (suc count) handset after (before, between, rest, entry) =
     let one : count + 1 ≡ suc count = omega arith in
@@ -148,9 +137,7 @@ written-many unpack own_law ticket_law tell scripts more mine {input} {plan} {hi
     × New (later ++ v ∷ []) × GoWith plan after × Hold plan input.homes after (later ++ v ∷ []) =
     λ later sight at stands.
     let here = entry.put.next input.homes (begun_steps input sub mid) (length (own sub later)) stands.handset in
-    let way = under-way unpack tell scripts together low stands
-    (ap (λ s. slice_get (visits (setting_over input plan) s (begun_steps input sub mid)) (length (own sub later)))
-    (sym stands.its) ∙ here) in
+    let way = under-way unpack tell scripts together low stands here in
     let size : length (lines_behind old.lines.items line ticket count) ≡ suc (length way.rows) =
     ap length way.are ∙ omega (arith, length_push way.rows way.row) in
     written-on unpack own_law ticket_law tell scripts new line together low at stands here
@@ -179,41 +166,4 @@ pub lines-are : (lines : List Done) (line : Done) (ticket count : ℕ) → 0 < c
     ≡ set lines (length lines - 1) (line_after (get_or lines (length lines - 1) line) false (ticket + count - 1))
 lines-are lines line ticket zero some = absurd (omega (arith, some))
 lines-are lines line ticket (suc count) some =
-    let e : ticket + count ≡ ticket + suc count - 1 = omega arith in
-    ap (λ n. set lines (length lines - 1) (line_after (get_or lines (length lines - 1) line) false n)) e
-
--- turns behind turns
-pub makes-more : {input : Contents} {plan : PlanData} {cells between after : CellData} {ticket sub count more : ℕ}
-    {old mid new : Subscriber} → MakesTurns input plan ticket sub old mid cells between count
-    → MakesTurns input plan (ticket + count) sub mid new between after more
-    → MakesTurns input plan ticket sub old new cells after (count + more)
-makes-more {input} {plan} {sub} {count} {mid} first then = λ history sees place its.
-    let Mid : History → Type 0 = λ later. IsSubscriber input plan later sub mid in
-    let made = first history sees place its in
-    made-joined made (then (history ++ made.visits) made.sees (made-count made ∙ ap (λ n. n + count) place) made.its)
-
--- a subscriber behind turns has its turn
-pub may-turn : {input : Contents} {plan : PlanData} {cells after : CellData} {ticket sub count : ℕ}
-    {old mid : Subscriber} → MayTakeTurn input plan cells ticket sub old
-    → MakesTurns input plan ticket sub old mid cells after count → MayTakeTurn input plan after (ticket + count) sub mid
-may-turn {count} may then =
-    let made = then may.0 may.1 may.2 may.3 in (
-      may.0 ++ made.visits,
-      made.sees,
-      made-count made
-          ∙ ap (λ n. n + count) may.2,
-      made.its,
-    )
-
--- what is known of the history behind many turns, by what is known else
-pub made-so : {input : Contents} {plan : PlanData} {cells : CellData} {history : History} {sub count : ℕ}
-    {First : History → Type 0} (Then : History → Type 0) → AreMade input plan cells history sub count First
-    → ((later : History) → First later → Then later) → AreMade input plan cells history sub count Then
-made-so {history} Then made so =
-    record {
-      visits = made.visits;
-      turns = made.turns;
-      actors = made.actors;
-      sees = made.sees;
-      its = so (history ++ made.visits) made.its;
-    }
+    let e : ticket + suc count - 1 ≡ ticket + count = omega arith in rw e

@@ -1,14 +1,11 @@
 -- Subscribers and callers before their first visits.
-use Rattle.std.proofs.Common.{◌≡◌, ◌⊎◌, inl, inr, ℕ, ◌+◌, ◌<◌, ◌≤◌, Bool, true, false, List, [], ◌∷◌, ◌++◌, length, map, take, drop, get_or, refl, sym, ap, ◌∙◌, subst, arith, Vec, Global}
+use Rattle.std.proofs.Common.{◌≡◌, inl, inr, ℕ, ◌+◌, ◌<◌, ◌≤◌, Bool, true, false, List, [], ◌∷◌, ◌++◌, length, map, take, get_or, refl, sym, ap, ◌∙◌, subst, arith, Vec, Global}
 use Rattle.std.specs.Prelude.{All, None, vec_capacity}
-use Rattle.std.proofs.lemmas.Bool.Decides.{nat_tests}
 use Rattle.std.proofs.lemmas.List.{get_or_push, length_push, length-map, get_or-map}
 use Rattle.std.proofs.Math.ListN.{get_or-append}
 use Rattle.std.proofs.lemmas.List.Elements.{All-cons, All-nil, All-head, All-tail}
-use Rattle.directory.specs.Settings.{start}
-use Rattle.directory.specs.Courses.{course_at}
 use Rattle.directory.specs.Finds.{at_origin}
-use Rattle.directory.specs.Histories.{tickets, tickets_from, words_after}
+use Rattle.directory.specs.Histories.{tickets_from, words_after}
 use Rattle.directory.specs.Orders.{finds_of, steps_of}
 use Rattle.directory.specs.Outcomes.{step_lines}
 use Rattle.net_reader.specs.declared.said.Call.{Call}
@@ -23,10 +20,10 @@ use Rattle.machine.specs.declared.subscriber.Subscriber.{Subscriber}
 use Rattle.scripts.specs.Scripts.{find_of, scripts_of, step_of}
 use Rattle.machine.specs.Stands.{BeginInside, BeginsInside, IsWalking, setting_over}
 use Rattle.machine.specs.Callers.{IsCaller}
-use Rattle.machine.specs.Owed.{Owes}
 use Rattle.machine.specs.Subscribers.{IsShown, IsSubscriber, Shown, begun_steps, shown_at}
 use Rattle.machine.proofs.Looked.{by-parts}
 use Rattle.scripts.specs.ScriptLaws.{finds-are, steps-are}
+use Rattle.std.proofs.lemmas.Bool.{cases_lt}
 
 shown-opens : {input : Contents} {plan : PlanData} {sub : ℕ} (shown : Shown) → IsValid input → sub < length input.homes
     → StandsForSteps (setting_over input plan) shown.handset [] 0 → GoesWith plan shown.handset
@@ -37,12 +34,10 @@ shown-opens {input} {plan} {sub} shown valid low stands goes its none room =
     let begun : begun_steps input sub shown ≡ [] =
     ap (λ n. take n (steps_of (scripts_of input) sub)) (ap length none) in
     record {
-      handset = subst (λ ss. StandsForSteps (setting_over input plan) shown.handset ss 0) (sym begun) stands;
+      handset = rw begun stands;
       goes = goes;
       its = its;
-      lines = none
-          ∙ ap (λ ss. step_lines (setting_over input plan) sub (course_at (start (setting_over input plan) sub)) ss
-          (tickets sub [])) (sym begun);
+      lines = rw (begun, none);
       few = omega (arith, ap length none);
       under = λ before step split. absurd (omega (arith, ap length (sym begun ∙ split), length_push before step));
       room = omega
@@ -58,10 +53,7 @@ sub-opens {input} {plan} subscriber valid low stands goes its empty none space n
     record {
       handset = subscriber.handset;
       shown = shown-opens (shown_at subscriber.handset subscriber) valid low stands goes its no_lines room;
-      owes = subst (λ writes. Owes plan (length input.homes) subscriber.handset subscriber.handset
-          (drop subscriber.made writes)) (sym empty)
-          (subst (λ n. Owes plan (length input.homes) subscriber.handset subscriber.handset (drop n []))
-          (sym none) refl);
+      owes = rw (none, empty) refl;
       goes = goes;
       its = its;
       within = omega (arith, none);
@@ -76,23 +68,18 @@ unfolding words_after tickets_from
 caller-opens input plan actor caller {script} high low same walks first none room =
     let finds : finds_of (setting_over input plan) (scripts_of input) actor ≡ map find_of script =
     finds-are input (setting_over input plan) actor refl high low ∙ ap (map find_of) (sym same) in
-    by-parts input plan [] actor caller refl refl (subst (λ fs. IsWalking plan fs at_origin caller.walk) (sym finds)
-    walks) first none (ap (λ n. drop n (finds_of (setting_over input plan) (scripts_of input) actor))
-    (sym (ap length none))) (omega (arith, room, ap length finds, length-map script find_of))
+    by-parts input plan [] actor caller refl refl (rw finds walks) first none (rw none refl)
+    (omega (arith, room, ap length finds, length-map script find_of))
 
 -- what holds at each place of a list and of one item more
 pub each-more : {A : Type 0} (P : ℕ → A → Type 0) (xs : List A) {x : A} {n : ℕ} {ys : List A} → ys ≡ xs ++ x ∷ []
     → length xs ≡ n → ((s : ℕ) (d : A) → s < n → P s (get_or xs s d)) → P n x → (s : ℕ) (d : A) → s < n + 1
     → P s (get_or ys s d)
-each-more P xs {x} {n} more count each last s d low = subst (λ zs. P s (get_or zs s d)) (sym more)
-    (elim (cases s n) as (λ _. P s (get_or (xs ++ x ∷ []) s d)) [
-      | inl less ↦ subst (P s) (sym (get_or-append xs (x ∷ []) d s (omega (arith, less, count)))) (each s d less)
-      | inr more ↦ let same : s ≡ n = omega (arith, low, more) in
-          subst (P s) (sym (get_or_push xs x d s (count ∙ sym same))) (subst (λ k. P k x) (sym same) last)
-    ])
-  where
-    cases : (a b : ℕ) → (a < b) ⊎ (b ≤ a)
-    cases a b = grind (arith, nat_tests)
+each-more P xs {x} {n} more count each last s d low = rw more (elim (cases_lt s n) [
+  | inl less ↦ rw (get_or-append xs (x ∷ []) d s (omega (arith, less, count))) (each s d less)
+  | inr high ↦ let same : s ≡ n = omega (arith, low, high) in
+      rw (get_or_push xs x d s (count ∙ sym same)) (subst (λ k. P k x) (sym same) last)
+])
 
 -- the calls of a valid input are inside
 course-inside : (format n here : ℕ) (off : Bool) (script : List Call) → IsCourse format n here off script
@@ -113,29 +100,22 @@ search-inside n subs (call ∷ script) all =
     (search-inside n subs script (All-tail (IsSearch n subs) call script all))
   where
     at_call : (c : Call) → IsSearch n subs c → BeginsInside n c
-    at_call (calls.Move to) h = absurd h
     at_call (calls.Find from sub) h = h.0
-    at_call calls.Off h = absurd h
-    at_call calls.On h = absurd h
+    at_call c h = absurd h
 
 script-inside : {input : Contents} (actor : ℕ) → IsValid input → actor < length input.scripts
     → BeginInside input.nodes (get_or input.scripts actor [])
 script-inside {input} actor valid low =
-    elim (cases actor (length input.homes)) as (λ _. BeginInside input.nodes (get_or input.scripts actor [])) [
+    elim (cases_lt actor (length input.homes)) [
       | inl sub ↦ course-inside input.format input.nodes (get_or input.homes actor 0) false
           (get_or input.scripts actor []) (valid.courses actor sub)
       | inr high ↦ search-inside input.nodes (length input.homes) (get_or input.scripts actor [])
           (valid.searches actor high low)
     ]
-  where
-    cases : (a b : ℕ) → (a < b) ⊎ (b ≤ a)
-    cases a b = grind (arith, nat_tests)
 
 pub scripts-inside : {input : Contents} (scripts : List (Vec Call Global)) {n : ℕ} → IsValid input
     → input.scripts ≡ map (λ (s : Vec Call Global). s.items) scripts → n ≡ input.nodes → (k : ℕ) (d : Vec Call Global)
     → k < length scripts → BeginInside n (get_or scripts k d).items
 scripts-inside {input} scripts valid same nodes k d low =
-    subst (λ m. BeginInside m (get_or scripts k d).items) (sym nodes)
-    (subst (BeginInside input.nodes) (ap (λ ss. get_or ss k []) same
-    ∙ get_or-map (λ (s : Vec Call Global). s.items) scripts k d [] low)
-    (script-inside k valid (omega (arith, low, ap length same, length-map scripts (λ (s : Vec Call Global). s.items)))))
+    rw (nodes, ← get_or-map (λ (s : Vec Call Global). s.items) scripts k d [] low, ← same)
+    (script-inside k valid (omega (arith, low, ap length same, length-map scripts (λ (s : Vec Call Global). s.items))))

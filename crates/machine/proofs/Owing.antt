@@ -1,5 +1,5 @@
 -- The writes that a subscriber has ahead: one more of them, and one that goes into its cell.
-use Rattle.std.proofs.Common.{◌≡◌, ℕ, zero, suc, ◌<◌, false, List, [], ◌∷◌, ◌++◌, length, drop, get_or, refl, sym, ap, ◌∙◌, subst, arith}
+use Rattle.std.proofs.Common.{◌≡◌, ℕ, suc, ◌<◌, false, List, [], ◌∷◌, ◌++◌, length, drop, get_or, refl, sym, ap, ◌∙◌, subst, arith, drop-cons}
 use Rattle.std.specs.Prelude.{vec_capacity}
 use Rattle.std.specs.Global.{Vec}
 use Rattle.std.proofs.lemmas.List.{length_push}
@@ -56,12 +56,6 @@ ahead-joined first then =
       room = then.room ∙ first.room;
     }
 
-drop-next : {A : Type 0} (xs : List A) (n : ℕ) (default : A) → n < length xs
-    → drop n xs ≡ get_or xs n default ∷ drop (suc n) xs
-drop-next [] n default low = absurd (omega (arith, low))
-drop-next (x ∷ xs) zero default low = refl
-drop-next (x ∷ xs) (suc n) default low = drop-next xs n default (omega (arith, low))
-
 -- the write that comes next
 pub record Next (plan : PlanData) (subs : ℕ) (old new : HandsetData) (write : Ahead) (left : List Ahead) : Type 0
   where
@@ -73,7 +67,7 @@ pub next-of : (plan : PlanData) (subs : ℕ) (old new : HandsetData) (writes : L
     → place < length writes → write ≡ get_or writes place write → Owes plan subs old new (drop place writes)
     → Next plan subs old new write (drop (suc place) writes)
 next-of plan subs old new writes place {write} low same owes =
-    let found = subst (Owes plan subs old new) (drop-next writes place write low) owes in
+    let found = subst (Owes plan subs old new) (drop-cons writes place write low) owes in
     record {
       handset = found.0;
       owes = found.1;

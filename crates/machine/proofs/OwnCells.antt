@@ -1,24 +1,20 @@
 -- The cell that a handset writes next is one of its subscriber's.
-use Rattle.std.proofs.Common.{◌≡◌, ℕ, suc, ◌<◌, [], refl, ap, ◌∙◌, subst, arith}
+use Rattle.std.proofs.Common.{◌≡◌, ℕ, ◌<◌, [], ap, ◌∙◌, subst, arith}
 use Rattle.std.specs.Prelude.{Some, option_map, slice_index}
 use Rattle.entry_word.specs.declared.mark.PresenceMark.TheVariants.{Empty, Here, Gone, Coming as ComingMark}
 use Rattle.entry_word.specs.declared.visit.Act.TheVariants.{Put}
 use Rattle.entry_word.specs.declared.visit.Key.{Key}
 use Rattle.entry_word.specs.declared.visit.Visit.{Visit}
 use Rattle.directory.specs.Keys.{key_sub}
-use Rattle.directory.specs.Settings.{Setting}
-use Rattle.directory.specs.Writes.{Write, entry_at, mark_at, new_address, visit_of, write_key, write_word}
+use Rattle.directory.specs.Writes.{Write, mark_at, new_address, visit_of, write_key, write_word}
 use Rattle.region_plan.specs.Cells.{IsCell}
 use Rattle.region_plan.specs.Plan.{PlanData, clusters_of, home, levels_of, nodes_of}
 use Rattle.region_plan.specs.Settings.{setting_of}
 use Rattle.handset.specs.Condition.{GoesWith, HandsetData, IsMoveStage}
-use Rattle.handset.specs.StepWrites.{after_write, due, due_at, erasing_from, erasure, go_on, purging_from, switch_mark}
+use Rattle.handset.specs.StepWrites.{due, due_at, erasure, switch_mark}
 use Rattle.handset.specs.declared.stage.Stage.{Stage}
 use Rattle.handset.specs.declared.stage.Stage.TheVariants.{Resting, Coming, Renewing, Committing, Confirming, Erasing, Purging, Switching}
-
-owner : (sub : ℕ) (write : Write) → key_sub (write_key sub write) ≡ sub
-owner sub (mark_at node mark) = refl
-owner sub (entry_at level cluster address) = refl
+use Rattle.directory.specs.StepLaws.{key_sub-of_write}
 
 -- the cell of a write that is the next one
 cell-of : {plan : PlanData} {subs : ℕ} (sub : ℕ) (write : Write) {visit : Visit} {key : Key} {word : ℕ}
@@ -29,7 +25,7 @@ cell-of {plan} {subs} sub write {visit} {key} {word} same act cell =
     let put : Put (write_key sub write) (write_word write) ≡ Put key word =
     ap (λ (v : Visit). v.act) its ∙ act in
     let here : write_key sub write ≡ key = cc in
-    subst (λ k. IsCell plan subs k × (key_sub k ≡ sub)) here (cell, owner sub write)
+    subst (λ k. IsCell plan subs k × (key_sub k ≡ sub)) here (cell, key_sub-of_write sub write)
 
 cell-at : {plan : PlanData} {handset : HandsetData} (subs : ℕ) {visit : Visit} {key : Key} {word : ℕ}
     → ((level node : ℕ) → level < levels_of plan → node < nodes_of plan → home plan level node < clusters_of plan level)
@@ -69,26 +65,3 @@ pub cell-due : {plan : PlanData} {handset : HandsetData} (subs : ℕ) {visit : V
     → visit.act ≡ Put key word → IsCell plan subs key × (key_sub key ≡ handset.sub)
 cell-due {handset} subs homes goes known is act =
     cell-at subs homes goes known act handset.stage goes.stage is
-
--- a write changes nothing of whose handset it is
-stays-own : (setting : Setting) (handset : HandsetData) (stage : Stage)
-    → (go_on setting handset stage).sub ≡ handset.sub
-stays-own setting handset Resting = refl
-stays-own setting handset Coming = refl
-stays-own setting handset (Renewing level) = refl
-stays-own setting handset Committing = refl
-stays-own setting handset Confirming = refl
-stays-own setting handset (Erasing level) = refl
-stays-own setting handset (Purging node) = refl
-stays-own setting handset (Switching off) = refl
-
-pub same-owner : (setting : Setting) (handset : HandsetData) (stage : Stage)
-    → (after_write setting handset stage).sub ≡ handset.sub
-same-owner setting handset Resting = refl
-same-owner setting handset Coming = refl
-same-owner setting handset (Renewing level) = refl
-same-owner setting handset Committing = refl
-same-owner setting handset Confirming = stays-own setting handset (erasing_from setting handset 0)
-same-owner setting handset (Erasing level) = stays-own setting handset (erasing_from setting handset (suc level))
-same-owner setting handset (Purging node) = stays-own setting handset (purging_from setting handset (suc node))
-same-owner setting handset (Switching off) = refl

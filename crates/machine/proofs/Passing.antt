@@ -1,10 +1,8 @@
 -- A caller's looks at entries that hold nothing, many at once: what as many turns make.
-use Rattle.std.proofs.Common.{◌≡◌, ℕ, zero, suc, ◌+◌, ◌<◌, ◌≤◌, [], ◌∷◌, ◌++◌, length, refl, sym, ap, ◌∙◌, subst, arith, None}
+use Rattle.std.proofs.Common.{◌≡◌, ℕ, zero, suc, ◌+◌, ◌<◌, ◌≤◌, [], ◌∷◌, ◌++◌, length, refl, sym, ap, ◌∙◌, arith, None, add-one}
 use Rattle.std.specs.Prelude.{Some, unwrap_or}
-use Rattle.std.proofs.lemmas.List.{length-map, length-append, length-replicate}
 use Rattle.entry_word.specs.declared.visit.Key.{Key}
 use Rattle.entry_word.specs.declared.visit.Key.TheVariants.{Entry}
-use Rattle.entry_word.specs.declared.visit.Visit.{Visit}
 use Rattle.directory.specs.Histories.{History, cell}
 use Rattle.directory.specs.Looks.{look_by}
 use Rattle.directory.specs.Orders.{next}
@@ -19,9 +17,9 @@ use Rattle.walk.specs.Walks.{WalkData}
 use Rattle.machine.specs.declared.caller.Caller.{Caller}
 use Rattle.scripts.specs.Scripts.{scripts_of}
 use Rattle.machine.specs.Stands.{Sees, setting_over}
-use Rattle.machine.specs.Callers.{HasPassed, IsCaller, Looks, MakesLooks, MayLook}
+use Rattle.machine.specs.Callers.{HasPassed, IsCaller, Looks}
 use Rattle.machine.specs.declared.turn.Turn.TheVariants.{Finished, Visited}
-use Rattle.machine.proofs.Making.{made-count, made-joined, made-none, made-one}
+use Rattle.machine.proofs.Making.{made-count, made-joined, made-none, made-one, made-as}
 use Rattle.machine.proofs.Looked.{looks, looked-on}
 use Rattle.machine.proofs.Turning.{sees-more}
 
@@ -53,10 +51,8 @@ first-kept walk old climb (suc count) same = refl
 behind-more : (walk : WalkData) (old : Caller) (ticket : ℕ) (climb next_climb : Climb) (count : ℕ) {first : ℕ}
     → first ≡ unwrap_or old.first ticket → behind walk old ticket next_climb (suc count)
     ≡ record (behind walk old ticket climb count) { walk = Some (walk_at walk next_climb); first = Some first }
-behind-more walk old ticket climb next_climb zero {first} same =
-    ap (λ f. record old { walk = Some (walk_at walk next_climb); first = Some f }) (sym same)
-behind-more walk old ticket climb next_climb (suc count) {first} same =
-    ap (λ f. record old { walk = Some (walk_at walk next_climb); first = Some f }) (sym same)
+behind-more walk old ticket climb next_climb zero same = rw same
+behind-more walk old ticket climb next_climb (suc count) same = rw same
 
 behind-walk : (walk : WalkData) (old : Caller) (ticket : ℕ) (climb : Climb) (count : ℕ)
     → (behind walk old ticket climb count).walk ≡ Some (walk_at walk climb)
@@ -76,16 +72,6 @@ pub passed-none : {input : Contents} {plan : PlanData} {cells : CellData} {histo
 passed-none {input} {plan} {actor} {old} sees its =
     made-none actor (λ later. IsCaller input plan later actor old) sees its
 
--- looks behind looks
-pub passed-behind : {input : Contents} {plan : PlanData} {cells : CellData} {history : History}
-    {ticket actor count more : ℕ} {mid new : Caller} → length history ≡ ticket
-    → HasPassed input plan cells history actor count mid → MakesLooks input plan cells (ticket + count) actor more mid
-    new → HasPassed input plan cells history actor (count + more) new
-passed-behind {input} {plan} {history} {actor} {count} {mid} place first then =
-    let Mid : History → Type 0 = λ later. IsCaller input plan later actor mid in
-    made-joined first (then (history ++ first.visits) first.sees (made-count first ∙ ap (λ n. n + count) place)
-    first.its)
-
 -- one look, as a turn makes it
 pub passed-one : MoreIsPlayed → {input : Contents} {plan : PlanData} {cells : CellData} {history : History} {actor : ℕ}
     {new : Caller} → Sees input plan cells history → ((k : Key)
@@ -95,81 +81,44 @@ passed-one more {input} {plan} {history} {actor} {new} sees turned =
     made-one history (λ later. IsCaller input plan later actor new) refl turned.1
     (sees-more more actor turned.0 sees turned.1) turned.2
 
--- a look more
-passed-more : TicketsGrow → CallersRead → CallerLinesGrow → CallersCount → MoreIsPlayed
-    → {input : Contents} {plan : PlanData} {cells : CellData} {history : History} {actor ticket : ℕ} (old : Caller)
-    {walk : WalkData} {climb : Climb} {limit : ℕ} → length history ≡ ticket
-    → LooksAhead input plan cells actor walk climb limit → {count : ℕ} → count < limit
-    → HasPassed input plan cells history actor count (behind walk old ticket (climb_past plan climb count) count)
-    → HasPassed input plan cells history actor (suc count)
-    (behind walk old ticket (climb_past plan climb (suc count)) (suc count))
-passed-more grow read lines counts more {input} {plan} {cells} {history} {actor} {ticket} old {walk} {climb} place at
-    {count} low passed =
-    let here : Climb = climb_past plan climb count in
-    let there : Climb = climb_past plan climb (suc count) in
-    let now : History = history ++ passed.visits in
-    let key : Key = Entry here.level (cluster_at plan here) walk.sub in
-    let entry : PassesEntry plan walk here = at.each count low in
-    let reads : 0 ≡ cell (setting_over input plan) now key =
-    sym (sym (passed.sees.hold.words key (subst (λ n. IsCell plan n key) passed.sees.hold.subs (at.cell count low)))
-    ∙ at.empty count low) in
-    let seen = looks grow (walk_at walk there) at.high passed.its (behind-walk walk old ticket here count) entry.key
-    reads refl entry.pursuit in
-    let size : length passed.visits ≡ count =
-    sym (length-map passed.visits (λ (v : Visit). v.actor)) ∙ (ap length passed.actors ∙ length-replicate count actor)
-    in
-    let tickets_at : count ≡ 0 → length now ≡ ticket =
-    λ none. omega (arith, none, size, place, length-append history passed.visits) in
-    let turned = looked-on read lines counts at.high passed.sees refl passed.its seen entry.over (sym entry.on)
-    (behind-more walk old ticket here there count (first-kept walk old here count tickets_at)) in
-    let caller : Caller = behind walk old ticket there (suc count) in
-    let one : count + 1 ≡ suc count = omega arith in
-    subst (λ m. HasPassed input plan cells history actor m caller) one
-    (made-joined passed (passed-one more passed.sees turned))
-
--- all of them
+-- so many looks, one after another
 pub passed-ahead : TicketsGrow → CallersRead → CallerLinesGrow → CallersCount → MoreIsPlayed
     → {input : Contents} {plan : PlanData} {cells : CellData} {history : History} {actor ticket : ℕ} (old : Caller)
     {walk : WalkData} {climb : Climb} {limit : ℕ} → length history ≡ ticket
     → LooksAhead input plan cells actor walk climb limit → HasPassed input plan cells history actor 0
     (behind walk old ticket climb 0) → (count : ℕ) → count ≤ limit → HasPassed input plan cells history actor count
     (behind walk old ticket (climb_past plan climb count) count)
-passed-ahead grow read lines counts more old place at
-    passed zero low = passed
-passed-ahead grow read lines counts more old place at
-    passed (suc count) low =
-    passed-more grow read lines counts more old place at (omega (arith, low))
-    (passed-ahead grow read lines counts more old place at passed count (omega (arith, low)))
+passed-ahead grow read lines counts more old place at passed zero low = passed
+passed-ahead grow read lines counts more {input} {plan} {history = history} {ticket = ticket} old {walk} {climb} place
+    at passed (suc count) low =
+    let before = passed-ahead grow read lines counts more old place at passed count (omega (arith, low)) in
+    let here : Climb = climb_past plan climb count in
+    let there : Climb = climb_past plan climb (suc count) in
+    let now : History = history ++ before.visits in
+    let key : Key = Entry here.level (cluster_at plan here) walk.sub in
+    let entry : PassesEntry plan walk here = at.each count low in
+    let reads : 0 ≡ cell (setting_over input plan) now key =
+    sym (at.empty count low) ∙ before.sees.hold.words key (rw before.sees.hold.subs at (at.cell count low)) in
+    let seen = looks grow (walk_at walk there) at.high before.its (behind-walk walk old ticket here count) entry.key
+    reads refl entry.pursuit in
+    let tickets_at : count ≡ 0 → length now ≡ ticket = λ none. omega (arith, none, place, made-count before) in
+    let turned = looked-on read lines counts at.high before.sees refl before.its seen entry.over (sym entry.on)
+    (behind-more walk old ticket here there count (first-kept walk old here count tickets_at)) in
+    rw (add-one count) at (made-joined before (passed-one more before.sees turned))
 
 -- and where there are some, the caller keeps a walk and a first ticket
 pub behind-some : (walk : WalkData) {after : WalkData} (old : Caller) (ticket : ℕ) (climb : Climb) (count : ℕ)
     {first : ℕ} → 0 < count → after ≡ walk_at walk climb → first ≡ unwrap_or old.first ticket
     → behind walk old ticket climb count ≡ record old { walk = Some after; first = Some first }
 behind-some walk old ticket climb zero some same kept = absurd (omega (arith, some))
-behind-some walk {after} old ticket climb (suc count) {first} some same kept =
-    ap (λ w. record old { walk = Some w; first = Some (unwrap_or old.first ticket) }) (sym same)
-    ∙ ap (λ f. record old { walk = Some after; first = Some f }) (sym kept)
-
--- a caller behind looks has its turn
-pub may-look : {input : Contents} {plan : PlanData} {cells : CellData} {ticket actor count : ℕ} {old mid : Caller}
-    → MayLook input plan cells ticket actor old → MakesLooks input plan cells ticket actor count old mid
-    → MayLook input plan cells (ticket + count) actor mid
-may-look {count} may then =
-    let made = then may.0 may.1 may.2 may.3 in (
-      may.0 ++ made.visits,
-      made.sees,
-      made-count made
-          ∙ ap (λ n. n + count) may.2,
-      made.its,
-    )
+behind-some walk old ticket climb (suc count) some same kept = rw (same, kept)
 
 -- looks, and one more
 pub looked-through : MoreIsPlayed → {input : Contents} {plan : PlanData} {cells : CellData} {history : History}
     {ticket actor count : ℕ} {far new : Caller} → length history ≡ ticket
     → HasPassed input plan cells history actor count far → Looks input plan cells (ticket + count) actor far new Visited
     → HasPassed input plan cells history actor (count + 1) new
-looked-through more {input} {plan} {history} {actor} {count} {far} place all last =
-    let Far : History → Type 0 = λ later. IsCaller input plan later actor far in
+looked-through more {history} {count} place all last =
     made-joined all (passed-one more all.sees (last (history ++ all.visits) all.sees
     (made-count all ∙ ap (λ n. n + count) place) all.its))
 
@@ -179,24 +128,6 @@ pub looks-ended : {input : Contents} {plan : PlanData} {cells : CellData} {histo
     → Looks input plan cells (ticket + count) actor far new Finished
     → (made : HasPassed input plan cells history actor count new) × (count < most
     → next (setting_over input plan) (scripts_of input) (history ++ made.visits) actor ≡ None)
-looks-ended {input} {plan} {history} {actor} {count} most {far} place all last =
-    let Far : History → Type 0 = λ later. IsCaller input plan later actor far in
-    let done = last (history ++ all.visits) all.sees (made-count all
-    ∙ ap (λ n. n + count) place) all.its in (
-      record {
-        visits = all.visits;
-        turns = all.turns;
-        actors = all.actors;
-        sees = all.sees;
-        its = subst (IsCaller input plan (history ++ all.visits) actor) (sym done.1) all.its;
-      },
-      λ fewer. done.0,
-    )
-
--- looks behind looks
-pub looks-more : {input : Contents} {plan : PlanData} {cells : CellData} {ticket actor count more : ℕ}
-    {old mid new : Caller} → MakesLooks input plan cells ticket actor count old mid
-    → MakesLooks input plan cells (ticket + count) actor more mid new
-    → MakesLooks input plan cells ticket actor (count + more) old new
-looks-more first then = λ history sees place its.
-    passed-behind place (first history sees place its) then
+looks-ended {history} {count} most place all last =
+    let done = last (history ++ all.visits) all.sees (made-count all ∙ ap (λ n. n + count) place) all.its in
+    (made-as all all.sees (rw done.1 all.its), λ fewer. done.0)

@@ -1,5 +1,5 @@
 -- How far a subscriber is, where writes come to be ahead, or go into their cells.
-use Rattle.std.proofs.Common.{◌≡◌, ℕ, zero, suc, ◌+◌, ◌-◌, ◌<◌, ◌≤◌, ◌==◌, Bool, false, true, not, List, [], ◌∷◌, ◌++◌, length, set, drop, get_or, refl, sym, ap, ◌∙◌, subst, arith}
+use Rattle.std.proofs.Common.{◌≡◌, ℕ, suc, ◌+◌, ◌-◌, ◌<◌, ◌≤◌, ◌==◌, Bool, false, true, not, List, [], ◌∷◌, ◌++◌, length, set, drop, get_or, refl, sym, ap, ◌∙◌, subst, arith, drop_of_length-le, add-one}
 use Rattle.std.specs.Prelude.{Some, slice_get, slice_set, vec_capacity}
 use Rattle.std.specs.Global.{Vec}
 use Rattle.std.proofs.lemmas.Bool.{ne_eqb}
@@ -34,34 +34,22 @@ use Rattle.machine.proofs.Owing.{Next, holds-next, next-of}
 use Rattle.machine.proofs.Rests.{Begins, written-first}
 use Rattle.machine.proofs.Written.{Under, under-way, written-on}
 
-drop-past : {A : Type 0} (n : ℕ) (xs : List A) → length xs ≤ n → drop n xs ≡ []
-drop-past zero [] high = refl
-drop-past (suc n) [] high = refl
-drop-past zero (x ∷ xs) high = absurd (omega (arith, high))
-drop-past (suc n) (x ∷ xs) high = drop-past n xs (omega (arith, high))
-
 pub none-there : (xs : List Ahead) {count : ℕ} {test : Bool} → length xs ≡ count → test ≡ (count == 0)
     → not test ≡ false → xs ≡ []
 none-there [] size is quiet = refl
 none-there (x ∷ xs) {count} size is quiet =
     let some : (count == 0) ≡ false = ne_eqb count 0 (λ none. omega (arith, size, none)) in
-    absurd (never (sym quiet ∙ ap not (is ∙ some)))
-  where
-    never : false ≡ true → ⊥
-    never h = cc
+    let never : true ≡ false = rw (is, some) at quiet in cc
 
 -- where all writes that were ahead are in their cells, the handset is as far as the history
 now-at : {input : Contents} {plan : PlanData} {history : History} {sub : ℕ} {old : Subscriber}
     → length old.ahead.items ≤ old.made → (its : IsSubscriber input plan history sub old) → old.handset ≡ its.handset
-now-at {input} {plan} {old} full its =
-    subst (Owes plan (length input.homes) its.handset old.handset) (drop-past old.made old.ahead.items full) its.owes
+now-at {old} full its = rw (drop_of_length-le old.ahead.items full) at its.owes
 
 pub shown-now : {input : Contents} {plan : PlanData} {history : History} {sub : ℕ} {old : Subscriber}
     → old.ahead.items ≡ [] → IsSubscriber input plan history sub old
     → IsShown input plan history sub (shown_at old.handset old)
-shown-now {input} {plan} {history} {sub} {old} empty its =
-    subst (λ h. IsShown input plan history sub (shown_at h old))
-    (sym (now-at (omega (arith, ap length empty)) its)) its.shown
+shown-now empty its = rw (now-at (omega (arith, ap length empty)) its) its.shown
 
 -- other writes are ahead then
 pub refilled : {input : Contents} {plan : PlanData} {history : History} {sub subs : ℕ} {old : Subscriber}
@@ -69,14 +57,11 @@ pub refilled : {input : Contents} {plan : PlanData} {history : History} {sub sub
     → empty.items ≡ [] → vec_capacity empty ≡ vec_capacity old.ahead → IsAhead plan subs old.handset handset empty ahead
     → IsSubscriber input plan history sub old
     → IsSubscriber input plan history sub (record old { handset = handset; ahead = ahead; made = 0 })
-refilled {plan} {subs} {old} {handset} {empty} {ahead} known full none space is its =
-    let same : old.handset ≡ its.handset = now-at full its in
-    let before : Owes plan subs its.handset old.handset empty.items =
-    subst (Owes plan subs its.handset old.handset) (sym none) same in
+refilled known full none space is its =
     record {
       handset = its.handset;
       shown = its.shown;
-      owes = subst (λ n. Owes plan n its.handset handset ahead.items) (sym known) (is.owes its.handset before);
+      owes = rw known (is.owes its.handset (rw none (now-at full its)));
       goes = is.goes;
       its = is.its ∙ its.its;
       within = omega arith;
@@ -97,9 +82,7 @@ line-there unpack tell scripts {input} {plan} {history} {sub} {old} together low
     (get_or_default old.ahead.items old.made none write left) its.owes in
     let way : Under input plan history sub shown next.its.visit =
     under-way unpack tell scripts together low its.shown
-    (ap (λ s. slice_get (visits (setting_over input plan) s (begun_steps input sub shown)) (length (own sub history)))
-    (sym its.shown.its) ∙ next.its.next input.homes (begun_steps input sub shown) (length (own sub history))
-    its.shown.handset) in
+    (next.its.next input.homes (begun_steps input sub shown) (length (own sub history)) its.shown.handset) in
     omega (arith, ap length way.are, length_push way.rows way.row)
 
 -- the write that comes next goes into its cell
@@ -122,9 +105,8 @@ one-put unpack own_law ticket_law tell scripts {input} {plan} {cells} {history} 
     next-of plan (length input.homes) its.handset old.handset old.ahead.items old.made left same its.owes in
     let one : IsNextAhead plan (length input.homes) its.handset next.handset write = next.its in
     let new : Shown = record { handset = next.handset; lines = lines } in
-    let more : suc old.made ≡ old.made + 1 = omega arith in
     let cell : IsPlaceOf plan cells.subs sub write.place one.key =
-    subst (λ n. IsPlaceOf plan n sub write.place one.key) (sym sees.hold.subs)
+    rw sees.hold.subs
     (subst (λ s. IsPlaceOf plan (length input.homes) s write.place one.key) its.shown.its one.cell) in
     let done = written-on unpack own_law ticket_law tell scripts new default together low place its.shown
     (one.next input.homes (begun_steps input sub shown) (length (own sub history)) its.shown.handset)
@@ -136,8 +118,7 @@ one-put unpack own_law ticket_law tell scripts {input} {plan} {cells} {history} 
       record {
         handset = next.handset;
         shown = done.2;
-        owes = subst (λ n. Owes plan (length input.homes) next.handset old.handset (drop n old.ahead.items)) more
-            next.owes;
+        owes = rw (add-one old.made) next.owes;
         goes = its.goes;
         its = its.its;
         within = omega (arith, left);
@@ -155,8 +136,7 @@ may-put {input} {plan} {old} {writes} sees its same =
     record {
       over = sees.goes;
       its = its.shown.its;
-      owes = subst (λ n. Owes plan n its.handset old.handset (drop old.made writes)) (sym sees.hold.subs)
-          (subst (λ ws. Owes plan (length input.homes) its.handset old.handset (drop old.made ws)) (sym same) its.owes);
+      owes = rw (sees.hold.subs, same) its.owes;
     }
 
 -- some of them do, none of which commits a move
@@ -184,8 +164,7 @@ plain-put unpack own_law ticket_law tell scripts more mine {input} {plan} {after
     (λ later seen. record {
       handset = come.handset;
       shown = seen;
-      owes = subst (λ ws. Owes plan (length input.homes) come.handset old.handset (drop place ws)) same
-          (subst (λ n. Owes plan n come.handset old.handset (drop place writes)) made.sees.hold.subs come.may.owes);
+      owes = rw (made.sees.hold.subs, same) at come.may.owes;
       goes = its.goes;
       its = its.its;
       within = omega (arith, within, ap length same);

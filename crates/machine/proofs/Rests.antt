@@ -1,18 +1,17 @@
 -- A subscriber at rest: that nothing is left, or how far it is after the first visit of its next step.
-use Rattle.std.proofs.Common.{◌≡◌, ℕ, suc, ◌<◌, ◌≤◌, true, false, List, [], ◌∷◌, ◌++◌, length, take, get_or, sym, ap, ◌∙◌, subst, arith, length-append}
+use Rattle.std.proofs.Common.{◌≡◌, ℕ, suc, ◌<◌, ◌≤◌, false, List, [], ◌∷◌, ◌++◌, length, take, get_or, sym, ap, ◌∙◌, subst, arith, length-append}
 use Rattle.std.specs.Prelude.{Some, None, slice_get, vec_capacity}
 use Rattle.std.proofs.lemmas.Option.{slice_get_past}
 use Rattle.std.proofs.lemmas.List.{append-nil, take_all, length_push, length-map, same_from_push}
 use Rattle.entry_word.specs.declared.visit.Visit.{Visit}
 use Rattle.directory.specs.Settings.{Setting, start}
-use Rattle.directory.specs.Courses.{Course, MayStep, Step, after_steps, course_at, move_to, switch_off, switch_on}
+use Rattle.directory.specs.Courses.{Course, Step, after_steps, course_at}
 use Rattle.directory.specs.Histories.{History, own, tickets}
 use Rattle.directory.specs.Orders.{next, script_visits, steps_of}
-use Rattle.directory.specs.Outcomes.{step_line, step_lines}
+use Rattle.directory.specs.Outcomes.{step_line}
 use Rattle.directory.specs.StepLaws.{slice_get-within, take-more, writes-append}
 use Rattle.directory.specs.Writes.{step_writes, visit_of, visits, writes}
 use Rattle.directory.specs.declared.answers.Done.{Done}
-use Rattle.directory.specs.declared.answers.Done.TheVariants.{Moved, Switched}
 use Rattle.net_reader.specs.declared.said.Call.{Call}
 use Rattle.net_reader.specs.declared.said.Call.TheVariants as calls
 use Rattle.net_reader.specs.Input.{Contents}
@@ -57,43 +56,8 @@ first-line : (plan : PlanData) (starts : List ℕ) {handset : HandsetData} {step
     → IsStep call → begun_line plan handset call ticket ≡ step_line (setting_of plan starts) sub
     (after_steps (setting_of plan starts) (course_at (start (setting_of plan starts) sub)) steps) (step_of call)
     (ticket ∷ [])
-first-line plan starts {handset} {steps} {sub} call ticket at same its =
-    at_call call its
-  where
-    course : Course
-    course = after_steps (setting_of plan starts) (course_at (start (setting_of plan starts) handset.sub)) steps
-
-    swap : (step : Step) → step_line (setting_of plan starts) handset.sub (after_steps (setting_of plan starts)
-        (course_at (start (setting_of plan starts) handset.sub)) steps) step (ticket ∷ [])
-        ≡ step_line (setting_of plan starts) sub (after_steps (setting_of plan starts)
-        (course_at (start (setting_of plan starts) sub)) steps) step (ticket ∷ [])
-    swap step = ap (λ s. step_line (setting_of plan starts) s (after_steps (setting_of plan starts)
-        (course_at (start (setting_of plan starts) s)) steps) step (ticket ∷ [])) same
-
-    at_call : (c : Call) → IsStep c → begun_line plan handset c ticket
-        ≡ step_line (setting_of plan starts) sub (after_steps (setting_of plan starts)
-        (course_at (start (setting_of plan starts) sub)) steps) (step_of c) (ticket ∷ [])
-    at_call (calls.Move to) its =
-        ap (λ n. Moved handset.sub (suc n) handset.place to
-        ((setting_of plan starts).distance handset.place to) ticket 0 ticket) at.number
-        ∙ (ap (λ p. Moved handset.sub
-        (suc (length
-        (after_steps (setting_of plan starts) (course_at (start (setting_of plan starts) handset.sub)) steps).moves)) p
-        to
-        ((setting_of plan starts).distance p to) ticket 0 ticket) at.place ∙ swap (move_to to))
-    at_call (calls.Find from found) its = absurd its
-    at_call calls.Off its =
-        ap (λ n. Switched handset.sub true handset.place n ticket) at.number
-        ∙ (ap (λ p. Switched handset.sub true p
-        (length (after_steps (setting_of plan starts)
-        (course_at (start (setting_of plan starts) handset.sub)) steps).moves) ticket) at.place
-        ∙ swap switch_off)
-    at_call calls.On its =
-        ap (λ n. Switched handset.sub false handset.place n ticket) at.number
-        ∙ (ap (λ p. Switched handset.sub false p
-        (length (after_steps (setting_of plan starts)
-        (course_at (start (setting_of plan starts) handset.sub)) steps).moves) ticket) at.place
-        ∙ swap switch_on)
+first-line plan starts (calls.Find from found) ticket at same its = absurd its
+first-line plan starts call ticket at same its = rw (at.number, at.place, same)
 
 pub begins : ScriptsAreValid → {input : Contents} {plan : PlanData} {distances : DistanceTable} {history : History}
     {sub : ℕ} {old : Shown} {call : Call} → BelongTogether input plan distances → sub < length input.homes
@@ -119,14 +83,10 @@ begins scripts {input} {plan} {history} {sub} {old} {call} together low its none
     record {
       may = may-begin plan input.homes old.handset (begun_steps input sub old)
           (length (own sub history)) call at is_step
-          (subst (λ s. MayStep setting (after_steps setting (course_at (start setting s)) (begun_steps input sub old))
-          (step_of call)) (sym its.its) allowed.0);
+          (rw its.its allowed.0);
       line = λ ticket. first-line plan input.homes call ticket at its.its is_step;
       more = more;
-      all = at.all
-          ∙ (length-map (writes setting (course_at (start setting old.handset.sub)) (begun_steps input sub old))
-          (visit_of old.handset.sub)
-          ∙ ap (λ s. length (writes setting (course_at (start setting s)) (begun_steps input sub old))) its.its);
+      all = rw (at.all, length-map, its.its);
     }
 
 -- nothing is left where each step is done
@@ -148,10 +108,7 @@ all-written {input} {plan} {history} {sub} {old} valid low its none same =
     )) in
     let count : length (own sub history)
     ≡ length (writes setting (course_at (start setting sub)) (steps_of (scripts_of input) sub)) =
-    at.all ∙ (length-map (writes setting (course_at (start setting old.handset.sub)) (begun_steps input sub old))
-    (visit_of old.handset.sub)
-    ∙ (ap (λ s. length (writes setting (course_at (start setting s)) (begun_steps input sub old))) its.its
-    ∙ ap (λ ss. length (writes setting (course_at (start setting sub)) ss)) whole)) in
+    rw (at.all, length-map, its.its, whole) in
     next-sub setting (scripts_of input) history sub low
     ∙ slice_get_past (script_visits setting (scripts_of input) sub) (length (own sub history))
     (omega (
@@ -206,9 +163,7 @@ written-first own_law ticket_law tell {input} {plan} {history} {sub} {ticket} {o
     ap (λ k. take k (steps_of (scripts_of input) sub)) longer ∙ begin.more in
     let here : slice_get (visits setting sub (take (suc (length old.lines.items)) (steps_of (scripts_of input) sub)))
     (length (own sub history)) ≡ Some visit =
-    ap (λ ss. slice_get (visits setting sub ss) (length (own sub history))) begin.more
-    ∙ (ap (λ s. slice_get (visits setting s (begun_steps input sub old ++ step_of call ∷ []))
-    (length (own sub history))) (sym its.its) ∙ at) in
+    rw begin.more (rw its.its at at) in
     let seen : Seen input plan history sub visit =
     seen-after own_law ticket_law input plan history sub (suc (length old.lines.items)) low here in
     let last : Course = after_steps setting course (begun_steps input sub old) in
@@ -217,24 +172,22 @@ written-first own_law ticket_law tell {input} {plan} {history} {sub} {ticket} {o
       visit,
       seen.turn,
       record {
-        handset = subst (λ ss. StandsForSteps setting new.handset ss (length (own sub (history ++ visit ∷ []))))
-            (sym steps)
-            (subst (StandsForSteps setting new.handset (begun_steps input sub old ++ step_of call ∷ []))
-            (sym seen.count) stands);
+        handset = rw (steps, seen.count) stands;
         goes = goes;
         its = same ∙ its.its;
-        lines = lines
-            ∙ (ap (λ ls. ls ++ line ∷ []) its.lines
-            ∙ (ap (λ l. step_lines setting sub course (begun_steps input sub old) (tickets sub history) ++ l ∷ [])
-            (line_is ∙ (begin.line ticket
-            ∙ (ap (λ t. step_line setting sub last (step_of call) (t ∷ [])) (sym place)
-            ∙ ap (step_line setting sub last (step_of call))
-            (sym (take_all (length (step_writes setting last (step_of call))) (length history ∷ [])
-            (some-write setting last (step_of call)))))))
-            ∙ (sym (lines-partial setting sub course (begun_steps input sub old) (step_of call) (tickets sub history)
-            (length history ∷ []) count)
-            ∙ (ap (step_lines setting sub course (begun_steps input sub old ++ step_of call ∷ [])) (sym seen.seen)
-            ∙ ap (λ ss. step_lines setting sub course ss (tickets sub (history ++ visit ∷ []))) (sym steps)))));
+        lines = rw (
+          steps,
+          seen.seen,
+          lines-partial setting sub course (begun_steps input sub old) (step_of call) (tickets sub history)
+              (length history ∷ []) count,
+          take_all (length (step_writes setting last (step_of call))) (length history ∷ [])
+              (some-write setting last (step_of call)),
+          ← its.lines,
+          lines,
+          line_is,
+          begin.line ticket,
+          place,
+        );
         few = omega (arith, longer, short);
         under = λ before step split.
             let both = same_from_push (begun_steps input sub old) before (step_of call) step (sym steps ∙ split) in

@@ -1,5 +1,5 @@
 -- The lines of a machine's outcome are right, and their numbers rise.
-use Rattle.std.proofs.Common.{ℕ, map, subst, arith}
+use Rattle.std.proofs.Common.{ℕ, map, arith}
 use Rattle.std.specs.Prelude.{All}
 use Rattle.entry_word.specs.declared.visit.Visit.{Visit}
 use Rattle.directory.specs.Histories.{History}
@@ -21,9 +21,7 @@ pub right-outcome : OutcomesAreRight → OrdersAreOwn → ScriptsAreValid → {m
     → All (IsRightLine (setting_at machine) history) (outcome_in (setting_at machine) (scripts_at machine)
     history).calls
 right-outcome right own valid {machine} {history} matched is done =
-    subst (λ h. All (IsRightLine (setting_at machine) h)
-    (outcome_in (setting_at machine) (scripts_at machine) h).calls)
-    (own (setting_at machine) (scripts_at machine) history is.sees.played done)
+    rw (← own (setting_at machine) (scripts_at machine) history is.sees.played done)
     (right (setting_at machine) (scripts_at machine) (map (λ (visit : Visit). visit.actor) history)
     (omega (arith, is.together.nodes, few-nodes (input_at machine) is.together.valid))
     (reads-top machine.plan.now (input_at machine).homes matched)
@@ -35,8 +33,7 @@ pub rising-outcome : NumbersRise → OrdersAreOwn → ScriptsAreValid → {machi
     → HasHistory machine history → ((actor : ℕ) → IsDone (setting_at machine) (scripts_at machine) history actor)
     → TellRisingNumbers (outcome_in (setting_at machine) (scripts_at machine) history).calls
 rising-outcome rise own valid {machine} {history} is done =
-    subst (λ h. TellRisingNumbers (outcome_in (setting_at machine) (scripts_at machine) h).calls)
-    (own (setting_at machine) (scripts_at machine) history is.sees.played done)
+    rw (← own (setting_at machine) (scripts_at machine) history is.sees.played done)
     (rise (setting_at machine) (scripts_at machine) (map (λ (visit : Visit). visit.actor) history)
     (omega (arith, is.together.nodes, few-nodes (input_at machine) is.together.valid))
     (valid (input_at machine) (setting_at machine) is.together.valid

@@ -1,5 +1,5 @@
 -- What is known of a subscriber after a visit of its own: whose turn it was, and which step the visit belongs to.
-use Rattle.std.proofs.Common.{◌≡◌, ℕ, zero, suc, ◌+◌, ◌-◌, ◌<◌, ◌≤◌, ◌==◌, true, cond, List, [], ◌∷◌, ◌++◌, length, map, take, drop, refl, sym, ap, ◌∙◌, subst, arith}
+use Rattle.std.proofs.Common.{◌≡◌, ℕ, zero, suc, ◌+◌, ◌-◌, ◌<◌, ◌≤◌, ◌==◌, true, List, [], ◌∷◌, ◌++◌, length, map, take, drop, refl, sym, ap, ◌∙◌, subst, arith, append_assoc}
 use Rattle.std.specs.Prelude.{Some, slice_get}
 use Rattle.std.proofs.lemmas.Bool.{eq-eqb}
 use Rattle.std.proofs.lemmas.List.{append-nil, take-append-drop, length_push, length-map}
@@ -21,12 +21,7 @@ use Rattle.machine.specs.ScriptVisits.{in-script}
 use Rattle.machine.proofs.Steps.{may-at}
 use Rattle.directory.specs.HistoryLaws.{next-sub}
 use Rattle.directory.specs.Statements.{TicketsGrow, OwnGrow}
-
--- elements of joined lists
-get-right : {A : Type 0} (xs ys : List A) (i j : ℕ) → i ≡ length xs + j → slice_get (xs ++ ys) i ≡ slice_get ys j
-get-right [] ys i j h = let e : i ≡ j = omega (arith, h) in ap (slice_get ys) e
-get-right (x ∷ xs) ys zero j h = absurd (omega (arith, h))
-get-right (x ∷ xs) ys (suc i) j h = get-right xs ys i j (omega (arith, h))
+use Rattle.directory.specs.ListLaws.{slice_get-right}
 
 actor-of : (sub : ℕ) (ws : List Write) (i : ℕ) {visit : Visit} → slice_get (map (visit_of sub) ws) i ≡ Some visit
     → visit.actor ≡ sub
@@ -67,7 +62,7 @@ last-visit setting sub n before step past h =
     ≡ step_writes setting (after_steps setting course before) step =
     append-nil (step_writes setting (after_steps setting course before) step) in
     ap (λ ws. slice_get (map (visit_of sub) ws) (n - length (writes setting course before))) (sym only)
-    ∙ (sym (get-right (map (visit_of sub) (writes setting course before))
+    ∙ (sym (slice_get-right (map (visit_of sub) (writes setting course before))
     (visits_in setting sub (after_steps setting course before) (step ∷ [])) n
     (n - length (writes setting course before)) back)
     ∙ (ap (λ vs. slice_get vs n) (sym (visits-append setting sub course before (step ∷ []))) ∙ h))
@@ -89,9 +84,8 @@ seen-after own_law ticket_law input plan history sub k {visit} low at =
       turn = next-sub (setting_over input plan) (scripts_of input) history sub low
           ∙ in-script (setting_over input plan) sub k (length (own sub history))
           (steps_of (scripts_of input) sub) visit at;
-      count = ap length (own_law sub history visit ∙ ap (λ b. own sub history ++ cond b (visit ∷ []) []) mine)
-          ∙ omega (arith, length_push (own sub history) visit);
-      seen = ticket_law sub history visit ∙ ap (λ b. tickets sub history ++ cond b (length history ∷ []) []) mine;
+      count = rw (own_law sub history visit, mine) (omega (arith, length_push (own sub history) visit));
+      seen = rw (ticket_law sub history visit, mine);
     }
 
 -- a step of a valid script, where it comes
@@ -107,14 +101,8 @@ step-allowed scripts {input} {plan} {distances} sub k before step together low s
     scripts input (setting_over input plan) together.valid (over input plan distances together) in
     let script : IsScript (setting_over input plan) sub (steps_of (scripts_of input) sub) = valid.steps sub low in
     let whole : steps_of (scripts_of input) sub ≡ before ++ step ∷ drop k (steps_of (scripts_of input) sub) =
-    sym (take-append-drop k (steps_of (scripts_of input) sub))
-    ∙ (ap (λ ss. ss ++ drop k (steps_of (scripts_of input) sub)) same
-    ∙ assoc before step (drop k (steps_of (scripts_of input) sub))) in
+    sym (take-append-drop k (steps_of (scripts_of input) sub)) ∙ rw (same, append_assoc) in
     may-at (setting_over input plan) (course_at (start (setting_over input plan) sub)) before step
     (drop k (steps_of (scripts_of input) sub))
     (subst (MaySteps (setting_over input plan) (course_at (start (setting_over input plan) sub))) whole script.allowed)
     script.begins
-  where
-    assoc : (xs : List Step) (x : Step) (ys : List Step) → (xs ++ x ∷ []) ++ ys ≡ xs ++ x ∷ ys
-    assoc [] x ys = refl
-    assoc (y ∷ xs) x ys = ap (λ zs. y ∷ zs) (assoc xs x ys)

@@ -1,26 +1,24 @@
 -- The lines of steps, a ticket more, and which visit of a move commits it.
-use Rattle.std.proofs.Common.{◌≡◌, ◌⊎◌, inl, inr, ℕ, zero, suc, ◌+◌, ◌-◌, ◌<◌, ◌≤◌, ◌^◌, Bool, true, false, List, [], ◌∷◌, ◌++◌, length, map, take, drop, get_or, refl, sym, ap, ◌∙◌, subst, arith, length-append}
+use Rattle.std.proofs.Common.{◌≡◌, inl, inr, ℕ, zero, suc, ◌+◌, ◌-◌, ◌<◌, ◌≤◌, ◌^◌, Bool, true, false, List, [], ◌∷◌, ◌++◌, length, map, take, drop, get_or, refl, sym, ap, ◌∙◌, subst, arith, length-append}
 use Rattle.std.specs.Option.{is_some}
-use Rattle.std.specs.Prelude.{Some, slice_get, if◌then◌else◌}
-use Rattle.std.proofs.lemmas.Bool.Decides.{nat_tests}
-use Rattle.std.proofs.lemmas.List.{take-append-le, drop-append-le, length-drop, get_or_push, get_or_past, length_push, length-map}
+use Rattle.std.specs.Prelude.{Some, slice_get, if◌then◌else◌, ◌==◌}
+use Rattle.std.proofs.lemmas.List.{take-append-le, drop-append-le, length-drop, get_or_push, get_or_past, length_push, length-map, nil_from_length}
 use Rattle.std.proofs.Math.ListN.{get_or-append}
 use Rattle.entry_word.specs.Marks.{IsSmallMark, MarksUnpack, mark_in, mark_word}
 use Rattle.entry_word.specs.declared.mark.PresenceMark.{PresenceMark}
 use Rattle.entry_word.specs.declared.mark.PresenceMark.TheVariants.{Empty, Here, Gone, Coming}
 use Rattle.entry_word.specs.declared.visit.Visit.{Visit}
 use Rattle.directory.specs.Settings.{Setting}
-use Rattle.directory.specs.Courses.{Course, MayStep, MaySteps, Move, Step, after_step, after_steps, last_stop, move_to, next_move, switch_off, switch_on}
+use Rattle.directory.specs.Courses.{Course, MayStep, MaySteps, Move, Step, after_step, after_steps, last_stop, move_to, next_move}
 use Rattle.directory.specs.Writes.{Write, erasure_writes, mark_at, move_writes, new_address, numbers_from, purge_writes, step_writes, visit_of, writes}
 use Rattle.directory.specs.Outcomes.{step_line, step_lines}
-use Rattle.std.specs.Prelude.{◌==◌}
-use Rattle.directory.specs.declared.answers.Done.TheVariants.{Moved}
 use Rattle.machine.specs.Subscribers.{line_after}
 use Rattle.handset.specs.Stands.{is_commit}
 use Rattle.directory.specs.Standing.{commit_of}
 use Rattle.std.proofs.lemmas.List.Sums.{fold-append}
 use Rattle.entry_word.specs.MarkLaws.{read-mark}
 use Rattle.node_set.specs.SetLaws.{length-passing_all}
+use Rattle.std.proofs.lemmas.Bool.{cases_lt}
 
 -- the lines of steps, the last of which may be under way
 pub lines-partial : (setting : Setting) (sub : ℕ) (course : Course) (done : List Step) (step : Step)
@@ -30,12 +28,7 @@ pub lines-partial : (setting : Setting) (sub : ℕ) (course : Course) (done : Li
     ++ step_line setting sub (after_steps setting course done) step
     (take (length (step_writes setting (after_steps setting course done) step)) more) ∷ []
 unfolding step_lines writes
-lines-partial setting sub course [] step seen more count =
-    let none : seen ≡ [] = no_length seen count in rw none refl
-  where
-    no_length : (xs : List ℕ) → length xs ≡ 0 → xs ≡ []
-    no_length [] h = refl
-    no_length (x ∷ xs) h = absurd (omega arith)
+lines-partial setting sub course [] step seen more count = rw (nil_from_length seen count)
 lines-partial setting sub course (one ∷ done) step seen more count =
     let size : ℕ = length (step_writes setting course one) in
     let whole : length (step_writes setting course one ++ writes setting (after_step setting course one) done)
@@ -46,12 +39,7 @@ lines-partial setting sub course (one ∷ done) step seen more count =
     let back : drop size (seen ++ more) ≡ drop size seen ++ more = drop-append-le size seen more room in
     let rest : length (drop size seen) ≡ length (writes setting (after_step setting course one) done) =
     omega (arith, count, whole, length-drop size seen) in
-    ap (λ s. step_line setting sub course one s ∷ step_lines setting sub (after_step setting course one)
-    (done ++ step ∷ []) (drop size (seen ++ more))) front
-    ∙ (ap (λ s. step_line setting sub course one (take size seen) ∷ step_lines setting sub
-    (after_step setting course one) (done ++ step ∷ []) s) back
-    ∙ ap (λ ls. step_line setting sub course one (take size seen) ∷ ls)
-    (lines-partial setting sub (after_step setting course one) done step (drop size seen) more rest))
+    rw (front, back, lines-partial setting sub (after_step setting course one) done step (drop size seen) more rest)
 
 -- of the visits of a move the one behind the new addresses commits it, and no other
 AllQuiet : ℕ → List Write → Type 0
@@ -90,17 +78,11 @@ gone-at sub [] gone ys q g r zero {visit} h =
     record { there = λ _. refl; alone = λ _. subst (λ (v : Visit). is_commit v.act ≡ true) e g }
 gone-at sub [] gone ys q g r (suc i) {visit} h =
     let quiet : is_commit visit.act ≡ false = quiet-get sub ys i r h in
-    record { there = λ t. absurd (never _ t quiet); alone = λ e. absurd (omega arith) }
-  where
-    never : (b : Bool) → b ≡ true → b ≡ false → ⊥
-    never b h g = cc
+    record { there = λ t. cc; alone = λ e. absurd (omega arith) }
 gone-at sub (x ∷ xs) gone ys q g r zero {visit} h =
     let e : visit_of sub x ≡ visit = cc in
     let quiet : is_commit visit.act ≡ false = subst (λ (v : Visit). is_commit v.act ≡ false) e q.0 in
-    record { there = λ t. absurd (never _ t quiet); alone = λ e. absurd (omega arith) }
-  where
-    never : (b : Bool) → b ≡ true → b ≡ false → ⊥
-    never b h g = cc
+    record { there = λ t. cc; alone = λ e. absurd (omega arith) }
 gone-at sub (x ∷ xs) gone ys q g r (suc i) h =
     let deep = gone-at sub xs gone ys q.1 g r i h in
     record { there = λ t. ap suc (deep.there t); alone = λ e. deep.alone (omega arith) }
@@ -142,21 +124,14 @@ commit-grows : (seen : List ℕ) (ticket : ℕ) {place : ℕ} (commits : Bool) �
     → get_or (seen ++ ticket ∷ []) place 0 ≡ (if commits then ticket else get_or seen place 0)
 commit-grows seen ticket {place} true tells = get_or_push seen ticket 0 place (tells.there refl)
 commit-grows seen ticket {place} false tells =
-    elim (cases place (length seen)) as (λ _. get_or (seen ++ ticket ∷ []) place 0 ≡ get_or seen place 0) [
+    elim (cases_lt place (length seen)) [
       | inl low ↦ get_or-append seen (ticket ∷ []) 0 place low
-      | inr high ↦ elim (cases (length seen) place)
-          as (λ _. get_or (seen ++ ticket ∷ []) place 0 ≡ get_or seen place 0) [
-            | inl past ↦ get_or_past (seen ++ ticket ∷ []) place 0 (omega (arith, past, length_push seen ticket))
-                ∙ sym (get_or_past seen place 0 (omega (arith, past)))
-            | inr same ↦ absurd (never (tells.alone (omega (arith, high, same))))
-          ]
+      | inr high ↦ elim (cases_lt (length seen) place) [
+        | inl past ↦ get_or_past (seen ++ ticket ∷ []) place 0 (omega (arith, past, length_push seen ticket))
+            ∙ sym (get_or_past seen place 0 high)
+        | inr same ↦ let commits : false ≡ true = tells.alone (omega (arith, high, same)) in cc
+      ]
     ]
-  where
-    cases : (a b : ℕ) → (a < b) ⊎ (b ≤ a)
-    cases a b = grind (arith, nat_tests)
-
-    never : false ≡ true → ⊥
-    never h = cc
 
 one_get : (xs : Visit) (i : ℕ) {visit : Visit} → slice_get (xs ∷ []) i ≡ Some visit → i < 1
 one_get x zero h = omega arith
@@ -177,17 +152,8 @@ line-grows unpack setting sub course (move_to node) seen ticket {visit} may smal
     let first : get_or (seen ++ ticket ∷ []) 0 0 ≡ get_or seen 0 0 = get_or-append seen (ticket ∷ []) 0 0 some in
     let last : get_or (seen ++ ticket ∷ []) (length (seen ++ ticket ∷ []) - 1) 0 ≡ ticket =
     get_or_push seen ticket 0 (length (seen ++ ticket ∷ []) - 1) (omega (arith, length_push seen ticket)) in
-    ap (λ f. Moved sub move.number move.from move.to move.weight f
-    (get_or (seen ++ ticket ∷ []) (suc (suc move.renewed)) 0)
-    (get_or (seen ++ ticket ∷ []) (length (seen ++ ticket ∷ []) - 1) 0)) first
-    ∙ (ap (λ k. Moved sub move.number move.from move.to move.weight (get_or seen 0 0) k
-    (get_or (seen ++ ticket ∷ []) (length (seen ++ ticket ∷ []) - 1) 0))
-    (commit-grows seen ticket (is_commit visit.act) tells)
-    ∙ ap (λ l. Moved sub move.number move.from move.to move.weight (get_or seen 0 0)
-    (if is_commit visit.act then ticket else get_or seen (suc (suc move.renewed)) 0) l) last)
-line-grows unpack setting sub course switch_off seen ticket may small inside some at =
-    absurd (omega (arith, some, one_get _ (length seen) at))
-line-grows unpack setting sub course switch_on seen ticket may small inside some at =
+    rw (first, commit-grows seen ticket (is_commit visit.act) tells, last)
+line-grows unpack setting sub course step seen ticket may small inside some at =
     absurd (omega (arith, some, one_get _ (length seen) at))
 
 -- steps that may be made, one of them
@@ -199,10 +165,7 @@ unfolding MaySteps
 may-at setting course [] step later may inside = (may.0, inside)
 may-at setting course (move_to node ∷ before) step later may inside =
     may-at setting (after_step setting course (move_to node)) before step later may.1
-    (subst (λ n. n < setting.nodes) (sym (fold-append (λ n (m : Move). m.to) course.start course.moves
-    (next_move setting course node ∷ [])))
+    (rw (fold-append (λ n (m : Move). m.to) course.start course.moves (next_move setting course node ∷ []))
     may.0.inside)
-may-at setting course (switch_off ∷ before) step later may inside =
-    may-at setting (after_step setting course switch_off) before step later may.1 inside
-may-at setting course (switch_on ∷ before) step later may inside =
-    may-at setting (after_step setting course switch_on) before step later may.1 inside
+may-at setting course (one ∷ before) step later may inside =
+    may-at setting (after_step setting course one) before step later may.1 inside

@@ -1,15 +1,9 @@
 -- Sums that a loop makes, checked at each step.
-use Rattle.std.proofs.Common.{◌≡◌, ℕ, suc, zero, ◌+◌, ◌<◌, List, [], ◌∷◌, length, map, take, get_or, sym, ◌∙◌, arith, Vec, Global}
-use Rattle.std.specs.Prelude.{Option, Some, None, Result, Ok, sum_by}
+use Rattle.std.proofs.Common.{◌≡◌, ℕ, suc, zero, ◌+◌, ◌<◌, List, [], ◌∷◌, length, map, take, get_or, arith, Vec, Global}
+use Rattle.std.specs.Prelude.{sum_by}
 use Rattle.std.proofs.lemmas.List.Sums.{sum_by-cons}
-use Rattle.std.specs.Option.{SomeIff, ok_or}
 use Rattle.net_reader.specs.declared.said.Call.{Call}
 use Rattle.net_reader.specs.Valid.{count_calls}
-
-pub added : {E : Type 0} (P : Type 0) {sum most : ℕ} (r : Option ℕ) (e : E) {q : Result ℕ E} → SomeIff r P sum
-    → q ≡ ok_or r e → q ≡ Ok most → most ≡ sum
-added P None e h a b = cc
-added P {most} (Some x) e h a b = let same : x ≡ most = cc in sym same ∙ h.1
 
 pub visits-more : (f : List Call → ℕ) (xs : List (Vec Call Global)) (i : ℕ) (d : Vec Call Global) → i < length xs
     → sum_by f (map (λ (s : Vec Call Global). s.items) (take (suc i) xs))

@@ -1,24 +1,19 @@
 -- What a machine stands for after a visit.
-use Rattle.std.proofs.Common.{◌≡◌, ◌≢◌, inl, inr, ℕ, zero, suc, ◌+◌, ◌<◌, ◌≤◌, ◌==◌, false, cond, List, [], ◌∷◌, ◌++◌, length, map, get_or, refl, sym, ap, ◌∙◌, subst, arith, append_assoc, Vec, Global}
+use Rattle.std.proofs.Common.{◌≡◌, ◌≢◌, inl, inr, ℕ, zero, suc, ◌+◌, ◌<◌, ◌≤◌, ◌==◌, false, List, [], ◌∷◌, ◌++◌, length, map, get_or, refl, sym, ap, ◌∙◌, arith, append_assoc, Vec, Global}
 use Rattle.std.specs.Prelude.{None, Option, Some, replicate, slice_set, vec_capacity}
 use Rattle.std.proofs.lemmas.Bool.{cases_eq, ne_eqb}
-use Rattle.std.proofs.lemmas.List.{append-nil, length-map, length-append, length-replicate, length_push, map-append}
+use Rattle.std.proofs.lemmas.List.{append-nil, length-map, length-append, length-replicate, length-set, length_push, map-append, get_or-set_same, get_or-set_other}
 use Rattle.std.proofs.lemmas.List.Sums.{fold-append}
 use Rattle.entry_word.specs.declared.visit.Key.{Key}
 use Rattle.entry_word.specs.declared.visit.Visit.{Visit}
-use Rattle.directory.specs.Settings.{start}
-use Rattle.directory.specs.Courses.{course_at}
 use Rattle.directory.specs.Histories.{History, own, tickets, word_after}
 use Rattle.directory.specs.Keys.{opening}
 use Rattle.directory.specs.Looks.{look_by}
-use Rattle.directory.specs.Orders.{Caller as Seeker, caller_in, next}
-use Rattle.directory.specs.Outcomes.{answer_line, step_lines}
+use Rattle.directory.specs.Orders.{next}
 use Rattle.directory.specs.Statements.{CallersKept, TicketsGrow, OwnGrow, MoreIsPlayed}
-use Rattle.directory.specs.Writes.{writes}
 use Rattle.net_reader.specs.Input.{Contents}
 use Rattle.region_plan.specs.Plan.{PlanData}
 use Rattle.region_plan.specs.Settings.{setting_of}
-use Rattle.handset.specs.Stands.{StandsForSteps}
 use Rattle.visit_log.specs.Cells.{CellData, Hold}
 use Rattle.machine.specs.declared.caller.Caller.{Caller}
 use Rattle.machine.specs.declared.machine.Machine.{Machine}
@@ -27,7 +22,7 @@ use Rattle.scripts.specs.Scripts.{scripts_of}
 use Rattle.scripts.specs.Laws.{VisitsAreFew}
 use Rattle.machine.specs.Stands.{Sees, over, setting_over}
 use Rattle.machine.specs.Callers.{IsCaller}
-use Rattle.machine.specs.Subscribers.{IsShown, IsSubscriber, Shown, begun_steps}
+use Rattle.machine.specs.Subscribers.{IsShown, IsSubscriber, Shown}
 use Rattle.machine.specs.Machines.{HasHistory, input_at, scripts_at, setting_at}
 use Rattle.machine.proofs.Looked.{by-parts}
 
@@ -37,24 +32,16 @@ shown-kept : OwnGrow → TicketsGrow → {input : Contents} {plan : PlanData} {h
     → IsShown input plan (history ++ visit ∷ []) sub shown
 shown-kept own_law ticket_law {input} {plan} {history} {sub} {shown} visit other its =
     let same : own sub (history ++ visit ∷ []) ≡ own sub history =
-    own_law sub history visit
-    ∙ (ap (λ b. own sub history ++ cond b (visit ∷ []) []) other ∙ append-nil (own sub history)) in
+    rw (own_law sub history visit, other, append-nil) in
     let seen : tickets sub (history ++ visit ∷ []) ≡ tickets sub history =
-    ticket_law sub history visit
-    ∙ (ap (λ b. tickets sub history ++ cond b (length history ∷ []) []) other ∙ append-nil (tickets sub history)) in
+    rw (ticket_law sub history visit, other, append-nil) in
     record {
-      handset = subst
-          (λ n. StandsForSteps (setting_over input plan) shown.handset (begun_steps input sub shown) n)
-          (sym (ap length same)) its.handset;
+      handset = rw same its.handset;
       goes = its.goes;
       its = its.its;
-      lines = its.lines
-          ∙ ap (step_lines (setting_over input plan) sub (course_at (start (setting_over input plan) sub))
-          (begun_steps input sub shown)) (sym seen);
+      lines = rw seen its.lines;
       few = its.few;
-      under = λ before step split. subst
-          (λ n. length (writes (setting_over input plan) (course_at (start (setting_over input plan) sub)) before) < n)
-          (sym (ap length same)) (its.under before step split);
+      under = λ before step split. rw same (its.under before step split);
       room = its.room;
     }
 
@@ -80,38 +67,17 @@ caller-kept : CallersKept → {input : Contents} {plan : PlanData} {history : Hi
 caller-kept law {input} {plan} {history} {actor} {caller} visit other its =
     let same = law (setting_over input plan) (scripts_of input) history actor visit other in
     by-parts input plan (history ++ visit ∷ []) actor caller same.0 same.1 its.walk its.first
-    (its.lines ∙ (ap (λ ts. map (answer_line actor ts) (caller_in (setting_over input plan) (scripts_of input) history
-    actor).answers) (sym same.1) ∙ ap (λ (s : Seeker). map (answer_line actor (tickets actor (history ++ visit ∷ [])))
-    s.answers) (sym same.0))) its.left its.room
-
--- elements of a list with one changed
-set-same : {A : Type 0} (xs : List A) (i : ℕ) (x d : A) → i < length xs → get_or (slice_set xs i x) i d ≡ x
-set-same [] i x d h = absurd (omega (arith, h))
-set-same (y ∷ xs) zero x d h = refl
-set-same (y ∷ xs) (suc i) x d h = set-same xs i x d (omega (arith, h))
-
-set-other : {A : Type 0} (xs : List A) (i j : ℕ) (x d : A) → i ≢ j → get_or (slice_set xs i x) j d ≡ get_or xs j d
-set-other [] i j x d h = refl
-set-other (y ∷ xs) zero zero x d h = absurd (h refl)
-set-other (y ∷ xs) zero (suc j) x d h = refl
-set-other (y ∷ xs) (suc i) zero x d h = refl
-set-other (y ∷ xs) (suc i) (suc j) x d h = set-other xs i j x d (λ e. h (ap suc e))
+    (rw (same.0, same.1) its.lines) its.left its.room
 
 -- what holds of the changed element of a list, and of the others, holds of each behind the change
 each-set : {A : Type 0} (P : ℕ → A → Type 0) (xs ys : List A) (i : ℕ) (x : A) → ys ≡ slice_set xs i x → P i x
     → ((k : ℕ) (d : A) → k < length xs → k ≢ i → P k (get_or xs k d)) → (k : ℕ) (d : A) → k < length xs
     → P k (get_or ys k d)
 each-set P xs ys i x items its others k d low =
-    subst (λ zs. P k (get_or zs k d)) (sym items) (elim (cases_eq k i) as (λ _. P k (get_or (slice_set xs i x) k d)) [
-      | inl same ↦ subst (λ j. P k (get_or (slice_set xs j x) k d)) same
-          (subst (P k) (sym (set-same xs k x d low)) (subst (λ j. P j x) (sym same) its))
-      | inr other ↦ subst (P k) (sym (set-other xs i k x d (λ e. other (sym e)))) (others k d low other)
+    rw items (elim (cases_eq k i) [
+      | inl same ↦ rw (same, get_or-set_same xs i x d (rw same at low)) its
+      | inr other ↦ rw (get_or-set_other xs i k x d other) (others k d low other)
     ])
-
-set-length : {A : Type 0} (xs : List A) (i : ℕ) (x : A) → length (slice_set xs i x) ≡ length xs
-set-length [] i x = refl
-set-length (y ∷ xs) zero x = refl
-set-length (y ∷ xs) (suc i) x = ap suc (set-length xs i x)
 
 hold-look : {plan : PlanData} {starts : List ℕ} {cells : CellData} {history : History} (actor : ℕ) (key : Key)
     → Hold plan starts cells history → Hold plan starts cells (history ++ look_by actor key ∷ [])
@@ -138,13 +104,12 @@ sees-more more {input} {plan} {history} actor key sees wants =
 kept-all : (P : History → Type 0) {actor : ℕ} (visits : List Visit) (count : ℕ) {history : History}
     → ((before : History) (visit : Visit) → visit.actor ≡ actor → P before → P (before ++ visit ∷ []))
     → map (λ (v : Visit). v.actor) visits ≡ replicate count actor → P history → P (history ++ visits)
-kept-all P [] count {history} step same is = subst P (sym (append-nil history)) is
+kept-all P [] count step same is = rw append-nil is
 kept-all P (visit ∷ visits) zero step same is = cc
 kept-all P {actor} (visit ∷ visits) (suc count) {history} step same is =
     let its : visit.actor ≡ actor = cc in
     let rest : map (λ (v : Visit). v.actor) visits ≡ replicate count actor = cc in
-    subst P (append_assoc history (visit ∷ []) visits)
-    (kept-all P visits count step rest (step history visit its is))
+    rw append_assoc at (kept-all P visits count step rest (step history visit its is))
 
 -- after visits of a subscriber
 pub sub-turned : OwnGrow → TicketsGrow → CallersKept → {old : Machine} {history : History} {actor : ℕ} (count : ℕ)
@@ -163,13 +128,9 @@ sub-turned own_law ticket_law kept {old} {history} {actor} count visits {subscri
       homes = stands.homes;
       routes = stands.routes;
       sees = sees;
-      order = pushed
-          ∙ (ap (λ xs. xs ++ replicate count actor) stands.order
-          ∙ (ap (λ xs. map (λ (v : Visit). v.actor) history ++ xs) (sym actors)
-          ∙ sym (map-append (λ (v : Visit). v.actor) history visits)));
+      order = rw (map-append, actors, ← stands.order) pushed;
       room = omega (arith, stands.room, room);
-      subscribers_count = ap length items
-          ∙ (set-length old.subscribers.items actor subscriber ∙ stands.subscribers_count);
+      subscribers_count = rw (items, length-set) stands.subscribers_count;
       callers_count = stands.callers_count;
       subscribers = λ s d below. each-set (IsSubscriber (input_at old) old.plan.now (history ++ visits))
           old.subscribers.items subscribers.items actor subscriber items its
@@ -206,21 +167,17 @@ caller-turned own_law ticket_law kept {old} {history} {actor} place count visits
       homes = stands.homes;
       routes = stands.routes;
       sees = sees;
-      order = pushed
-          ∙ (ap (λ xs. xs ++ replicate count actor) stands.order
-          ∙ (ap (λ xs. map (λ (v : Visit). v.actor) history ++ xs) (sym actors)
-          ∙ sym (map-append (λ (v : Visit). v.actor) history visits)));
+      order = rw (map-append, actors, ← stands.order) pushed;
       room = omega (arith, stands.room, room);
       subscribers_count = stands.subscribers_count;
-      callers_count = ap length items ∙ (set-length old.callers.items place caller ∙ stands.callers_count);
+      callers_count = rw (items, length-set) stands.callers_count;
       subscribers =
           λ s d below. kept-all (λ h. IsSubscriber (input_at old) old.plan.now h s (get_or old.subscribers.items s d))
           visits count (λ before visit same. sub-kept own_law ticket_law visit
           (ne_eqb visit.actor s (λ e. omega (arith, same, e, at, below)))) actors (stands.subscribers s d below);
       callers = λ c d below. each-set
           (λ k x. IsCaller (input_at old) old.plan.now (history ++ visits) (length (input_at old).homes + k) x)
-          old.callers.items callers.items place caller items
-          (subst (λ a. IsCaller (input_at old) old.plan.now (history ++ visits) a caller) at its)
+          old.callers.items callers.items place caller items (rw at at its)
           (λ k e within other. kept-all (λ h. IsCaller (input_at old) old.plan.now h (length (input_at old).homes + k)
           (get_or old.callers.items k e)) visits count
           (λ before visit same. caller-kept kept visit
@@ -235,24 +192,18 @@ caller-turned own_law ticket_law kept {old} {history} {actor} place count visits
 pub at-sub : {machine : Machine} {history : History} (actor : ℕ) {x : Subscriber} → HasHistory machine history
     → actor < length (input_at machine).homes → x ≡ get_or machine.subscribers.items actor x
     → IsSubscriber (input_at machine) machine.plan.now history actor x
-at-sub {machine} {history} actor {x} stands low same =
-    subst (λ y. IsSubscriber (input_at machine) machine.plan.now history actor y) (sym same)
-    (stands.subscribers actor x low)
+at-sub actor {x} stands low same = rw same (stands.subscribers actor x low)
 
 pub at-caller : {machine : Machine} {history : History} {actor : ℕ} (place : ℕ) {x : Caller}
     → HasHistory machine history → actor ≡ length (input_at machine).homes + place
     → actor < length (input_at machine).scripts → x ≡ get_or machine.callers.items place x
     → IsCaller (input_at machine) machine.plan.now history actor x
-at-caller {machine} {history} place {x} stands at low same =
-    subst (λ a. IsCaller (input_at machine) machine.plan.now history a x) (sym at)
-    (subst (λ y. IsCaller (input_at machine) machine.plan.now history (length (input_at machine).homes + place) y)
-    (sym same)
-    (stands.callers place x (omega (arith, at, low, stands.together.valid.scripts))))
+at-caller place {x} stands at low same =
+    rw (at, same) (stands.callers place x (omega (arith, at, low, stands.together.valid.scripts)))
 
 pub ticket-is : {machine : Machine} {history : History} (ticket : ℕ) → HasHistory machine history
     → ticket ≡ length machine.order.items → length history ≡ ticket
-ticket-is {history} ticket stands same =
-    sym (same ∙ (ap length stands.order ∙ length-map history (λ (v : Visit). v.actor)))
+ticket-is ticket stands same = sym (rw (same, stands.order, length-map))
 
 -- the order has room for one visit more
 pub room-left : VisitsAreFew → MoreIsPlayed → {machine : Machine} {history : History} (actor : ℕ) {visit : Visit}

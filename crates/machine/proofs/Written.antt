@@ -1,5 +1,5 @@
 -- How far a subscriber is after a visit that goes on with a step.
-use Rattle.std.proofs.Common.{◌≡◌, ℕ, suc, ◌+◌, ◌-◌, ◌<◌, ◌≤◌, List, [], ◌∷◌, ◌++◌, length, map, take, drop, get_or, refl, sym, ap, ◌∙◌, subst, arith}
+use Rattle.std.proofs.Common.{◌≡◌, ℕ, suc, ◌+◌, ◌-◌, ◌<◌, ◌≤◌, List, [], ◌∷◌, ◌++◌, length, map, take, drop, get_or, sym, ap, ◌∙◌, arith, append_assoc}
 use Rattle.std.specs.Prelude.{None, Some, slice_get, slice_set, vec_capacity}
 use Rattle.std.proofs.lemmas.Option.{slice_get_within}
 use Rattle.std.proofs.lemmas.List.{take_all, take-append-drop, length-take-le, length-drop, length_push, length-map, get_or_push}
@@ -17,7 +17,7 @@ use Rattle.net_reader.specs.Input.{Contents}
 use Rattle.region_plan.specs.Plan.{PlanData}
 use Rattle.distances.specs.Table.{DistanceTable}
 use Rattle.handset.specs.Condition.{GoesWith}
-use Rattle.handset.specs.Stands.{StandsForSteps}
+use Rattle.handset.specs.Stands.{StandsForSteps, is_commit}
 use Rattle.visit_log.specs.Cells.{CellData, GoWith, Hold}
 use Rattle.machine.specs.declared.subscriber.Subscriber.{Subscriber}
 use Rattle.machine.specs.declared.turn.Turn.TheVariants.{Finished}
@@ -26,9 +26,8 @@ use Rattle.scripts.specs.Scripts.{scripts_of}
 use Rattle.scripts.specs.Laws.{ScriptsAreValid}
 use Rattle.machine.specs.Stands.{AreMade, BelongTogether, Sees, setting_over}
 use Rattle.machine.specs.Subscribers.{IsShown, IsSubscriber, Shown, TakesTurn, begun_steps, line_after}
-use Rattle.handset.specs.Stands.{is_commit}
 use Rattle.machine.proofs.Steps.{line-grows, lines-partial}
-use Rattle.machine.proofs.Making.{made-count, made-joined, made-one}
+use Rattle.machine.proofs.Making.{made-count, made-joined, made-one, made-as}
 use Rattle.machine.proofs.Seen.{HasLast, Seen, last-visit, seen-after, step-allowed, steps-last}
 use Rattle.directory.specs.HistoryLaws.{tickets-count}
 use Rattle.directory.specs.Statements.{MoreIsPlayed, TicketsGrow, OwnGrow, TicketsAreOwn}
@@ -46,13 +45,16 @@ pub record Under (input : Contents) (plan : PlanData) (history : History) (sub :
 pub under-way : MarksUnpack → TicketsAreOwn → ScriptsAreValid
     → {input : Contents} {plan : PlanData} {distances : DistanceTable} {history : History} {sub : ℕ} {old : Shown}
     {visit : Visit} → BelongTogether input plan distances → sub < length input.homes
-    → IsShown input plan history sub old → slice_get (visits (setting_over input plan) sub (begun_steps input sub old))
-    (length (own sub history)) ≡ Some visit → Under input plan history sub old visit
-under-way unpack own_law scripts {input} {plan} {history} {sub} {old} {visit} together low its at =
+    → IsShown input plan history sub old → slice_get
+    (visits (setting_over input plan) old.handset.sub (begun_steps input sub old)) (length (own sub history)) ≡ Some
+    visit → Under input plan history sub old visit
+under-way unpack own_law scripts {input} {plan} {history} {sub} {old} {visit} together low its wants =
     let setting : Setting = setting_over input plan in
     let course : Course = course_at (start setting sub) in
+    let now : slice_get (visits setting sub (begun_steps input sub old)) (length (own sub history)) ≡ Some visit =
+    rw its.its at wants in
     let split : HasLast (begun_steps input sub old) =
-    steps-last setting sub (length (own sub history)) (begun_steps input sub old) at in
+    steps-last setting sub (length (own sub history)) (begun_steps input sub old) now in
     let past : length (writes setting course split.before) < length (own sub history) =
     its.under split.before split.last split.are in
     let after : Course = after_steps setting course split.before in
@@ -63,9 +65,8 @@ under-way unpack own_law scripts {input} {plan} {history} {sub} {old} {visit} to
     let front : length (take n (tickets sub history)) ≡ n =
     length-take-le n (tickets sub history) (omega (arith, past, count)) in
     let here : slice_get (map (visit_of sub) (step_writes setting after split.last)) (length p) ≡ Some visit =
-    ap (slice_get (map (visit_of sub) (step_writes setting after split.last))) size
-    ∙ last-visit setting sub (length (own sub history)) split.before split.last (omega (arith, past))
-    (ap (λ ss. slice_get (visits setting sub ss) (length (own sub history))) (sym split.are) ∙ at) in
+    rw size (last-visit setting sub (length (own sub history)) split.before split.last (omega (arith, past))
+    (rw split.are at now)) in
     let room : length p < length (step_writes setting after split.last) =
     omega (
       arith,
@@ -78,30 +79,24 @@ under-way unpack own_law scripts {input} {plan} {history} {sub} {old} {visit} to
     record {
       rows = step_lines setting sub course split.before (take n (tickets sub history));
       row = step_line setting sub after split.last p;
-      are = its.lines
-          ∙ (ap (λ ss. step_lines setting sub course ss (tickets sub history)) split.are
-          ∙ (ap (step_lines setting sub course (split.before ++ split.last ∷ [])) parts
-          ∙ (lines-partial setting sub course split.before split.last (take n (tickets sub history)) p front
-          ∙ ap (λ q. step_lines setting sub course split.before (take n (tickets sub history))
-          ++ step_line setting sub after split.last q ∷ [])
-          (take_all (length (step_writes setting after split.last)) p (omega (arith, room))))));
+      are = its.lines ∙ ap (λ ss. step_lines setting sub course ss (tickets sub history)) split.are
+          ∙ ap (step_lines setting sub course (split.before ++ split.last ∷ [])) parts
+          ∙ rw (
+            lines-partial setting sub course split.before split.last (take n (tickets sub history)) p front,
+            take_all (length (step_writes setting after split.last)) p (omega (arith, room)),
+          );
       then = ap (λ ss. step_lines setting sub course ss (tickets sub history ++ length history ∷ [])) split.are
-          ∙ (ap (step_lines setting sub course (split.before ++ split.last ∷ []))
-          (ap (λ ts. ts ++ length history ∷ []) parts ∙ assoc (take n (tickets sub history)) p (length history))
-          ∙ (lines-partial setting sub course split.before split.last (take n (tickets sub history))
-          (p ++ length history ∷ []) front
-          ∙ (ap (λ q. step_lines setting sub course split.before (take n (tickets sub history))
-          ++ step_line setting sub after split.last q ∷ [])
-          (take_all (length (step_writes setting after split.last)) (p ++ length history ∷ [])
-          (omega (arith, room, length_push p (length history))))
-          ∙ ap (λ l. step_lines setting sub course split.before (take n (tickets sub history)) ++ l ∷ [])
-          (line-grows unpack setting sub after split.last p (length history) may.0
-          (omega (arith, together.nodes, few-nodes input together.valid)) may.1 (omega (arith, size, past)) here))));
+          ∙ ap (λ ts. step_lines setting sub course (split.before ++ split.last ∷ []) (ts ++ length history ∷ [])) parts
+          ∙ rw (
+            append_assoc,
+            lines-partial setting sub course split.before split.last (take n (tickets sub history))
+                (p ++ length history ∷ []) front,
+            take_all (length (step_writes setting after split.last)) (p ++ length history ∷ [])
+                (omega (arith, room, length_push p (length history))),
+            line-grows unpack setting sub after split.last p (length history) may.0
+                (omega (arith, together.nodes, few-nodes input together.valid)) may.1 (omega (arith, size, past)) here,
+          );
     }
-  where
-    assoc : (xs ys : List ℕ) (x : ℕ) → (xs ++ ys) ++ x ∷ [] ≡ xs ++ (ys ++ x ∷ [])
-    assoc [] ys x = refl
-    assoc (y ∷ xs) ys x = ap (λ zs. y ∷ zs) (assoc xs ys x)
 
 -- so a step goes on
 pub written-on : MarksUnpack → OwnGrow → TicketsGrow → TicketsAreOwn → ScriptsAreValid
@@ -118,22 +113,17 @@ pub written-on : MarksUnpack → OwnGrow → TicketsGrow → TicketsAreOwn → S
     → (v : Visit) × (next (setting_over input plan) (scripts_of input) history sub ≡ Some v) × IsShown input plan
     (history ++ v ∷ []) sub new × GoWith plan after × Hold plan input.homes after (history ++ v ∷ [])
 written-on unpack own_law ticket_law tell scripts {input} {plan} {history} {sub} {ticket} {last} {old} new {visit}
-    {line} default together low place its at
-    stands goes same lines room last_is line_is go hold =
+    {line} default together low place its wants stands goes same lines room last_is line_is go hold =
     let setting : Setting = setting_over input plan in
     let course : Course = course_at (start setting sub) in
-    let here : slice_get (visits setting sub (begun_steps input sub old)) (length (own sub history)) ≡ Some visit =
-    ap (λ s. slice_get (visits setting s (begun_steps input sub old)) (length (own sub history))) (sym its.its) ∙ at in
     let seen : Seen input plan history sub visit =
-    seen-after own_law ticket_law input plan history sub (length old.lines.items) low here in
-    let way : Under input plan history sub old visit =
-    under-way unpack tell scripts together low its here in
+    seen-after own_law ticket_law input plan history sub (length old.lines.items) low (rw its.its at wants) in
+    let way : Under input plan history sub old visit = under-way unpack tell scripts together low its wants in
     let end : last ≡ length way.rows = omega (arith, last_is, ap length way.are, length_push way.rows way.row) in
     let row : get_or old.lines.items last default ≡ way.row =
     ap (λ ls. get_or ls last default) way.are ∙ get_or_push way.rows way.row default last (sym end) in
     let now : new.lines.items ≡ way.rows ++ line ∷ [] =
-    lines ∙ (ap (λ ls. slice_set ls last line) way.are
-    ∙ (ap (λ i. slice_set (way.rows ++ way.row ∷ []) i line) end ∙ set-append_seam way.rows way.row [] line)) in
+    lines ∙ ap (λ ls. slice_set ls last line) way.are ∙ rw (end, set-append_seam way.rows way.row [] line) in
     let longer : length new.lines.items ≡ length old.lines.items =
     omega (arith, ap length now, length_push way.rows line, ap length way.are, length_push way.rows way.row) in
     let steps : begun_steps input sub old ≡ begun_steps input sub new =
@@ -141,15 +131,10 @@ written-on unpack own_law ticket_law tell scripts {input} {plan} {history} {sub}
       visit,
       seen.turn,
       record {
-        handset = subst (λ ss. StandsForSteps setting new.handset ss (length (own sub (history ++ visit ∷ [])))) steps
-            (subst (StandsForSteps setting new.handset (begun_steps input sub old)) (sym seen.count) stands);
+        handset = rw (← steps, seen.count) stands;
         goes = goes;
         its = same ∙ its.its;
-        lines = now
-            ∙ (ap (λ l. way.rows ++ l ∷ []) (line_is ∙ (ap (λ r. line_after r (is_commit visit.act) ticket) row
-            ∙ ap (line_after way.row (is_commit visit.act)) (sym place)))
-            ∙ (sym way.then ∙ (ap (step_lines setting sub course (begun_steps input sub old)) (sym seen.seen)
-            ∙ ap (λ ss. step_lines setting sub course ss (tickets sub (history ++ visit ∷ []))) steps)));
+        lines = rw (← steps, seen.seen, way.then, now, line_is, row, place);
         few = omega (arith, longer, its.few);
         under = λ before step split. omega (arith, its.under before step (steps ∙ split), seen.count);
         room = omega (arith, its.room, room);
@@ -169,8 +154,7 @@ pub written-more : MoreIsPlayed → ((setting : Setting) (scripts : Scripts) (hi
     after × Hold plan input.homes after (later ++ v ∷ [])) → AreMade input plan after history sub (count + 1) New
 written-more more mine {input} {plan} {history} {sub} {count} New place made then =
     let now : History = history ++ made.visits in
-    let done = then now made.sees (made-count made
-    ∙ ap (λ n. n + count) place) made.its in
+    let done = then now made.sees (made-count made ∙ ap (λ n. n + count) place) made.its in
     made-joined made (made-one now New (mine (setting_over input plan) (scripts_of input) now sub done.0 done.1) done.1
     (record {
       played = more (setting_over input plan) (scripts_of input) now sub done.0 done.1 made.sees.played;
@@ -184,16 +168,6 @@ pub ended : {input : Contents} {plan : PlanData} {cells after : CellData} {histo
     (λ later. IsSubscriber input plan later sub mid) → TakesTurn input plan (ticket + count) sub mid new cells after
     Finished → (made : AreMade input plan after history sub count (λ later. IsSubscriber input plan later sub new))
     × (count < most → next (setting_over input plan) (scripts_of input) (history ++ made.visits) sub ≡ None)
-ended {input} {plan} {history} {sub} {count} most {mid} place made then =
-    let Mid : History → Type 0 = λ later. IsSubscriber input plan later sub mid in
-    let done = then (history ++ made.visits) made.sees (made-count made
-    ∙ ap (λ n. n + count) place) made.its in (
-      record {
-        visits = made.visits;
-        turns = made.turns;
-        actors = made.actors;
-        sees = subst (λ k. Sees input plan k (history ++ made.visits)) (sym done.2) made.sees;
-        its = done.1;
-      },
-      λ fewer. done.0,
-    )
+ended {history} {count} most place made then =
+    let done = then (history ++ made.visits) made.sees (made-count made ∙ ap (λ n. n + count) place) made.its in
+    (made-as made (rw done.2 made.sees) done.1, λ fewer. done.0)

@@ -2,8 +2,8 @@
 -- Key laws: `step-at` (the step of the call at a place), `may-at` (that step may come there),
 -- `some-write` (each step writes something), `in-script` (the visits of the first steps are the
 -- first visits of the script).
-use Rattle.std.proofs.Common.{◌≡◌, ℕ, zero, suc, ◌<◌, ◌≤◌, List, [], ◌∷◌, ◌++◌, length, map, take, drop, get_or, sym, ap, ◌∙◌, subst, arith, length-append}
-use Rattle.std.specs.Prelude.{Some, slice_get, unwrap_or}
+use Rattle.std.proofs.Common.{◌≡◌, ℕ, zero, suc, ◌<◌, ◌≤◌, List, [], ◌∷◌, ◌++◌, length, map, take, drop, get_or, sym, ap, ◌∙◌, subst, arith, length-append, Vec}
+use Rattle.std.specs.Prelude.{Some, slice_get, unwrap_or, All}
 use Rattle.std.proofs.lemmas.Option.{unwrap_or-slice_get}
 use Rattle.std.proofs.lemmas.List.{append-nil, take-append-drop, length-map, get_or-map}
 use Rattle.entry_word.specs.declared.visit.Visit.{Visit}
@@ -14,9 +14,12 @@ use Rattle.directory.specs.StepLaws.{slice_get-within, visits-append, writes-app
 use Rattle.directory.specs.Writes.{step_writes, visit_of, visits, writes}
 use Rattle.net_reader.specs.declared.said.Call.{Call}
 use Rattle.net_reader.specs.Input.{Contents}
-use Rattle.net_reader.specs.Valid.{IsValid}
+use Rattle.net_reader.specs.Valid.{IsValid, IsSearch}
 use Rattle.scripts.specs.ScriptLaws.{steps-are}
 use Rattle.scripts.specs.Scripts.{scripts_of, step_of}
+use Rattle.region_plan.specs.Plan.{PlanData, nodes_of}
+use Rattle.directory.specs.ListLaws.{slice_get-left}
+use Rattle.std.specs.Global.{Global}
 
 -- the step of the call at a place of a script
 pub step-at : (input : Contents) (sub k : ℕ) (d : Call) → IsValid input → sub < length input.homes
@@ -33,16 +36,7 @@ step-at input sub k d valid low short =
     ∙ get_or-map step_of script k d (step_of d) short) in
     ap (λ ss. slice_get ss k) (steps-are input sub valid low) ∙ (found.1 ∙ ap Some is)
 
--- the first steps of steps that may be made, and the one after them
-pub may-take : (setting : Setting) (course : Course) (steps : List Step) (k : ℕ)
-    → MaySteps setting course steps
-    → MaySteps setting course (take k steps)
-unfolding MaySteps
-may-take setting course steps zero h = tt
-may-take setting course [] (suc k) h = tt
-may-take setting course (step ∷ steps) (suc k) h =
-    (h.0, may-take setting (after_step setting course step) steps k h.1)
-
+-- a step among steps that may come may come behind those before it
 pub may-at : (setting : Setting) (course : Course) (steps : List Step) (k : ℕ) (step : Step)
     → MaySteps setting course steps → slice_get steps k ≡ Some step
     → MayStep setting (after_steps setting course (take k steps)) step
@@ -78,12 +72,6 @@ visits-longer setting sub steps step =
     )
 
 -- the visits of the first steps of a script are its first visits
-get-left : {A : Type 0} (xs ys : List A) (i : ℕ) (x : A) → slice_get xs i ≡ Some x
-    → slice_get (xs ++ ys) i ≡ Some x
-get-left [] ys i x h = cc
-get-left (y ∷ xs) ys zero x h = h
-get-left (y ∷ xs) ys (suc i) x h = get-left xs ys i x h
-
 pub in-script : (setting : Setting) (sub k n : ℕ) (steps : List Step) (visit : Visit)
     → slice_get (visits setting sub (take k steps)) n ≡ Some visit
     → slice_get (visits setting sub steps) n ≡ Some visit
@@ -91,4 +79,23 @@ in-script setting sub k n steps visit h =
     ap (λ ss. slice_get (visits setting sub ss) n) (sym (take-append-drop k steps))
     ∙ (ap (λ vs. slice_get vs n)
     (visits-append setting sub (course_at (start setting sub)) (take k steps) (drop k steps))
-    ∙ get-left (visits setting sub (take k steps)) _ n visit h)
+    ∙ slice_get-left (visits setting sub (take k steps)) _ n visit h)
+
+-- each call of a caller's script is a search
+pub script-searches : {input : Contents} (plan : PlanData) (actor : ℕ) {script : List Call}
+    {count : ℕ} → IsValid input → nodes_of plan ≡ input.nodes
+    → length input.homes ≤ actor → actor < length input.scripts
+    → script ≡ get_or input.scripts actor [] → count ≡ length input.homes
+    → All (IsSearch (nodes_of plan) count) script
+script-searches {input} plan actor {script} {count} valid nodes high low same few =
+    rw (nodes, few, same) (valid.searches actor high low)
+
+-- the script that the code reads
+pub script-is : (scripts : List (Vec Call Global)) (actor : ℕ) {held : Vec Call Global}
+    {script : List Call} → actor < length (map (λ (s : Vec Call Global). s.items) scripts)
+    → held ≡ get_or scripts actor held → script ≡ held.items
+    → script ≡ get_or (map (λ (s : Vec Call Global). s.items) scripts) actor []
+script-is scripts actor {held} low same its =
+    let items : Vec Call Global → List Call = λ s. s.items in
+    its ∙ (ap items same ∙ sym (get_or-map items scripts actor held []
+    (omega (arith, low, length-map scripts items))))

@@ -10,8 +10,7 @@ use Rattle.std.specs.Str.{bytes_eq}
 use Rattle.std.specs.Str.Parse.{AllDigits, digits_value}
 use Rattle.std.proofs.lemmas.Str.{digit_value_digit}
 use Rattle.word_line.specs.declared.command.Command.{Command}
-use Rattle.word_line.specs.declared.command.Command.TheVariants.{Cover, Replay, Census, Costs, Check, Run, Make, Trial}
-use Rattle.word_line.specs.declared.command.Command.TheVariants.{ToJson, FromJson, ReplayJson, MeanCover, MeanReplay}
+use Rattle.word_line.specs.declared.command.Command.TheVariants.{Cover, Replay, Census, Costs, Check, Run, Make, Trial, ToJson, FromJson, ReplayJson, MeanCover, MeanReplay}
 use Rattle.word_line.specs.declared.load.Load.{Load}
 use Rattle.word_line.specs.Forms.{◌>>=◌, actor_numbers, alone, command_of, is_sound, load_of, network_numbers, number_in, number_of, plain_command, sound_alone}
 use Rattle.make_load.specs.Load.{IsLoad}

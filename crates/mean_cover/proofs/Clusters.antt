@@ -1,18 +1,14 @@
 -- The clusters of a mean cover: their shape, that each ball finds a home, and the sum of their sizes.
-use Rattle.std.proofs.Common.{◌≡◌, inl, inr, ℕ, zero, suc, ◌+◌, ◌*◌, ◌^◌, ◌<◌, ◌≤◌, Bool, true, false, not}
-use Rattle.std.proofs.Common.{List, [], ◌∷◌, length, filter, refl, sym, ◌∙◌, ap, subst, arith, add-one, ◌&&◌}
+use Rattle.std.proofs.Common.{◌≡◌, inl, inr, ℕ, zero, suc, ◌+◌, ◌*◌, ◌^◌, ◌<◌, ◌≤◌, Bool, true, false, not, List, [], ◌∷◌, length, filter, refl, sym, ◌∙◌, ap, arith, add-one, ◌&&◌}
 use Rattle.std.specs.Prelude.{All}
 use Rattle.std.proofs.Math.Nat.{pow-succ'}
 use Rattle.std.proofs.lemmas.Bool.{cases_Bool, false≢true, false_from_ne_true, not-true, not_from_false}
 use Rattle.std.proofs.lemmas.List.Elements.{All-nil, All-cons}
 use Rattle.std.proofs.lemmas.List.Sums.{sum_by-cons}
 use Rattle.node_set.specs.Ascending.{has, IsAscending}
-use Rattle.node_set.specs.Balls.{AreCentred, AreInside, GrownCluster, IsShaped, ball, centres, growth, is_homed, least}
-use Rattle.node_set.specs.Balls.{touches, union_of}
-use Rattle.node_set.specs.BallLaws.{HoldCentres, ascending-union_of, below_centre, growth_leader, growth_next}
-use Rattle.node_set.specs.BallLaws.{growth_waits, has_centre, least_passes, length-centres, union_from}
-use Rattle.node_set.specs.FilterLaws.{ascending-filter, filter_halves, filter-has, filter_keeps}
-use Rattle.node_set.specs.FilterLaws.{has-filter, some_length}
+use Rattle.node_set.specs.Balls.{AreCentred, AreInside, GrownCluster, IsShaped, ball, centres, growth, is_homed, least, touches, union_of}
+use Rattle.node_set.specs.BallLaws.{HoldCentres, ascending-union_of, below_centre, growth_leader, growth_next, growth_waits, has_centre, least_passes, length-centres, union_from}
+use Rattle.node_set.specs.FilterLaws.{ascending-filter, filter_halves, filter-has, filter_keeps, has-filter, some_length}
 use Rattle.node_set.specs.GrowthLaws.{touching_below}
 use Rattle.node_set.specs.HomeLaws.{homed_here, homed_later}
 use Rattle.node_set.specs.SetLaws.{ascending-passing, same_members, share_from}
@@ -112,7 +108,7 @@ module _ (balls : List (List ℕ)) (k : ℕ) where
 
   pub all_homed : (waiting : List ℕ) (cs : List GrownCluster) → AreMean balls k waiting cs → (v : ℕ)
       → has v waiting ≡ true → is_homed cs v ≡ true
-  all_homed waiting [] are v h = absurd (false≢true (subst (λ (l : List ℕ). has v l ≡ true) are h))
+  all_homed waiting [] are v h = absurd (false≢true (rw are at h))
   all_homed waiting (c ∷ cs) are v h = elim (cases_Bool (has v c.homed)) [
     | inl here ↦ homed_here c cs v here
     | inr gone ↦ homed_later c cs v (all_homed (others c waiting) cs are.1 v
@@ -175,14 +171,10 @@ module _ (balls : List (List ℕ)) (k : ℕ) where
       core_and_rest are.0.core free are.0.ascending ascends
       (λ x h. let v = are.0.from x h in held v.0 x v.1 v.2)
       in
-      subst (λ (n : ℕ). n ^ k ≤ length balls * length free ^ k)
-      (sym (sum_by-cons (λ (d : GrownCluster). length d.members) c cs))
-      (subst (λ (n : ℕ). (length c.members + sum_of_sizes cs) ^ k ≤ length balls * n ^ k) parts
-      (adds k (length balls) (length c.members) (sum_of_sizes cs) (length are.0.core)
-      (length (filter (λ y. not (has y are.0.core)) free)) low are.0.enough
-      (sum_small adds (others c waiting) (filter (λ y. not (has y are.0.core)) free) cs low
-      (ascending-filter (λ y. not (has y are.0.core)) free ascends)
-      (free_of_core waiting free c are.0 held) are.1)))
+      rw (sum_by-cons (λ (d : GrownCluster). length d.members) c cs) (rw parts at (adds k (length balls)
+      (length c.members) (sum_of_sizes cs) (length are.0.core) (length (filter (λ y. not (has y are.0.core)) free)) low
+      are.0.enough (sum_small adds (others c waiting) (filter (λ y. not (has y are.0.core)) free) cs low
+      (ascending-filter (λ y. not (has y are.0.core)) free ascends) (free_of_core waiting free c are.0 held) are.1)))
 
 -- ---- the clusters of all balls
 
@@ -203,9 +195,6 @@ pub covering_small : PowersAdd → (balls : List (List ℕ)) (k : ℕ) → 0 < k
 covering_small adds balls k low centred inside =
     let power : length balls ^ (k + 1) ≡ length balls * length balls ^ k =
     ap (λ (n : ℕ). length balls ^ n) (add-one k) ∙ pow-succ' (length balls) k in
-    subst (λ (n : ℕ). sum_of_sizes (mean_covering balls k) ^ k ≤ n) (sym power)
-    (subst (λ (n : ℕ). sum_of_sizes (mean_covering balls k) ^ k ≤ length balls * n ^ k) (length-centres (length balls))
-    (sum_small balls k adds (centres (length balls)) (centres (length balls)) (mean_covering balls k) low
-    (ascending-passing (λ v. true) 0 (length balls))
-    (λ v x h within. has_centre (length balls) x (inside v x within))
-    (covering_mean balls k low centred inside)))
+    rw power (rw (length-centres (length balls)) at (sum_small balls k adds (centres (length balls))
+    (centres (length balls)) (mean_covering balls k) low (ascending-passing (λ v. true) 0 (length balls))
+    (λ v x h within. has_centre (length balls) x (inside v x within)) (covering_mean balls k low centred inside)))

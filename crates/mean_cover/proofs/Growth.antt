@@ -1,11 +1,9 @@
 -- Growth of one cluster: fewer than k growths come before the last.
-use Rattle.std.proofs.Common.{◌≡◌, inl, inr, ℕ, suc, ◌*◌, ◌^◌, ◌<◌, ◌≤◌, true, false, List, ◌∷◌, length, refl}
-use Rattle.std.proofs.Common.{sym, ◌∙◌, subst, arith}
+use Rattle.std.proofs.Common.{◌≡◌, inl, inr, ℕ, suc, ◌*◌, ◌^◌, ◌<◌, ◌≤◌, true, false, List, ◌∷◌, length, refl, sym, ◌∙◌, arith}
 use Rattle.std.proofs.lemmas.Bool.{cases_lt, false≢true, leb-true, leb-false, le-leb, lt-leb}
 use Rattle.std.proofs.Math.Nat.{lt_of_not-le}
 use Rattle.node_set.specs.Balls.{AreInside, growth, least, union_of}
-use Rattle.node_set.specs.BallLaws.{HoldCentres, growth_leader, least_first, least_is, least_passes, union_has}
-use Rattle.node_set.specs.BallLaws.{union_size}
+use Rattle.node_set.specs.BallLaws.{HoldCentres, growth_leader, least_first, least_is, least_passes, union_has, union_size}
 use Rattle.node_set.specs.FilterLaws.{some_length}
 use Rattle.node_set.specs.SetLaws.{has_head}
 use Rattle.whole_powers.specs.PowerLaws.{outgrows}
@@ -76,8 +74,7 @@ module _ (balls : List (List ℕ)) (k a : ℕ) (waiting : List ℕ) where
       → ((i : ℕ) → i < k → is_last balls k waiting a i ≡ false) → ⊥
   some_last rest leads low hold inside none =
       let few : least (is_last balls k waiting a) k < k =
-      subst (λ (l : List ℕ). HoldCentres balls l → least (is_last balls k l a) k < k) (sym leads)
-      (λ h. growths_few balls k a rest low h inside) hold
+      rw leads (growths_few balls k a rest low (rw leads at hold) inside)
       in
       false≢true (sym (none (least (is_last balls k waiting a) k) few)
       ∙ least_passes (is_last balls k waiting a) k few)
@@ -88,8 +85,7 @@ module _ (balls : List (List ℕ)) (k a : ℕ) (waiting : List ℕ) where
         → least (is_last balls k waiting a) k ≡ j
     stops below none fits =
         least_is (is_last balls k waiting a) k j below
-        (last_is balls k a waiting j (subst (λ (n : ℕ). n ^ k ≤ length balls * size_after balls waiting a j ^ k)
-        counted (subst (λ (n : ℕ). more ^ k ≤ length balls * n ^ k) sized fits))) none
+        (last_is balls k a waiting j (rw (counted, sized) at fits)) none
 
     pub goes_on : ((i : ℕ) → i < j → is_last balls k waiting a i ≡ false) → (more ^ k ≤ length balls * size ^ k → ⊥)
         → (i : ℕ) → i < suc j → is_last balls k waiting a i ≡ false
@@ -98,8 +94,5 @@ module _ (balls : List (List ℕ)) (k a : ℕ) (waiting : List ℕ) where
           | inl before ↦ none i before
           | inr now ↦
               let same : i ≡ j = omega arith in
-              subst (λ (n : ℕ). is_last balls k waiting a n ≡ false) (sym same)
-              (not_last_is balls k a waiting j
-              (λ fits. large (subst (λ (n : ℕ). more ^ k ≤ length balls * n ^ k) (sym sized)
-              (subst (λ (n : ℕ). n ^ k ≤ length balls * size_after balls waiting a j ^ k) (sym counted) fits))))
+              rw same (not_last_is balls k a waiting j (λ fits. large (rw (counted, sized) fits)))
         ]

@@ -1,6 +1,5 @@
 -- What a finished mean cover is, and what follows of its clusters.
-use Rattle.std.proofs.Common.{◌≡◌, ℕ, suc, ◌+◌, ◌^◌, ◌<◌, ◌≤◌, Bool, true, false, cond, List, [], ◌∷◌, ◌++◌, length, get_or}
-use Rattle.std.proofs.Common.{map, refl, sym, ◌∙◌, ap, subst, arith}
+use Rattle.std.proofs.Common.{◌≡◌, ℕ, suc, ◌+◌, ◌^◌, ◌<◌, ◌≤◌, true, List, [], ◌∷◌, length, get_or, map, refl, sym, ◌∙◌, ap, arith}
 use Rattle.std.specs.Prelude.{All}
 use Rattle.std.specs.List.{sum_by}
 use Rattle.std.proofs.lemmas.Grind.{same_number_lists}
@@ -12,8 +11,7 @@ use Rattle.node_set.specs.Balls.{AreCentred, AreHomes, AreInside, GrownCluster, 
 use Rattle.node_set.specs.BallLaws.{get_or-map_centres, has_centre, length-centres, union_has}
 use Rattle.node_set.specs.HomeLaws.{home_has, home_within}
 use Rattle.whole_powers.specs.Bounds.{PowersAdd}
-use Rattle.mean_cover.specs.Covering.{MeanClustersAreShaped, MeanCoversAreSmall, MeanHomesAreFound, mean_clusters}
-use Rattle.mean_cover.specs.Covering.{mean_covering, sum_of_sizes}
+use Rattle.mean_cover.specs.Covering.{MeanClustersAreShaped, MeanCoversAreSmall, MeanHomesAreFound, mean_clusters, mean_covering, sum_of_sizes}
 use Rattle.mean_cover.specs.MeanCovers.{IsMeanCover, as_mean_cluster, member_lists}
 use Rattle.mean_cover.specs.HalfMade.{IsUnderWay, clusters_from}
 use Rattle.mean_cover.specs.declared.cover.MeanCluster.{MeanCluster}
@@ -30,19 +28,14 @@ pub is_mean_cover : (balls : List (List ℕ)) (k : ℕ) (waiting : List ℕ) (co
     → IsUnderWay balls k waiting cover.clusters.items cover.home.items → waiting ≡ []
     → length cover.home.items ≡ length balls → IsMeanCover (length balls) (mean_covering balls k) cover
 is_mean_cover balls k waiting cover so_far none sized =
-    let over : clusters_from balls k waiting ≡ [] = ap (clusters_from balls k) none ∙ from_none balls k in
-    let gone : (v : ℕ) → has v waiting ≡ false = λ v. ap (has v) none in
     record {
       clusters = sym (append-nil cover.clusters.items)
-          ∙ ap (λ (l : List GrownCluster). cover.clusters.items ++ map (as_mean_cluster (length balls)) l) (sym over)
-          ∙ so_far.clusters_so_far;
+          ∙ rw (none, from_none balls k) at so_far.clusters_so_far;
       homes = same_number_lists cover.home.items
           (map (home_of (mean_covering balls k)) (centres (length balls)))
           (sized ∙ sym (length-map (centres (length balls)) (home_of (mean_covering balls k))
           ∙ length-centres (length balls)))
-          (λ v h. sym (ap (λ (b : Bool). cond b (length cover.clusters.items
-          + home_of (clusters_from balls k waiting) v) (get_or cover.home.items v 0)) (gone v))
-          ∙ so_far.homes_so_far v (omega (arith, sized, h))
+          (λ v h. (rw none at (so_far.homes_so_far v (omega (arith, sized, h))))
           ∙ sym (get_or-map_centres (home_of (mean_covering balls k)) (length balls) v 0 (omega (arith, sized, h))));
     }
 
@@ -98,11 +91,8 @@ module _ (balls : List (List ℕ)) (k n : ℕ) (cover : MeanCover) (low : 0 < k)
   pub sum_bounded : MeanCoversAreSmall
       → sum_by (λ (c : MeanCluster). length c.members.members) cover.clusters.items ^ k ≤ n ^ (k + 1)
   sum_bounded small =
-      subst (λ (m : ℕ). sum_by (λ (c : MeanCluster). length c.members.members) cover.clusters.items ^ k ≤ m ^ (k + 1))
-      (sym size)
-      (subst (λ (s : ℕ). s ^ k ≤ length balls ^ (k + 1))
-      (sym (ap (sum_by (λ (c : MeanCluster). length c.members.members)) is.clusters
-      ∙ sizes_are n (mean_covering balls k))) (small balls k low centred inside))
+      rw size (rw (ap (sum_by (λ (c : MeanCluster). length c.members.members)) is.clusters
+      ∙ sizes_are n (mean_covering balls k)) (small balls k low centred inside))
 
   -- the cluster that is a ball's home has the ball's nodes
   home_has_nodes : (v x : ℕ) → v < length balls → has x (ball balls v) ≡ true
@@ -123,9 +113,8 @@ module _ (balls : List (List ℕ)) (k n : ℕ) (cover : MeanCover) (low : 0 < k)
       let count : length (member_lists cover.clusters.items) ≡ length (mean_covering balls k) =
       ap length lists ∙ length-map (mean_covering balls k) (λ (c : GrownCluster). c.members) in (
         omega (arith, home, count, found.0),
-        λ x member.
-            subst (λ (i : ℕ). has x (get_or (member_lists cover.clusters.items) i []) ≡ true) (sym home)
-            (ap (has x) (ap (λ (l : List (List ℕ)). get_or l (home_of (mean_covering balls k) v) []) lists
+        λ x member. rw home (ap (has x) (ap (λ (l : List (List ℕ)). get_or l (home_of (mean_covering balls k) v) [])
+            lists
             ∙ get_or-map (λ (c : GrownCluster). c.members) (mean_covering balls k) (home_of (mean_covering balls k) v)
             no_cluster [] found.0) ∙ home_has_nodes v x below member),
       )

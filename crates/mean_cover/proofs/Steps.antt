@@ -1,7 +1,5 @@
 -- What is done, and what the definition gives for the balls that wait.
-use Rattle.std.proofs.Common.{◌≡◌, inl, inr, ℕ, zero, suc, ◌+◌, ◌<◌, ◌≤◌, Bool, true, false, cond, not, ◌&&◌, List, []}
-use Rattle.std.proofs.Common.{◌∷◌, ◌++◌, length, length-append, append_assoc, get_or, map, refl, sym, ◌∙◌, ap}
-use Rattle.std.proofs.Common.{subst, arith}
+use Rattle.std.proofs.Common.{◌≡◌, inl, inr, ℕ, zero, suc, ◌+◌, ◌<◌, ◌≤◌, Bool, true, false, cond, not, ◌&&◌, List, [], ◌∷◌, ◌++◌, length, length-append, append_assoc, get_or, map, refl, sym, ◌∙◌, ap, arith}
 use Rattle.std.proofs.Math.Nat.{le_refl}
 use Rattle.std.proofs.lemmas.Bool.{cases_lt, and_right}
 use Rattle.std.proofs.lemmas.List.{length-map}
@@ -16,8 +14,7 @@ use Rattle.mean_cover.specs.HalfMade.{IsAdded, IsReady, IsUnderWay, clusters_fro
 use Rattle.mean_cover.specs.declared.cover.MeanCluster.{MeanCluster}
 use Rattle.mean_cover.specs.declared.cover.MeanCover.{MeanCover}
 use Rattle.node_set.specs.declared.workspace.Workspace.{Workspace}
-use Rattle.mean_cover.proofs.Clusters.{IsMeanCluster, clusters_within, covering_mean, is_mean_cluster, others}
-use Rattle.mean_cover.proofs.Clusters.{others_fewer, ready_all, ready_others}
+use Rattle.mean_cover.proofs.Clusters.{IsMeanCluster, clusters_within, covering_mean, is_mean_cluster, others, others_fewer, ready_all, ready_others}
 
 -- ---- enough fuel is enough
 
@@ -63,21 +60,16 @@ module _ (balls : List (List ℕ)) (k : ℕ) (low : 0 < k) (inside : AreInside b
   module _ (a : ℕ) (waiting rest : List ℕ) (leads : waiting ≡ a ∷ rest) (ready : IsReady balls waiting) where
     from_next : clusters_from balls k waiting
         ≡ mean_cluster balls k waiting a ∷ clusters_from balls k (others (mean_cluster balls k waiting a) waiting)
-    from_next = subst (λ (l : List ℕ). IsReady balls l → clusters_from balls k l
-        ≡ mean_cluster balls k l a ∷ clusters_from balls k (others (mean_cluster balls k l a) l)) (sym leads)
-        (from_lead a rest) ready
+    from_next = rw leads (from_lead a rest (rw leads at ready))
 
     cluster_is : IsMeanCluster balls k waiting (mean_cluster balls k waiting a)
-    cluster_is = subst (λ (l : List ℕ). IsReady balls l → IsMeanCluster balls k l (mean_cluster balls k l a))
-        (sym leads) (cluster_here a rest) ready
+    cluster_is = rw leads (cluster_here a rest (rw leads at ready))
 
     -- the leader waits no more
     leader_gone : has a (others (mean_cluster balls k waiting a) waiting) ≡ false
     leader_gone =
         has-filter (λ v. not (has v (mean_cluster balls k waiting a).homed)) a waiting
-        ∙ (ap (λ (b : Bool). has a waiting && not b) (subst
-        (λ (v : ℕ). has v (mean_cluster balls k waiting a).homed ≡ true) (first_is balls k a waiting)
-        cluster_is.leads)
+        ∙ (ap (λ (b : Bool). has a waiting && not b) (rw (first_is balls k a waiting) at cluster_is.leads)
         ∙ and_right (has a waiting) false refl)
 
     -- with the cluster gone, none waits up to its leader
@@ -90,23 +82,10 @@ module _ (balls : List (List ℕ)) (k : ℕ) (low : 0 < k) (inside : AreInside b
               ∙ ap (λ (b : Bool). b && not (has v (mean_cluster balls k waiting a).homed)) (none v before)
           | inr now ↦
               let same : v ≡ a = omega arith in
-              subst (λ (u : ℕ). has u (others (mean_cluster balls k waiting a) waiting) ≡ false) (sym same)
-              leader_gone
+              rw same leader_gone
         ]
 
 -- ---- one cluster more
-
-later_as : (balls : List (List ℕ)) (k : ℕ) (waiting : List ℕ) (clusters : List MeanCluster) (home : List ℕ)
-    (later : List GrownCluster) → clusters_from balls k waiting ≡ later → IsUnderWay balls k waiting clusters home
-    → (clusters ++ map (as_mean_cluster (length balls)) later
-    ≡ map (as_mean_cluster (length balls)) (mean_covering balls k))
-    × ((v : ℕ) → v < length balls → cond (has v waiting) (length clusters + home_of later v) (get_or home v 0)
-    ≡ home_of (mean_covering balls k) v)
-later_as balls k waiting clusters home later same so_far =
-    subst (λ (l : List GrownCluster). (clusters ++ map (as_mean_cluster (length balls)) l
-    ≡ map (as_mean_cluster (length balls)) (mean_covering balls k))
-    × ((v : ℕ) → v < length balls → cond (has v waiting) (length clusters + home_of l v) (get_or home v 0)
-    ≡ home_of (mean_covering balls k) v)) same (so_far.clusters_so_far, so_far.homes_so_far)
 
 with_added : (balls : List (List ℕ)) (k : ℕ) (waiting new : List ℕ) (before after : List MeanCluster)
     (home new_home : List ℕ) (c : GrownCluster) → clusters_from balls k waiting ≡ c ∷ clusters_from balls k new
@@ -116,21 +95,18 @@ with_added : (balls : List (List ℕ)) (k : ℕ) (waiting new : List ℕ) (befor
     → IsUnderWay balls k waiting before home → IsUnderWay balls k new after new_home
 unfolding home_of
 with_added balls k waiting new before after home new_home c next ready waits gone added homed so_far =
-    let old = later_as balls k waiting before home (c ∷ clusters_from balls k new) next so_far in
     record {
       ready = ready;
       clusters_so_far = rw (
         added,
         append_assoc before (as_mean_cluster (length balls) c ∷ [])
             (map (as_mean_cluster (length balls)) (clusters_from balls k new)),
-      ) old.0;
-      homes_so_far = λ v h. subst (λ (b : Bool).
-          cond b (length after + home_of (clusters_from balls k new) v) (get_or new_home v 0)
-          ≡ home_of (mean_covering balls k) v)
-          (sym (ap (has v) gone ∙ has-filter (λ w. not (has w c.homed)) v waiting))
+      ) (rw next at so_far.clusters_so_far);
+      homes_so_far = λ v h. rw (ap (has v) gone ∙ has-filter (λ w. not (has w c.homed)) v waiting)
           (home_step (has v waiting) (has v c.homed) (get_or home v 0) (get_or new_home v 0) (length before)
           (length after) (home_of (clusters_from balls k new) v) (home_of (mean_covering balls k) v) (waits v)
-          (ap length added ∙ length-append before (as_mean_cluster (length balls) c ∷ [])) (old.1 v h) (homed v h));
+          (ap length added ∙ length-append before (as_mean_cluster (length balls) c ∷ []))
+          (rw next at (so_far.homes_so_far v h)) (homed v h));
     }
 
 pub under_way_next : (balls : List (List ℕ)) (k a : ℕ) (rest : List ℕ) (old new : Workspace) (before after : MeanCover)
@@ -143,8 +119,8 @@ under_way_next balls k a rest old new before after low inside leads so_far added
     before.home.items after.home.items (mean_cluster balls k old.waiting.members a)
     (from_next balls k low inside a old.waiting.members rest leads so_far.ready
     ∙ ap (λ (l : List ℕ). mean_cluster balls k old.waiting.members a ∷ clusters_from balls k l) (sym added.waiting))
-    (subst (λ (l : List ℕ). IsReady balls l) (sym added.waiting)
-    (ready_others balls old.waiting.members (mean_cluster balls k old.waiting.members a) so_far.ready))
+    (rw added.waiting (ready_others balls old.waiting.members (mean_cluster balls k old.waiting.members a)
+    so_far.ready))
     (cluster_is balls k low inside a old.waiting.members rest leads so_far.ready).waits added.waiting added.clusters
     added.homes so_far
 
@@ -157,7 +133,7 @@ from_all balls k = ap (λ (n : ℕ). mean_clusters balls k n (centres (length ba
 pub under_way_start : (balls : List (List ℕ)) (k : ℕ) (waiting : List ℕ) (home : List ℕ) → AreCentred balls
     → waiting ≡ centres (length balls) → IsUnderWay balls k waiting [] home
 under_way_start balls k waiting home centred all =
-    subst (λ (l : List ℕ). IsUnderWay balls k l [] home) (sym all) (record {
+    rw all (record {
       ready = ready_all balls centred;
       clusters_so_far = ap (map (as_mean_cluster (length balls))) (from_all balls k);
       homes_so_far = λ v h. rw (has_centre (length balls) v h, from_all balls k) (omega arith);

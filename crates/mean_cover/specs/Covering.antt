@@ -4,11 +4,9 @@
 -- Key laws: `mean_cluster_shape` (each cluster grows at most k times from its leader's ball),
 -- `mean_home_means` (each ball finds a home), `mean_covers_are_small` (the sum of the sizes, to the
 -- power k, is at most n ^ (k + 1)), and the clause `homes` of `coarsen_mean`.
-use Rattle.std.specs.Prelude.{◌≡◌, ℕ, zero, suc, ◌+◌, ◌*◌, ◌^◌, ◌<◌, ◌≤◌, Bool, true, not, List, [], ◌∷◌}
-use Rattle.std.specs.Prelude.{slice_index_or, filter, length, nat_le, sum_by, All}
+use Rattle.std.specs.Prelude.{◌≡◌, ℕ, zero, suc, ◌+◌, ◌*◌, ◌^◌, ◌<◌, ◌≤◌, Bool, true, not, List, [], ◌∷◌, slice_index_or, filter, length, nat_le, sum_by, All}
 use Rattle.node_set.specs.Ascending.{has}
-use Rattle.node_set.specs.Balls.{centres, AreCentred, AreInside, union_of, growth, least}
-use Rattle.node_set.specs.Balls.{GrownCluster, IsShaped, home_of}
+use Rattle.node_set.specs.Balls.{centres, AreCentred, AreInside, union_of, growth, least, GrownCluster, IsShaped, home_of}
 
 -- how many nodes the cluster that a leads has after j growths
 abbrev pub size_after : List (List ℕ) → List ℕ → ℕ → ℕ → ℕ

@@ -2,8 +2,7 @@
 -- for the balls that wait, is what it gives for all. Only the private functions of this crate speak
 -- of it.
 -- Key law: `add_cluster` adds the next cluster (`IsAdded`).
-use Rattle.std.specs.Prelude.{◌≡◌, ℕ, ◌+◌, ◌<◌, true, cond, not, List, [], ◌∷◌, ◌++◌, length}
-use Rattle.std.specs.Prelude.{slice_index, filter, map}
+use Rattle.std.specs.Prelude.{◌≡◌, ℕ, ◌+◌, ◌<◌, true, cond, not, List, [], ◌∷◌, ◌++◌, length, slice_index, filter, map}
 use Rattle.node_set.specs.Ascending.{has, IsAscending}
 use Rattle.node_set.specs.Balls.{ball, GrownCluster, home_of}
 use Rattle.node_set.specs.declared.workspace.Workspace.{Workspace}

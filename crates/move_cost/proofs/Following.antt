@@ -7,15 +7,12 @@ use Rattle.std.proofs.lemmas.List.Sums.{sum_by-cons}
 use Rattle.entry_word.specs.Addresses.{EntriesUnpack}
 use Rattle.entry_word.specs.Marks.{MarksUnpack}
 use Rattle.entry_word.specs.declared.visit.Visit.{Visit}
-use Rattle.directory.specs.Settings.{Setting}
 use Rattle.directory.specs.Courses.{Step}
 use Rattle.directory.specs.Writes.{Write, visit_of, visits}
 use Rattle.region_plan.specs.Plan.{PlanData, nodes_of}
 use Rattle.region_plan.specs.Settings.{setting_of}
 use Rattle.handset.specs.Condition.{HandsetData}
-use Rattle.handset.specs.StepWrites.{after_write, erasing_from, go_on, left_at, purging_from}
-use Rattle.handset.specs.declared.stage.Stage.{Stage}
-use Rattle.handset.specs.declared.stage.Stage.TheVariants.{Resting, Coming, Renewing, Committing, Confirming, Erasing, Purging, Switching}
+use Rattle.handset.specs.StepWrites.{left_at}
 use Rattle.handset.specs.Stands.{StandsForSteps}
 use Rattle.move_cost.specs.declared.line.CostLine.{CostLine}
 use Rattle.move_cost.specs.Costs.{is_purge, write_weight}
@@ -254,29 +251,6 @@ module _ (marks : MarksUnpack) (entries : EntriesUnpack) (plan : PlanData) (few 
         omega (arith, room.written, weights),
         omega (arith, room.purged, count),
       )
-
--- a write changes no number of a subscriber
-go-on-sub : (setting : Setting) (handset : HandsetData) (stage : Stage)
-    → (go_on setting handset stage).sub ≡ handset.sub
-go-on-sub setting handset Resting = refl
-go-on-sub setting handset Coming = refl
-go-on-sub setting handset (Renewing level) = refl
-go-on-sub setting handset Committing = refl
-go-on-sub setting handset Confirming = refl
-go-on-sub setting handset (Erasing level) = refl
-go-on-sub setting handset (Purging node) = refl
-go-on-sub setting handset (Switching off) = refl
-
-pub write-sub : (setting : Setting) (handset : HandsetData) (stage : Stage)
-    → (after_write setting handset stage).sub ≡ handset.sub
-write-sub setting handset Resting = refl
-write-sub setting handset Coming = refl
-write-sub setting handset (Renewing level) = refl
-write-sub setting handset Committing = refl
-write-sub setting handset Confirming = go-on-sub setting handset (erasing_from setting handset 0)
-write-sub setting handset (Erasing level) = go-on-sub setting handset (erasing_from setting handset (suc level))
-write-sub setting handset (Purging node) = go-on-sub setting handset (purging_from setting handset (suc node))
-write-sub setting handset (Switching off) = refl
 
 -- a step is done where nothing comes next
 pub record IsFinished (plan : PlanData) (starts : List ℕ) (node : ℕ) (steps : List Step) (made : ℕ)

@@ -3,20 +3,15 @@ use Rattle.std.proofs.Common.{◌≡◌, ℕ, suc, ◌+◌, ◌*◌, Bool, true,
 use Rattle.std.specs.Prelude.{◌==◌, None, filter, sum_by}
 use Rattle.std.proofs.lemmas.List.{append-nil}
 use Rattle.std.proofs.lemmas.List.Elements.{filter-append}
-use Rattle.std.proofs.lemmas.List.Sums.{fold-append, sum_by-append, sum_by-cons}
+use Rattle.std.proofs.lemmas.List.Sums.{sum_by-append, sum_by-cons}
 use Rattle.entry_word.specs.declared.mark.PresenceMark.TheVariants.{Empty, Here, Gone, Coming}
 use Rattle.directory.specs.Settings.{Setting}
-use Rattle.directory.specs.Courses.{Course, Move, after_step, last_stop, move_to, next_move}
+use Rattle.directory.specs.Courses.{Course, Move, next_move}
 use Rattle.directory.specs.Writes.{Write, entry_at, erasure_writes, mark_at, move_writes, new_address, numbers_from, old_home, purge_writes}
 use Rattle.move_cost.specs.Costs.{erased_levels, is_erasure, is_purge, write_weight}
 use Rattle.move_cost.specs.Pace.{ErasuresAreWritten, MoveWeighs, PurgesAreCounted}
 use Rattle.move_cost.proofs.Sums.{sum-mapped, sum-none}
-
--- after a move the last stop is where it went
-pub last-after : (setting : Setting) (course : Course) (node : ℕ)
-    → last_stop (after_step setting course (move_to node)) ≡ node
-last-after setting course node =
-    fold-append (λ n (m : Move). m.to) course.start course.moves (next_move setting course node ∷ [])
+use Rattle.directory.specs.StepLaws.{last_stop-moved}
 
 module _ (setting : Setting) (course : Course) (move : Move) where
   -- the parts of a sum over the writes of a move
@@ -68,7 +63,7 @@ move-weighs setting course node =
     let move : Move = next_move setting course node in
     let f : Write → ℕ = write_weight setting node in
     ap (λ (to : ℕ). sum_by (write_weight setting to) (move_writes setting course move))
-    (last-after setting course node)
+    (last_stop-moved setting course node)
     ∙ omega (
       arith,
       parts-of-sum setting course move f,

@@ -9,12 +9,11 @@ use Rattle.std.proofs.lemmas.List.{append_assoc, append-nil}
 use Rattle.std.proofs.lemmas.List.Sums.{fold-append, sum_by_push}
 use Rattle.directory.specs.Settings.{Setting, levels, start}
 use Rattle.directory.specs.Courses.{Course, MayMove, MayStep, MaySteps, Move, Step, address_node, after_step, after_steps, course_at, gathered_weight, highest, last_stop, move_to, next_move, switch_off, switch_on}
-use Rattle.directory.specs.StepLaws.{highest-low}
+use Rattle.directory.specs.StepLaws.{highest-low, last_stop-moved}
 use Rattle.directory.specs.Writes.{old_home}
 use Rattle.move_cost.specs.Costs.{step_weight, weight_of_steps}
 use Rattle.move_cost.specs.Pace.{IsPaced, MoveWeighs, WrittenIsBounded}
 use Rattle.move_cost.specs.Rate.{writing_rate}
-use Rattle.move_cost.proofs.MoveParts.{last-after}
 use Rattle.move_cost.proofs.Sums.{sum_from, sum-add, sum-le, sum-powers, sum-same, sum-sift, sum-split, sum-times}
 
 -- what the levels of a move gathered pays for what it writes at them
@@ -214,11 +213,11 @@ module _ (setting : Setting) (width spent : ℕ) (course : Course) (node : ℕ)
       → IsPaid setting width (spent + step_weight setting course (move_to node))
       (after_step setting course (move_to node))
   move-paid weighs = record {
-    inside = subst (λ n. n < setting.nodes) (sym (last-after setting course node)) may.inside;
+    inside = subst (λ n. n < setting.nodes) (sym (last_stop-moved setting course node)) may.inside;
     placed = λ i. subst (λ n. n < setting.nodes) (sym (renews.address i))
         (placed-at (nat_le i move.renewed) i);
     near = λ i. subst (λ to. setting.distance (address_node (after_step setting course (move_to node)) i) to
-        ≤ gathered_weight (after_step setting course (move_to node)) i) (sym (last-after setting course node))
+        ≤ gathered_weight (after_step setting course (move_to node)) i) (sym (last_stop-moved setting course node))
         (subst (λ n. setting.distance n node ≤ gathered_weight (after_step setting course (move_to node)) i)
         (sym (renews.address i))
         (subst (λ w. setting.distance (cond (nat_le i move.renewed) node (address_node course i)) node ≤ w)

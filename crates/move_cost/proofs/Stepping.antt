@@ -2,15 +2,15 @@
 use Rattle.std.proofs.Common.{◌≡◌, inl, inr, length-append, ℕ, suc, ◌+◌, ◌*◌, ◌^◌, ◌<◌, ◌≤◌, cond, List, [], ◌∷◌, ◌++◌, length, map, drop, get_or, refl, sym, ap, ◌∙◌, subst, arith, Vec, Global}
 use Rattle.std.specs.Prelude.{◌&&◌, All, None, nat_lt, sum_by}
 use Rattle.std.proofs.lemmas.Bool.{lt-ltb}
-use Rattle.std.proofs.lemmas.List.{append-nil, get_or-map, length-map, length_push, map-append}
+use Rattle.std.proofs.lemmas.List.{append-nil, get_or-map, length-map, length_push}
 use Rattle.std.proofs.lemmas.List.Sums.{count_by-le-length, fold-append, sum_by_push}
 use Rattle.directory.specs.Amid.{course_of}
 use Rattle.directory.specs.Settings.{Setting, start}
 use Rattle.directory.specs.Courses.{Course, Move, Step, address_node, after_step, course_at, last_stop, move_to, next_move, switch_off, switch_on}
 use Rattle.directory.specs.Orders.{steps_of}
 use Rattle.directory.specs.Statements.{MovesAreShort}
-use Rattle.directory.specs.StepLaws.{writes-more}
-use Rattle.directory.specs.Writes.{Write, step_writes, visit_of, visits, writes}
+use Rattle.directory.specs.StepLaws.{last_stop-moved, visits-more}
+use Rattle.directory.specs.Writes.{Write, step_writes, visit_of, visits}
 use Rattle.distances.specs.Table.{DistanceTable}
 use Rattle.net_reader.specs.declared.input.Input.{Input}
 use Rattle.net_reader.specs.Input.{Contents}
@@ -36,7 +36,6 @@ use Rattle.move_cost.specs.Costs.{cost_line, is_purge, write_weight}
 use Rattle.move_cost.specs.Counting.{HasRoom, IsCounted, IsFit, IsLeft, MayBegin, first_steps, most_weight, node_after, with_call, with_writes}
 use Rattle.move_cost.specs.Plans.{GoTogether}
 use Rattle.move_cost.proofs.Fitting.{fit-step}
-use Rattle.move_cost.proofs.MoveParts.{last-after}
 use Rattle.move_cost.proofs.Paying.{weights-more}
 use Rattle.move_cost.proofs.Purging.{purges-more}
 use Rattle.move_cost.proofs.Calls.{IsNextCall, may-begin, next-call}
@@ -45,15 +44,6 @@ use Rattle.move_cost.proofs.Calls.{IsNextCall, may-begin, next-call}
 drop-front : {A : Type 0} (xs ys : List A) → drop (length xs) (xs ++ ys) ≡ ys
 drop-front [] ys = refl
 drop-front (x ∷ xs) ys = drop-front xs ys
-
--- the visits of one step more
-pub visits-more : (setting : Setting) (sub : ℕ) (steps : List Step) (step : Step)
-    → visits setting sub (steps ++ step ∷ []) ≡ visits setting sub steps
-    ++ map (visit_of sub) (step_writes setting (course_of setting sub steps) step)
-visits-more setting sub steps step =
-    ap (map (visit_of sub)) (writes-more setting (course_at (start setting sub)) steps step)
-    ∙ map-append (visit_of sub) (writes setting (course_at (start setting sub)) steps)
-    (step_writes setting (course_of setting sub steps) step)
 
 -- two lines that say the same are the same
 line-same : (sub : ℕ) {moves moved written purged other_moves other_moved other_written other_purged : ℕ}
@@ -115,7 +105,7 @@ module _ (plan : PlanData) (starts : List ℕ) (sub : ℕ) (handset : HandsetDat
       let weight : setting.distance (last_stop course) to ≡ distance plan handset.place to =
       ap (λ n. setting.distance n to) (sym at.place) ∙ its-distance plan starts handset.place to goes.place may.0 in
       told (move_to to) to (suc so_far.moves) (so_far.moved + distance plan handset.place to)
-      (last-after setting course to)
+      (last_stop-moved setting course to)
       (length_push course.moves (next_move setting course to) ∙ omega arith)
       (sum_by_push (λ (m : Move). m.weight) course.moves (next_move setting course to)
       ∙ ap (λ n. so_far.moved + n) weight)

@@ -13,10 +13,9 @@ some_weight : (c : Option ℕ) → (c ≡ None → ⊥) → (w : ℕ) × (c ≡ 
 some_weight None not = absurd (not refl)
 some_weight (Some w) not = (w, refl)
 
-module _ (n : ℕ) (edges : List Edge) (network : Network) (nodes : network.nodes ≡ n) (limits : IsInLimits network)
-    (same : SameWalks edges network.edges)
-    (allowed : List Bool) (all : allowed ≡ replicate n true)
-    (weights : List (Option ℕ)) (least : AreLeastWeights network (among allowed) 0 weights) where
+module _ {n : ℕ} (edges : List Edge) {network : Network} (nodes : network.nodes ≡ n) (limits : IsInLimits network)
+    (same : SameWalks edges network.edges) {allowed : List Bool} (all : allowed ≡ replicate n true)
+    {weights : List (Option ℕ)} (least : AreLeastWeights network (among allowed) 0 weights) where
   count : length allowed ≡ network.nodes
   count = subst (λ xs. length xs ≡ network.nodes) (sym all) (omega (arith, length-replicate n true, nodes))
 

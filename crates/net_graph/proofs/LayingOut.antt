@@ -1,10 +1,10 @@
 -- Rows of arcs that lie one behind another are a network with the walks of the edges.
 use Rattle.std.proofs.Common.{◌≡◌, ℕ, ◌+◌, ◌<◌, ◌≤◌, List, length, get_or, sym, subst, inl, inr, arith}
-use Rattle.std.specs.Prelude.{Contains, All}
+use Rattle.std.specs.Prelude.{All}
 use Rattle.net_graph.specs.declared.edge.Edge.{Edge}
 use Rattle.net_graph.specs.declared.edge.TheConstants.{MAX_NODES}
 use Rattle.net_graph.specs.declared.neighbours.Arc.{Arc}
-use Rattle.net_graph.specs.Walks.{Joins, make_edge}
+use Rattle.net_graph.specs.Walks.{Joins}
 use Rattle.net_graph.specs.Network.{IsEdge, SameJoins, SameWalks}
 use Rattle.net_graph.specs.Layout.{row, edges_from, IsArc, IsLaidOut}
 use Rattle.net_graph.specs.Notes.{HaveRoom, JoinsOther, AreArcsBy, AreRows, notes_of, row_of}
@@ -12,7 +12,7 @@ use Rattle.net_graph.proofs.Noting.{row_is}
 use Rattle.net_graph.specs.StartLaws.{starts_rise}
 use Rattle.net_graph.proofs.Rows.{edges_have_row, row_has_edge}
 use Rattle.net_graph.specs.WalkLaws.{join_edge, join_turned}
-use Rattle.net_graph.proofs.Replacing.{Covers, same_walks}
+use Rattle.net_graph.proofs.Replacing.{same_walks}
 
 -- the rows of all nodes, once each has its arcs in its places
 pub rows_made : (n : ℕ) (edges : List Edge) (starts : List ℕ) (arcs : List Arc) → HaveRoom n (notes_of edges) starts
@@ -31,11 +31,10 @@ rows_made n edges starts arcs room sized rows limits = record {
   limits = limits;
 }
 
-module _ (n : ℕ) (edges : List Edge) (all : All (IsEdge n) edges) where
-  pub all_rows : (starts : List ℕ) (arcs : List Arc) → 1 ≤ n → n ≤ MAX_NODES
-      → AreRows n (JoinsOther edges) starts arcs
-      → IsLaidOut n starts arcs
-  all_rows starts arcs positive few rows = record {
+module _ (n : ℕ) (edges : List Edge) (all : All (IsEdge n) edges) {starts : List ℕ} {arcs : List Arc}
+    (rows : AreRows n (JoinsOther edges) starts arcs) where
+  pub all_rows : 1 ≤ n → n ≤ MAX_NODES → IsLaidOut n starts arcs
+  all_rows positive few = record {
     positive = positive;
     few = few;
     count = rows.count;
@@ -48,26 +47,8 @@ module _ (n : ℕ) (edges : List Edge) (all : All (IsEdge n) edges) where
         (rows.are v v_below u w).1 ((λ same. joined.0 (sym same)), join_turned edges u v w joined.1);
   }
 
-  covered : (starts : List ℕ) (arcs : List Arc) → AreRows n (JoinsOther edges) starts arcs
-      → Covers edges (edges_from starts arcs n)
-  covered starts arcs rows u v w other joined =
-      let below = (join_edge n edges u v w all joined).0 in
-      (w, inl (edges_have_row starts arcs n u v w below ((rows.are u below v w).1 (other, joined))), omega arith)
-
-  from_row : (starts : List ℕ) (arcs : List Arc) → AreRows n (JoinsOther edges) starts arcs → (u v w : ℕ)
-      → Contains (edges_from starts arcs n) (make_edge u v w) → Joins edges u v w
-  from_row starts arcs rows u v w has =
-      let r = row_has_edge starts arcs n u v w has in ((rows.are u r.0 v w).0 r.1).1
-
-  covering : (starts : List ℕ) (arcs : List Arc) → AreRows n (JoinsOther edges) starts arcs
-      → Covers (edges_from starts arcs n) edges
-  covering starts arcs rows u v w other (inl h) = (w, from_row starts arcs rows u v w h, omega arith)
-  covering starts arcs rows u v w other (inr h) =
-      (w, join_turned edges v u w (from_row starts arcs rows v u w h), omega arith)
-
-  pub rows_same_joins : (starts : List ℕ) (arcs : List Arc) → AreRows n (JoinsOther edges) starts arcs
-      → SameJoins edges (edges_from starts arcs n)
-  rows_same_joins starts arcs rows u v w = (into, back)
+  pub rows_same_joins : SameJoins edges (edges_from starts arcs n)
+  rows_same_joins u v w = (into, back)
     where
       into : Joins (edges_from starts arcs n) u v w → JoinsOther edges u v w
       into (inl h) = let r = row_has_edge starts arcs n u v w h in (rows.are u r.0 v w).0 r.1
@@ -81,7 +62,7 @@ module _ (n : ℕ) (edges : List Edge) (all : All (IsEdge n) edges) where
           let below = (join_edge n edges u v w all joined.1).0 in
           inl (edges_have_row starts arcs n u v w below ((rows.are u below v w).1 joined))
 
-  pub rows_same_walks : (starts : List ℕ) (arcs : List Arc) → AreRows n (JoinsOther edges) starts arcs
-      → SameWalks edges (edges_from starts arcs n)
-  rows_same_walks starts arcs rows =
-      same_walks edges (edges_from starts arcs n) (covered starts arcs rows) (covering starts arcs rows)
+  pub rows_same_walks : SameWalks edges (edges_from starts arcs n)
+  rows_same_walks = same_walks edges (edges_from starts arcs n)
+      (λ u v w other joined. (w, (rows_same_joins u v w).1 (other, joined), omega arith))
+      (λ u v w other joined. (w, ((rows_same_joins u v w).0 joined).1, omega arith))

@@ -1,23 +1,23 @@
 -- The least weight of a walk is found: whether a walk of a weight is there can be tested, since each edge weighs
 -- something, and none of least weight visits a node twice.
 use Rattle.std.proofs.Common.{◌≡◌, ℕ, zero, suc, ◌+◌, ◌-◌, ◌<◌, ◌≤◌, Bool, true, false, List, [], ◌∷◌, length, refl, sym, subst, inl, inr, arith, below_more, ◌∙◌, add-one}
-use Rattle.std.specs.Prelude.{All, ◌==◌, ◌&&◌, ◌||◌, nat_le}
-use Rattle.std.specs.Prelude.{◌*◌, cond, ltb}
+use Rattle.std.specs.Prelude.{All, ◌==◌, ◌&&◌, ◌||◌, nat_le, ◌*◌, cond, ltb}
 use Rattle.std.specs.List.{list_any}
 use Rattle.std.proofs.lemmas.Bool.{cases_Bool, cases_eq, cases_lt, eqb-true, eq-eqb, false≢true, and_parts, or_cases, or_right, and_from, or_left}
 use Rattle.std.proofs.lemmas.Bool.Decides.{nat_tests}
 use Rattle.std.proofs.lemmas.List.Folds.{Any-from_list_any, list_any_at}
 use Rattle.net_graph.specs.declared.edge.Edge.{Edge}
 use Rattle.net_graph.specs.declared.edge.TheConstants.{MAX_WEIGHT}
-use Rattle.net_graph.specs.LeastWeights.{first_passing, leads_on, reaches, walk_weighs}
-use Rattle.net_graph.specs.LeastWeights.{LeastWeightsAreBounded, LeastWeightsAreFound}
+use Rattle.net_graph.specs.LeastWeights.{first_passing, leads_on, reaches, walk_weighs, LeastWeightsAreBounded, LeastWeightsAreFound}
 use Rattle.net_graph.specs.Network.{IsEdge}
 use Rattle.net_graph.specs.Walks.{Joins, make_edge, Step, IsWalk, weight_of, IsWalkWeight, IsLeastWeight}
 use Rattle.net_graph.specs.WalkLaws.{join_edge, least_weight_one}
 
--- ---- tests
-
 -- ---- what is tested is there
+
+-- an edge leads on, one way or the other
+abbrev leads : (ℕ → ℕ → Bool) → ℕ → ℕ → Edge → Bool
+leads goes m u e = leads_on goes m u e.a e.b e.weight || leads_on goes m u e.b e.a e.weight
 
 -- one step in front of a walk
 step_first : {edges : List Edge} {inside : ℕ → Bool} (u : ℕ) {x v : ℕ} (w m : ℕ) → inside u ≡ true → Joins edges u x w
@@ -28,10 +28,10 @@ step_first u {x} w m is_inside joined le rest = record {
   sum = omega (arith, rest.sum);
 }
 
-leads : {edges : List Edge} {inside : ℕ → Bool} {v : ℕ} (k m u from to w : ℕ)
+leads_walk : {edges : List Edge} {inside : ℕ → Bool} {v : ℕ} (k m u from to w : ℕ)
     → ((n x : ℕ) → reaches edges inside v k n x ≡ true → IsWalkWeight edges inside x v n) → inside u ≡ true
     → Joins edges from to w → leads_on (reaches edges inside v k) m u from to w ≡ true → IsWalkWeight edges inside u v m
-leads {edges} {inside} {v} k m u from to w there is_inside joined e =
+leads_walk {edges} {inside} {v} k m u from to w there is_inside joined e =
     let first = and_parts (from == u) (nat_le w m && reaches edges inside v k (m - w) to) e in
     let second = and_parts (nat_le w m) (reaches edges inside v k (m - w) to) first.1 in
     let le : w ≤ m = grind (arith, nat_tests, second.0) in
@@ -50,19 +50,17 @@ unfolding reaches
 reaches-sound edges inside v zero m u e = absurd cc
 reaches-sound edges inside v (suc k) m u e =
     let goes = reaches edges inside v k in
-    let test : Edge → Bool = λ edge. leads_on goes m u edge.a edge.b edge.weight || leads_on goes m u edge.b edge.a
-    edge.weight in
-    let outer = and_parts (inside u) ((m == 0 && u == v) || list_any test edges) e in
-    elim (or_cases (m == 0 && u == v) (list_any test edges) outer.1) [
+    let outer = and_parts (inside u) ((m == 0 && u == v) || list_any (leads goes m u) edges) e in
+    elim (or_cases (m == 0 && u == v) (list_any (leads goes m u) edges) outer.1) [
       | inl here ↦ reached_here edges inside u v m outer.0 here
       | inr far ↦
-          let found = Any-from_list_any test edges far in
+          let found = Any-from_list_any (leads goes m u) edges far in
           let edge = found.1 in
           elim (or_cases (leads_on goes m u edge.a edge.b edge.weight) (leads_on goes m u edge.b edge.a edge.weight)
           found.4) [
-            | inl on ↦ leads k m u edge.a edge.b edge.weight (reaches-sound edges inside v k) outer.0
+            | inl on ↦ leads_walk k m u edge.a edge.b edge.weight (reaches-sound edges inside v k) outer.0
                 (inl (found.0, found.2, found.3)) on
-            | inr back ↦ leads k m u edge.b edge.a edge.weight (reaches-sound edges inside v k) outer.0
+            | inr back ↦ leads_walk k m u edge.b edge.a edge.weight (reaches-sound edges inside v k) outer.0
                 (inr (found.0, found.2, found.3)) back
           ]
     ]
@@ -79,17 +77,14 @@ leads_on-true goes {m} u to w rest sum e =
 
 -- an edge of the list that joins the nodes passes the test
 edge_passes : (edges : List Edge) (goes : ℕ → ℕ → Bool) {m : ℕ} (u x w rest : ℕ) → Joins edges u x w → m ≡ w + rest
-    → goes rest x ≡ true → list_any (λ e. leads_on goes m u e.a e.b e.weight || leads_on goes m u e.b e.a e.weight)
-    edges ≡ true
+    → goes rest x ≡ true → list_any (leads goes m u) edges ≡ true
 edge_passes edges goes {m} u x w rest (inl h) sum e =
-    list_any_at (λ e. leads_on goes m u e.a e.b e.weight || leads_on goes m u e.b e.a e.weight) edges h.0
-    (make_edge u x w) h.1
-    (subst (λ (d : Edge). (leads_on goes m u d.a d.b d.weight || leads_on goes m u d.b d.a d.weight) ≡ true) (sym h.2)
+    list_any_at (leads goes m u) edges h.0 (make_edge u x w) h.1
+    (subst (λ d. leads goes m u d ≡ true) (sym h.2)
     (or_left (leads_on goes m u u x w) (leads_on goes m u x u w) (leads_on-true goes u x w rest sum e)))
 edge_passes edges goes {m} u x w rest (inr h) sum e =
-    list_any_at (λ e. leads_on goes m u e.a e.b e.weight || leads_on goes m u e.b e.a e.weight) edges h.0
-    (make_edge x u w) h.1
-    (subst (λ (d : Edge). (leads_on goes m u d.a d.b d.weight || leads_on goes m u d.b d.a d.weight) ≡ true) (sym h.2)
+    list_any_at (leads goes m u) edges h.0 (make_edge x u w) h.1
+    (subst (λ d. leads goes m u d ≡ true) (sym h.2)
     (or_right (leads_on goes m u x u w) (leads_on goes m u u x w) (leads_on-true goes u x w rest sum e)))
 
 reaches-whole : (edges : List Edge) (inside : ℕ → Bool) (u : ℕ) (steps : List Step) (v k : ℕ)
@@ -165,7 +160,7 @@ least_within n edges inside u v tries all steps walk lt =
 
 -- ---- the numbers below n at which a function is below t
 
-count : (ℕ → ℕ) → ℕ → ℕ → ℕ
+abbrev count : (ℕ → ℕ) → ℕ → ℕ → ℕ
 count g t zero = 0
 count g t (suc n) = count g t n + cond (ltb (g n) t) 1 0
 
@@ -176,29 +171,20 @@ one_past : (x t : ℕ) → t ≤ x → ◌≡◌ {A = ℕ} (cond (ltb x t) 1 0) 
 one_past x t past = grind (arith, nat_tests)
 
 one_more : (x s t : ℕ) → s ≤ t → cond (ltb x s) 1 0 ≤ cond (ltb x t) 1 0
-one_more x s t le = elim (cases_lt x s) [
-  | inl below ↦ omega (arith, one_below x s below, one_below x t (omega arith))
-  | inr past ↦ omega (arith, one_past x s past)
-]
+one_more x s t le = grind (arith, nat_tests)
 
 one_most : (x t : ℕ) → cond (ltb x t) 1 0 ≤ 1
-one_most x t = elim (cases_lt x t) [
-  | inl below ↦ omega (arith, one_below x t below)
-  | inr past ↦ omega (arith, one_past x t past)
-]
+one_most x t = grind (arith, nat_tests)
 
 count_most : (g : ℕ → ℕ) (t n : ℕ) → count g t n ≤ n
-unfolding count
 count_most g t zero = omega arith
 count_most g t (suc n) = omega (arith, count_most g t n, one_most (g n) t)
 
 count_wider : (g : ℕ → ℕ) (s t n : ℕ) → s ≤ t → count g s n ≤ count g t n
-unfolding count
 count_wider g s t zero le = omega arith
 count_wider g s t (suc n) le = omega (arith, count_wider g s t n le, one_more (g n) s t le)
 
 count_more : (g : ℕ → ℕ) (s t n x : ℕ) → x < n → s ≤ g x → g x < t → count g s n + 1 ≤ count g t n
-unfolding count
 count_more g s t zero x below from to = absurd (omega arith)
 count_more g s t (suc n) x below from to = elim (cases_eq x n) [
   | inl same ↦
@@ -252,24 +238,22 @@ module _ (n : ℕ) (edges : List Edge) (all : All (IsEdge n) edges) (inside : �
       (omega (arith, least.attained.sum)))
       least
 
+  -- one node more is nearer than a node than is nearer than the next on its way
+  one_nearer : (most a w : ℕ) → w < most → 0 < w → IsLeastWeight edges inside a v w
+      → (g : Begins n edges inside v a w) × (count (found most) g.rest n + 1 ≤ count (found most) w n)
+  one_nearer most a w lt some least =
+      let g = begins a w some least in
+      let at_next = found_is most g.next g.rest (omega (arith, g.less)) g.least in
+      (g, count_more (found most) g.rest w n g.next g.below (omega (arith, at_next)) (omega (arith, at_next, g.less)))
+
   -- from a node that is farther than k edges can be, more than k nodes are nearer
   nearer : (most k a w : ℕ) → w < most → k * MAX_WEIGHT < w → IsLeastWeight edges inside a v w
       → k + 1 ≤ count (found most) w n
-  nearer most zero a w lt far least =
-      let g = begins a w (omega arith) least in
-      let at_next = found_is most g.next g.rest (omega (arith, g.less)) g.least in
-      omega (
-        arith,
-        count_more (found most) g.rest w n g.next g.below (omega (arith, at_next)) (omega (arith, at_next, g.less)),
-      )
+  nearer most zero a w lt far least = omega (arith, (one_nearer most a w lt (omega arith) least).1)
   nearer most (suc k) a w lt far least =
-      let g = begins a w (omega arith) least in
-      let at_next = found_is most g.next g.rest (omega (arith, g.less)) g.least in
-      omega (
-        arith,
-        nearer most k g.next g.rest (omega (arith, g.less)) (omega (arith, g.near)) g.least,
-        count_more (found most) g.rest w n g.next g.below (omega (arith, at_next)) (omega (arith, at_next, g.less)),
-      )
+      let more = one_nearer most a w lt (omega arith) least in
+      let g = more.0 in
+      omega (arith, more.1, nearer most k g.next g.rest (omega (arith, g.less)) (omega (arith, g.near)) g.least)
 
   pub bounded : (a w : ℕ) → IsLeastWeight edges inside a v w → w ≤ (n - 1) * MAX_WEIGHT
   bounded a w least = elim (cases_lt ((n - 1) * MAX_WEIGHT) w) [

@@ -1,7 +1,7 @@
 -- Numbers that may be missing, and the lesser of two.
-use Rattle.std.proofs.Common.{◌≡◌, ◌⊎◌, ℕ, ◌≤◌, Option, None, Some, min, refl, inl, inr, arith}
-use Rattle.std.proofs.lemmas.Bool.{cases_lt}
+use Rattle.std.proofs.Common.{◌≡◌, ◌⊎◌, ℕ, ◌≤◌, Option, None, Some, refl, inl, inr, arith}
 use Rattle.net_graph.specs.Least.{IsAtMost, lesser_of}
+use Rattle.net_graph.specs.WalkLaws.{min-cases}
 
 pub at_most_trans : (c : Option ℕ) (x y : ℕ) → IsAtMost c x → x ≤ y → IsAtMost c y
 at_most_trans None x y h le = h
@@ -19,9 +19,6 @@ pub lowered_keeps : (c : Option ℕ) (w y : ℕ) → IsAtMost c y → IsAtMost (
 lowered_keeps None w y h = absurd h
 lowered_keeps (Some x) w y h = omega arith
 
-some_or_other : (x y : ℕ) → (min x y ≡ x) ⊎ (min x y ≡ y)
-some_or_other x y = elim (cases_lt x y) [ inl less ↦ inl (omega arith) | inr more ↦ inr (omega arith) ]
-
 pub lowered_cause : (c : Option ℕ) (w : ℕ) {x : ℕ} → lesser_of c w ≡ Some x → (c ≡ Some x) ⊎ (w ≡ x)
 lowered_cause None w h = inr (cc)
-lowered_cause (Some y) w h = elim (some_or_other y w) [ inl first ↦ inl (cc) | inr second ↦ inr (cc) ]
+lowered_cause (Some y) w h = elim (min-cases y w) [ inl first ↦ inl (cc) | inr second ↦ inr (cc) ]

@@ -1,8 +1,7 @@
 -- The arcs that lead from a node, among those that a list of edges notes.
-use Rattle.std.proofs.Common.{◌≡◌, ◌≢◌, ◌⊎◌, ℕ, ◌+◌, ◌<◌, ◌≤◌, List, [], ◌∷◌, ◌++◌}
-use Rattle.std.proofs.Common.{length, get_or, take, refl, sym, ◌∙◌, ap, subst, inl, inr, arith}
+use Rattle.std.proofs.Common.{◌≡◌, ◌≢◌, ◌⊎◌, ℕ, ◌+◌, ◌<◌, ◌≤◌, List, [], ◌∷◌, ◌++◌, length, get_or, take, refl, sym, ◌∙◌, ap, subst, inl, inr, arith}
 use Rattle.std.specs.Prelude.{Contains, ◌==◌}
-use Rattle.std.proofs.lemmas.Bool.{cases_Bool, cases_eq, eq-eqb, ne_eqb}
+use Rattle.std.proofs.lemmas.Bool.{cases_Bool, cases_eq, eq-eqb, eqb-true, ne_eqb}
 use Rattle.std.proofs.lemmas.Grind.{flat_map-append}
 use Rattle.std.proofs.lemmas.List.{append-nil, length-append, take_more}
 use Rattle.std.proofs.lemmas.List.Concat.{flat_map-cons}
@@ -54,21 +53,9 @@ edge-notes edge apart = rw (ne_eqb edge.a edge.b apart) refl
 few-arcs : (u : ℕ) (edge : Edge) → length (row_of u (notes_by edge)) ≤ 1
 few-arcs u edge = elim (cases_eq edge.a edge.b) [
   | inl same ↦ rw (loop-notes edge same) (omega arith)
-  | inr apart ↦ rw (edge-notes edge apart) (elim (cases_eq u edge.a) [
-    | inl here ↦
-        omega (
-          arith,
-          ap (length {A = Arc}) (row-at (note_of edge.a edge.b edge.weight) (note_of edge.b edge.a edge.weight ∷ [])
-              here),
-          ap (length {A = Arc}) (row-other (note_of edge.b edge.a edge.weight) [] (λ same. apart (sym here ∙ same))),
-        )
-    | inr away ↦
-        omega (
-          arith,
-          ap (length {A = Arc}) (row-other (note_of edge.a edge.b edge.weight) (note_of edge.b edge.a edge.weight ∷ [])
-              away),
-          row-short u (note_of edge.b edge.a edge.weight ∷ []),
-        )
+  | inr apart ↦ rw (edge-notes edge apart) (elim (cases_Bool (edge.a == u)) [
+    | inl here ↦ rw (here, ne_eqb edge.b u (λ same. apart (eqb-true edge.a u here ∙ sym same))) (omega arith)
+    | inr away ↦ rw away (row-short u (note_of edge.b edge.a edge.weight ∷ []))
   ])
 ]
 
@@ -82,82 +69,54 @@ notes-push edges i d below =
 
 -- ---- what a row has
 
--- one edge joins u and v with weight w
-IsBetween : Edge → ℕ → ℕ → ℕ → Type 0
-IsBetween edge u v w = (edge ≡ make_edge u v w) ⊎ (edge ≡ make_edge v u w)
-
-nothing_there : {R : Type 0} (x : Arc) → Contains [] x → R
+nothing_there : {X R : Type 0} (x : X) → Contains [] x → R
 nothing_there x (k, below, here) = absurd (omega arith)
 
-edge_parts : (edge : Edge) {a b w : ℕ} → edge.a ≡ a → edge.b ≡ b → edge.weight ≡ w → edge ≡ make_edge a b w
-edge_parts edge {a} {b} a_is b_is w_is =
-    ap (λ i. make_edge i edge.b edge.weight) a_is ∙ ap (λ i. make_edge a i edge.weight) b_is
-    ∙ ap (λ i. make_edge a b i) w_is
+abbrev noted : ℕ → Arc → Note
+noted u x = record { from = u; arc = x }
 
--- what one edge puts into the row of u
-row_has : (edge : Edge) (u v w : ℕ) → Contains (row_of u (notes_by edge)) (make_arc v w)
-    → (u ≢ v) × IsBetween edge u v w
-unfolding IsBetween
-row_has edge u v w has = elim (cases_eq edge.a edge.b) [
-  | inl same ↦ nothing_there (make_arc v w)
-      (subst (λ xs. Contains (row_of u xs) (make_arc v w)) (loop-notes edge same) has)
-  | inr apart ↦
-      let near : Contains (row_of u (note_of edge.a edge.b edge.weight ∷ note_of edge.b edge.a edge.weight ∷ []))
-      (make_arc v w) = subst (λ xs. Contains (row_of u xs) (make_arc v w)) (edge-notes edge apart) has in
-      elim (cases_eq u edge.a) [
-        | inl here ↦
-            let there : Contains (make_arc edge.b edge.weight ∷ row_of u (note_of edge.b edge.a edge.weight ∷ []))
-            (make_arc v w) =
-            subst (λ xs. Contains xs (make_arc v w)) (row-at (note_of edge.a edge.b edge.weight)
-            (note_of edge.b edge.a edge.weight ∷ []) here) near in
-            elim (first_or_later (make_arc v w) (make_arc edge.b edge.weight)
-            (row_of u (note_of edge.b edge.a edge.weight ∷ [])) there) [
-              | inl is ↦
-                  let target_is : edge.b ≡ v = ap (λ (x : Arc). x.target) is in (
-                    (λ same. apart (sym here ∙ same ∙ sym target_is)),
-                    inl (edge_parts edge (sym here) target_is (ap (λ (x : Arc). x.weight) is)),
-                  )
-              | inr behind ↦ nothing_there (make_arc v w) (subst (λ xs. Contains xs (make_arc v w))
-                  (row-other (note_of edge.b edge.a edge.weight) [] (λ same. apart (sym here ∙ same))) behind)
-            ]
-        | inr away ↦
-            let there : Contains (row_of u (note_of edge.b edge.a edge.weight ∷ [])) (make_arc v w) =
-            subst (λ xs. Contains xs (make_arc v w)) (row-other (note_of edge.a edge.b edge.weight)
-            (note_of edge.b edge.a edge.weight ∷ []) away) near in
-            elim (cases_eq u edge.b) [
-              | inl here ↦
-                  let last : Contains (make_arc edge.a edge.weight ∷ []) (make_arc v w) =
-                  subst (λ xs. Contains xs (make_arc v w)) (row-at (note_of edge.b edge.a edge.weight) [] here)
-                  there in
-                  elim (first_or_later (make_arc v w) (make_arc edge.a edge.weight) [] last) [
-                    | inl is ↦
-                        let target_is : edge.a ≡ v = ap (λ (x : Arc). x.target) is in (
-                          (λ same. away (same ∙ sym target_is)),
-                          inr (edge_parts edge target_is (sym here) (ap (λ (x : Arc). x.weight) is)),
-                        )
-                    | inr behind ↦ nothing_there (make_arc v w) behind
-                  ]
-              | inr off ↦ nothing_there (make_arc v w) (subst (λ xs. Contains xs (make_arc v w))
-                  (row-other (note_of edge.b edge.a edge.weight) [] off) there)
-            ]
-      ]
+-- each arc of a row is noted with its node
+row-note : (u : ℕ) (notes : List Note) (x : Arc) → Contains (row_of u notes) x → Contains notes (noted u x)
+row-note u [] x has = nothing_there x has
+row-note u (note ∷ notes) x has = elim (cases_Bool (note.from == u)) [
+  | inl here ↦ elim (first_or_later x note.arc (row_of u notes) (rw here at has)) [
+    | inl is ↦
+        (0, omega arith, ap (λ v. noted v note.arc) (eqb-true note.from u here) ∙ ap (noted u) is)
+    | inr behind ↦ later (noted u x) note notes (row-note u notes x behind)
+  ]
+  | inr away ↦ later (noted u x) note notes (row-note u notes x (rw away at has))
 ]
 
--- an edge that joins two nodes stands in the row of each
-has_row : (edge : Edge) {u v w : ℕ} → u ≢ v → IsBetween edge u v w → Contains (row_of u (notes_by edge)) (make_arc v w)
-unfolding IsBetween
-has_row edge {u} {v} {w} apart (inl is) =
-    subst (λ e. Contains (row_of u (notes_by e)) (make_arc v w)) (sym is)
-    (subst (λ xs. Contains (row_of u xs) (make_arc v w)) (sym (edge-notes (make_edge u v w) apart))
-    (subst (λ xs. Contains xs (make_arc v w)) (sym (row-own (note_of u v w) (note_of v u w ∷ [])))
-    (first (make_arc v w) (row_of u (note_of v u w ∷ [])))))
-has_row edge {u} {v} {w} apart (inr is) =
-    subst (λ e. Contains (row_of u (notes_by e)) (make_arc v w)) (sym is)
-    (subst (λ xs. Contains (row_of u xs) (make_arc v w))
-    (sym (edge-notes (make_edge v u w) (λ same. apart (sym same))))
-    (subst (λ xs. Contains xs (make_arc v w))
-    (sym (row-other (note_of v u w) (note_of u v w ∷ []) apart ∙ row-own (note_of u v w) []))
-    (first (make_arc v w) [])))
+note-row : (u : ℕ) (notes : List Note) (x : Arc) → Contains notes (noted u x) → Contains (row_of u notes) x
+note-row u [] x has = nothing_there (noted u x) has
+note-row u (note ∷ notes) x has = elim (first_or_later (noted u x) note notes has) [
+  | inl is ↦ rw (eq-eqb note.from u (ap (λ (n : Note). n.from) is)) (0, omega arith, ap (λ (n : Note). n.arc) is)
+  | inr behind ↦ elim (cases_Bool (note.from == u)) [
+    | inl here ↦ rw here (later x note.arc (row_of u notes) (note-row u notes x behind))
+    | inr away ↦ rw away (note-row u notes x behind)
+  ]
+]
+
+-- what one edge notes
+edge-noted : (edge : Edge) (u v w : ℕ) → Contains (notes_by edge) (note_of u v w)
+    → (u ≢ v) × ((edge ≡ make_edge u v w) ⊎ (edge ≡ make_edge v u w))
+edge-noted edge u v w has = elim (cases_eq edge.a edge.b) [
+  | inl same ↦ nothing_there (note_of u v w) (rw (loop-notes edge same) at has)
+  | inr apart ↦ elim (first_or_later (note_of u v w) (note_of edge.a edge.b edge.weight)
+      (note_of edge.b edge.a edge.weight ∷ []) (rw (edge-notes edge apart) at has)) [
+        | inl is ↦ (
+          subst (λ (n : Note). n.from ≢ n.arc.target) is apart,
+          inl (ap (λ (n : Note). make_edge n.from n.arc.target n.arc.weight) is),
+        )
+        | inr last ↦ elim (first_or_later (note_of u v w) (note_of edge.b edge.a edge.weight) [] last) [
+          | inl is ↦ (
+            subst (λ (n : Note). n.from ≢ n.arc.target) is (λ same. apart (sym same)),
+            inr (ap (λ (n : Note). make_edge n.arc.target n.from n.arc.weight) is),
+          )
+          | inr none ↦ nothing_there (note_of u v w) none
+        ]
+      ]
+]
 
 -- ---- the row of a node has the arcs by which it is joined
 
@@ -166,57 +125,42 @@ row-cons : (u : ℕ) (edge : Edge) (edges : List Edge) → row_of u (notes_of (e
 row-cons u edge edges =
     ap (row_of u) (flat_map-cons notes_by edge edges) ∙ row-append u (notes_by edge) (notes_of edges)
 
-at_head : {edge x : Edge} (edges : List Edge) → edge ≡ x → Contains (edge ∷ edges) x
-at_head edges is = (0, omega arith, is)
-
-joined : (edges : List Edge) (u v w : ℕ) → Contains (row_of u (notes_of edges)) (make_arc v w)
-    → JoinsOther edges u v w
-unfolding IsBetween
-joined [] u v w has = nothing_there (make_arc v w) has
-joined (edge ∷ edges) u v w has =
-    elim (Contains-append_cases (row_of u (notes_by edge)) (row_of u (notes_of edges)) (make_arc v w)
-    (subst (λ xs. Contains xs (make_arc v w)) (row-cons u edge edges) has)) [
-      | inl here ↦ let is = row_has edge u v w here in elim is.1 [
-        | inl way ↦ (is.0, inl (at_head edges way))
-        | inr way ↦ (is.0, inr (at_head edges way))
-      ]
-      | inr there ↦ let is = joined edges u v w there in elim is.1 [
-        | inl way ↦ (is.0, inl (later (make_edge u v w) edge edges way))
-        | inr way ↦ (is.0, inr (later (make_edge v u w) edge edges way))
-      ]
+-- each note is that of an edge
+from_edge : (edges : List Edge) (note : Note) → Contains (notes_of edges) note
+    → (edge : Edge) × Contains edges edge × Contains (notes_by edge) note
+from_edge [] note has = nothing_there note has
+from_edge (edge ∷ edges) note has =
+    elim (Contains-append_cases (notes_by edge) (notes_of edges) note
+    (subst (λ xs. Contains xs note) (flat_map-cons notes_by edge edges) has)) [
+      | inl here ↦ (edge, first edge edges, here)
+      | inr there ↦ let e = from_edge edges note there in (e.0, later e.0 edge edges e.1, e.2)
     ]
 
-one_more : (edge : Edge) (edges : List Edge) (u v w : ℕ) → u ≢ v
-    → (Joins edges u v w → Contains (row_of u (notes_of edges)) (make_arc v w)) → Joins (edge ∷ edges) u v w
-    → Contains (row_of u (notes_of (edge ∷ edges))) (make_arc v w)
-unfolding IsBetween
-one_more edge edges u v w apart rest_has way =
-    subst (λ xs. Contains xs (make_arc v w)) (sym (row-cons u edge edges)) (elim way [
-      | inl one ↦ elim (first_or_later (make_edge u v w) edge edges one) [
-        | inl is ↦ here (inl is)
-        | inr behind ↦ there (inl behind)
-      ]
-      | inr other ↦ elim (first_or_later (make_edge v u w) edge edges other) [
-        | inl is ↦ here (inr is)
-        | inr behind ↦ there (inr behind)
-      ]
+joined : (edges : List Edge) (u v w : ℕ) → Contains (notes_of edges) (note_of u v w) → JoinsOther edges u v w
+joined edges u v w has =
+    let e = from_edge edges (note_of u v w) has in
+    let is = edge-noted e.0 u v w e.2 in
+    elim is.1 [
+      | inl way ↦ (is.0, inl (subst (Contains edges) way e.1))
+      | inr way ↦ (is.0, inr (subst (Contains edges) way e.1))
+    ]
+
+of_edge : (edges : List Edge) {edge : Edge} (note : Note) → Contains edges edge → Contains (notes_by edge) note
+    → Contains (notes_of edges) note
+of_edge [] {edge} note has at = nothing_there edge has
+of_edge (e ∷ edges) {edge} note has at =
+    subst (λ xs. Contains xs note) (sym (flat_map-cons notes_by e edges)) (elim (first_or_later edge e edges has) [
+      | inl is ↦ Contains-append_left (notes_by e) (notes_of edges) note
+          (subst (λ x. Contains (notes_by x) note) (sym is) at)
+      | inr behind ↦ Contains-append_right (notes_by e) (notes_of edges) note (of_edge edges note behind at)
     ])
-  where
-    here : IsBetween edge u v w
-        → Contains (row_of u (notes_by edge) ++ row_of u (notes_of edges)) (make_arc v w)
-    here is = Contains-append_left (row_of u (notes_by edge)) (row_of u (notes_of edges)) (make_arc v w)
-        (has_row edge apart is)
 
-    there : Joins edges u v w
-        → Contains (row_of u (notes_by edge) ++ row_of u (notes_of edges)) (make_arc v w)
-    there behind = Contains-append_right (row_of u (notes_by edge)) (row_of u (notes_of edges)) (make_arc v w)
-        (rest_has behind)
-
-in_row : (edges : List Edge) (u v w : ℕ) → u ≢ v → Joins edges u v w
-    → Contains (row_of u (notes_of edges)) (make_arc v w)
-in_row [] u v w apart (inl (k, below, here)) = absurd (omega arith)
-in_row [] u v w apart (inr (k, below, here)) = absurd (omega arith)
-in_row (edge ∷ edges) u v w apart way = one_more edge edges u v w apart (in_row edges u v w apart) way
+in_notes : (edges : List Edge) (u v w : ℕ) → u ≢ v → Joins edges u v w → Contains (notes_of edges) (note_of u v w)
+in_notes edges u v w apart (inl h) = of_edge edges (note_of u v w) h
+    (rw (edge-notes (make_edge u v w) apart) (first (note_of u v w) (note_of v u w ∷ [])))
+in_notes edges u v w apart (inr h) = of_edge edges (note_of u v w) h
+    (rw (edge-notes (make_edge v u w) (λ same. apart (sym same)))
+    (later (note_of u v w) (note_of v u w) (note_of u v w ∷ []) (first (note_of u v w) [])))
 
 -- a node has no more arcs than there are edges
 pub few_arcs : (edges : List Edge) (u : ℕ) → length (row_of u (notes_of edges)) ≤ length edges
@@ -231,4 +175,7 @@ few_arcs (edge ∷ edges) u =
     )
 
 pub row_is : (edges : List Edge) (u : ℕ) → AreArcsBy (JoinsOther edges) u (row_of u (notes_of edges))
-row_is edges u v w = (joined edges u v w, λ way. in_row edges u v w way.0 way.1)
+row_is edges u v w = (
+  λ has. joined edges u v w (row-note u (notes_of edges) (make_arc v w) has),
+  λ way. note-row u (notes_of edges) (make_arc v w) (in_notes edges u v w way.0 way.1),
+)

@@ -1,16 +1,14 @@
 -- The arcs of each node, while they are counted and written into their places.
-use Rattle.std.proofs.Common.{◌≡◌, ◌≢◌, ℕ, ◌+◌, ◌-◌, ◌<◌, ◌≤◌, List, [], ◌∷◌, ◌++◌, length, get_or, set, take, drop}
-use Rattle.std.proofs.Common.{refl, sym, ◌∙◌, ap, subst, inl, inr, arith, append_assoc}
+use Rattle.std.proofs.Common.{◌≡◌, ◌≢◌, ℕ, ◌+◌, ◌-◌, ◌<◌, ◌≤◌, List, [], ◌∷◌, ◌++◌, length, get_or, set, take, drop, refl, sym, ◌∙◌, ap, subst, inl, inr, arith, append_assoc}
 use Rattle.std.proofs.lemmas.Bool.{cases_eq}
-use Rattle.std.proofs.lemmas.List.{get_or-set_same, get_or-set_other, get_or-drop, get_or-take}
-use Rattle.std.proofs.lemmas.List.{length-append, length-drop, length-set, length-take-le}
+use Rattle.std.proofs.lemmas.List.{get_or-set_same, get_or-set_other, get_or-drop, get_or-take, length-append, length-drop, length-set, length-take-le, same_lists, take-append-drop, append-nil}
 use Rattle.std.specs.Prelude.{All}
 use Rattle.std.proofs.lemmas.Grind.{flat_map-append}
-use Rattle.std.proofs.lemmas.List.{same_lists, take-append-drop, append-nil}
 use Rattle.std.proofs.lemmas.List.Elements.{All-set}
 use Rattle.net_graph.specs.declared.edge.Edge.{Edge}
 use Rattle.net_graph.specs.declared.neighbours.Arc.{Arc}
-use Rattle.net_graph.specs.Layout.{IsArc, row}
+use Rattle.net_graph.specs.Layout.{IsArc, make_arc, row}
+use Rattle.net_graph.specs.Network.{IsEdge}
 use Rattle.net_graph.specs.Notes.{Note, note_of, notes_by, notes_of, row_of, AreCounts, AreFilled, HaveRoom}
 use Rattle.net_graph.proofs.Noting.{row-append, row-own, row-other, edge-notes, loop-notes, notes-push}
 use Rattle.net_graph.specs.Starts.{AreStarts}
@@ -115,43 +113,44 @@ module _ (n : ℕ) (all : List Note) (starts : List ℕ) (room : HaveRoom n all 
     place_within = places_within n (λ v. length (row_of v all)) starts room note.from (get_or taken note.from 0) below
         free
 
+    abbrev taken_next : List ℕ
+    taken_next = set taken note.from (get_or taken note.from 0 + 1)
+
+    abbrev spot : ℕ
+    spot = get_or starts note.from 0 + get_or taken note.from 0
+
     -- one arc more is in its place
     pub one_filled : (arcs : List Arc) → length arcs ≡ get_or starts n 0 → AreFilled all starts taken arcs
-        → AreFilled all starts (set taken note.from (get_or taken note.from 0 + 1))
-        (set arcs (get_or starts note.from 0 + get_or taken note.from 0) note.arc)
+        → AreFilled all starts taken_next (set arcs spot note.arc)
     one_filled arcs sized before v place d v_short short =
         let old : v < length taken =
         omega (arith, v_short, length-set taken note.from (get_or taken note.from 0 + 1)) in
         elim (cases_eq v note.from) [
           | inl same ↦
-              subst (λ u. get_or (set arcs (get_or starts note.from 0 + get_or taken note.from 0) note.arc)
-              (get_or starts u 0 + place) d ≡ get_or (row_of u all) place d) (sym same)
-              (here (subst (λ u. place < get_or (set taken note.from (get_or taken note.from 0 + 1)) u 0) same short))
+              subst (λ u. get_or (set arcs spot note.arc) (get_or starts u 0 + place) d ≡ get_or (row_of u all) place d)
+              (sym same) (here (subst (λ u. place < get_or taken_next u 0) same short))
           | inr other ↦
               let low : place < get_or taken v 0 =
               subst (λ k. place < k) (get_or-set_other taken note.from v (get_or taken note.from 0 + 1) 0 other) short
               in
-              get_or-set_other arcs (get_or starts note.from 0 + get_or taken note.from 0) (get_or starts v 0 + place)
-              note.arc d
+              get_or-set_other arcs spot (get_or starts v 0 + place) note.arc d
               (places_apart n (λ u. length (row_of u all)) starts room v note.from place (get_or taken note.from 0)
               (omega (arith, old, long)) below other (omega (arith, low, fits v (omega (arith, old, long)))) free)
               ∙ before v place d old low
         ]
       where
-        here : place < get_or (set taken note.from (get_or taken note.from 0 + 1)) note.from 0
-            → get_or (set arcs (get_or starts note.from 0 + get_or taken note.from 0) note.arc)
-            (get_or starts note.from 0 + place) d ≡ get_or (row_of note.from all) place d
+        here : place < get_or taken_next note.from 0
+            → get_or (set arcs spot note.arc) (get_or starts note.from 0 + place) d
+            ≡ get_or (row_of note.from all) place d
         here below_next = elim (cases_eq place (get_or taken note.from 0)) [
           | inl last ↦
-              subst (λ k. get_or (set arcs (get_or starts note.from 0 + get_or taken note.from 0) note.arc)
-              (get_or starts note.from 0 + k) d ≡ get_or (row_of note.from all) k d) (sym last)
-              (get_or-set_same arcs (get_or starts note.from 0 + get_or taken note.from 0) note.arc d
-              (omega (arith, sized, place_within)) ∙ sym (is_next d))
+              subst (λ k. get_or (set arcs spot note.arc) (get_or starts note.from 0 + k) d
+              ≡ get_or (row_of note.from all) k d) (sym last)
+              (get_or-set_same arcs spot note.arc d (omega (arith, sized, place_within)) ∙ sym (is_next d))
           | inr older ↦
-              get_or-set_other arcs (get_or starts note.from 0 + get_or taken note.from 0)
-              (get_or starts note.from 0 + place) note.arc d (λ same. omega (arith, same, older))
-              ∙ before note.from place d (omega (arith, below, long))
-              (omega (
+              get_or-set_other arcs spot (get_or starts note.from 0 + place) note.arc d
+              (λ same. omega (arith, same, older))
+              ∙ before note.from place d (omega (arith, below, long)) (omega (
                 arith,
                 below_next,
                 older,
@@ -208,10 +207,10 @@ pub record ArePlaced (n : ℕ) (edges : List Edge) (starts : List ℕ) (first : 
   pub long : length taken ≡ n
   pub sized : length arcs ≡ get_or starts n 0
 
-module _ (n : ℕ) (edges : List Edge) (starts : List ℕ) (room : HaveRoom n (notes_of edges) starts)
-    (first rest : List Note) (note : Note) (whole : notes_of edges ≡ first ++ note ∷ rest) (below : note.from < n)
-    (taken : List ℕ) (arcs : List Arc) (placed : ArePlaced n edges starts first taken arcs) where
-  pub has_place : get_or starts note.from 0 + get_or taken note.from 0 < length arcs
+module _ {n : ℕ} {edges : List Edge} {starts : List ℕ} (room : HaveRoom n (notes_of edges) starts) {first : List Note}
+    (rest : List Note) (note : Note) (whole : notes_of edges ≡ first ++ note ∷ rest) (below : note.from < n)
+    {taken : List ℕ} {arcs : List Arc} (placed : ArePlaced n edges starts first taken arcs) where
+  has_place : get_or starts note.from 0 + get_or taken note.from 0 < length arcs
   has_place =
       omega (
         arith,
@@ -219,11 +218,11 @@ module _ (n : ℕ) (edges : List Edge) (starts : List ℕ) (room : HaveRoom n (n
         place_within n (notes_of edges) starts room first rest note whole below taken placed.long placed.counts,
       )
 
-  pub one_placed : (next : List ℕ) (more : List Arc) → IsArc n note.arc
+  one_placed : {next : List ℕ} {more : List Arc} → IsArc n note.arc
       → next ≡ set taken note.from (get_or taken note.from 0 + 1)
       → more ≡ set arcs (get_or starts note.from 0 + get_or taken note.from 0) note.arc
       → ArePlaced n edges starts (first ++ note ∷ []) next more
-  one_placed next more limited next_is more_is = rw (next_is, more_is) (record {
+  one_placed limited next_is more_is = rw (next_is, more_is) (record {
     counts = one_counted first note taken (omega (arith, below, placed.long)) placed.counts;
     filled = one_filled n (notes_of edges) starts room first rest note whole below taken placed.long placed.counts
         arcs placed.sized placed.filled;
@@ -232,3 +231,31 @@ module _ (n : ℕ) (edges : List Edge) (starts : List ℕ) (room : HaveRoom n (n
     long = length-set taken note.from (get_or taken note.from 0 + 1) ∙ placed.long;
     sized = length-set arcs (get_or starts note.from 0 + get_or taken note.from 0) note.arc ∙ placed.sized;
   })
+
+-- an edge that is no loop, one way and then the other
+module _ {n : ℕ} {edges : List Edge} {starts : List ℕ} (room : HaveRoom n (notes_of edges) starts) {first : List Note}
+    (rest : List Note) (e : Edge) (is_edge : IsEdge n e)
+    (splits : notes_of edges ≡ (first ++ note_of e.a e.b e.weight ∷ []) ++ note_of e.b e.a e.weight ∷ rest)
+    {taken : List ℕ} {arcs : List Arc} (placed : ArePlaced n edges starts first taken arcs) where
+  one_way : notes_of edges ≡ first ++ note_of e.a e.b e.weight ∷ note_of e.b e.a e.weight ∷ rest
+  one_way = splits ∙ append_assoc first (note_of e.a e.b e.weight ∷ []) (note_of e.b e.a e.weight ∷ rest)
+
+  pub place_there : get_or starts e.a 0 + get_or taken e.a 0 < length arcs
+  place_there =
+      has_place room (note_of e.b e.a e.weight ∷ rest) (note_of e.a e.b e.weight) one_way is_edge.a_below placed
+
+  module _ {next : List ℕ} {more : List Arc} (next_is : next ≡ set taken e.a (get_or taken e.a 0 + 1))
+      (more_is : more ≡ set arcs (get_or starts e.a 0 + get_or taken e.a 0) (make_arc e.b e.weight)) where
+    placed_there : ArePlaced n edges starts (first ++ note_of e.a e.b e.weight ∷ []) next more
+    placed_there =
+        one_placed room (note_of e.b e.a e.weight ∷ rest) (note_of e.a e.b e.weight) one_way is_edge.a_below placed
+        (record { below = is_edge.b_below; positive = is_edge.positive; light = is_edge.light }) next_is more_is
+
+    pub place_back : get_or starts e.b 0 + get_or next e.b 0 < length more
+    place_back = has_place room rest (note_of e.b e.a e.weight) splits is_edge.b_below placed_there
+
+    pub edge_placed : {last : List ℕ} {most : List Arc} → last ≡ set next e.b (get_or next e.b 0 + 1)
+        → most ≡ set more (get_or starts e.b 0 + get_or next e.b 0) (make_arc e.a e.weight)
+        → ArePlaced n edges starts ((first ++ note_of e.a e.b e.weight ∷ []) ++ note_of e.b e.a e.weight ∷ []) last most
+    edge_placed = one_placed room rest (note_of e.b e.a e.weight) splits is_edge.b_below placed_there
+        (record { below = is_edge.a_below; positive = is_edge.positive; light = is_edge.light })

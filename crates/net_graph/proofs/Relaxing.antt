@@ -1,7 +1,7 @@
 -- What one step of the search does to the weights.
 use Rattle.std.proofs.Common.{◌≡◌, ◌≢◌, ◌++◌, take, get_or, ℕ, ◌+◌, ◌<◌, ◌≤◌, Bool, true, false, List, [], ◌∷◌, Option, None, Some, length, set, refl, sym, ◌∙◌, ap, subst, inl, inr, arith}
 use Rattle.std.specs.Prelude.{Contains, IsPermutation}
-use Rattle.std.proofs.lemmas.List.{length-set, get_or-set_same, get_or-set_other, get_or_past}
+use Rattle.std.proofs.lemmas.List.{length-set, get_or-set_same, get_or-set_other, get_or_past, take_more}
 use Rattle.std.proofs.lemmas.Bool.{cases_eq, cases_lt}
 use Rattle.net_graph.specs.declared.neighbours.Arc.{Arc}
 use Rattle.net_graph.specs.Walks.{among}
@@ -12,7 +12,6 @@ use Rattle.net_graph.specs.Queue.{Waiting, make_waiting}
 use Rattle.net_graph.specs.Search.{IsLighter, IsRelaxed}
 use Rattle.std.proofs.lemmas.List.Sorted.{Contains-permutation, IsPermutation-sym}
 use Rattle.std.proofs.lemmas.List.Elements.{Contains-append_left, Contains-append_right, Contains-append_cases}
-use Rattle.std.proofs.lemmas.List.{take_more}
 use Rattle.net_graph.proofs.Elements.{first, first_or_later, later}
 use Rattle.std.proofs.lemmas.Option.{same_Some}
 
@@ -31,35 +30,30 @@ module _ (arc : Arc) (x : ℕ) (unsettled : List Bool) (old : List (Option ℕ))
     (waits : among unsettled arc.target ≡ true) (same_count : length unsettled ≡ length old)
     (lighter : IsLighter (x + arc.weight) (at_node old arc.target))
     (pushed : IsPermutation (make_waiting (x + arc.weight) arc.target ∷ waited) waiting) where
-  target : ℕ
+  abbrev target : ℕ
   target = arc.target
 
-  through : ℕ
+  abbrev through : ℕ
   through = x + arc.weight
 
   in_unsettled : target < length unsettled
-  unfolding target
   in_unsettled = among_below unsettled arc.target waits
 
-  lowered : List (Option ℕ)
+  abbrev lowered : List (Option ℕ)
   lowered = set old target (Some through)
 
   here_now : at_node lowered target ≡ Some through
-  unfolding lowered
   here_now = get_or-set_same old target (Some through) None (omega (arith, in_unsettled, same_count))
 
   other_now : (v : ℕ) → v ≢ target → at_node lowered v ≡ at_node old v
-  unfolding lowered
   other_now v other = get_or-set_other old target v (Some through) None other
 
   joins : Contains waiting (make_waiting through target)
-  unfolding target through
   joins = Contains-permutation (make_waiting (x + arc.weight) arc.target ∷ waited) waiting
       (make_waiting (x + arc.weight) arc.target) pushed
       (0, omega arith, refl)
 
   pub relaxed_to : IsRelaxed (arc ∷ []) x unsettled old (set old arc.target (Some (x + arc.weight))) waited waiting
-  unfolding target through lowered
   relaxed_to = record {
     count = length-set old arc.target (Some (x + arc.weight));
     kept = λ v settled. other_now v (λ same. let both : true ≡ false = sym waits ∙ sym (ap (among unsettled) same)

@@ -26,8 +26,7 @@ walk_skipped {edges} {inside} {v} c e rest =
     record {
       steps = rest.steps;
       walk = subst (λ z. IsWalk edges inside z rest.steps v) (sym e) rest.walk;
-      light =
-          omega (arith, rest.light);
+      light = omega (arith, rest.light);
     }
 
 walk_replaced : {edges : List Edge} {inside : ℕ → Bool} (u : ℕ) {y v w : ℕ} (c x : ℕ) → inside u ≡ true
@@ -35,8 +34,7 @@ walk_replaced : {edges : List Edge} {inside : ℕ → Bool} (u : ℕ) {y v w : �
 walk_replaced u {y} c x at_u joined light rest =
     record {
       steps = record { node = y; weight = x } ∷ rest.steps;
-      walk =
-          (at_u, joined, rest.walk);
+      walk = (at_u, joined, rest.walk);
       light = omega (arith, rest.light, light);
     }
 

@@ -1,6 +1,6 @@
 -- The search as a whole: what it keeps, and that least weights are left when no unsettled node has a weight.
 use Rattle.std.proofs.Common.{◌≡◌, ◌≢◌, ◌⊎◌, ℕ, ◌+◌, ◌-◌, ◌*◌, ◌^◌, ◌<◌, ◌≤◌, Bool, true, false, cond, List, [], ◌∷◌, ◌++◌, take, Option, None, Some, length, get_or, set, replicate, refl, zero, suc, sym, ◌∙◌, ap, subst, inl, inr, arith}
-use Rattle.std.specs.Prelude.{Contains}
+use Rattle.std.specs.Prelude.{Contains, IsPermutation}
 use Rattle.std.specs.List.{count_by}
 use Rattle.std.proofs.lemmas.List.{length-set, get_or-set_same, get_or-set_other, get_or_past, get_or-replicate, length-replicate, take_at}
 use Rattle.std.proofs.lemmas.List.Elements.{All-contains}
@@ -16,7 +16,6 @@ use Rattle.net_graph.specs.Layout.{make_arc, IsArc, AreArcsOf}
 use Rattle.net_graph.specs.Least.{IsAtMost}
 use Rattle.net_graph.specs.Queue.{Waiting, make_waiting, AreSettled, IsNextUnsettled}
 use Rattle.net_graph.specs.Search.{IsRelaxed}
-use Rattle.std.specs.Prelude.{IsPermutation}
 use Rattle.std.proofs.lemmas.List.Sorted.{Contains-permutation, IsPermutation-sym}
 use Rattle.net_graph.specs.WalkLaws.{walk_further, walk_begins}
 use Rattle.net_graph.proofs.Lowering.{at_most_trans, at_most_some}
@@ -69,27 +68,20 @@ none_there n v {w} here = elim (cases_lt v n) [
 
 -- the beginning, where the root alone has a weight
 only_root : (n root v : ℕ) {w : ℕ} → at_node (set (replicate n None) root (Some 0)) v ≡ Some w → (v ≡ root) × (w ≡ 0)
-only_root n root v {w} here = elim (cases_lt root n) [
-  | inl below ↦ elim (cases_eq v root) [
-    | inl same ↦ (
-      same,
-      sym (same_Some 0 w
-          (sym (get_or-set_same (replicate n None) root (Some 0) None
-          (omega (arith, length-replicate {A = Option ℕ} n None)))
-          ∙ sym (ap (at_node (set (replicate n None) root (Some 0))) same) ∙ here)),
-    )
-    | inr other ↦ absurd (none_there n v (sym (get_or-set_other (replicate n None) root v (Some 0) None other) ∙ here))
-  ]
-  | inr past ↦ elim (cases_eq v root) [
-    | inl same ↦ absurd (none-some w (sym (get_or_past (set (replicate n None) root (Some 0)) v None
-        (omega (
-          arith,
-          length-set {A = Option ℕ} (replicate n None) root (Some 0),
-          length-replicate {A = Option ℕ} n
-              None,
-        ))) ∙ here))
-    | inr other ↦ absurd (none_there n v (sym (get_or-set_other (replicate n None) root v (Some 0) None other) ∙ here))
-  ]
+only_root n root v {w} here = elim (cases_eq v root) [
+  | inr other ↦ absurd (none_there n v (sym (get_or-set_other (replicate n None) root v (Some 0) None other) ∙ here))
+  | inl same ↦
+      let long : length {A = Option ℕ} (set (replicate n None) root (Some 0)) ≡ n =
+      length-set (replicate n None) root (Some 0) ∙ length-replicate n None in
+      elim (cases_lt root n) [
+        | inl below ↦ (
+          same,
+          sym (same_Some 0 w (sym (get_or-set_same (replicate n None) root (Some 0) None
+              (omega (arith, length-replicate {A = Option ℕ} n None))) ∙ (rw same at here))),
+        )
+        | inr past ↦ absurd (none-some w (sym (get_or_past (set (replicate n None) root (Some 0)) v None (omega arith))
+            ∙ here))
+      ]
 ]
 
 pub search_begins : (network : Network) (allowed : List Bool) (root : ℕ) → 1 ≤ network.nodes
@@ -145,14 +137,14 @@ count_falls unsettled x waits =
 count_positive : (unsettled : List Bool) (v : ℕ) → among unsettled v ≡ true → 1 ≤ unsettled_count unsettled
 count_positive unsettled v waits = omega (arith, count_falls unsettled v waits)
 
-module _ (network : Network) (inside : ℕ → Bool) (root : ℕ) (unsettled : List Bool) (weights : List (Option ℕ))
-    (so_far : IsSearch network inside root unsettled weights)
-    (best : Candidate) (lightest : IsLightest unsettled weights best) where
+module _ {network : Network} {inside : ℕ → Bool} {root : ℕ} {unsettled : List Bool} {weights : List (Option ℕ)}
+    (so_far : IsSearch network inside root unsettled weights) {best : Candidate}
+    (lightest : IsLightest unsettled weights best) where
   pub light_enough : network.nodes ≤ MAX_NODES → best.weight ≤ 2 ^ 40
   light_enough few = omega (arith, so_far.bounded best.node best.weight lightest.weighs)
 
-  module _ (arcs : List Arc) (of_node : AreArcsOf network.nodes network.edges best.node arcs)
-      (new : List (Option ℕ)) (waited waiting : List Waiting)
+  module _ {arcs : List Arc} (of_node : AreArcsOf network.nodes network.edges best.node arcs)
+      {new : List (Option ℕ)} {waited waiting : List Waiting}
       (r : IsRelaxed arcs best.weight (set unsettled best.node false) weights new waited waiting) where
     closed_now : (u v w c : ℕ) → among (set unsettled best.node false) u ≡ false → at_node new u ≡ Some w
         → inside v ≡ true
@@ -257,46 +249,46 @@ module _ (network : Network) (inside : ℕ → Bool) (root : ℕ) (unsettled : L
         }
 
 -- the queue's next is the lightest
-module _ (unsettled : List Bool) (weights : List (Option ℕ)) (waiting rest : List Waiting)
-    (queue : IsQueue unsettled weights waiting)
-    (best : Candidate) (next : IsNextUnsettled unsettled waiting rest best) where
-  pub next_is_lightest : IsLightest unsettled weights best
-  next_is_lightest =
-      let y = at_most_some (at_node weights best.node) best.weight
-      (queue.light best.weight best.node next.there next.waits) in
-      let same : y.0 ≡ best.weight = omega (
-        arith,
-        y.2,
-        next.lightest y.0 best.node
-            (queue.whole best.node y.0 next.waits y.1) next.waits,
-      ) in
-      record {
-        waits = next.waits;
-        weighs = y.1 ∙ ap Some same;
-        lightest = λ v w v_waits here. next.lightest w v (queue.whole v w v_waits here) v_waits;
-      }
+module _ {unsettled : List Bool} {weights : List (Option ℕ)} {waiting rest : List Waiting}
+    (queue : IsQueue unsettled weights waiting) {best : Candidate} (next : IsNextUnsettled unsettled waiting rest best)
+  where
+    pub next_is_lightest : IsLightest unsettled weights best
+    next_is_lightest =
+        let y = at_most_some (at_node weights best.node) best.weight
+        (queue.light best.weight best.node next.there next.waits) in
+        let same : y.0 ≡ best.weight = omega (
+          arith,
+          y.2,
+          next.lightest y.0 best.node
+              (queue.whole best.node y.0 next.waits y.1) next.waits,
+        ) in
+        record {
+          waits = next.waits;
+          weighs = y.1 ∙ ap Some same;
+          lightest = λ v w v_waits here. next.lightest w v (queue.whole v w v_waits here) v_waits;
+        }
 
-  pub queue_goes_on : (arcs : List Arc) (new : List (Option ℕ)) (after : List Waiting)
-      → IsRelaxed arcs best.weight (set unsettled best.node false) weights new rest after
-      → IsQueue (set unsettled best.node false) new after
-  queue_goes_on arcs new after r = record {
-    below = λ w v has. elim (r.since w v has) [
-      | inl before ↦ omega (arith, length-set unsettled best.node false, queue.below w v (next.fewer w v before))
-      | inr now ↦ now.0
-    ];
-    whole = λ v w waits here. elim (r.joined v w here) [
-      | inl before ↦
-          let still = unsettled_still unsettled best.node v next.below waits in
-          r.wait_on w v (next.kept w v (queue.whole v w still.1 before) still.1 still.0)
-      | inr now ↦ now
-    ];
-    light = λ w v has waits. elim (r.since w v has) [
-      | inl before ↦
-          let still = unsettled_still unsettled best.node v next.below waits in
-          r.falls v w (queue.light w v (next.fewer w v before) still.1)
-      | inr now ↦ now.1
-    ];
-  }
+    pub queue_goes_on : {arcs : List Arc} {new : List (Option ℕ)} {after : List Waiting}
+        → IsRelaxed arcs best.weight (set unsettled best.node false) weights new rest after
+        → IsQueue (set unsettled best.node false) new after
+    queue_goes_on r = record {
+      below = λ w v has. elim (r.since w v has) [
+        | inl before ↦ omega (arith, length-set unsettled best.node false, queue.below w v (next.fewer w v before))
+        | inr now ↦ now.0
+      ];
+      whole = λ v w waits here. elim (r.joined v w here) [
+        | inl before ↦
+            let still = unsettled_still unsettled best.node v next.below waits in
+            r.wait_on w v (next.kept w v (queue.whole v w still.1 before) still.1 still.0)
+        | inr now ↦ now
+      ];
+      light = λ w v has waits. elim (r.since w v has) [
+        | inl before ↦
+            let still = unsettled_still unsettled best.node v next.below waits in
+            r.falls v w (queue.light w v (next.fewer w v before) still.1)
+        | inr now ↦ now.1
+      ];
+    }
 
 -- the queue at the beginning
 pub queue_begins : {n : ℕ} (allowed : List Bool) (root : ℕ) {waiting : List Waiting} → length allowed ≡ n
@@ -337,21 +329,17 @@ pub search_settles : {network : Network} {inside : ℕ → Bool} {root : ℕ} {u
     → AreArcsOf network.nodes network.edges best.node arcs → {new : List (Option ℕ)} (rest : List (Option ℕ)) {k : ℕ}
     → IsRelaxed arcs best.weight (set unsettled best.node false) weights new remaining after → length new ≡ k
     → IsUnderWay network inside root (set unsettled best.node false) (take k (new ++ rest)) after
-search_settles {network} {inside} {root} {unsettled} {weights} {waiting} {remaining} {after} so_far {best} next {arcs}
-    of_node {new} rest {k} r
-    count =
+search_settles so_far next of_node {new} rest {k} r count =
     rw (take_at new rest k count)
     (record {
-      found = search_goes_on network inside root unsettled weights so_far.found best
-          (next_is_lightest unsettled weights waiting remaining so_far.queue best next) arcs of_node new remaining after
-          r;
-      queue = queue_goes_on unsettled weights waiting remaining so_far.queue best next arcs new after r;
+      found = search_goes_on so_far.found (next_is_lightest so_far.queue next) of_node r;
+      queue = queue_goes_on so_far.queue next r;
     })
 
 -- the end, where no unsettled node has a weight
-module _ (network : Network) (inside : ℕ → Bool) (root : ℕ) (unsettled : List Bool) (weights : List (Option ℕ))
-    (so_far : IsSearch network inside root unsettled weights)
-    (waiting : List Waiting) (queue : IsQueue unsettled weights waiting) (none : AreSettled unsettled waiting) where
+module _ {network : Network} {inside : ℕ → Bool} {root : ℕ} {unsettled : List Bool} {weights : List (Option ℕ)}
+    (so_far : IsSearch network inside root unsettled weights) {waiting : List Waiting}
+    (queue : IsQueue unsettled weights waiting) (none : AreSettled unsettled waiting) where
   weighed_is_settled : (u w : ℕ) → at_node weights u ≡ Some w → among unsettled u ≡ false
   weighed_is_settled u w here = elim (cases_Bool (among unsettled u)) [
     | inl waits ↦ absurd (none w u (queue.whole u w waits here) waits)

@@ -35,8 +35,8 @@ no_lighter x (z ∷ zs) bound y has = elim (first_or_later y z zs has) [
   | inr after ↦ no_lighter x zs bound.1 y after
 ]
 
-module _ (unsettled : List Bool) (old now rest : List Waiting) (so_far : StillWait unsettled old now) (weight node : ℕ)
-    (taken : IsPermutation now (make_waiting weight node ∷ rest)) where
+module _ {unsettled : List Bool} {old now : List Waiting} (rest : List Waiting) (so_far : StillWait unsettled old now)
+    (weight node : ℕ) (taken : IsPermutation now (make_waiting weight node ∷ rest)) where
   taken_or_rest : (w v : ℕ) → Contains now (make_waiting w v) → (node ≡ v) ⊎ Contains rest (make_waiting w v)
   taken_or_rest w v has = elim (first_or_later (make_waiting w v) (make_waiting weight node) rest
       (Contains-permutation now (make_waiting weight node ∷ rest) (make_waiting w v) taken has)) [

@@ -2,11 +2,12 @@
 -- in words public functions of `laws`: `least_weight_is_one`, `least_weight_turned`,
 -- `least_weights_add_up`.
 use Rattle.std.proofs.Common.{◌≡◌, ◌≢◌, ℕ, ◌+◌, ◌<◌, ◌≤◌, Bool, true, false, List, [], ◌∷◌, ◌++◌, length, refl, sym, ◌∙◌, subst, inl, inr, arith}
-use Rattle.std.specs.Prelude.{All, ◌↔◌}
+use Rattle.std.specs.Prelude.{All, ◌↔◌, min, ◌⊎◌}
 use Rattle.std.proofs.lemmas.List.Elements.{All-contains}
 use Rattle.net_graph.specs.declared.edge.Edge.{Edge}
 use Rattle.net_graph.specs.Walks.{Joins, make_edge, Step, everywhere, among, IsWalk, weight_of, IsWalkWeight, IsLeastWeight, IsUnreached}
 use Rattle.net_graph.specs.Network.{IsEdge}
+use Rattle.std.proofs.lemmas.Bool.{cases_lt}
 
 pub join_turned : (edges : List Edge) (u v w : ℕ) → Joins edges u v w → Joins edges v u w
 join_turned edges u v w (inl h) = inr h
@@ -192,3 +193,7 @@ unreached_everywhere n edges allowed u v all count true_all below = (
   λ none steps walk. none steps (walk_widened n edges (among allowed) everywhere all
       (λ x b h. refl) u steps v below walk),
 )
+
+-- the lesser of two is one of them
+pub min-cases : (x y : ℕ) → (min x y ≡ x) ⊎ (min x y ≡ y)
+min-cases x y = elim (cases_lt x y) [ inl less ↦ inl (omega arith) | inr more ↦ inr (omega arith) ]

@@ -1,12 +1,12 @@
 -- The scripts of what was said are courses of subscribers and searches of callers, line by line.
-use Rattle.std.proofs.Common.{◌≡◌, ℕ, ◌<◌, ◌≤◌, Bool, true, false, eqb, List, [], ◌∷◌, ◌++◌, length, length-append, All, Ok, get_or, refl, sym, ap, subst, arith}
+use Rattle.std.proofs.Common.{◌≡◌, ℕ, ◌<◌, ◌≤◌, Bool, true, false, eqb, List, [], ◌∷◌, ◌++◌, length, length-append, All, Ok, get_or, refl, sym, ap, ◌∙◌, subst, arith}
 use Rattle.std.proofs.lemmas.List.Elements.{All-append, All-cons, All-nil}
 use Rattle.net_reader.specs.declared.said.Call.{Call}
 use Rattle.net_reader.specs.declared.said.Call.TheVariants as acts
 use Rattle.net_reader.specs.declared.said.Spoken.{Spoken}
 use Rattle.net_reader.specs.declared.word.Word.{Word}
 use Rattle.net_reader.specs.declared.word.Word.TheVariants as words
-use Rattle.net_reader.specs.Said.{Said, nothing, actors, script_of, place_after, off_after}
+use Rattle.net_reader.specs.Said.{Said, nothing, actors, script_of, place_after, off_after, place_of, is_off}
 use Rattle.net_reader.specs.Table.{verdict, row_of, may_stand, most_calls, place_of_word}
 use Rattle.net_reader.specs.Valid.{IsCourse, IsSearch}
 use Rattle.net_reader.proofs.Heard.{Heard, heard, with_call as call_said}
@@ -65,6 +65,11 @@ quiet said none no_order = record {
       actors said));
 }
 
+still-quiet : {said now : Said} → IsCalling said → said.place ≤ 5 → now.calls ≡ said.calls → now.order ≡ said.order
+    → IsCalling now
+still-quiet {said} {now} m early same in_order =
+    quiet now (same ∙ m.no_calls (omega (arith, early))) (in_order ∙ m.no_order (omega (arith, early)))
+
 -- one call more: what it adds to a course where a subscriber makes it, and to a search where a caller does
 call-kept : {said : Said} (actor : ℕ) (call : Call) → IsCalling said → said.place ≤ 7
     → length said.calls < most_calls said.format → ((s : ℕ) → s < length said.homes → eqb actor s ≡ true
@@ -89,96 +94,42 @@ call-kept {said} actor call m early few course search = record {
   order = m.order;
 }
 
--- a subscriber's call is none of a caller's
-no-caller : (sub n subs a : ℕ) (call : Call) → sub < subs → subs ≤ a → eqb sub a ≡ true → IsSearch n subs call
-no-caller sub n subs a call lt le e = let is = eqb-true sub a e in absurd (omega (arith, is, lt, le))
+-- one of a subscriber, which is none of a caller's
+sub-called : {said : Said} (sub : ℕ) (call : Call) → IsCalling said → said.place ≤ 7
+    → length said.calls < most_calls said.format → sub < length said.homes
+    → IsCourse said.format said.nodes (place_of said sub) (is_off said sub) (call ∷ [])
+    → IsCalling (call_said said sub call)
+sub-called {said} sub call m early few known course = call-kept sub call m early few
+    (λ s below e. subst (λ (x : ℕ). IsCourse said.format said.nodes (place_of said x) (is_off said x) (call ∷ []))
+    (eqb-true sub s e) course)
+    (λ a above e. let is = eqb-true sub a e in absurd (omega (arith, is, known, above)))
 
 calling-heard : {said : Said} (found : Said) (word : Word) → IsCalling said
     → may_stand said.place (place_of_word word) ≡ true → Heard said word found → IsCalling found
 calling-heard {said} found words.Track m p h =
-    let early = at-1 said.place p in
-    subst IsCalling h.2 (quiet (record said {
-      place =
-          1;
-      format = h.0;
-    }) (m.no_calls (omega (arith, early))) (m.no_order (omega (arith, early))))
+    subst IsCalling h.2 (still-quiet m (omega (arith, at-1 said.place p)) refl refl)
 calling-heard {said} found words.Nodes m p h =
-    let early = at-2 said.place p in
-    subst IsCalling h.3 (quiet (record said {
-      place =
-          2;
-      nodes = h.0;
-    }) (m.no_calls (omega (arith, early))) (m.no_order (omega (arith, early))))
+    subst IsCalling h.3 (still-quiet m (omega (arith, at-2 said.place p)) refl refl)
 calling-heard {said} found words.K m p h =
-    let early = at-3 said.place p in
-    subst IsCalling h.2 (quiet (record said {
-      place =
-          3;
-      k = h.0;
-    }) (m.no_calls (omega (arith, early))) (m.no_order (omega (arith, early))))
+    subst IsCalling h.2 (still-quiet m (omega (arith, at-3 said.place p)) refl refl)
 calling-heard {said} found words.Edge m p h =
-    let early = at-4 said.place p in
-    subst IsCalling h.3 (quiet (record said {
-      place =
-          4;
-      edges = said.edges ++ h.0 ∷ [];
-    }) (m.no_calls (omega (arith, early))) (m.no_order (omega (arith, early))))
-calling-heard {said} found words.Sub m p h =
-    let early = at-5 said.place p in
-    subst IsCalling h.3 (quiet (record said {
-      place =
-          5;
-      homes = said.homes ++ h.0 ∷ [];
-    }) (m.no_calls (omega (arith, early))) (m.no_order (omega (arith, early))))
-calling-heard {said} found words.Callers m p h =
-    let early = at-6 said.place p in
-    subst IsCalling h.2 (quiet (record said {
-      place =
-          6;
-      callers = h.0;
-    }) (m.no_calls (omega (arith, early))) (m.no_order (omega (arith, early))))
+    subst IsCalling h.3 (still-quiet m (omega (arith, at-4 said.place p)) refl refl)
+calling-heard {said} found words.Sub m p h = subst IsCalling h.3 (still-quiet m (at-5 said.place p) refl refl)
+calling-heard {said} found words.Callers m p h = subst IsCalling h.2 (still-quiet m (at-6 said.place p) refl refl)
 calling-heard {said} found words.Move m p h =
-    let sub = h.0 in
-    let to = h.1 in
     let is = h.2 in
-    let course : (s : ℕ) → s < length said.homes → eqb sub s ≡ true
-    → IsCourse said.format said.nodes (place_after (get_or said.homes s 0) (script_of s said.calls)) (off_after
-    false (script_of s said.calls)) (acts.Move to ∷ []) = λ s below e.
-    subst (λ (x : ℕ). IsCourse said.format said.nodes (place_after (get_or said.homes x 0) (script_of x said.calls))
-    (off_after false (script_of x said.calls)) (acts.Move to ∷ [])) (eqb-true sub s e) (is.3, is.2, is.4, tt) in
-    subst IsCalling h.3 (call-kept sub (acts.Move to) m (at-7 said.place p) is.0 course
-    (λ a above e. no-caller sub said.nodes (length said.homes) a (acts.Move to) is.1 above e))
+    subst IsCalling h.3 (sub-called h.0 (acts.Move h.1) m (at-7 said.place p) is.0 is.1 (is.3, is.2, is.4, tt))
 calling-heard {said} found words.Find m p h =
-    let caller = h.0 in
     let is = h.3 in
-    let none : (s : ℕ) → s < length said.homes → eqb caller s ≡ true
-    → IsCourse said.format said.nodes (place_after (get_or said.homes s 0) (script_of s said.calls)) (off_after
-    false (script_of s said.calls)) (acts.Find h.1 h.2 ∷ []) = λ s below e.
-    let found = eqb-true caller s e in absurd (omega (arith, found, below, is.1)) in
-    subst IsCalling h.4 (call-kept caller (acts.Find h.1 h.2) m (at-7 said.place p) is.0 none (λ a above e. (
-      is.3,
-      is.4,
-    )))
+    subst IsCalling h.4 (call-kept h.0 (acts.Find h.1 h.2) m (at-7 said.place p) is.0
+    (λ s below e. let found = eqb-true h.0 s e in absurd (omega (arith, found, below, is.1)))
+    (λ a above e. (is.3, is.4)))
 calling-heard {said} found words.Off m p h =
-    let sub = h.0 in
     let is = h.1 in
-    let course : (s : ℕ) → s < length said.homes → eqb sub s ≡ true
-    → IsCourse said.format said.nodes (place_after (get_or said.homes s 0) (script_of s said.calls)) (off_after
-    false (script_of s said.calls)) (acts.Off ∷ []) = λ s below e.
-    subst (λ (x : ℕ). IsCourse said.format said.nodes (place_after (get_or said.homes x 0) (script_of x said.calls))
-    (off_after false (script_of x said.calls)) (acts.Off ∷ [])) (eqb-true sub s e) (is.2, is.3, tt) in
-    subst IsCalling h.2 (call-kept sub acts.Off m (at-7 said.place p) is.0 course
-    (λ a above e. no-caller sub said.nodes (length said.homes) a acts.Off is.1 above e))
+    subst IsCalling h.2 (sub-called h.0 acts.Off m (at-7 said.place p) is.0 is.1 (is.2, is.3, tt))
 calling-heard {said} found words.On m p h =
-    let sub = h.0 in
     let is = h.1 in
-    let course : (s : ℕ) → s < length said.homes → eqb sub s ≡ true
-    → IsCourse said.format said.nodes (place_after (get_or said.homes s 0) (script_of s said.calls)) (off_after
-    false (script_of s said.calls)) (acts.On ∷ []) = λ s below e.
-    subst (λ (x : ℕ). IsCourse said.format said.nodes (place_after (get_or said.homes x 0) (script_of x said.calls))
-    (off_after false (script_of x said.calls)) (acts.On ∷ [])) (eqb-true sub s e) (is.2, is.3, tt) in
-    subst IsCalling h.2 (call-kept sub acts.On m (at-7 said.place p) is.0 course
-    (λ a above e. no-caller sub said.nodes (length said.homes) a acts.On is.1 above e))
+    subst IsCalling h.2 (sub-called h.0 acts.On m (at-7 said.place p) is.0 is.1 (is.2, is.3, tt))
 calling-heard {said} found words.Order m p h =
     let next : IsCalling (record said { place = 8; order = said.order ++ h.0 }) = record {
       no_calls = λ le. absurd (omega (arith, le));

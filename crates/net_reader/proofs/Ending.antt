@@ -72,8 +72,7 @@ sound scan known lines stands h =
     let m = holds_of_read IsMeasured begins-measured keeps-measured stands.0 is in
     record {
       some = m.0.some (omega (arith, m.1));
-      few =
-          omega (arith, m.0.few, nodes-few (eqb known.format 2));
+      few = omega (arith, m.0.few, nodes-few (eqb known.format 2));
       edges = m.0.edges;
     }
 

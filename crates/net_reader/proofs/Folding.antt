@@ -45,8 +45,7 @@ Reads P lines = (said : Said) (n : ℕ) (found : Said × ℕ) → P said → rea
 
 keeps-end : (P : Said → Type 0) (short : Bool) {said : Said} (n : ℕ) {found : Said × ℕ} → ltb said.place 6 ≡ short
     → P said → cond {A = Result (Said × ℕ) InputFault} short (Err (record {
-      line =
-          n;
+      line = n;
       cause = causes.Unfinished;
     })) (Ok (said, n)) ≡ Ok found → P found.0 × (6 ≤ found.0.place)
 keeps-end P true n f h e = cc

@@ -33,8 +33,7 @@ Heard said words.Edge found = (edge : Edge) × IsEdge said.nodes edge × (length
 } ≡ found)
 Heard said words.Sub found = (node : ℕ) × (node < said.nodes) × (subs said < 64) × (record said {
   place = 5;
-  homes =
-      said.homes ++ node ∷ [];
+  homes = said.homes ++ node ∷ [];
 } ≡ found)
 Heard said words.Callers found = (callers : ℕ) × (callers ≤ 64) × (record said { place = 6; callers = callers } ≡ found)
 Heard said words.Move found = (sub : ℕ) × (to : ℕ) × ((length said.calls < most_calls said.format) × (sub < subs said)
@@ -48,8 +47,7 @@ Heard said words.Off found = (sub : ℕ) × ((length said.calls < most_calls sai
 Heard said words.On found = (sub : ℕ) × ((length said.calls < most_calls said.format) × (sub < subs said) ×
     (said.format ≡ 2) × (is_off said sub ≡ true)) × (with_call said sub calls.On ≡ found)
 Heard said words.Order found = (numbers : List ℕ) × All (λ actor. actor < actors said) numbers × (record said {
-  place =
-      8;
+  place = 8;
   order = said.order ++ numbers;
 } ≡ found)
 
@@ -65,13 +63,9 @@ record Taken (row : Row) (found : Said) : Type 0 where
 taken-go : (a b c d e : Bool) (next : Said) {found : Said}
     → verdict (Some (record { too_large = a; too_many = b; unknown = c; switched = d; nowhere = e; next = next })) ≡ Ok
     found → Taken (record { too_large = a; too_many = b; unknown = c; switched = d; nowhere = e; next = next }) found
-taken-go true b c d e next h = cc
-taken-go false true c d e next h = cc
-taken-go false false true d e next h = cc
-taken-go false false false true e next h = cc
-taken-go false false false false true next h = cc
 taken-go false false false false false next h =
     record { large = refl; many = refl; unknown = refl; switched = refl; nowhere = refl; next = cc }
+taken-go _ _ _ _ _ next h = cc
 
 taken : (row : Row) {found : Said} → verdict (Some row) ≡ Ok found → Taken row found
 taken row h = taken-go row.too_large row.too_many row.unknown row.switched row.nowhere row.next h
@@ -113,8 +107,7 @@ is-edge : (n a b w : ℕ) → eqb w 0 ≡ false → ltb 1048576 w ≡ false → 
 is-edge n a b w e f g = record {
   a_below = grind (arith, nat_tests);
   b_below = grind (arith, nat_tests);
-  positive =
-      grind (arith, nat_tests);
+  positive = grind (arith, nat_tests);
   light = grind (arith, nat_tests);
 }
 
@@ -138,111 +131,62 @@ all-below n (a ∷ numbers) e =
 -- what each word's line says
 pub heard : (said : Said) {found : Said} (word : Word) (ns : List ℕ) → verdict (row_of said word ns) ≡ Ok found
     → Heard said word found
-heard said words.Track [] h = cc
 heard said words.Track (format ∷ []) h =
     let t = taken-then (eqb format 1 || eqb format 2) _ h in
     (format, format-go _ _ format refl refl t.0, t.1.next)
-heard said words.Track (a ∷ b ∷ ns) h = cc
-heard said words.Nodes [] h = cc
+heard said words.Track _ h = cc
 heard said words.Nodes (n ∷ []) h =
     let t = taken-if (eqb n 0) _ h in
     (n, positive n t.0, at_most (most_nodes said.format) n t.1.large, t.1.next)
-heard said words.Nodes (a ∷ b ∷ ns) h = cc
-heard said words.K [] h = cc
+heard said words.Nodes _ h = cc
 heard said words.K (k ∷ []) h =
     let t = taken-if (eqb k 0) _ h in
     (k, k-go k said.nodes t.0 t.1.large, t.1.next)
-heard said words.K (a ∷ b ∷ ns) h = cc
-heard said words.Edge [] h = cc
-heard said words.Edge (a ∷ []) h = cc
-heard said words.Edge (a ∷ b ∷ []) h = cc
+heard said words.K _ h = cc
 heard said words.Edge (a ∷ b ∷ w ∷ []) h =
-    let t = taken-if (eqb w 0) _ h in (
-      record { a = a; b = b; weight = w },
-      is-edge said.nodes a b w t.0 t.1.large t.1.unknown,
-      leb-false 32768 (length
-          said.edges) t.1.many,
-      t.1.next,
-    )
-heard said words.Edge (a ∷ b ∷ c ∷ d ∷ ns) h = cc
-heard said words.Sub [] h = cc
+    let t = taken-if (eqb w 0) _ h in
+    let few = leb-false 32768 (length said.edges) t.1.many in
+    (record { a = a; b = b; weight = w }, is-edge said.nodes a b w t.0 t.1.large t.1.unknown, few, t.1.next)
+heard said words.Edge _ h = cc
 heard said words.Sub (node ∷ []) h =
     let t = taken-some (sub_row said (node ∷ [])) h in
     (node, leb-false said.nodes node t.unknown, leb-false 64 (subs said) t.many, t.next)
-heard said words.Sub (a ∷ b ∷ ns) h = cc
-heard said words.Callers [] h = cc
+heard said words.Sub _ h = cc
 heard said words.Callers (callers ∷ []) h =
     let t = taken-some (callers_row said (callers ∷ [])) h in
     (callers, at_most 64 callers t.large, t.next)
-heard said words.Callers (a ∷ b ∷ ns) h = cc
-heard said words.Move [] h = cc
-heard said words.Move (a ∷ []) h = cc
+heard said words.Callers _ h = cc
 heard said words.Move (sub ∷ to ∷ []) h =
     let t = taken-some (move_row said (sub ∷ to ∷ [])) h in
-    let unknown = or_parts (leb (subs said) sub) (leb said.nodes to) t.unknown in (
-      sub,
-      to,
-      (
-        leb-false (most_calls said.format) (length said.calls) t.many,
-        leb-false (subs said) sub unknown.0,
-        leb-false
-            said.nodes to unknown.1,
-        t.switched,
-        other (place_of said sub) to t.nowhere,
-      ),
-      t.next,
-    )
-heard said words.Move (a ∷ b ∷ c ∷ ns) h = cc
-heard said words.Find [] h = cc
-heard said words.Find (a ∷ []) h = cc
-heard said words.Find (a ∷ b ∷ []) h = cc
+    let few = leb-false (most_calls said.format) (length said.calls) t.many in
+    let unknown = or_parts (leb (subs said) sub) (leb said.nodes to) t.unknown in
+    let known = leb-false (subs said) sub unknown.0 in
+    let inside = leb-false said.nodes to unknown.1 in
+    (sub, to, (few, known, inside, t.switched, other (place_of said sub) to t.nowhere), t.next)
+heard said words.Move _ h = cc
 heard said words.Find (caller ∷ from ∷ sub ∷ []) h =
     let t = taken-some (find_row said (caller ∷ from ∷ sub ∷ [])) h in
+    let few = leb-false (most_calls said.format) (length said.calls) t.many in
     let last = or_parts _ (leb (subs said) sub) t.unknown in
     let third = or_parts _ (leb said.nodes from) last.0 in
-    let second = or_parts (ltb caller (subs said)) (leb (actors said) caller) third.0 in (
-      caller,
-      from,
-      sub,
-      (
-        leb-false (most_calls said.format) (length said.calls) t.many,
-        at_most caller (subs said)
-            second.0,
-        leb-false (actors said) caller second.1,
-        leb-false said.nodes from third.1,
-        leb-false (subs said) sub last.1,
-      ),
-      t.next,
-    )
-heard said words.Find (a ∷ b ∷ c ∷ d ∷ ns) h = cc
-heard said words.Off [] h = cc
+    let second = or_parts (ltb caller (subs said)) (leb (actors said) caller) third.0 in
+    let behind = at_most caller (subs said) second.0 in
+    let known = leb-false (actors said) caller second.1 in
+    let inside = leb-false said.nodes from third.1 in
+    (caller, from, sub, (few, behind, known, inside, leb-false (subs said) sub last.1), t.next)
+heard said words.Find _ h = cc
 heard said words.Off (sub ∷ []) h =
-    let t = taken-then (eqb said.format 2) _ h in (
-      sub,
-      (
-        leb-false (most_calls said.format) (length said.calls) t.1.many,
-        leb-false (subs said) sub t.1.unknown,
-        two-go
-            said.format t.0,
-        t.1.switched,
-      ),
-      t.1.next,
-    )
-heard said words.Off (a ∷ b ∷ ns) h = cc
-heard said words.On [] h = cc
+    let t = taken-then (eqb said.format 2) _ h in
+    let few = leb-false (most_calls said.format) (length said.calls) t.1.many in
+    let known = leb-false (subs said) sub t.1.unknown in
+    (sub, (few, known, two-go said.format t.0, t.1.switched), t.1.next)
+heard said words.Off _ h = cc
 heard said words.On (sub ∷ []) h =
-    let t = taken-then (eqb said.format 2) _ h in (
-      sub,
-      (
-        leb-false (most_calls said.format) (length said.calls) t.1.many,
-        leb-false (subs said) sub t.1.unknown,
-        two-go
-            said.format t.0,
-        not-false (is_off said sub) t.1.switched,
-      ),
-      t.1.next,
-    )
-heard said words.On (a ∷ b ∷ ns) h = cc
+    let t = taken-then (eqb said.format 2) _ h in
+    let few = leb-false (most_calls said.format) (length said.calls) t.1.many in
+    let known = leb-false (subs said) sub t.1.unknown in
+    (sub, (few, known, two-go said.format t.0, not-false (is_off said sub) t.1.switched), t.1.next)
+heard said words.On _ h = cc
 heard said words.Order ns h =
     let t = taken-if (eqb (length ns) 0) _ h in
     (ns, all-below (actors said) ns t.1.unknown, t.1.next)

@@ -1,5 +1,5 @@
 -- What was said is within its limits, line by line.
-use Rattle.std.proofs.Common.{◌≡◌, ◌⊎◌, ℕ, zero, suc, ◌+◌, ◌<◌, ◌≤◌, true, List, [], ◌∷◌, ◌++◌, length, length-append, All, Ok, refl, sym, subst, arith, lit≤}
+use Rattle.std.proofs.Common.{◌≡◌, ◌⊎◌, ℕ, suc, ◌+◌, ◌<◌, ◌≤◌, true, List, [], ◌∷◌, ◌++◌, length, length-append, All, Ok, refl, sym, subst, arith, lit≤}
 use Rattle.std.proofs.lemmas.Bool.Decides.{nat_tests}
 use Rattle.std.proofs.lemmas.List.Elements.{All-append, All-cons, All-nil}
 use Rattle.net_graph.specs.declared.edge.Edge.{Edge}
@@ -20,66 +20,46 @@ pub at-2 : (p : ℕ) → may_stand p 2 ≡ true → p ≤ 1
 at-2 p e = grind (arith, nat_tests)
 
 from-2 : (p : ℕ) → may_stand p 2 ≡ true → 1 ≤ p
-from-2 zero e = cc
-from-2 (suc p) e = omega arith
+from-2 p e = grind (arith, nat_tests)
 
 pub at-3 : (p : ℕ) → may_stand p 3 ≡ true → p ≤ 2
 at-3 p e = grind (arith, nat_tests)
 
 from-3 : (p : ℕ) → may_stand p 3 ≡ true → 2 ≤ p
-from-3 zero e = cc
-from-3 (suc zero) e = cc
 from-3 (suc (suc p)) e = omega arith
+from-3 _ e = cc
 
 pub at-4 : (p : ℕ) → may_stand p 4 ≡ true → p ≤ 4
 at-4 p e = grind (arith, nat_tests)
 
 from-4 : (p : ℕ) → may_stand p 4 ≡ true → 3 ≤ p
-from-4 zero e = cc
-from-4 (suc zero) e = cc
-from-4 (suc (suc zero)) e = cc
 from-4 (suc (suc (suc p))) e = omega arith
+from-4 _ e = cc
 
 pub at-5 : (p : ℕ) → may_stand p 5 ≡ true → p ≤ 5
 at-5 p e = grind (arith, nat_tests)
 
 from-5 : (p : ℕ) → may_stand p 5 ≡ true → 3 ≤ p
-from-5 zero e = cc
-from-5 (suc zero) e = cc
-from-5 (suc (suc zero)) e = cc
 from-5 (suc (suc (suc p))) e = omega arith
+from-5 _ e = cc
 
 pub at-6 : (p : ℕ) → may_stand p 6 ≡ true → p ≤ 5
 at-6 p e = grind (arith, nat_tests)
 
 from-6 : (p : ℕ) → may_stand p 6 ≡ true → 5 ≤ p
-from-6 zero e = cc
-from-6 (suc zero) e = cc
-from-6 (suc (suc zero)) e = cc
-from-6 (suc (suc (suc zero))) e = cc
-from-6 (suc (suc (suc (suc zero)))) e = cc
 from-6 (suc (suc (suc (suc (suc p))))) e = omega arith
+from-6 _ e = cc
 
 pub at-7 : (p : ℕ) → may_stand p 7 ≡ true → p ≤ 7
 at-7 p e = grind (arith, nat_tests)
 
 pub from-7 : (p : ℕ) → may_stand p 7 ≡ true → 6 ≤ p
-from-7 zero e = cc
-from-7 (suc zero) e = cc
-from-7 (suc (suc zero)) e = cc
-from-7 (suc (suc (suc zero))) e = cc
-from-7 (suc (suc (suc (suc zero)))) e = cc
-from-7 (suc (suc (suc (suc (suc zero))))) e = cc
 from-7 (suc (suc (suc (suc (suc (suc p)))))) e = omega arith
+from-7 _ e = cc
 
 pub from-8 : (p : ℕ) → may_stand p 8 ≡ true → 6 ≤ p
-from-8 zero e = cc
-from-8 (suc zero) e = cc
-from-8 (suc (suc zero)) e = cc
-from-8 (suc (suc (suc zero))) e = cc
-from-8 (suc (suc (suc (suc zero)))) e = cc
-from-8 (suc (suc (suc (suc (suc zero))))) e = cc
 from-8 (suc (suc (suc (suc (suc (suc p)))))) e = omega arith
+from-8 _ e = cc
 
 -- ---- the limits
 
@@ -98,8 +78,8 @@ pub record IsMeasured (said : Said) : Type 0 where
   pub few_homes : length said.homes ≤ 64
   pub callers : said.callers ≤ 64
 
-nothing-measured : IsMeasured nothing
-nothing-measured = record {
+pub begins-measured : IsMeasured nothing
+begins-measured = record {
   format = λ le. absurd (omega (arith, le));
   no_nodes = λ le. refl;
   few = lit≤ tt;
@@ -217,28 +197,11 @@ sub-measured {said} node late is few m =
       callers = m.callers;
     }
 
-callers-measured : {said : Said} (callers : ℕ) → 5 ≤ said.place → callers ≤ 64 → IsMeasured said
-    → IsMeasured (record said { place = 6; callers = callers })
-callers-measured callers late few m = record {
-  format = λ le. m.format (omega (arith, late));
-  no_nodes = λ le. absurd (omega (arith, le));
-  few = m.few;
-  some = λ le. m.some (omega (arith, late));
-  k = λ le. m.k (omega (arith, late));
-  no_edges = λ le. absurd (omega (arith, le));
-  edges = m.edges;
-  few_edges = m.few_edges;
-  no_homes = λ le. absurd (omega (arith, le));
-  homes = m.homes;
-  some_homes = λ le. m.some_homes late;
-  few_homes = m.few_homes;
-  callers = few;
-}
-
--- calls and orders change none of these
-called-measured : {said : Said} (place : ℕ) (calls : List Spoken) (order : List ℕ) → 6 ≤ said.place → 6 ≤ place
-    → IsMeasured said → IsMeasured (record said { place = place; calls = calls; order = order })
-called-measured place calls order late later m = record {
+-- calls and orders change none of these, and a number of callers no other
+called-measured : {said : Said} (place callers : ℕ) (calls : List Spoken) (order : List ℕ) → 5 ≤ said.place → 6 ≤ place
+    → callers ≤ 64 → IsMeasured said
+    → IsMeasured (record said { place = place; callers = callers; calls = calls; order = order })
+called-measured place callers calls order late later few m = record {
   format = λ le. m.format (omega (arith, late));
   no_nodes = λ le. absurd (omega (arith, le, later));
   few = m.few;
@@ -249,10 +212,15 @@ called-measured place calls order late later m = record {
   few_edges = m.few_edges;
   no_homes = λ le. absurd (omega (arith, le, later));
   homes = m.homes;
-  some_homes = λ le. m.some_homes (omega (arith, late));
+  some_homes = λ le. m.some_homes late;
   few_homes = m.few_homes;
-  callers = m.callers;
+  callers = few;
 }
+
+call-measured : {said : Said} {calls : List Spoken} → 6 ≤ said.place → IsMeasured said
+    → IsMeasured (record said { place = 7; calls = calls })
+call-measured {said} late m =
+    called-measured 7 said.callers _ said.order (omega (arith, late)) (omega arith) m.callers m
 
 -- each line keeps the limits
 measured-heard : {said : Said} (found : Said) (word : Word) → IsMeasured said
@@ -266,20 +234,13 @@ measured-heard {said} found words.Edge m p h =
     subst IsMeasured h.3 (edge-measured (at-4 said.place p) (from-4 said.place p) h.1 h.2 m)
 measured-heard {said} found words.Sub m p h = subst IsMeasured h.3 (sub-measured h.0 (from-5 said.place p) h.1 h.2 m)
 measured-heard {said} found words.Callers m p h =
-    subst IsMeasured h.2 (callers-measured h.0 (from-6 said.place p) h.1 m)
-measured-heard {said} found words.Move m p h =
-    subst IsMeasured h.3 (called-measured 7 _ said.order (from-7 said.place p) (omega arith) m)
-measured-heard {said} found words.Find m p h =
-    subst IsMeasured h.4 (called-measured 7 _ said.order (from-7 said.place p) (omega arith) m)
-measured-heard {said} found words.Off m p h =
-    subst IsMeasured h.2 (called-measured 7 _ said.order (from-7 said.place p) (omega arith) m)
-measured-heard {said} found words.On m p h =
-    subst IsMeasured h.2 (called-measured 7 _ said.order (from-7 said.place p) (omega arith) m)
-measured-heard {said} found words.Order m p h =
-    subst IsMeasured h.2 (called-measured 8 said.calls _ (from-8 said.place p) (omega arith) m)
-
-pub begins-measured : IsMeasured nothing
-begins-measured = nothing-measured
+    subst IsMeasured h.2 (called-measured 6 h.0 said.calls said.order (from-6 said.place p) (omega arith) h.1 m)
+measured-heard {said} found words.Move m p h = subst IsMeasured h.3 (call-measured (from-7 said.place p) m)
+measured-heard {said} found words.Find m p h = subst IsMeasured h.4 (call-measured (from-7 said.place p) m)
+measured-heard {said} found words.Off m p h = subst IsMeasured h.2 (call-measured (from-7 said.place p) m)
+measured-heard {said} found words.On m p h = subst IsMeasured h.2 (call-measured (from-7 said.place p) m)
+measured-heard {said} found words.Order m p h = subst IsMeasured h.2
+    (called-measured 8 said.callers said.calls _ (omega (arith, from-8 said.place p)) (omega arith) m.callers m)
 
 pub keeps-measured : (said found : Said) (word : Word) (ns : List ℕ) → IsMeasured said
     → may_stand said.place (place_of_word word) ≡ true → verdict (row_of said word ns) ≡ Ok found → IsMeasured found

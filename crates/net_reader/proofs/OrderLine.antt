@@ -1,15 +1,14 @@
 -- The numbers of a line of the order.
-use Rattle.std.proofs.Common.{◌≡◌, inl, inr, ℕ, ◌||◌, cond, leb, ltb, append_assoc, length-append, length-take, get_or, drop, ◌+◌, ◌<◌, ◌≤◌, true, false, set, take, List, [], ◌∷◌, ◌++◌, length, refl, ap, sym, ◌∙◌, arith, subst}
+use Rattle.std.proofs.Common.{◌≡◌, ℕ, ◌||◌, cond, leb, ltb, append_assoc, length-append, length-take, get_or, drop, ◌+◌, ◌<◌, ◌≤◌, true, false, set, take, List, [], ◌∷◌, ◌++◌, length, refl, ap, sym, ◌∙◌, arith, subst}
 use Rattle.std.proofs.lemmas.Bool.Decides.{nat_tests}
 use Rattle.std.proofs.lemmas.List.{append-nil, drop-drop, get_or-set_same, length-set, take-set, take_more}
 use Rattle.std.proofs.lemmas.List.Folds.{list_any-append, list_any_at}
 use Rattle.std.specs.List.{list_any}
 use Rattle.std.specs.Prelude.{nat_le}
-use Rattle.net_reader.specs.declared.line.Open.TheVariants as opens
-use Rattle.net_reader.specs.Steps.{IsRun, LineState, close_as, keep}
-use Rattle.net_reader.specs.Whole.{IsLast, IsNumbers, IsNumberTo, IsTaking, IsUpTo, Takes, between}
+use Rattle.net_reader.specs.Steps.{IsRun, keep}
+use Rattle.net_reader.specs.Whole.{IsLast, IsNumberTo, IsTaking, Takes, between}
 use Rattle.net_reader.proofs.Running.{run-join, run-none}
-use Rattle.net_reader.proofs.WholeLine.{blank-behind}
+use Rattle.net_reader.proofs.WholeLine.{blank-behind, numbers-behind}
 
 -- one number more of the order
 keep-few : (numbers : List ℕ) (value : ℕ) → length numbers < 64 → keep numbers value ≡ numbers ++ value ∷ []
@@ -67,27 +66,6 @@ taking-more {limit} {value} {before} {piece} {after} taking number less few =
       below = below-more limit value numbers taking.below less;
     }
 
-taken-up-to : {limit value end : ℕ} {before now piece rest after : List ℕ}
-    (taking : IsTaking limit before now piece rest) → IsNumberTo end value rest after → length taking.numbers < 64
-    → IsUpTo (taking.numbers ++ value ∷ []) piece (end ∷ after)
-unfolding close_as
-taken-up-to {value} taking number short =
-    let numbers = taking.numbers in
-    let last : ℕ → LineState = λ word. record (between word numbers) { open_field = opens.Number number.count value } in
-    record {
-      last = last;
-      run = λ word. run-join (taking.run word) (number.run (between word numbers) refl);
-      closed = λ word. ap (between word) (keep-few numbers value short);
-    }
-
-taken-ends : {limit : ℕ} (value : ℕ) {before now piece rest : List ℕ} (after : List ℕ)
-    (taking : IsTaking limit before now piece rest) → IsLast value rest after → length taking.numbers < 64
-    → IsNumbers (taking.numbers ++ value ∷ []) piece after
-taken-ends value after taking (inl number) short =
-    inl (taken-up-to taking number short)
-taken-ends value after taking (inr number) short =
-    inr (taken-up-to taking number short)
-
 pub taking-last : {limit : ℕ} (value : ℕ) {before now piece rest : List ℕ} (after : List ℕ)
     → IsTaking limit before now piece rest → IsLast value rest after → value < limit → length now < length before + 64
     → Takes limit before (now ++ value ∷ []) piece after
@@ -96,7 +74,7 @@ taking-last {limit} value {before} after taking number less few =
     let short : length numbers < 64 = omega (arith, few, ap length taking.added, length-append before numbers) in
     record {
       numbers = numbers ++ value ∷ [];
-      ends = taken-ends value after taking number short;
+      ends = numbers-behind value numbers after taking.run number (keep-few numbers value short);
       added = ap (λ xs. xs ++ value ∷ []) taking.added ∙ append_assoc before numbers (value ∷ []);
       some = omega (arith, length-append numbers (value ∷ []));
       few = omega (arith, short, length-append numbers (value ∷ []));
@@ -113,26 +91,22 @@ take-more-set xs i x within =
 pub written-more : {limit value : ℕ} (count : ℕ) {before : List ℕ} (xs : List ℕ) {piece rest after : List ℕ}
     → IsTaking limit before (take count xs) piece rest → IsNumberTo 32 value rest after → value < limit
     → count < length xs → length xs ≤ 64 → IsTaking limit before (take (count + 1) (set xs count value)) piece after
-written-more {limit} {value} count {before} xs {piece} {after} taking number less within few =
-    subst (λ (ys : List ℕ). IsTaking limit before ys piece after) (sym (take-more-set xs count value within))
+written-more {value = value} count xs taking number less within few =
+    rw (take-more-set xs count value within)
     (taking-more taking number less (omega (arith, few, within, length-take count xs)))
 
 pub written-last : {limit : ℕ} (value count : ℕ) {before : List ℕ} (xs : List ℕ) {piece rest : List ℕ} (after : List ℕ)
     → IsTaking limit before (take count xs) piece rest → IsLast value rest after → value < limit → count < length xs
     → length xs ≤ 64 → Takes limit before (take (count + 1) (set xs count value)) piece after
-written-last {limit} value count {before} xs {piece} after taking number less within few =
-    subst (λ (ys : List ℕ). Takes limit before ys piece after) (sym (take-more-set xs count value within))
+written-last value count xs after taking number less within few =
+    rw (take-more-set xs count value within)
     (taking-last value after taking number less (omega (arith, few, within, length-take count xs)))
 
 -- a number from a place on
 pub number-at : {end value : ℕ} (at taken : ℕ) (piece : List ℕ) {rest after : List ℕ} → rest ≡ drop at piece
     → after ≡ drop (at + taken) piece → IsNumberTo end value rest (drop taken rest)
     → IsNumberTo end value (drop at piece) after
-number-at {end} {value} at taken piece front back number =
-    let joined : drop taken (drop at piece) ≡ drop (at + taken) piece = drop-drop taken at piece in
-    let here : IsNumberTo end value (drop at piece) (drop taken (drop at piece)) =
-    subst (λ (xs : List ℕ). IsNumberTo end value xs (drop taken xs)) front number in
-    subst (λ (xs : List ℕ). IsNumberTo end value (drop at piece) xs) (joined ∙ sym back) here
+number-at at taken piece front back number = rw (back, ← drop-drop taken at piece, ← front) number
 
 -- the same numbers behind others
 pub behind-others : {limit : ℕ} (before : List ℕ) {now numbers piece rest : List ℕ} → Takes limit [] numbers piece rest

@@ -50,33 +50,28 @@ settled-go : (blank : Bool) (line : LineState) → cond blank line line ≡ line
 settled-go true line = refl
 settled-go false line = refl
 
-pub put-comment : (xs : List ℕ) (word : ℕ) (numbers : List ℕ)
-    → record { open_field = opens.Comment; word = word; numbers = numbers }
-    ≡ fold put (record { open_field = opens.Comment; word = word; numbers = numbers }) xs
-unfolding put close_as more
-put-comment [] word numbers = refl
-put-comment (x ∷ xs) word numbers =
-    put-comment xs word numbers
-    ∙ ap (λ l. fold put l xs) (sym (settled-go (is_blank x) (record {
-      open_field =
-          opens.Comment;
-      word = word;
-      numbers = numbers;
-    })))
+abbrev pub IsSettled : Open → Type 0
+IsSettled field = (word : ℕ) (numbers : List ℕ) (b : ℕ)
+    → put (record { open_field = field; word = word; numbers = numbers }) b
+    ≡ record { open_field = field; word = word; numbers = numbers }
 
-pub put-wrong : (xs : List ℕ) (word : ℕ) (numbers : List ℕ)
-    → record { open_field = opens.Wrong; word = word; numbers = numbers }
-    ≡ fold put (record { open_field = opens.Wrong; word = word; numbers = numbers }) xs
+pub comment-settled : IsSettled opens.Comment
 unfolding put close_as more
-put-wrong [] word numbers = refl
-put-wrong (x ∷ xs) word numbers =
-    put-wrong xs word numbers
-    ∙ ap (λ l. fold put l xs) (sym (settled-go (is_blank x) (record {
-      open_field =
-          opens.Wrong;
-      word = word;
-      numbers = numbers;
-    })))
+comment-settled word numbers b =
+    settled-go (is_blank b) (record { open_field = opens.Comment; word = word; numbers = numbers })
+
+pub wrong-settled : IsSettled opens.Wrong
+unfolding put close_as more
+wrong-settled word numbers b =
+    settled-go (is_blank b) (record { open_field = opens.Wrong; word = word; numbers = numbers })
+
+pub put-settled : {field : Open} → IsSettled field → (xs : List ℕ) (line : LineState) → line.open_field ≡ field
+    → line ≡ fold put line xs
+put-settled settled [] line is = refl
+put-settled {field} settled (x ∷ xs) line is =
+    let same : put line x ≡ line = ap (λ f. put (record line { open_field = f }) x) is
+    ∙ settled line.word line.numbers x ∙ ap (λ f. record line { open_field = f }) (sym is) in
+    put-settled settled xs line is ∙ ap (λ l. fold put l xs) (sym same)
 
 -- bytes that each don't end a line
 pub inside-front : (hay : List ℕ) (k : ℕ) → k ≤ length hay
@@ -98,16 +93,23 @@ first-byte (x ∷ xs) h =
 pub run-none : (line : LineState) (piece : List ℕ) → IsRun line line piece piece
 run-none line piece = record { front = []; parts = refl; inside = refl; read = refl }
 
+-- one run behind another
+pub run-join : {first line last : LineState} {piece rest after : List ℕ} → IsRun first line piece rest
+    → IsRun line last rest after → IsRun first last piece after
+run-join {first} {after} run more = record {
+  front = run.front ++ more.front;
+  parts = run.parts ∙ ap (λ xs. run.front ++ xs) more.parts ∙ sym (append_assoc run.front more.front after);
+  inside = all-append is_inside run.front more.front run.inside more.inside;
+  read = more.read ∙ ap (λ l. fold put l more.front) run.read ∙ sym (fold-append put first run.front more.front);
+}
+
+run-byte : (line : LineState) {b : ℕ} (rest : List ℕ) → is_inside b ≡ true → IsRun line (put line b) (b ∷ rest) rest
+run-byte line {b} rest h =
+    record { front = b ∷ []; parts = refl; inside = and_from (is_inside b) true h refl; read = refl }
+
 pub run-more : {first line last : LineState} {piece rest after : List ℕ} {b : ℕ} → IsRun first line piece (b ∷ rest)
     → is_inside b ≡ true → IsRun (put line b) last rest after → IsRun first last piece after
-run-more {first} {after} {b} run h more = record {
-  front = run.front ++ b ∷ more.front;
-  parts = run.parts ∙ ap (λ xs. run.front ++ b ∷ xs) more.parts ∙ sym (append_assoc run.front (b ∷ more.front) after);
-  inside = all-append is_inside run.front (b ∷ more.front) run.inside
-      (and_from (is_inside b) (list_all is_inside more.front) h more.inside);
-  read = more.read ∙ ap (λ l. fold put (put l b) more.front) run.read
-      ∙ sym (fold-append put first run.front (b ∷ more.front));
-}
+run-more {line = line} {rest = rest} run h more = run-join run (run-join (run-byte line rest h) more)
 
 -- a run from the front of a piece
 cut : (piece : List ℕ) {rest : List ℕ} {found : Open × ℕ} (field : Open) (taken : ℕ) → found ≡ (field, taken)
@@ -129,28 +131,16 @@ run-plain line {field} taken piece begins e back plain is = record {
       ∙ put-plain (take taken piece) line plain;
 }
 
-pub run-comment : (line : LineState) {found : Open × ℕ} (taken : ℕ) (piece : List ℕ) {rest : List ℕ}
-    → line.open_field ≡ opens.Comment → found ≡ (opens.Comment, taken) → rest ≡ drop found.1 piece
+pub run-settled : {field : Open} → IsSettled field → (line : LineState) {found : Open × ℕ} (taken : ℕ) (piece : List ℕ)
+    {rest : List ℕ} → line.open_field ≡ field → found ≡ (field, taken) → rest ≡ drop found.1 piece
     → list_all is_inside (take taken piece) ≡ true → IsRun line (record line { open_field = found.0 }) piece rest
-run-comment line taken piece begins e back inside = record {
+run-settled {field} settled line taken piece begins e back inside = record {
   front = take taken piece;
-  parts = cut piece opens.Comment taken e back;
+  parts = cut piece field taken e back;
   inside = inside;
   read = ap (λ (p : Open × ℕ). record line { open_field = p.0 }) e
-      ∙ put-comment (take taken piece) line.word line.numbers
-      ∙ ap (λ f. fold put (record line { open_field = f }) (take taken piece)) (sym begins);
-}
-
-pub run-wrong : (line : LineState) {found : Open × ℕ} (taken : ℕ) (piece : List ℕ) {rest : List ℕ}
-    → line.open_field ≡ opens.Wrong → found ≡ (opens.Wrong, taken) → rest ≡ drop found.1 piece
-    → list_all is_inside (take taken piece) ≡ true → IsRun line (record line { open_field = found.0 }) piece rest
-run-wrong line taken piece begins e back inside = record {
-  front = take taken piece;
-  parts = cut piece opens.Wrong taken e back;
-  inside = inside;
-  read = ap (λ (p : Open × ℕ). record line { open_field = p.0 }) e
-      ∙ put-wrong (take taken piece) line.word line.numbers
-      ∙ ap (λ f. fold put (record line { open_field = f }) (take taken piece)) (sym begins);
+      ∙ ap (λ f. record line { open_field = f }) (sym begins)
+      ∙ put-settled settled (take taken piece) line begins;
 }
 
 pub run-still : (line : LineState) {field : Open} {found : Open × ℕ} (piece : List ℕ) {rest : List ℕ}
@@ -242,16 +232,6 @@ run-word-blank line piece {rest} b {blank} packed taken fresh no_blank no_commen
     subst (λ l. IsRun (put line b) l piece rest) (closed-word line packed blank ends)
     (run-more (run-word line piece b packed taken fresh no_blank no_comment back plain is) (blank-inside blank ends)
     (run-none last rest))
-
--- one run behind another
-pub run-join : {first line last : LineState} {piece rest after : List ℕ} → IsRun first line piece rest
-    → IsRun line last rest after → IsRun first last piece after
-run-join {first} {after} run more = record {
-  front = run.front ++ more.front;
-  parts = run.parts ∙ ap (λ xs. run.front ++ xs) more.parts ∙ sym (append_assoc run.front more.front after);
-  inside = all-append is_inside run.front more.front run.inside more.inside;
-  read = more.read ∙ ap (λ l. fold put l more.front) run.read ∙ sym (fold-append put first run.front more.front);
-}
 
 pub run-length : {line now : LineState} {piece rest : List ℕ} → IsRun line now piece rest → length rest ≤ length piece
 run-length {rest} run = omega (arith, ap length run.parts, length-append run.front rest)

@@ -1,5 +1,5 @@
 -- Where subscribers are, and whether they are off, after one call more.
-use Rattle.std.proofs.Common.{◌≡◌, ℕ, ◌<◌, Bool, true, false, cond, eqb, List, [], ◌∷◌, ◌++◌, length, map, filter, get_or, set, append-nil, refl, ap, sym, subst, ◌∙◌, arith}
+use Rattle.std.proofs.Common.{◌≡◌, ℕ, ◌<◌, ◌≤◌, Bool, true, false, cond, eqb, List, [], ◌∷◌, ◌++◌, length, map, filter, get_or, set, append-nil, refl, ap, sym, ◌∙◌, arith}
 use Rattle.std.proofs.lemmas.List.Elements.{filter-append}
 use Rattle.std.proofs.lemmas.List.{map-append, get_or-set_same, get_or-set_other, length-set}
 use Rattle.std.proofs.lemmas.Bool.Decides.{nat_tests}
@@ -34,17 +34,14 @@ pub place_after-push : (here : ℕ) (script : List Call) (call : Call)
     → place_after here (script ++ call ∷ []) ≡ place_after (place_after here script) (call ∷ [])
 place_after-push here [] call = refl
 place_after-push here (acts.Move to ∷ script) call = place_after-push to script call
-place_after-push here (acts.Find from sub ∷ script) call = place_after-push here script call
-place_after-push here (acts.Off ∷ script) call = place_after-push here script call
-place_after-push here (acts.On ∷ script) call = place_after-push here script call
+place_after-push here (other ∷ script) call = place_after-push here script call
 
 pub off_after-push : (off : Bool) (script : List Call) (call : Call)
     → off_after off (script ++ call ∷ []) ≡ off_after (off_after off script) (call ∷ [])
 off_after-push off [] call = refl
-off_after-push off (acts.Move to ∷ script) call = off_after-push off script call
-off_after-push off (acts.Find from sub ∷ script) call = off_after-push off script call
 off_after-push off (acts.Off ∷ script) call = off_after-push true script call
 off_after-push off (acts.On ∷ script) call = off_after-push false script call
+off_after-push off (other ∷ script) call = off_after-push off script call
 
 -- after one call more, of this actor or of another
 place-go : (b : Bool) (here : ℕ) (script : List Call) (call : Call)
@@ -71,124 +68,74 @@ pub off-with : (s : ℕ) (calls : List Spoken) (d : Spoken)
 off-with s calls d = ap (off_after false) (script_of-push s calls d)
     ∙ off-go (eqb d.actor s) false (script_of s calls) d.call
 
+same_if : {A : Type 0} (b : Bool) {x y : A} → (b ≡ true → x ≡ y) → cond b x y ≡ y
+same_if true same = same refl
+same_if false same = refl
+
+-- after one call more, where subscribers alone move and switch
+Stands-call : {homes : List ℕ} {calls : List Spoken} {places later : List ℕ} {off now : List Bool} (a : ℕ) (call : Call)
+    → Stands homes calls places off → length later ≡ length places → length now ≡ length off
+    → ((s : ℕ) → s < length homes → get_or later s 0
+    ≡ cond (eqb a s) (place_after (get_or places s 0) (call ∷ [])) (get_or places s 0))
+    → ((s : ℕ) → s < length homes → get_or now s false
+    ≡ cond (eqb a s) (off_after (get_or off s false) (call ∷ [])) (get_or off s false))
+    → ((s here : ℕ) → length homes ≤ s → eqb a s ≡ true
+    → (place_after here (call ∷ []) ≡ here) × (off_after false (call ∷ []) ≡ false))
+    → Stands homes (calls ++ make a call ∷ []) later now
+Stands-call {homes} {calls} a call h same_places same_off places_are off_are others = record {
+  places_count = same_places ∙ h.places_count;
+  off_count = same_off ∙ h.off_count;
+  place = λ s below. let was = place-with s (get_or homes s 0) calls (make a call) in
+      rw (was, ← h.place s below) (places_are s below);
+  is_off = λ s below. rw (off-with s calls (make a call), ← h.is_off s below) (off_are s below);
+  no_moves = λ s here above. rw (place-with s here calls (make a call), h.no_moves s here above)
+      (same_if (eqb a s) (λ e. (others s here above e).0));
+  no_switches = λ s above. rw (off-with s calls (make a call), h.no_switches s above)
+      (same_if (eqb a s) (λ e. (others s 0 above e).1));
+}
+
 -- a subscriber moves
 pub Stands-move : {homes : List ℕ} {calls : List Spoken} {places : List ℕ} {off : List Bool} (a to : ℕ)
     → Stands homes calls places off → a < length homes → Stands homes (calls ++ make a (acts.Move to) ∷ [])
     (set places a to) off
-Stands-move {homes} {calls} {places} a to h lt = record {
-  places_count = length-set places a to ∙ h.places_count;
-  off_count = h.off_count;
-  place = λ s below. grind (
-    arith,
-    nat_tests,
-    place-with s (get_or homes s 0) calls (make a (acts.Move to)),
-    h.place s
-        below,
-    get_or-set_same places a to 0,
-    get_or-set_other places a s to 0,
-    h.places_count,
-  );
-  is_off = λ s below. grind (arith, nat_tests, off-with s calls (make a (acts.Move to)), h.is_off s below);
-  no_moves = λ s here above. grind (
-    arith,
-    nat_tests,
-    place-with s here calls (make a (acts.Move to)),
-    h.no_moves s
-        here above,
-  );
-  no_switches = λ s above. grind (arith, nat_tests, off-with s calls (make a (acts.Move to)), h.no_switches s above);
-}
+Stands-move {places = places} a to h lt = Stands-call a (acts.Move to) h (length-set places a to) refl
+    (λ s below. grind (
+      arith,
+      nat_tests,
+      get_or-set_same places a to 0,
+      get_or-set_other places a s to 0,
+      h.places_count,
+    )) (λ s below. sym (same_if (eqb a s) (λ e. refl))) (λ s here above e. grind (arith, nat_tests))
 
 -- a caller finds
 pub Stands-find : {homes : List ℕ} {calls : List Spoken} {places : List ℕ} {off : List Bool} (a from sub : ℕ)
     → Stands homes calls places off → Stands homes (calls ++ make a (acts.Find from sub) ∷ []) places off
-Stands-find {homes} {calls} a from sub h = record {
-  places_count = h.places_count;
-  off_count = h.off_count;
-  place = λ s below. grind (
-    arith,
-    nat_tests,
-    place-with s (get_or homes s 0) calls (make a (acts.Find from sub)),
-    h.place s below,
-  );
-  is_off = λ s below. grind (arith, nat_tests, off-with s calls (make a (acts.Find from sub)), h.is_off s below);
-  no_moves = λ s here above. grind (
-    arith,
-    nat_tests,
-    place-with s here calls (make a (acts.Find from sub)),
-    h.no_moves
-        s here above,
-  );
-  no_switches = λ s above. grind (
-    arith,
-    nat_tests,
-    off-with s calls (make a (acts.Find from sub)),
-    h.no_switches s
-        above,
-  );
-}
+Stands-find a from sub h = Stands-call a (acts.Find from sub) h refl refl
+    (λ s below. sym (same_if (eqb a s) (λ e. refl))) (λ s below. sym (same_if (eqb a s) (λ e. refl)))
+    (λ s here above e. (refl, refl))
 
--- a subscriber switches off
-pub Stands-off : {homes : List ℕ} {calls : List Spoken} {places : List ℕ} {off : List Bool} (a : ℕ)
-    → Stands homes calls places off → a < length homes → Stands homes (calls ++ make a acts.Off ∷ []) places
-    (set off a true)
-Stands-off {homes} {calls} {off} a h lt = record {
-  places_count = h.places_count;
-  off_count = length-set off a true ∙ h.off_count;
-  place = λ s below. grind (arith, nat_tests, place-with s (get_or homes s 0) calls (make a acts.Off), h.place s below);
-  is_off = λ s below. grind (
-    arith,
-    nat_tests,
-    off-with s calls (make a acts.Off),
-    h.is_off s below,
-    get_or-set_same
-        off a true false,
-    get_or-set_other off a s true false,
-    h.off_count,
-  );
-  no_moves = λ s here above. grind (
-    arith,
-    nat_tests,
-    place-with s here calls (make a acts.Off),
-    h.no_moves s here
-        above,
-  );
-  no_switches = λ s above. grind (arith, nat_tests, off-with s calls (make a acts.Off), h.no_switches s above);
-}
+-- a subscriber switches off or on
+abbrev pub switch : Bool → Call
+switch off = cond off acts.Off acts.On
 
--- a subscriber switches on
-pub Stands-on : {homes : List ℕ} {calls : List Spoken} {places : List ℕ} {off : List Bool} (a : ℕ)
-    → Stands homes calls places off → a < length homes → Stands homes (calls ++ make a acts.On ∷ []) places
-    (set off a false)
-Stands-on {homes} {calls} {off} a h lt = record {
-  places_count = h.places_count;
-  off_count = length-set off a false ∙ h.off_count;
-  place = λ s below. grind (arith, nat_tests, place-with s (get_or homes s 0) calls (make a acts.On), h.place s below);
-  is_off = λ s below. grind (
-    arith,
-    nat_tests,
-    off-with s calls (make a acts.On),
-    h.is_off s below,
-    get_or-set_same off
-        a false false,
-    get_or-set_other off a s false false,
-    h.off_count,
-  );
-  no_moves = λ s here above. grind (
-    arith,
-    nat_tests,
-    place-with s here calls (make a acts.On),
-    h.no_moves s here
-        above,
-  );
-  no_switches = λ s above. grind (arith, nat_tests, off-with s calls (make a acts.On), h.no_switches s above);
-}
+switch-place : (off : Bool) (here : ℕ) → place_after here (switch off ∷ []) ≡ here
+switch-place true here = refl
+switch-place false here = refl
 
--- a switch either way
-pub Stands-switched : {homes : List ℕ} (calls : List Spoken) {later : List Spoken} {places : List ℕ} (offs : List Bool)
-    (a : ℕ) {off now : Bool} {call made : Call} → now ≡ off → call ≡ made → later ≡ calls ++ make a call ∷ []
-    → Stands homes (calls ++ make a made ∷ []) places (set offs a off) → Stands homes later places (set offs a now)
-Stands-switched {homes} calls {places} offs a {now} {made} is so after h =
-    subst (λ (xs : List Spoken). Stands homes xs places (set offs a now)) (sym after)
-    (subst (λ (x : Call). Stands homes (calls ++ make a x ∷ []) places (set offs a now)) (sym so)
-    (subst (λ (b : Bool). Stands homes (calls ++ make a made ∷ []) places (set offs a b)) (sym is) h))
+switch-off : (off was : Bool) → off_after was (switch off ∷ []) ≡ off
+switch-off true was = refl
+switch-off false was = refl
+
+pub Stands-switch : {homes : List ℕ} {calls later : List Spoken} {places : List ℕ} {offs : List Bool} (a : ℕ)
+    (off : Bool) {call : Call} → call ≡ switch off → later ≡ calls ++ make a call ∷ [] → Stands homes calls places offs
+    → a < length homes → Stands homes later places (set offs a off)
+Stands-switch {offs = offs} a off is after h lt = rw (after, is)
+    (Stands-call a (switch off) h refl (length-set offs a off)
+    (λ s below. sym (same_if (eqb a s) (λ e. switch-place off _)))
+    (λ s below. rw switch-off (grind (
+      arith,
+      nat_tests,
+      get_or-set_same offs a off false,
+      get_or-set_other offs a s off false,
+      h.off_count,
+    ))) (λ s here above e. absurd (grind (arith, nat_tests))))

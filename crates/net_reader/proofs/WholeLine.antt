@@ -1,5 +1,5 @@
 -- Lines that lie whole in a piece.
-use Rattle.std.proofs.Common.{◌≡◌, inl, inr, ℕ, ◌+◌, ◌-◌, ◌*◌, ◌<◌, ◌≤◌, true, false, fold, take, drop, List, [], ◌∷◌, ◌++◌, length, get_or, Bool, Option, None, Result, Some, Ok, refl, ap, sym, ◌∙◌, arith, add-one, drop-cons, length-take, length-drop, subst}
+use Rattle.std.proofs.Common.{◌≡◌, inl, inr, ℕ, ◌+◌, ◌-◌, ◌*◌, ◌<◌, ◌≤◌, true, false, fold, take, drop, List, [], ◌∷◌, ◌++◌, length, get_or, Option, None, Result, Some, Ok, refl, ap, sym, ◌∙◌, arith, add-one, drop-cons, length-take, length-drop, subst, subst₂}
 use Rattle.std.proofs.lemmas.Bool.Decides.{nat_tests}
 use Rattle.std.proofs.lemmas.List.{take_all}
 use Rattle.std.specs.Char.{is_ascii_digit}
@@ -10,25 +10,21 @@ use Rattle.net_reader.specs.declared.word.Word.TheVariants.{Order}
 use Rattle.net_reader.specs.declared.fault.InputFault.{InputFault}
 use Rattle.net_reader.specs.declared.scan.Scan.{Scan}
 use Rattle.net_reader.specs.Said.{Said}
-use Rattle.net_reader.specs.Seen.{said_or_fault, seen_known, seen_line, seen_scan}
+use Rattle.net_reader.specs.Seen.{IsWell, said_or_fault, seen_known, seen_scan}
 use Rattle.net_reader.specs.Steps.{IsRun, LineState, ReaderState, after_bytes, close, close_as, end_line, fault_at, fresh, is_inside, is_plain, keep, line_said, more, next, pack, past_line, put, release, word_in}
 use Rattle.net_reader.specs.Table.{judge_word}
 use Rattle.net_reader.specs.Whole.{IsComment, IsCommentTo, IsDigits, IsEnd, IsLast, IsLeft, IsNumbers, IsNumberTo, IsUpTo, Opens, Rests, between}
 use Rattle.net_reader.proofs.Digits.{below-most, plain-more, read-more, still-small}
-use Rattle.net_reader.proofs.Feeding.{fed-faulty, ran}
-use Rattle.net_reader.proofs.Running.{run-comment, run-join, run-length, run-more, run-none, run-number}
+use Rattle.net_reader.proofs.Feeding.{fed-faulty, past, ran}
+use Rattle.net_reader.proofs.Running.{comment-settled, run-settled, run-join, run-length, run-more, run-none, run-number}
 
 -- the five bytes of a word and a blank
 five : {a b c d e : ℕ} (piece : List ℕ) → 5 ≤ length piece → get_or piece 0 0 ≡ a → get_or piece 1 0 ≡ b
     → get_or piece 2 0 ≡ c → get_or piece 3 0 ≡ d → get_or piece 4 0 ≡ e
     → piece ≡ (a ∷ b ∷ c ∷ d ∷ e ∷ []) ++ take (length piece - 5) (drop 5 piece)
-five [] h p q r s t = absurd (omega arith)
-five (v ∷ []) h p q r s t = absurd (omega arith)
-five (v ∷ w ∷ []) h p q r s t = absurd (omega arith)
-five (v ∷ w ∷ x ∷ []) h p q r s t = absurd (omega arith)
-five (v ∷ w ∷ x ∷ y ∷ []) h p q r s t = absurd (omega arith)
 five (v ∷ w ∷ x ∷ y ∷ z ∷ zs) h p q r s t =
     let all : take (length (v ∷ w ∷ x ∷ y ∷ z ∷ zs) - 5) zs ≡ zs = take_all _ zs (omega arith) in cc
+five _ h p q r s t = absurd (omega arith)
 
 pub opened : (word : Word) (packed a b c d e : ℕ) (piece : List ℕ) → 5 ≤ length piece → get_or piece 0 0 ≡ a
     → get_or piece 1 0 ≡ b → get_or piece 2 0 ≡ c → get_or piece 3 0 ≡ d → get_or piece 4 0 ≡ e
@@ -115,45 +111,37 @@ blank-behind word {value} numbers {rest} number =
 -- a number before the end of a line
 pub last-read : {end value : ℕ} {piece after rest : List ℕ} → IsNumberTo end value piece after → IsEnd end after rest
     → IsLast value piece rest
-last-read {value} {piece} {after} number (inl e) =
-    let feed : IsNumberTo 10 value piece after = subst (λ b. IsNumberTo b value piece after) e.0 number in
-    inl (subst (IsNumberTo 10 value piece) (sym e.1) feed)
-last-read {value} {piece} {after} number (inr e) =
-    let return : IsNumberTo 13 value piece after = subst (λ b. IsNumberTo b value piece after) e.0 number in
-    inr (subst (IsNumberTo 13 value piece) e.1 return)
+last-read {value = value} {piece} number (inl e) =
+    inl (subst₂ (λ b xs. IsNumberTo b value piece xs) e.0 (sym e.1) number)
+last-read {value = value} {piece} number (inr e) =
+    inr (subst₂ (λ b xs. IsNumberTo b value piece xs) e.0 e.1 number)
 
--- two numbers
-two-up-to : {a b end : ℕ} {piece middle rest : List ℕ} → IsNumberTo 32 a piece middle → IsNumberTo end b middle rest
-    → IsUpTo (a ∷ b ∷ []) piece (end ∷ rest)
+-- a number behind others, each with a blank behind it
+up-to-behind : {value end : ℕ} (numbers : List ℕ) {later piece middle rest : List ℕ}
+    → ((word : ℕ) → IsRun (between word []) (between word numbers) piece middle) → IsNumberTo end value middle rest
+    → keep numbers value ≡ later → IsUpTo later piece (end ∷ rest)
 unfolding close_as
-two-up-to {a} {b} first second = record {
-  last = λ word. record (between word (a ∷ [])) { open_field = opens.Number second.count b };
-  run = λ word. run-join (blank-behind word [] first) (second.run (between word (a ∷ [])) refl);
-  closed = λ word. refl;
+up-to-behind {value} numbers before number kept = record {
+  last = λ word. record (between word numbers) { open_field = opens.Number number.count value };
+  run = λ word. run-join (before word) (number.run (between word numbers) refl);
+  closed = λ word. ap (between word) kept;
 }
 
+pub numbers-behind : (value : ℕ) (numbers : List ℕ) {later piece middle : List ℕ} (rest : List ℕ)
+    → ((word : ℕ) → IsRun (between word []) (between word numbers) piece middle) → IsLast value middle rest
+    → keep numbers value ≡ later → IsNumbers later piece rest
+numbers-behind value numbers rest before (inl number) kept = inl (up-to-behind numbers before number kept)
+numbers-behind value numbers rest before (inr number) kept = inr (up-to-behind numbers before number kept)
+
+-- two numbers, and three
 pub two-read : {a : ℕ} (b : ℕ) {piece middle : List ℕ} (rest : List ℕ) → IsNumberTo 32 a piece middle
     → IsLast b middle rest → IsNumbers (a ∷ b ∷ []) piece rest
-two-read b rest first (inl second) = inl (two-up-to first second)
-two-read b rest first (inr second) = inr (two-up-to first second)
-
--- three
-three-up-to : {a b c end : ℕ} {piece middle later rest : List ℕ} → IsNumberTo 32 a piece middle
-    → IsNumberTo 32 b middle later → IsNumberTo end c later rest → IsUpTo (a ∷ b ∷ c ∷ []) piece (end ∷ rest)
-unfolding close_as
-three-up-to {a} {b} {c} first second third = record {
-  last = λ word. record (between word (a ∷ b ∷ [])) { open_field = opens.Number third.count c };
-  run = λ word. run-join (blank-behind word [] first) (run-join (blank-behind word (a ∷ []) second)
-      (third.run (between word (a ∷ b ∷ [])) refl));
-  closed = λ word. refl;
-}
+two-read {a} b rest first last = numbers-behind b (a ∷ []) rest (λ word. blank-behind word [] first) last refl
 
 pub three-read : {a b : ℕ} (c : ℕ) {piece middle later : List ℕ} (rest : List ℕ) → IsNumberTo 32 a piece middle
     → IsNumberTo 32 b middle later → IsLast c later rest → IsNumbers (a ∷ b ∷ c ∷ []) piece rest
-three-read c rest first second (inl third) =
-    inl (three-up-to first second third)
-three-read c rest first second (inr third) =
-    inr (three-up-to first second third)
+three-read {a} {b} c rest first second last = numbers-behind c (a ∷ b ∷ []) rest
+    (λ word. run-join (blank-behind word [] first) (blank-behind word (a ∷ []) second)) last refl
 
 -- a reader before a line
 abbrev resting : ℕ → Said → ReaderState
@@ -169,15 +157,6 @@ judged last said packed numbers closed named =
     ∙ ap (λ w. judge_word said w (Some numbers)) named
 
 -- a line that lies whole at the front, up to its end
-abbrev judged_at : ℕ → Said → Word → List ℕ → ReaderState
-judged_at m said word numbers = record {
-  said = fault_at (m + 1) (judge_word said (Some word) (Some numbers));
-  lines = m + 1;
-  begun = false;
-  held = false;
-  line = fresh;
-}
-
 up-to-shorter : {word : Word} {numbers piece after left : List ℕ} → Opens word piece after → IsUpTo numbers after left
     → length left < length piece
 up-to-shorter opening ends =
@@ -192,39 +171,25 @@ up-to-read : (m : ℕ) (said : Said) {word : Word} {numbers piece after left : L
       line = ends.last opening.packed;
     }) left ≡ after_bytes (resting m said) piece
 up-to-read m said opening ends =
-    let packed = opening.packed in
-    let last = ends.last packed in
-    ran None false false m said refl refl (run-join opening.run (ends.run packed)) (up-to-shorter opening ends)
+    ran None false false m said refl refl (run-join opening.run (ends.run opening.packed)) (up-to-shorter opening ends)
 
 judged-line : (m : ℕ) (said : Said) {word : Word} {numbers piece after left : List ℕ} (rest : List ℕ)
-    (opening : Opens word piece after) (ends : IsUpTo numbers after left) → after_bytes (judged_at m said word numbers)
-    rest ≡ after_bytes (record {
-      said = fault_at (m + 1) (end_line (ends.last opening.packed) said);
-      lines = m + 1;
-      begun = false;
-      held = false;
-      line = fresh;
-    }) rest
+    (opening : Opens word piece after) (ends : IsUpTo numbers after left)
+    → after_bytes (past m (judge_word said (Some word) (Some numbers))) rest
+    ≡ after_bytes (past m (end_line (ends.last opening.packed) said)) rest
 judged-line m said {numbers} rest opening ends =
     let packed = opening.packed in
-    ap (λ s. after_bytes (record {
-      said = fault_at (m + 1) s;
-      lines = m + 1;
-      begun = false;
-      held = false;
-      line = fresh;
-    }) rest) (sym (judged (ends.last packed) said packed numbers (ends.closed packed) opening.named))
+    ap (λ s. after_bytes (past m s) rest)
+    (sym (judged (ends.last packed) said packed numbers (ends.closed packed) opening.named))
 
 pub whole-read : (m : ℕ) (said : Said) {word : Word} (numbers : List ℕ) {piece after : List ℕ} (rest : List ℕ)
-    → Opens word piece after → IsNumbers numbers after rest → after_bytes (judged_at m said word numbers)
-    rest ≡ after_bytes (resting m said) piece
+    → Opens word piece after → IsNumbers numbers after rest
+    → after_bytes (past m (judge_word said (Some word) (Some numbers))) rest ≡ after_bytes (resting m said) piece
 unfolding after_bytes next past_line release
 whole-read m said numbers rest opening (inl ends) =
-    judged-line m said rest opening ends
-    ∙ up-to-read m said opening ends
+    judged-line m said rest opening ends ∙ up-to-read m said opening ends
 whole-read m said numbers rest opening (inr ends) =
-    judged-line m said rest opening ends
-    ∙ up-to-read m said opening ends
+    judged-line m said rest opening ends ∙ up-to-read m said opening ends
 
 pub heard-whole : {old new : ReaderState} (m : ℕ) (said : Said) {word : Word} (numbers : List ℕ) {piece after : List ℕ}
     (rest : List ℕ) → old ≡ resting m said
@@ -254,7 +219,7 @@ comment-to {piece} {after} {left} taken begins back inside =
     let comment : LineState = record fresh { open_field = opens.Comment } in
     let first : IsRun fresh fresh piece (35 ∷ after) = subst (IsRun fresh fresh piece) begins (run-none fresh piece) in
     let run : IsRun comment comment after left =
-    run-comment comment taken after refl refl back inside in
+    run-settled comment-settled comment taken after refl refl back inside in
     record {
       run = run-more first refl run;
       shorter = omega (arith, ap length begins, run-length run);
@@ -262,12 +227,8 @@ comment-to {piece} {after} {left} taken begins back inside =
 
 pub comment-ends : {piece : List ℕ} {end : ℕ} {behind rest : List ℕ} → IsCommentTo piece (end ∷ behind)
     → IsEnd end behind rest → IsComment piece rest
-comment-ends {piece} {behind} comment (inl e) =
-    let feed : IsCommentTo piece (10 ∷ behind) = subst (λ b. IsCommentTo piece (b ∷ behind)) e.0 comment in
-    inl (subst (λ xs. IsCommentTo piece (10 ∷ xs)) (sym e.1) feed)
-comment-ends {piece} {behind} comment (inr e) =
-    let return : IsCommentTo piece (13 ∷ behind) = subst (λ b. IsCommentTo piece (b ∷ behind)) e.0 comment in
-    inr (subst (λ xs. IsCommentTo piece (13 ∷ xs)) e.1 return)
+comment-ends {piece} comment (inl e) = inl (subst₂ (λ b xs. IsCommentTo piece (b ∷ xs)) e.0 (sym e.1) comment)
+comment-ends {piece} comment (inr e) = inr (subst₂ (λ b xs. IsCommentTo piece (b ∷ xs)) e.0 e.1 comment)
 
 comment-read : (m : ℕ) (said : Said) (piece rest : List ℕ) → IsComment piece rest
     → after_bytes (resting (m + 1) said) rest ≡ after_bytes (resting m said) piece
@@ -291,20 +252,14 @@ comment-shorter piece rest (inr comment) = omega (arith, comment.shorter)
 pub still-rests : {old : Scan} (new : Scan) (said : Result Said InputFault) (m : ℕ) → Rests old
     → seen_scan new ≡ record (seen_scan old) { said = said; lines = m } → new.fault ≡ None → Rests new
 still-rests new said m rests same going =
-    let begun : new.begun ≡ false =
-    ap (λ (r : ReaderState). r.begun) same ∙ ap (λ (r : ReaderState). r.begun) rests.seen in
-    let held : new.held ≡ false =
-    ap (λ (r : ReaderState). r.held) same ∙ ap (λ (r : ReaderState). r.held) rests.seen in
-    let line : seen_line new.line ≡ fresh =
-    ap (λ (r : ReaderState). r.line) same ∙ ap (λ (r : ReaderState). r.line) rests.seen in
-    let known = seen_known new.known in
-    let state : Result Said InputFault → Bool → Bool → LineState → ReaderState = λ said begun held line.
-    record { said = said; lines = new.lines; begun = begun; held = held; line = line } in
+    let is = same ∙ ap (λ (r : ReaderState). record r { said = said; lines = m }) rests.seen in
+    let known : said ≡ Ok (seen_known new.known) =
+    sym (ap (λ (r : ReaderState). r.said) is) ∙ ap (λ f. said_or_fault f (seen_known new.known)) going in
+    let count : m ≡ new.lines = sym (ap (λ (r : ReaderState). r.lines) is) in
     record {
       going = going;
-      seen = ap (λ f. state (said_or_fault f known) new.begun new.held (seen_line new.line)) going
-          ∙ ap (λ b. state (Ok known) b new.held (seen_line new.line)) begun
-          ∙ ap (λ h. state (Ok known) false h (seen_line new.line)) held ∙ ap (state (Ok known) false false) line;
+      seen = is ∙ ap (λ s. record { said = s; lines = m; begun = false; held = false; line = fresh }) known
+          ∙ ap (λ n. resting n (seen_known new.known)) count;
     }
 
 -- what is left behind a line says the same as what stands there
@@ -328,3 +283,33 @@ pub left-going : (fault : Option InputFault) (behind left : List ℕ) → IsLeft
     → fault ≡ None
 left-going None behind left is some = refl
 left-going (Some fault) behind left is some = absurd (omega (arith, ap length is, some))
+
+-- a line with numbers that was heard whole, and what is left behind it
+pub line-heard : (old new : Scan) {word : Word} (numbers : List ℕ) {piece after : List ℕ} (rest left : List ℕ)
+    → Rests old → Opens word piece after → IsNumbers numbers after rest
+    → record {
+      read : seen_scan new ≡ record (seen_scan old) {
+        said = fault_at (old.lines + 1) (judge_word (seen_known old.known) (Some word) (Some numbers));
+        lines = old.lines + 1;
+      };
+      well : IsWell new.fault new.known;
+      lines : new.lines ≡ old.lines + 1;
+      left : IsLeft new.fault rest left;
+    } → record {
+      read : after_bytes (seen_scan new) left ≡ after_bytes (seen_scan old) piece;
+      shorter : length left ≤ length piece;
+      lines : new.lines + length left ≤ old.lines + length piece;
+      well : IsWell new.fault new.known;
+      rests : 0 < length left → Rests new;
+    }
+line-heard old new numbers rest left rests opening ends heard =
+    let shorter = whole-shorter numbers rest opening ends in
+    let fewer = left-shorter new.fault rest left heard.left in
+    record {
+      read = left-read new rest left heard.left
+          ∙ heard-whole old.lines (seen_known old.known) numbers rest rests.seen heard.read opening ends;
+      shorter = omega (arith, shorter, fewer);
+      lines = omega (arith, heard.lines, shorter, fewer);
+      well = heard.well;
+      rests = λ some. still-rests new _ _ rests heard.read (left-going new.fault rest left heard.left some);
+    }

@@ -1,10 +1,9 @@
 -- What a list of calls says of one actor: its script, call by call, and with one call more at the
 -- end; and how many calls all scripts have.
 -- Key laws: `script-cons`, `script-append`, `script-at`, `scripts-few`, `call-taken`.
-use Rattle.std.proofs.Common.{◌≡◌, ◌≢◌, ℕ, zero, suc, ◌+◌, ◌-◌, ◌<◌, ◌≤◌, Bool, true, false, cond, eqb, List, [], ◌∷◌, ◌++◌}
-use Rattle.std.proofs.Common.{append-nil, append_assoc, filter, length, map, get_or, set, refl, ap, sym, ◌∙◌, arith}
+use Rattle.std.proofs.Common.{◌≡◌, ◌≢◌, ℕ, zero, suc, ◌+◌, ◌-◌, ◌<◌, ◌≤◌, Bool, true, false, cond, eqb, List, [], ◌∷◌, ◌++◌, append-nil, append_assoc, filter, length, map, get_or, set, refl, ap, sym, ◌∙◌, arith}
 use Rattle.std.proofs.lemmas.Bool.Decides.{nat_tests}
-use Rattle.std.proofs.lemmas.List.{map-set, length-map}
+use Rattle.std.proofs.lemmas.List.{map-set, length-map, get_or-map}
 use Rattle.net_reader.specs.declared.said.Call.{Call}
 use Rattle.net_reader.specs.declared.said.Spoken.{Spoken}
 use Rattle.net_reader.specs.Input.{numbers_from}
@@ -188,12 +187,6 @@ scripts-at from (suc n) (suc at) calls d below is =
     ∙ ap (λ ss. script_of from (calls ++ d ∷ []) ∷ ss)
     (scripts-at (from + 1) n at calls d (omega (arith, below)) (omega (arith, is)))
 
-get-map : {V : Type 0} (f : V → List Call) (xs : List V) (i : ℕ) (d : V) → i < length xs
-    → get_or (map f xs) i [] ≡ f (get_or xs i d)
-get-map f [] i d below = absurd (omega (arith, below))
-get-map f (x ∷ xs) zero d below = refl
-get-map f (x ∷ xs) (suc i) d below = get-map f xs i d (omega (arith, below))
-
 -- the same over what the scripts are kept in
 pub call-taken : {V : Type 0} (items : V → List Call) (made : List V) (was now : V) (n : ℕ)
     (calls : List Spoken)
@@ -204,7 +197,7 @@ pub call-taken : {V : Type 0} (items : V → List Call) (made : List V) (was now
 call-taken items made was now n calls d are below found is =
     let count = length-map made items in
     let script : items was ≡ get_or (map items made) d.actor [] =
-    ap items found ∙ sym (get-map items made d.actor was below) in
+    ap items found ∙ sym (get_or-map items made d.actor was [] below) in
     map-set items made d.actor now
     ∙ ap (set (map items made) d.actor) (is ∙ ap (λ s. s ++ d.call ∷ []) script)
     ∙ ap (λ ss. set ss d.actor (get_or ss d.actor [] ++ d.call ∷ [])) are

@@ -10,4 +10,5 @@ pub mod Sound
 pub mod Reading
 pub mod Valid
 pub mod CallLaws
+pub mod LineLaws
 pub mod Laws

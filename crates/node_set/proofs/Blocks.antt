@@ -1,6 +1,5 @@
 -- Blocks of words: what one block tells, and what the blocks tell together.
-use Rattle.std.proofs.Common.{◌≡◌, inl, inr, ℕ, zero, suc, ◌+◌, ◌-◌, ◌<◌, ◌≤◌, ◌↔◌, Bool, IsTrue, List, [], ◌∷◌, length, take, drop, get_or, sym, ◌∙◌, ap, subst, arith}
-use Rattle.std.proofs.Common.{min, ◌^◌, w64}
+use Rattle.std.proofs.Common.{◌≡◌, inl, inr, ℕ, zero, suc, ◌+◌, ◌-◌, ◌<◌, ◌≤◌, ◌↔◌, Bool, IsTrue, List, [], ◌∷◌, length, take, drop, get_or, sym, ◌∙◌, ap, subst, arith, min, ◌^◌, w64}
 use Rattle.std.specs.Prelude.{bit_or, bit_and, not, nat_eq}
 use Rattle.std.specs.Int.{bit_at, trailing_zeros}
 use Rattle.std.proofs.lemmas.Bool.{cases_lt, false≢true}
@@ -34,9 +33,12 @@ fold_from (x ∷ xs) some = elim (cases_lt 0 x) [
       (suc found.0, omega (arith, found.1), found.2)
 ]
 
+-- what the four words of both from a place on have in common
+abbrev common : List ℕ → List ℕ → ℕ → List ℕ
+common a b at = zip2 bit_and (take 4 (drop at a)) (take 4 (drop at b))
+
 block_place : (a b : List ℕ) (at i : ℕ) → at + 4 ≤ length a → at + 4 ≤ length b → i < 4 →
-    get_or (zip2 bit_and (take 4 (drop at a)) (take 4 (drop at b))) i 0 ≡ bit_and (get_or a (at + i) 0)
-    (get_or b (at + i) 0)
+    get_or (common a b at) i 0 ≡ bit_and (get_or a (at + i) 0) (get_or b (at + i) 0)
 block_place a b at i fits_a fits_b h =
     get_or-zip2 bit_and (chunk at 4 a) (chunk at 4 b) i 0 0 0 (omega (arith, length-chunk at 4 a fits_a))
     (omega (arith, length-chunk at 4 b fits_b)) ∙
@@ -44,9 +46,9 @@ block_place a b at i fits_a fits_b h =
     ∙ ap (λ n. bit_and (get_or a (at + i) 0) n) (get_or-chunk at 4 b i 0 h))
 
 block_found : (a b : List ℕ) (at : ℕ) → at + 4 ≤ length a → at + 4 ≤ length b
-    → 0 < fold_l bit_or 0 (zip2 bit_and (take 4 (drop at a)) (take 4 (drop at b))) → MeetWithin a b at (at + 4)
+    → 0 < fold_l bit_or 0 (common a b at) → MeetWithin a b at (at + 4)
 block_found a b at fits_a fits_b some =
-    let found = fold_from (zip2 bit_and (take 4 (drop at a)) (take 4 (drop at b))) some in
+    let found = fold_from (common a b at) some in
     let near : found.0 < 4 = omega (
       arith,
       found.1,
@@ -57,66 +59,50 @@ block_found a b at fits_a fits_b some =
     (at + found.0, omega arith, omega arith, subst (λ n. 0 < n) (block_place a b at found.0 fits_a fits_b near) found.2)
 
 block_some : (a b : List ℕ) (at : ℕ) → at + 4 ≤ length a → at + 4 ≤ length b → MeetWithin a b at (at + 4)
-    → 0 < fold_l bit_or 0 (zip2 bit_and (take 4 (drop at a)) (take 4 (drop at b)))
+    → 0 < fold_l bit_or 0 (common a b at)
 block_some a b at fits_a fits_b place =
     let e : at + (place.0 - at) ≡ place.0 = omega (arith, place.1) in
-    let here : get_or (zip2 bit_and (take 4 (drop at a)) (take 4 (drop at b))) (place.0 - at) 0 ≡ bit_and
-    (get_or a place.0 0) (get_or b place.0 0) =
-    subst (λ n. get_or (zip2 bit_and (take 4 (drop at a)) (take 4 (drop at b))) (place.0 - at) 0 ≡ bit_and
-    (get_or a n 0) (get_or b n 0)) e (block_place a b at (place.0 - at) fits_a fits_b
-    (omega (arith, place.1, place.2)))
-    in
-    omega (arith, here, place.3, fold_has (zip2 bit_and (take 4 (drop at a)) (take 4 (drop at b))) 0 (place.0 - at))
+    let here = rw e at (block_place a b at (place.0 - at) fits_a fits_b (omega (arith, place.1, place.2))) in
+    omega (arith, here, place.3, fold_has (common a b at) 0 (place.0 - at))
 
 is_some : (n : ℕ) → IsTrue (not (nat_eq n 0)) ↔ (0 < n)
 is_some zero = (λ h. absurd (false≢true h), λ h. absurd (omega arith))
 is_some (suc n) = (λ h. omega arith, λ h. grind (arith, nat_tests))
 
 pub block_meet : (a b : List ℕ) (at : ℕ) → at + 4 ≤ length a → at + 4 ≤ length b →
-    IsTrue (not (nat_eq (fold_l bit_or 0 (zip2 bit_and (take 4 (drop at a)) (take 4 (drop at b)))) 0))
-    ↔ MeetWithin a b at (at + 4)
+    IsTrue (not (nat_eq (fold_l bit_or 0 (common a b at)) 0)) ↔ MeetWithin a b at (at + 4)
 block_meet a b at fits_a fits_b =
-    let test : IsTrue (not (nat_eq (fold_l bit_or 0 (zip2 bit_and (take 4 (drop at a)) (take 4 (drop at b)))) 0)) ↔
-    (0 < fold_l bit_or 0 (zip2 bit_and (take 4 (drop at a)) (take 4 (drop at b)))) =
-    is_some (fold_l bit_or 0 (zip2 bit_and (take 4 (drop at a)) (take 4 (drop at b))))
-    in
+    let test = is_some (fold_l bit_or 0 (common a b at)) in
     (λ h. block_found a b at fits_a fits_b (test.0 h), λ h. test.1 (block_some a b at fits_a fits_b h))
 
 -- ---- a block absorbed
 
 module _ (a b : List ℕ) (at : ℕ) (fits_a : at + 4 ≤ length a) (fits_b : at + 4 ≤ length b) where
-  either : List ℕ
+  abbrev either : List ℕ
   either = zip2 bit_or (take 4 (drop at a)) (take 4 (drop at b))
 
   lanes : length either ≡ 4
-  unfolding either
   lanes = length-zip2 bit_or (chunk at 4 a) (chunk at 4 b)
       (length-chunk at 4 a fits_a ∙ sym (length-chunk at 4 b fits_b)) ∙ length-chunk at 4 a fits_a
 
   placed : (i : ℕ) → i < 4 → get_or (put_chunk at a either) (at + i) 0 ≡ bit_or (get_or a (at + i) 0)
       (get_or b (at + i) 0)
-  unfolding either
   placed i h =
-      get_or-put_chunk_at at a (zip2 bit_or (take 4 (drop at a)) (take 4 (drop at b))) i 0 (omega (arith, lanes))
-      (omega (arith, lanes)) ∙
+      get_or-put_chunk_at at a either i 0 (omega (arith, lanes)) (omega (arith, lanes)) ∙
       (get_or-zip2 bit_or (chunk at 4 a) (chunk at 4 b) i 0 0 0 (omega (arith, length-chunk at 4 a fits_a))
       (omega (arith, length-chunk at 4 b fits_b)) ∙
       (ap (λ n. bit_or n (get_or (chunk at 4 b) i 0)) (get_or-chunk at 4 a i 0 h)
       ∙ ap (λ n. bit_or (get_or a (at + i) 0) n) (get_or-chunk at 4 b i 0 h)))
 
-  pub block_joined : AreWordsJoinedWithin a b
-      (put_chunk at a (zip2 bit_or (take 4 (drop at a)) (take 4 (drop at b)))) at
-      (at + 4)
-  unfolding either
+  pub block_joined : AreWordsJoinedWithin a b (put_chunk at a either) at (at + 4)
   block_joined = record {
-    enough = length-put_chunk at a (zip2 bit_or (take 4 (drop at a)) (take 4 (drop at b)));
+    enough = length-put_chunk at a either;
     joined = λ k low high.
         let e : at + (k - at) ≡ k = omega arith in
-        subst (λ n. get_or (put_chunk at a (zip2 bit_or (take 4 (drop at a)) (take 4 (drop at b)))) n 0 ≡ bit_or
-        (get_or a n 0) (get_or b n 0)) e (placed (k - at) (omega arith));
-    before = λ k low. get_or-put_chunk_below at a (zip2 bit_or (take 4 (drop at a)) (take 4 (drop at b))) k 0 low;
-    after = λ k high. get_or-put_chunk_above at a (zip2 bit_or (take 4 (drop at a)) (take 4 (drop at b))) k 0
-        (omega (arith, lanes));
+        subst (λ n. get_or (put_chunk at a either) n 0 ≡ bit_or (get_or a n 0) (get_or b n 0)) e
+        (placed (k - at) (omega arith));
+    before = λ k low. get_or-put_chunk_below at a either k 0 low;
+    after = λ k high. get_or-put_chunk_above at a either k 0 (omega (arith, lanes));
   }
 
 -- ---- all blocks, and what is left behind the last
@@ -124,18 +110,11 @@ module _ (a b : List ℕ) (at : ℕ) (fits_a : at + 4 ≤ length a) (fits_b : at
 -- where a word of both has common bits, one of the first 64 is set in both
 shared_bit : (x y : ℕ) → x < 2 ^ 64 → 0 < bit_and x y → (i : ℕ) × (i < 64) × (bit_at x i ≡ 1) × (bit_at y i ≡ 1)
 shared_bit x y small some =
-    let less : bit_and x y < 2 ^ 64 = omega (arith, and_le_l x y) in
-    let found : (trailing_zeros w64 (bit_and x y) < 64) × (bit_at (bit_and x y) (trailing_zeros w64 (bit_and x y)) ≡ 1)
-    × ((i : ℕ) → i < trailing_zeros w64 (bit_and x y) → bit_at (bit_and x y) i ≡ 0) =
-    bit_at-trailing_zeros w64 (bit_and x y) (omega arith) less
-    in
-    let one : min (bit_at x (trailing_zeros w64 (bit_and x y))) (bit_at y (trailing_zeros w64 (bit_and x y))) ≡ 1 =
-    sym (bit_at_and x y (trailing_zeros w64 (bit_and x y))) ∙ found.1 in
-    let both : (bit_at x (trailing_zeros w64 (bit_and x y)) ≡ 1) × (bit_at y (trailing_zeros w64 (bit_and x y)) ≡ 1) =
-    both_one (bit_at x (trailing_zeros w64 (bit_and x y))) (bit_at y (trailing_zeros w64 (bit_and x y)))
-    (bit_at-lt x (trailing_zeros w64 (bit_and x y))) (bit_at-lt y (trailing_zeros w64 (bit_and x y))) one
-    in
-    (trailing_zeros w64 (bit_and x y), found.0, both.0, both.1)
+    let t = trailing_zeros w64 (bit_and x y) in
+    let found = bit_at-trailing_zeros w64 (bit_and x y) (omega arith) (omega (arith, and_le_l x y)) in
+    let one : min (bit_at x t) (bit_at y t) ≡ 1 = sym (bit_at_and x y t) ∙ found.1 in
+    let both = both_one (bit_at x t) (bit_at y t) (bit_at-lt x t) (bit_at-lt y t) one in
+    (t, found.0, both.0, both.1)
   where
     both_one : (a b : ℕ) → a < 2 → b < 2 → min a b ≡ 1 → (a ≡ 1) × (b ≡ 1)
     both_one a b h k e = (omega arith, omega arith)

@@ -1,6 +1,5 @@
 -- What one ball more makes of a union, and one home more of the homes.
-use Rattle.std.proofs.Common.{◌≡◌, inl, inr, ℕ, ◌+◌, ◌<◌, ◌≤◌, Bool, true, false, cond, ◌&&◌, ◌||◌, List, [], ◌∷◌, ◌++◌}
-use Rattle.std.proofs.Common.{length, filter, get_or, set, refl, sym, ◌∙◌, ap, arith}
+use Rattle.std.proofs.Common.{◌≡◌, inl, inr, ℕ, ◌+◌, ◌<◌, ◌≤◌, Bool, false, cond, ◌&&◌, ◌||◌, List, [], ◌∷◌, ◌++◌, length, filter, get_or, set, refl, sym, ◌∙◌, ap, arith}
 use Rattle.std.proofs.lemmas.Bool.{cases_lt, cases_eq}
 use Rattle.std.proofs.lemmas.List.{get_or-set_same, get_or-set_other}
 use Rattle.node_set.specs.Ascending.{has, IsAscending, union, sift}
@@ -14,10 +13,7 @@ use Rattle.std.proofs.Math.Bool.{or-false, or_assoc}
 -- ---- one ball more
 
 or_both : (a b c : Bool) → (a || (b || c)) ≡ ((b || a) || c)
-or_both true true c = refl
-or_both true false c = refl
-or_both false true c = refl
-or_both false false c = refl
+or_both a b c = grind arith
 
 union_push : (balls : List (List ℕ)) (x v : ℕ) (vs : List ℕ)
     → has x (union_of balls (vs ++ v ∷ [])) ≡ (has x (union_of balls vs) || has x (ball balls v))
@@ -47,10 +43,11 @@ absorb_next balls {centres} old nodes {b} {from} {v} next is before x =
 
 -- ---- one home more
 
-module _ (taken : List ℕ) (number from v : ℕ) (old home : List ℕ) (next : IsNext taken from v) (short : v < length home)
+module _ {taken : List ℕ} (number : ℕ) {from v : ℕ} (old home : List ℕ) (next : IsNext taken from v)
+    (short : v < length home)
     (done : (x : ℕ) → x < from → get_or home x 0 ≡ cond (has x taken) number (get_or old x 0))
     (left : (x : ℕ) → from ≤ x → get_or home x 0 ≡ get_or old x 0) where
-  pub homes_done : (x : ℕ) → x < v + 1 → get_or (set home v number) x 0 ≡ cond (has x taken) number (get_or old x 0)
+  homes_done : (x : ℕ) → x < v + 1 → get_or (set home v number) x 0 ≡ cond (has x taken) number (get_or old x 0)
   homes_done x below = elim (cases_eq x v) [
     | inl same ↦
         ap (λ y. get_or (set home v number) y 0) same ∙ get_or-set_same home v number 0 short
@@ -62,8 +59,14 @@ module _ (taken : List ℕ) (number from v : ℕ) (old home : List ℕ) (next : 
     ]
   ]
 
-  pub homes_left : (x : ℕ) → v + 1 ≤ x → get_or (set home v number) x 0 ≡ get_or old x 0
+  homes_left : (x : ℕ) → v + 1 ≤ x → get_or (set home v number) x 0 ≡ get_or old x 0
   homes_left x past = get_or-set_other home v x number 0 (λ same. omega arith) ∙ left x (omega (arith, next.reached))
+
+  pub homes_more : record {
+    done : (x : ℕ) → x < v + 1 → get_or (set home v number) x 0 ≡ cond (has x taken) number (get_or old x 0);
+    left : (x : ℕ) → v + 1 ≤ x → get_or (set home v number) x 0 ≡ get_or old x 0;
+  }
+  homes_more = record { done = homes_done; left = homes_left }
 
 pub homes_end : (taken : List ℕ) (number from : ℕ) (old home : List ℕ) → IsNoneFrom taken from
     → ((x : ℕ) → x < from → get_or home x 0 ≡ cond (has x taken) number (get_or old x 0))
@@ -84,7 +87,4 @@ same_filter xs ys xs_ascend ys_ascend =
     (λ x. has-filter (λ v. has v ys) x xs ∙ both (has x xs) (has x ys) ∙ sym (has-filter (λ v. has v xs) x ys))
   where
     both : (a b : Bool) → (a && b) ≡ (b && a)
-    both true true = refl
-    both true false = refl
-    both false true = refl
-    both false false = refl
+    both a b = grind arith

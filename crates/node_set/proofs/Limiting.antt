@@ -26,10 +26,7 @@ pub one_more : (test : ℕ → Bool) (word i : ℕ) → i < 64 → test i ≡ tr
     → ((j : ℕ) → j < 64 → (bit_at word j == 1) ≡ (nat_lt j i && test j))
     → (j : ℕ) → j < 64 → (bit_at (bit_or word (1 * 2 ^ i % 2 ^ 64)) j == 1) ≡ (nat_lt j (i + 1) && test j)
 one_more test word i below here before j short = elim (cases_eq j i) [
-  | inl same ↦
-      ap (λ n. bit_at (bit_or word (1 * 2 ^ i % 2 ^ 64)) n == 1) same
-      ∙ ap (λ n. n == 1) (bit_at_set_same w64 word i below)
-      ∙ sym (ap (λ b. b && test j) (lt-ltb j (i + 1) (omega arith)) ∙ ap test same ∙ here)
+  | inl same ↦ rw (same, bit_at_set_same w64 word i below, lt-ltb i (i + 1) (omega arith), here) refl
   | inr other ↦
       ap (λ n. n == 1) (bit_at_set_other w64 word i below j other) ∙ before j short ∙ grind (arith, nat_tests)
 ]
@@ -39,9 +36,7 @@ pub one_less : (test : ℕ → Bool) (word i : ℕ) → test i ≡ false
     → ((j : ℕ) → j < 64 → (bit_at word j == 1) ≡ (nat_lt j i && test j))
     → (j : ℕ) → j < 64 → (bit_at word j == 1) ≡ (nat_lt j (i + 1) && test j)
 one_less test word i here before j short = elim (cases_eq j i) [
-  | inl same ↦
-      before j short ∙ ap (λ b. b && test j) (le-ltb j i (omega arith))
-      ∙ sym (ap (λ b. b && test j) (lt-ltb j (i + 1) (omega arith)) ∙ ap test same ∙ here)
+  | inl same ↦ before j short ∙ rw (same, le-ltb i i (omega arith), here, lt-ltb i (i + 1) (omega arith)) refl
   | inr other ↦ before j short ∙ grind (arith, nat_tests)
 ]
 
@@ -103,12 +98,10 @@ is_within : (numbers : List ℕ) (limit x : ℕ)
     → has x (sift (λ y. nat_le (slice_index numbers y) limit) 0 (length numbers))
     ≡ (nat_lt x (length numbers) && nat_le (slice_index numbers x) limit)
 is_within numbers limit x = elim (cases_lt x (length numbers)) [
-  | inl below ↦
-      has-passing (λ y. nat_le (slice_index numbers y) limit) x 0 (length numbers) (omega arith) (omega arith)
-      ∙ sym (ap (λ t. t && nat_le (slice_index numbers x) limit) (lt-ltb x (length numbers) below))
-  | inr over ↦
-      passing_over (λ y. nat_le (slice_index numbers y) limit) x 0 (length numbers) (omega arith)
-      ∙ sym (ap (λ t. t && nat_le (slice_index numbers x) limit) (le-ltb x (length numbers) over))
+  | inl below ↦ rw (lt-ltb x (length numbers) below)
+      (has-passing (λ y. nat_le (slice_index numbers y) limit) x 0 (length numbers) (omega arith) (omega arith))
+  | inr over ↦ rw (le-ltb x (length numbers) over)
+      (passing_over (λ y. nat_le (slice_index numbers y) limit) x 0 (length numbers) (omega arith))
 ]
 
 pub within_bits : {numbers : List ℕ} {limit : ℕ} {words : List ℕ} → AreWithin numbers limit (length numbers) words

@@ -1,9 +1,10 @@
 -- What is left of a set's words where those of another cut them.
-use Rattle.std.proofs.Common.{◌≡◌, inl, inr, ℕ, ◌-◌, ◌/◌, ◌%◌, ◌<◌, ◌^◌, ◌&&◌, List, length, filter, get_or, min, refl, sym, ◌∙◌, ap, arith, not, w64}
+use Rattle.std.proofs.Common.{◌≡◌, inl, inr, ℕ, ◌-◌, ◌/◌, ◌%◌, ◌<◌, ◌^◌, ◌&&◌, ◌++◌, Bool, List, length, take, drop, filter, get_or, min, refl, sym, ◌∙◌, ap, arith, not, w64}
 use Rattle.std.specs.Prelude.{◌==◌, bit_and}
 use Rattle.std.specs.Int.{bit_at, bit_not}
 use Rattle.std.proofs.lemmas.Bool.Decides.{nat_tests}
 use Rattle.std.proofs.lemmas.Bool.{cases_lt}
+use Rattle.std.proofs.lemmas.List.{take_at}
 use Rattle.std.proofs.lemmas.Nat.Bits.{bit_at_and, bit_at_not, bit_at-lt}
 use Rattle.node_set.specs.Ascending.{has}
 use Rattle.node_set.specs.Lanes.{AreWordsKept, AreWordsRemoved}
@@ -11,68 +12,63 @@ use Rattle.node_set.specs.Nodes.{AreWords, is_set, set_bits}
 use Rattle.node_set.specs.FilterLaws.{ascending-filter, has-filter}
 use Rattle.node_set.proofs.Words.{is_set_past, has-set_bits, ascending-set_bits, same_as_bits}
 
--- ---- what both have
+-- of each bit of the first the new words have what a test of the second's says
+pub record IsCut (test : Bool → Bool) (a b new : List ℕ) : Type 0 where
+  pub enough : length new ≡ length a
+  pub bits : (k i : ℕ) → k < length a → i < 64
+      → (bit_at (get_or new k 0) i == 1) ≡ (bit_at (get_or a k 0) i == 1 && test (bit_at (get_or b k 0) i == 1))
+
+is_set-cut : {test : Bool → Bool} {a b new : List ℕ} (x : ℕ) → IsCut test a b new
+    → is_set new x ≡ (is_set a x && test (is_set b x))
+is_set-cut {a = a} {new = new} x cut =
+    elim (cases_lt (x / 64) (length a)) [
+      | inl below ↦ cut.bits (x / 64) (x % 64) below (omega arith)
+      | inr over ↦ rw (is_set_past new x (omega (arith, cut.enough)), is_set_past a x over) refl
+    ]
+
+-- a set whose words were cut and written over whole
+pub cut_set : {test : Bool → Bool} {room len : ℕ} {a b new : List ℕ} → AreWords room a → IsCut test a b new
+    → len ≡ length a
+    → AreWords room (take len (new ++ drop (length new) a))
+    × (set_bits (take len (new ++ drop (length new) a)) ≡ filter (λ v. test (has v (set_bits b))) (set_bits a))
+cut_set {test} {len = len} {a} {b} {new} ok cut count =
+    rw (take_at new (drop (length new) a) len (cut.enough ∙ sym count)) (
+      record {
+        small = ok.small;
+        enough = cut.enough ∙ ok.enough;
+        tail = λ x over. is_set-cut x cut ∙ rw (ok.tail x over) refl;
+      },
+      same_as_bits new (filter (λ v. test (has v (set_bits b))) (set_bits a))
+          (ascending-filter (λ v. test (has v (set_bits b))) (set_bits a) (ascending-set_bits a))
+          (λ x. is_set-cut x cut ∙ sym (rw (
+            has-filter (λ v. test (has v (set_bits b))) x (set_bits a),
+            has-set_bits a x,
+            has-set_bits b x,
+          ) refl)),
+    )
+
+-- ---- what both have, and what the second hasn't
 
 bit_both : (a b : ℕ) → a < 2 → b < 2 → min a b == 1 ≡ (a == 1 && b == 1)
 bit_both a b h k = grind (arith, nat_tests)
 
-is_set-kept : {a b new : List ℕ} (x : ℕ) → AreWordsKept a b new → length a ≡ length b
-    → is_set new x ≡ (is_set a x && is_set b x)
-is_set-kept {a} {b} {new} x all same =
-    elim (cases_lt (x / 64) (length a)) [
-      | inl below ↦
-          rw (all.kept (x / 64) below, bit_at_and (get_or a (x / 64) 0) (get_or b (x / 64) 0) (x % 64))
-          (bit_both (bit_at (get_or a (x / 64) 0) (x % 64)) (bit_at (get_or b (x / 64) 0) (x % 64))
-          (bit_at-lt (get_or a (x / 64) 0) (x % 64)) (bit_at-lt (get_or b (x / 64) 0) (x % 64)))
-      | inr over ↦ rw (is_set_past new x (omega (arith, all.enough)), is_set_past a x over) refl
-    ]
-
-pub keep_bits : {a b new : List ℕ} → AreWordsKept a b new → length a ≡ length b
-    → set_bits new ≡ filter (λ v. has v (set_bits b)) (set_bits a)
-keep_bits {a} {b} {new} all same =
-    same_as_bits new (filter (λ v. has v (set_bits b)) (set_bits a))
-    (ascending-filter (λ v. has v (set_bits b)) (set_bits a) (ascending-set_bits a))
-    (λ x. is_set-kept x all same
-    ∙ sym (rw (has-filter (λ v. has v (set_bits b)) x (set_bits a), has-set_bits a x, has-set_bits b x) refl))
-
-pub words-keep : {room : ℕ} {a b new : List ℕ} → AreWords room a → AreWordsKept a b new → length a ≡ length b
-    → AreWords room new
-words-keep ok all same = record {
-  small = ok.small;
-  enough = all.enough ∙ ok.enough;
-  tail = λ x over. is_set-kept x all same ∙ rw (ok.tail x over) refl;
+pub kept : {a b new : List ℕ} → AreWordsKept a b new → IsCut (λ here. here) a b new
+kept {a} {b} all = record {
+  enough = all.enough;
+  bits = λ k i below short. rw (all.kept k below, bit_at_and (get_or a k 0) (get_or b k 0) i)
+      (bit_both (bit_at (get_or a k 0) i) (bit_at (get_or b k 0) i) (bit_at-lt (get_or a k 0) i)
+      (bit_at-lt (get_or b k 0) i));
 }
-
--- ---- what the second hasn't
 
 bit_less : (a b : ℕ) → a < 2 → b < 2 → a - b == 1 ≡ (a == 1 && not (b == 1))
 bit_less a b h k = grind (arith, nat_tests)
 
-is_set-removed : {a b new : List ℕ} (x : ℕ) → AreWordsRemoved a b new → length a ≡ length b
-    → is_set new x ≡ (is_set a x && not (is_set b x))
-is_set-removed {a} {b} {new} x all same =
-    elim (cases_lt (x / 64) (length a)) [
-      | inl below ↦
-          rw (all.left (x / 64) (x % 64) below (omega arith))
-          (bit_less (bit_at (get_or a (x / 64) 0) (x % 64)) (bit_at (get_or b (x / 64) 0) (x % 64))
-          (bit_at-lt (get_or a (x / 64) 0) (x % 64)) (bit_at-lt (get_or b (x / 64) 0) (x % 64)))
-      | inr over ↦ rw (is_set_past new x (omega (arith, all.enough)), is_set_past a x over) refl
-    ]
-
-pub remove_bits : {a b new : List ℕ} → AreWordsRemoved a b new → length a ≡ length b
-    → set_bits new ≡ filter (λ v. not (has v (set_bits b))) (set_bits a)
-remove_bits {a} {b} {new} all same =
-    same_as_bits new (filter (λ v. not (has v (set_bits b))) (set_bits a))
-    (ascending-filter (λ v. not (has v (set_bits b))) (set_bits a) (ascending-set_bits a))
-    (λ x. is_set-removed x all same
-    ∙ sym (rw (has-filter (λ v. not (has v (set_bits b))) x (set_bits a), has-set_bits a x, has-set_bits b x) refl))
-
-pub words-remove : {room : ℕ} {a b new : List ℕ} → AreWords room a → AreWordsRemoved a b new → length a ≡ length b
-    → AreWords room new
-words-remove ok all same = record {
-  small = ok.small;
-  enough = all.enough ∙ ok.enough;
-  tail = λ x over. is_set-removed x all same ∙ rw (ok.tail x over) refl;
+pub removed : {a b new : List ℕ} → AreWordsRemoved a b new → IsCut not a b new
+removed {a} {b} all = record {
+  enough = all.enough;
+  bits = λ k i below short. rw (all.left k i below short)
+      (bit_less (bit_at (get_or a k 0) i) (bit_at (get_or b k 0) i) (bit_at-lt (get_or a k 0) i)
+      (bit_at-lt (get_or b k 0) i));
 }
 
 bit_without : (a b : ℕ) → a < 2 → b < 2 → min a (1 - b) ≡ a - b

@@ -11,8 +11,9 @@ use Rattle.std.proofs.lemmas.List.{get_or_past, get_or-replicate, length-replica
 use Rattle.std.proofs.lemmas.Nat.Bits.{bit_at-zero, bit_at-suc, bit_at_lowest, bit_at_or, bit_at-lt, bit_at_set_same, bit_at_set_other, shr_and_one}
 use Rattle.node_set.specs.Ascending.{has, IsAscending, with_number, union, share, sift}
 use Rattle.node_set.specs.Lanes.{Meet, AreWordsJoined}
+use Rattle.node_set.specs.Scan.{IsNext}
 use Rattle.node_set.specs.Nodes.{AreNodes, AreWords, is_set, set_bits}
-use Rattle.node_set.specs.SetLaws.{passing_over, length-passing-le, has-passing, ascending-passing, length-cond, length-passing-add, same_members, has-inserted, has-union, ascending-inserted, ascending-union, below_from_has, share_from, share_gives}
+use Rattle.node_set.specs.SetLaws.{passing_over, length-passing-le, has-passing, ascending-passing, length-cond, length-passing-add, same_members, has-inserted, has-union, ascending-inserted, ascending-union, below-has, below_from_has, share_from, share_gives}
 
 -- ---- the numbers of words
 
@@ -47,6 +48,10 @@ are_nodes {room} {words} ok = record {
             absurd (false≢true (sym (ok.tail x over) ∙ (sym (has-set_bits words x) ∙ h)))
       ]);
 }
+
+-- a number that the scan finds is in the room
+pub next_below : {room from v : ℕ} {words : List ℕ} → AreWords room words → IsNext (set_bits words) from v → v < room
+next_below {room} {v = v} {words} ok next = below-has room v (set_bits words) (are_nodes ok).below next.member
 
 -- ---- no bit
 

@@ -61,6 +61,26 @@ below_each x [] k below short = absurd (omega arith)
 below_each x (y ∷ ys) zero below short = below.0
 below_each x (y ∷ ys) (suc k) below short = below_each x ys k below.1 (omega arith)
 
+-- the numbers of an ascending list rise with their places
+pub place-rises : (xs : List ℕ) (i j : ℕ) → IsAscending xs → i < j → j < length xs
+    → slice_index xs i < slice_index xs j
+place-rises [] i j ascending less short = absurd (omega (arith, short))
+place-rises (x ∷ xs) zero zero ascending less short = absurd (omega (arith, less))
+place-rises (x ∷ xs) zero (suc j) ascending less short =
+    below_each x xs j ascending.0 (omega (arith, short))
+place-rises (x ∷ xs) (suc i) zero ascending less short = absurd (omega (arith, less))
+place-rises (x ∷ xs) (suc i) (suc j) ascending less short =
+    place-rises xs i j ascending.1 (omega (arith, less)) (omega (arith, short))
+
+-- and don't fall from a place to itself
+pub place-stays_or_rises : (xs : List ℕ) (i j : ℕ) → IsAscending xs → i ≤ j → j < length xs
+    → slice_index xs i ≤ slice_index xs j
+place-stays_or_rises xs i j ascending le short = elim (cases_lt i j) [
+  | inl less ↦ omega (arith, place-rises xs i j ascending less short)
+  | inr same ↦
+      let e : i ≡ j = omega (arith, le, same) in omega (arith, ap (λ n. slice_index xs n) e)
+]
+
 -- who is in two lists one after the other
 pub has-append : (x : ℕ) (xs ys : List ℕ) → has x (xs ++ ys) ≡ (has x xs || has x ys)
 has-append x [] ys = refl

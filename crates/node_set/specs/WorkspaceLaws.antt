@@ -1,8 +1,7 @@
 -- Laws of the spare sets of a workspace.
 -- Key laws: `none_taken` (as they were, none was taken), `taken_on` (some were taken, and then
 -- more), `left_on` (some are left of those that were left).
-use Rattle.std.proofs.Common.{◌≡◌, ℕ, ◌+◌, ◌-◌, List, length, length-take-le, take, take-take, take_all}
-use Rattle.std.proofs.Common.{ap, arith, sym, ◌∙◌}
+use Rattle.std.proofs.Common.{◌≡◌, ℕ, ◌+◌, ◌-◌, List, length, length-take-le, take, take-take, take_all, ap, arith, sym, ◌∙◌}
 use Rattle.node_set.specs.Nodes.{Nodes}
 use Rattle.node_set.specs.Workspaces.{AreSpareLeft, SpareTaken}
 

@@ -1,6 +1,6 @@
 -- Each line of an outcome keeps what is asked of its place, of what is to be made again, and of its
 -- weight.
-use Rattle.std.proofs.Common.{◌≡◌, inl, inr, ℕ, suc, ◌+◌, ◌*◌, ◌<◌, ◌≤◌, ◌==◌, ◌||◌, Bool, true, false, cond, List, [], length, take, map, fold, Option, Some, None, refl, ap, sym, ◌∙◌, arith, subst}
+use Rattle.std.proofs.Common.{◌≡◌, ◌≢◌, inl, inr, ℕ, suc, ◌+◌, ◌*◌, ◌<◌, ◌≤◌, ◌==◌, ◌||◌, Bool, true, false, cond, List, [], length, take, map, fold, Option, Some, None, refl, ap, sym, ◌∙◌, arith, subst}
 use Rattle.std.specs.Prelude.{filter_map, flat_map, option_map, slice_get, slice_index}
 use Rattle.std.specs.List.{last_or, list_any}
 use Rattle.std.proofs.lemmas.Bool.{cases_lt, false_from_ne_true, eqb-true}
@@ -12,7 +12,7 @@ use Rattle.entry_word.specs.declared.mark.PresenceMark.{PresenceMark}
 use Rattle.entry_word.specs.declared.mark.PresenceMark.TheVariants.{Here}
 use Rattle.entry_word.specs.declared.visit.Visit.{Visit}
 use Rattle.directory.specs.Settings.{Setting, start, subs}
-use Rattle.directory.specs.Courses.{Course, Step, after_steps, course_at, move_to, switch_off, switch_on}
+use Rattle.directory.specs.Courses.{Course, Step, after_steps, course_at, move_to}
 use Rattle.directory.specs.Finds.{FindCall}
 use Rattle.directory.specs.Histories.{History, is_put_for, puts_to, through, tickets}
 use Rattle.directory.specs.Looks.{IsQuiet, first_of, last_of, moves_at}
@@ -26,7 +26,7 @@ use Rattle.directory.specs.Writes.{Write, mark_at, numbers_from, visit_of}
 use Rattle.directory.specs.declared.answers.Done.{Done}
 use Rattle.directory.specs.declared.answers.Done.TheVariants.{Moved, Switched, Found as FoundBy, Off as OffBy, Again as AgainBy}
 use Rattle.directory.specs.declared.answers.Found.{Found}
-use Rattle.directory.specs.declared.answers.Found.TheVariants.{At, Off as OffAt, Again}
+use Rattle.directory.specs.declared.answers.Found.TheVariants.{At}
 use Rattle.region_plan.specs.Plan.{PlanData}
 use Rattle.region_plan.specs.Settings.{setting_of}
 use Rattle.region_plan.specs.Measures.{stretch_of}
@@ -99,11 +99,9 @@ module _ (laws : Laws) (count : CallersCount) (plan : PlanData) (homes : List �
           below = λ i low less. cut-below laws S scripts history over sub known last i low less;
           past = λ i low far. cut-past laws S scripts history over sub known last i low far;
         } in
-        let none : List Write = [] in
-        let empty : take m none ≡ none = take_all m none (omega arith) in
+        let empty : take {A = Write} m [] ≡ [] = take_all m [] (omega arith) in
         let start_told : IsToldBy S homes sub last seen all [] (take m []) =
-        subst (IsToldBy S homes sub last seen all []) (sym empty)
-        (record { node = refl; number = refl; is_off = refl; last = tt }) in
+        rw empty (record { node = refl; number = refl; is_off = refl; last = tt }) in
         let mine : IsToldBy S homes sub last seen all (sub_lines S scripts history sub) (take m all) =
         steps-told S homes sub last seen all (course_at (start S sub)) (steps_of scripts sub) 0 m [] [] count_is
         (over.valid.steps sub known).allowed refl (omega (arith, count-all laws S scripts history over sub known)) refl
@@ -192,8 +190,9 @@ module _ (laws : Laws) (count : CallersCount) (plan : PlanData) (homes : List �
               )
           | inr past ↦
               let before_it : slice_index seen (suc j) < last =
-              strict (λ same. no-look last (suc j) commit.to (Here commit.number) look inside confirm
-              (ap (slice_get history) same)) past in
+              let apart : slice_index seen (suc j) ≢ last = λ same.
+              no-look last (suc j) commit.to (Here commit.number) look inside confirm (ap (slice_get history) same) in
+              omega (arith, apart, past) in
               let made : suc j < m = cut-below laws S scripts history over sub known last (suc j) inside before_it in
               let there : slice_get puts (suc j) ≡ Some (visit_of sub (mark_at commit.to (Here commit.number))) =
               get-take (map (visit_of sub) all) m (suc j) made ∙ slice_get-map (visit_of sub) all (suc j)
@@ -208,9 +207,6 @@ module _ (laws : Laws) (count : CallersCount) (plan : PlanData) (homes : List �
               ap (λ b. cond b 0 (S.distance commit.from commit.to)) any in
               omega (arith, zero_is)
         ]
-      where
-        strict : {a b : ℕ} → (a ≡ b → ⊥) → a ≤ b → a < b
-        strict differs le = omega (arith, differs, le)
 
     passage-le : (last : ℕ) → IsLook history last → passage S sub (through last history)
         ≤ open_passage order sub last (told_before homes calls sub last) (told_before homes calls sub last).commit
@@ -278,8 +274,7 @@ module _ (laws : Laws) (count : CallersCount) (plan : PlanData) (homes : List �
       → (first_told (found_line caller call found first last) ≡ first)
       × (last_told (found_line caller call found first last) ≡ last)
   found-ends caller call (At node n level weight) first last = (refl, refl)
-  found-ends caller call (OffAt node n level weight) first last = (refl, refl)
-  found-ends caller call (Again why weight) first last = (refl, refl)
+  found-ends caller call _ first last = (refl, refl)
 
   -- the ends of a find's line are looks
   ends-are : (caller : ℕ) (call : FindCall) (line : Done) → IsFindLine S scripts history caller call line
@@ -292,18 +287,30 @@ module _ (laws : Laws) (count : CallersCount) (plan : PlanData) (homes : List �
         call_of_valid S scripts caller made.before call made.later over.valid made.script,
       )
 
+  -- a find's line that answers keeps the parts of its place and its weight
+  found-keeps : (is_off : Bool) (actor from sub node n weight : ℕ) (line : Done)
+      → IsFindLine S scripts history actor (record { from = from; sub = sub }) line
+      → (node ≡ standing S sub (through (last_told line) history))
+      × (n ≡ number sub (through (last_told line) history))
+      × (off sub (through (last_told line) history) ≡ is_off)
+      → (IsQuiet history sub (first_told line) (last_told line)
+      → IsLimited (bound_of plan) S from sub weight (through (last_told line) history))
+      → (is_told (told_before homes calls sub (last_told line)) is_off node n ≡ true) × (true ≡ true)
+      × (is_light plan homes calls order from sub node weight (first_told line) (last_told line) ≡ true)
+  found-keeps is_off actor from sub node n weight line made right near =
+      let ends = ends-are actor (record { from = from; sub = sub }) line made in
+      let both = answered sub ends.2.known is_off from node n weight (first_told line) (last_told line) ends.0 ends.1
+      right.0 right.1 right.2 near in
+      (both.0, refl, both.1)
+
   -- a move weighs its distance
   abbrev IsWeighed : Done → Type 0
   IsWeighed (Moved actor n from to weight first commit last) = S.distance from to ≡ weight
-  IsWeighed (Switched actor is_off node n ticket) = Unit {0}
-  IsWeighed (FoundBy actor from sub node n level weight first last) = Unit {0}
-  IsWeighed (OffBy actor from sub node n level weight first last) = Unit {0}
-  IsWeighed (AgainBy actor from sub why weight first last) = Unit {0}
+  IsWeighed _ = Unit {0}
 
   step-weighed : (sub : ℕ) (course : Course) (step : Step) (ts : List ℕ) → IsWeighed (step_line S sub course step ts)
   step-weighed sub course (move_to node) ts = refl
-  step-weighed sub course switch_off ts = tt
-  step-weighed sub course switch_on ts = tt
+  step-weighed sub course _ ts = tt
 
   -- each line keeps the parts
   pub line-keeps : (line : Done) → IsMade S scripts history line → IsRightLine S history line
@@ -317,17 +324,9 @@ module _ (laws : Laws) (count : CallersCount) (plan : PlanData) (homes : List �
   )
   line-keeps (Switched actor is_off node n ticket) made right near = (refl, refl, refl)
   line-keeps (FoundBy actor from sub node n level weight first last) made right near =
-      let ends = ends-are actor (record { from = from; sub = sub })
-      (FoundBy actor from sub node n level weight first last) made in
-      let both = answered sub ends.2.known false from node n weight first last ends.0 ends.1 right.0 right.1 right.2
-      near in
-      (both.0, refl, both.1)
+      found-keeps false actor from sub node n weight _ made right near
   line-keeps (OffBy actor from sub node n level weight first last) made right near =
-      let ends = ends-are actor (record { from = from; sub = sub })
-      (OffBy actor from sub node n level weight first last) made in
-      let both = answered sub ends.2.known true from node n weight first last ends.0 ends.1 right.0 right.1 right.2 near
-      in
-      (both.0, refl, both.1)
+      found-keeps true actor from sub node n weight _ made right near
   line-keeps (AgainBy actor from sub why weight first last) made (t, low, high, moves) near =
       let ends = ends-are actor (record { from = from; sub = sub }) (AgainBy actor from sub why weight first last) made
       in (

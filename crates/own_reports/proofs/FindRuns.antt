@@ -3,7 +3,7 @@ use Rattle.std.proofs.Common.{◌≡◌, ℕ, suc, ◌≤◌, List, [], ◌∷�
 use Rattle.std.specs.Prelude.{slice_index}
 use Rattle.std.proofs.lemmas.List.{map-append}
 use Rattle.directory.specs.Settings.{Setting, subs}
-use Rattle.directory.specs.Finds.{FindCall, Pursuit, after_word, answer_of, at_origin, chases, climbs, ended, key_of}
+use Rattle.directory.specs.Finds.{FindCall, Pursuit, after_word, answer_of, at_origin, key_of}
 use Rattle.directory.specs.Histories.{History, tickets, words_read}
 use Rattle.directory.specs.HistoryLaws.{next-caller}
 use Rattle.directory.specs.Looks.{look_by}
@@ -11,7 +11,7 @@ use Rattle.directory.specs.Orders.{Answer, Caller, IsDone, IsPlayed, Scripts, af
 use Rattle.directory.specs.Outcomes.{answer_line, caller_lines, found_line}
 use Rattle.directory.specs.Statements.{CallersCount}
 use Rattle.directory.specs.declared.answers.Found.{Found}
-use Rattle.directory.specs.declared.answers.Found.TheVariants.{At, Off as OffAt, Again}
+use Rattle.directory.specs.declared.answers.Found.TheVariants.{At}
 use Rattle.directory.specs.CallLines.{actor_of}
 use Rattle.own_reports.proofs.Runs.{HasEnds, HaveRuns, IsRun}
 use Rattle.directory.specs.ListLaws.{option_map-none}
@@ -97,9 +97,7 @@ calling-in setting scripts history actor =
 -- a find without its answer wants a cell
 wants : (call : FindCall) (pursuit : Pursuit) → answer_of pursuit ≡ None → key_of call pursuit ≡ None → ⊥
 wants call at_origin going none = cc
-wants call (climbs known weight reader later) going none = cc
-wants call (chases chase node) going none = cc
-wants call (ended found) going none = cc
+wants call _ going none = cc
 
 no-calls : (calls : List FindCall) (pursuit : Pursuit) → answer_of pursuit ≡ None → key_in calls pursuit ≡ None
     → calls ≡ []
@@ -118,12 +116,10 @@ found-run : (seen : List ℕ) (actor p e first last : ℕ) (call : FindCall) (fo
     → (actor_of (found_line actor call found first last) ≡ actor)
     × IsRun seen p e (found_line actor call found first last)
 found-run seen actor p e first last call (At node number level weight) ends = (refl, ends)
-found-run seen actor p e first last call (OffAt node number level weight) ends = (refl, ends)
-found-run seen actor p e first last call (Again why weight) ends = (refl, ends)
+found-run seen actor p e first last call _ ends = (refl, ends)
 
 find-runs : (seen : List ℕ) (actor p : ℕ) (answers : List Answer) → AreJoined p answers (length seen)
     → HaveRuns actor seen p (map (answer_line actor seen) answers)
-unfolding HaveRuns
 find-runs seen actor p [] joined = joined
 find-runs seen actor p (answer ∷ answers) joined =
     let here = found-run seen actor p answer.last (slice_index seen answer.first) (slice_index seen answer.last)

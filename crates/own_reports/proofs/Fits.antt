@@ -7,7 +7,7 @@ use Rattle.entry_word.specs.Addresses.{address_in}
 use Rattle.entry_word.specs.Marks.{mark_in}
 use Rattle.entry_word.specs.declared.address.Address.{Address}
 use Rattle.entry_word.specs.declared.mark.PresenceMark.{PresenceMark}
-use Rattle.entry_word.specs.declared.mark.PresenceMark.TheVariants.{Empty, Here, Gone, Coming, Off}
+use Rattle.entry_word.specs.declared.mark.PresenceMark.TheVariants.{Empty, Gone, Coming}
 use Rattle.entry_word.specs.declared.visit.Key.{Key}
 use Rattle.entry_word.specs.declared.visit.Key.TheVariants.{Presence, Entry}
 use Rattle.node_set.specs.Ascending.{has}
@@ -90,11 +90,9 @@ module _ (setting : Setting) (small : IsSmall setting) (call : FindCall) (from_i
 
   -- a mark and an address name nodes of the network
   abbrev IsMarkInside : PresenceMark → Type 0
-  IsMarkInside Empty = Unit {0}
-  IsMarkInside (Here number) = Unit {0}
   IsMarkInside (Gone number to) = to < setting.nodes
   IsMarkInside (Coming number from) = from < setting.nodes
-  IsMarkInside (Off number) = Unit {0}
+  IsMarkInside _ = Unit {0}
 
   abbrev IsAddressInside : Option Address → Type 0
   IsAddressInside None = Unit {0}
@@ -119,12 +117,11 @@ module _ (setting : Setting) (small : IsSmall setting) (call : FindCall) (from_i
   origin-next : (mark : PresenceMark) → IsMarkInside mark → IsNext at_origin (after_origin setting call mark)
   origin-next Empty inside =
       climb-next None 0 _ (all_readers setting call.from) (readers-from 0 (levels setting) (omega arith)) (omega arith)
-  origin-next (Here number) inside = ((from_inside, tt), omega arith)
-  origin-next (Off number) inside = ((from_inside, tt), omega arith)
   origin-next (Gone number to) inside =
       climb-next (Some number) 0 _ (all_readers setting call.from) (readers-from 0 (levels setting) (omega arith))
       (omega arith)
   origin-next (Coming number from) inside = ((inside, tt), omega (arith, small.distance call.from from))
+  origin-next _ inside = ((from_inside, tt), omega arith)
 
   entry-next : (known : Option ℕ) (weight : ℕ) (reader : Reader) (later : List Reader) (address : Option Address)
       → AreReaders (reader ∷ later) → IsAddressInside address
@@ -148,12 +145,11 @@ module _ (setting : Setting) (small : IsSmall setting) (call : FindCall) (from_i
       → IsLevelBelow (levels setting) chase.level → IsMarkInside mark
       → IsNext (chases chase node) (after_mark setting chase node mark)
   mark-next chase node Empty here low inside = (here, omega arith)
-  mark-next chase node (Here number) here low inside = ((here, low), omega arith)
-  mark-next chase node (Off number) here low inside = ((here, low), omega arith)
   mark-next chase node (Gone number to) here low inside =
       hop-next (known_with number chase.known) chase.level chase.weight chase.hops_left node to low inside
   mark-next chase node (Coming number from) here low inside =
       coming-next (is_known number chase.known) chase node number from here low inside
+  mark-next chase node _ here low inside = ((here, low), omega arith)
 
   module _ (history : History) (marks : MarksTell) (entries : EntriesTell)
       (legal : (t : ℕ) → IsLegal setting call.sub (before t history)) where
@@ -162,11 +158,9 @@ module _ (setting : Setting) (small : IsSmall setting) (call : FindCall) (from_i
 
     mark-inside : (h : History) (node : ℕ) (mark : PresenceMark) → MarkTells setting call.sub h node mark
         → IsMarkInside mark
-    mark-inside h node Empty tells = tt
-    mark-inside h node (Here number) tells = tt
     mark-inside h node (Gone number to) tells = tells.2
     mark-inside h node (Coming number from) tells = tells.1
-    mark-inside h node (Off number) tells = tt
+    mark-inside h node _ tells = tt
 
     entry-inside : (h : History) (level cluster : ℕ) (entry : Option Address)
         → EntryTells setting call.sub h level cluster entry → IsAddressInside entry
@@ -177,22 +171,20 @@ module _ (setting : Setting) (small : IsSmall setting) (call : FindCall) (from_i
         → IsNext pursuit (after_word setting call pursuit (cell setting (before t history) key))
     word-next at_origin t key placed wanted =
         let e : Presence call.from call.sub ≡ key = cc in
-        subst (λ k. IsNext at_origin (after_word setting call at_origin (cell setting (before t history) k))) e
+        rw (← e)
         (origin-next (mark_in (cell setting (before t history) (Presence call.from call.sub)))
         (mark-inside (before t history) call.from _
         (marks setting call.sub (before t history) few (legal t) call.from from_inside)))
     word-next (climbs known weight reader later) t key placed wanted =
         let e : Entry reader.level reader.cluster call.sub ≡ key = cc in
-        subst (λ k. IsNext (climbs known weight reader later)
-        (after_word setting call (climbs known weight reader later) (cell setting (before t history) k))) e
+        rw (← e)
         (entry-next known weight reader later
         (address_in (cell setting (before t history) (Entry reader.level reader.cluster call.sub))) placed
         (entry-inside (before t history) reader.level reader.cluster _
         (entries setting call.sub (before t history) few (legal t) reader.level reader.cluster placed.0.0)))
     word-next (chases chase node) t key placed wanted =
         let e : Presence node call.sub ≡ key = cc in
-        subst (λ k. IsNext (chases chase node)
-        (after_word setting call (chases chase node) (cell setting (before t history) k))) e
+        rw (← e)
         (mark-next chase node (mark_in (cell setting (before t history) (Presence node call.sub))) placed.0 placed.1
         (mark-inside (before t history) node _
         (marks setting call.sub (before t history) few (legal t) node placed.0)))

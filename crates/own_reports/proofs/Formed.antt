@@ -4,12 +4,12 @@ use Rattle.std.specs.Prelude.{All, filter, filter_map, slice_get, slice_index}
 use Rattle.std.specs.List.{cons_option}
 use Rattle.std.proofs.lemmas.List.{get_or_past, length-map, length-take}
 use Rattle.std.proofs.lemmas.List.Elements.{All-cons, All-nil}
-use Rattle.std.proofs.lemmas.List.Sums.{sum_by-cons}
+use Rattle.std.proofs.lemmas.List.Sums.{count_by-le-length, length-filter, sum_by-cons}
 use Rattle.std.proofs.lemmas.Bool.{cases_lt}
 use Rattle.std.proofs.lemmas.Option.{slice_get_within}
 use Rattle.entry_word.specs.declared.visit.Visit.{Visit}
 use Rattle.directory.specs.Settings.{Setting, levels, start}
-use Rattle.directory.specs.Courses.{Course, Step, after_steps, course_at, last_stop, move_to, next_move, switch_off, switch_on}
+use Rattle.directory.specs.Courses.{Course, Step, after_steps, course_at, last_stop, move_to, next_move}
 use Rattle.directory.specs.Finds.{FindCall}
 use Rattle.directory.specs.Histories.{History, before, is_put_for, puts_to, through}
 use Rattle.directory.specs.Looks.{first_of, last_of}
@@ -53,13 +53,7 @@ use Rattle.own_reports.proofs.Strangers.{idle}
 -- ---- numbers
 
 filter-few : {A : Type 0} (test : A → Bool) (xs : List A) → length (filter test xs) ≤ length xs
-filter-few test [] = omega arith
-filter-few test (x ∷ xs) = at_test (test x) (filter-few test xs)
-  where
-    at_test : (b : Bool) → length (filter test xs) ≤ length xs
-        → length (cond b (x ∷ filter test xs) (filter test xs)) ≤ suc (length xs)
-    at_test true h = omega (arith, h)
-    at_test false h = omega (arith, h)
+filter-few test xs = omega (arith, length-filter test xs, count_by-le-length test xs)
 
 mapped-few : {A B : Type 0} (f : A → Option B) (xs : List A) → length (filter_map f xs) ≤ length xs
 mapped-few f [] = omega arith
@@ -112,8 +106,7 @@ module _ (plan : PlanData) (homes : List ℕ) (some : 1 ≤ levels_of plan) (sma
     omega (arith, low (suc (suc (next_move S course node).renewed)), few),
     omega (arith, low (length seen - 1), few),
   )
-  step-below sub course switch_off seen low = omega (arith, low 0, few)
-  step-below sub course switch_on seen low = omega (arith, low 0, few)
+  step-below sub course _ seen low = omega (arith, low 0, few)
 
   level-below : (level : Option ℕ) → IsLevelBelow (levels S) level → IsLevelBelow (levels_of plan) level
   level-below None low = tt
@@ -171,8 +164,7 @@ module _ (plan : PlanData) (homes : List ℕ) (some : 1 ≤ levels_of plan) (sma
 call-few : (setting : Setting) (call : Call) → IsSmall setting → most_of setting call ≤ 2 ^ 16
 call-few setting (said.Move to) small = omega (arith, small.nodes, small.top)
 call-few setting (said.Find from sub) small = small.looks from
-call-few setting said.Off small = omega arith
-call-few setting said.On small = omega arith
+call-few setting _ small = omega arith
 
 script-few : (setting : Setting) (script : List Call) → IsSmall setting
     → most_in setting script ≤ length script * 2 ^ 16
@@ -198,11 +190,8 @@ scripts-few setting (script ∷ scripts) small =
     )
 
 calls-most : (format : ℕ) → most_calls format ≤ 16384
-calls-most format = at (format == 2)
-  where
-    at : (second : Bool) → cond second 16384 8192 ≤ 16384
-    at true = omega arith
-    at false = omega arith
+calls-most format =
+    elim (format == 2) as (λ second. cond second 16384 8192 ≤ 16384) [ true ↦ omega arith | false ↦ omega arith ]
 
 -- ---- actors
 

@@ -1,10 +1,7 @@
 -- What holds of the plan, the setting and the scripts of a valid input.
-use Rattle.std.proofs.Common.{ℕ, ◌^◌, ◌≤◌, Bool, true, false, List, refl, arith}
-use Rattle.std.specs.Prelude.{◌==◌, if◌then◌else◌}
-use Rattle.net_graph.specs.declared.edge.TheConstants.{MAX_NODES}
+use Rattle.std.proofs.Common.{ℕ, ◌^◌, ◌≤◌, List, refl, arith}
 use Rattle.net_graph.specs.Network.{IsNetwork, Network}
 use Rattle.net_reader.specs.Input.{Contents}
-use Rattle.net_reader.specs.Table.{most_nodes}
 use Rattle.net_reader.specs.Valid.{IsValid}
 use Rattle.directory.specs.Orders.{history_of}
 use Rattle.directory.specs.Settings.{Setting}
@@ -18,23 +15,17 @@ use Rattle.scripts.specs.ScriptLaws.{few-nodes}
 use Rattle.scripts.specs.Scripts.{IsSettingOf, scripts_of}
 use Rattle.own_reports.specs.Reports.{plan_in}
 use Rattle.own_reports.proofs.Cuts.{IsOver}
+use Rattle.net_reader.specs.LineLaws.{most_nodes-within}
 
 -- the network of an input
 abbrev pub network_in : Contents → Network
 network_in contents = record { nodes = contents.nodes; edges = contents.edges }
 
-pub most-within : (format : ℕ) → most_nodes format ≤ MAX_NODES
-most-within format = at (format == 2)
-  where
-    at : (second : Bool) → (if second then 1024 else 256) ≤ MAX_NODES
-    at true = omega arith
-    at false = omega arith
-
 pub network-valid : (contents : Contents) → IsValid contents → IsNetwork (network_in contents)
 network-valid contents valid = record {
   limits = record {
     positive = valid.some;
-    few = omega (arith, valid.few, most-within contents.format);
+    few = omega (arith, valid.few, most_nodes-within contents.format);
     edges = valid.edges;
   };
   connected = valid.connected;

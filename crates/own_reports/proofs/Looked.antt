@@ -14,7 +14,7 @@ use Rattle.directory.specs.Histories.{History, before, is_put_for, own, puts_to,
 use Rattle.directory.specs.HistoryLaws.{next-caller, next-sub}
 use Rattle.directory.specs.Looks.{AreLooks, IsFind, first_of, last_of, look_by, moves_at, moves_by}
 use Rattle.directory.specs.Orders.{IsPlayed, Scripts, caller_in, next, next_key, steps_of}
-use Rattle.directory.specs.Courses.{Course, Step, after_step, course_at, move_to, switch_off, switch_on}
+use Rattle.directory.specs.Courses.{Course, Step, after_step, course_at, move_to}
 use Rattle.directory.specs.Outcomes.{caller_lines, outcome_in, step_line, step_lines, sub_lines}
 use Rattle.directory.specs.StepLaws.{puts-push, take-more}
 use Rattle.directory.specs.Writes.{Write, entry_at, mark_at, numbers_from, step_writes, visit_of, visits, writes}
@@ -108,8 +108,7 @@ move-own setting scripts history sub t played is =
 line-own : (setting : Setting) (sub : ℕ) (course : Course) (step : Step) (seen : List ℕ)
     → is_of sub (step_line setting sub course step seen) ≡ true
 line-own setting sub course (move_to node) seen = grind (arith, nat_tests)
-line-own setting sub course switch_off seen = grind (arith, nat_tests)
-line-own setting sub course switch_on seen = grind (arith, nat_tests)
+line-own setting sub course _ seen = grind (arith, nat_tests)
 
 lines-own : (setting : Setting) (sub : ℕ) (course : Course) (steps : List Step) (seen : List ℕ) (k : ℕ) (visit : Visit)
     → slice_get (visits setting sub steps) k ≡ Some visit
@@ -130,11 +129,8 @@ rows-any test lines from (suc count) actor low high one =
       | inl same ↦ ap (λ b. b || list_any test (flat_map lines (numbers_from (suc from) count)))
           (ap (λ k. list_any test (lines k)) (sym same) ∙ one)
       | inr other ↦ or_right (list_any test (lines from)) _ (rows-any test lines (suc from) count actor
-          (strict other low) (omega (arith, high)) one)
+          (omega (arith, other, low)) (omega (arith, high)) one)
     ]
-  where
-    strict : (actor ≡ from → ⊥) → from ≤ actor → suc from ≤ actor
-    strict differs le = omega (arith, differs, le)
 
 pub has-line : (setting : Setting) (scripts : Scripts) (history : History) (sub t : ℕ) → sub < subs setting
     → IsPlayed setting scripts history → moves_at sub history t ≡ true
@@ -169,15 +165,11 @@ meets calls sub last from t zero (actor ∷ later) e is low none =
     let test : is_of_move calls sub from actor ≡ true =
     ap (λ k. is_of_move calls sub from k) here
     ∙ test-move sub (list_any (is_switch_at from) calls) (ap (λ k. list_any (is_switch_at k) calls) (sym at) ∙ none) in
-    ap (λ b. cond b (cond (is_of_move calls sub from actor) true (meets_from calls sub last (suc from) later)) false)
-    (lt-true from last (omega (arith, at, low)))
-    ∙ ap (λ b. cond b true (meets_from calls sub last (suc from) later)) test
+    rw (lt-true from last (omega (arith, at, low)), test) refl
 meets calls sub last from t (suc d) (actor ∷ later) e is low none =
     let rest : meets_from calls sub last (suc from) later ≡ true =
     meets calls sub last (suc from) t d later (omega (arith, e)) is low none in
-    ap (λ b. cond b (cond (is_of_move calls sub from actor) true (meets_from calls sub last (suc from) later)) false)
-    (lt-true from last (omega (arith, e, low)))
-    ∙ either (is_of_move calls sub from actor) _ rest
+    rw (lt-true from last (omega (arith, e, low))) (either (is_of_move calls sub from actor) _ rest)
   where
     either : (b x : Bool) → x ≡ true → cond b true x ≡ true
     either true x e = refl
@@ -195,8 +187,8 @@ pub meets-move : (setting : Setting) (scripts : Scripts) (history : History) (ca
     → moves_at sub history t ≡ true → list_any (is_switch_at t) calls ≡ false → list_any (is_of sub) calls ≡ true
     → meets_move calls (actors_of history) sub first last ≡ true
 meets-move setting scripts history calls sub first last t played one two low high is none has =
-    let begin : first < t = strict (other first one) low in
-    let end : t < last = less (other last two) high in
+    let begin : first < t = omega (arith, other first one, low) in
+    let end : t < last = omega (arith, other last two, high) in
     ap (λ b. b && meets_from calls sub last (suc first) (drop (suc first) (actors_of history))) has
     ∙ meets calls sub last (suc first) t (t - suc first) (drop (suc first) (actors_of history)) (omega (arith, begin))
     (get-drop (actors_of history) (suc first) t (t - suc first) (omega (arith, begin))
@@ -205,9 +197,3 @@ meets-move setting scripts history calls sub first last t played one two low hig
     other : (k : ℕ) → IsLook history k → k ≡ t → ⊥
     other k look same =
         let bad : false ≡ true = sym (look-moves-not history sub k look) ∙ ap (moves_at sub history) same ∙ is in cc
-
-    strict : (first ≡ t → ⊥) → first ≤ t → first < t
-    strict differs le = omega (arith, differs, le)
-
-    less : (last ≡ t → ⊥) → t ≤ last → t < last
-    less differs le = omega (arith, differs, le)

@@ -1,12 +1,12 @@
 -- What an order tells of the tickets of an actor: which is the first, and which comes next.
-use Rattle.std.proofs.Common.{◌≡◌, ℕ, zero, suc, ◌+◌, ◌<◌, ◌≤◌, ◌==◌, Bool, true, false, cond, List, [], ◌∷◌, length, drop, map, get_or, Some, None, refl, ap, ◌∙◌, arith}
+use Rattle.std.proofs.Common.{◌≡◌, ℕ, zero, suc, ◌+◌, ◌<◌, ◌≤◌, ◌==◌, Bool, true, false, cond, List, [], ◌∷◌, length, drop, map, Some, None, refl, ap, ◌∙◌, arith}
 use Rattle.std.specs.Prelude.{slice_get, slice_index}
 use Rattle.std.proofs.lemmas.Option.{slice_get-get_or}
-use Rattle.node_set.specs.Ascending.{IsAscending, IsBelowAll}
 use Rattle.entry_word.specs.declared.visit.Visit.{Visit}
 use Rattle.directory.specs.Histories.{History, tickets, tickets_from}
 use Rattle.directory.specs.Statements.{TicketsAscend}
 use Rattle.report_check.specs.Parts.{first_from, is_number, is_ticket, next_ticket}
+use Rattle.node_set.specs.SetLaws.{place-rises}
 
 -- the actors of visits
 abbrev pub actors_of : History → List ℕ
@@ -76,19 +76,6 @@ ticket-at actor t c d i (v ∷ h) e is =
     at_test (suc d) i false same e is above later head =
         let deep = later d i (omega (arith, e)) is in record { next = deep.next; own = deep.own }
 
--- numbers of an ascending list by their places
-below-all : (x : ℕ) (xs : List ℕ) (j : ℕ) → IsBelowAll x xs → j < length xs → x < get_or xs j 0
-below-all x [] j all low = absurd (omega (arith, low))
-below-all x (y ∷ ys) zero all low = all.0
-below-all x (y ∷ ys) (suc j) all low = below-all x ys j all.1 (omega (arith, low))
-
-rises : (xs : List ℕ) (i j : ℕ) → IsAscending xs → i < j → j < length xs → get_or xs i 0 < get_or xs j 0
-rises [] i j up less low = absurd (omega (arith, low))
-rises (x ∷ xs) zero zero up less low = absurd (omega (arith, less))
-rises (x ∷ xs) zero (suc j) up less low = below-all x xs j up.0 (omega (arith, low))
-rises (x ∷ xs) (suc i) zero up less low = absurd (omega (arith, less))
-rises (x ∷ xs) (suc i) (suc j) up less low = rises xs i j up.1 (omega (arith, less)) (omega (arith, low))
-
 -- these are the tickets of an actor in an order
 pub record AreTickets (order : List ℕ) (actor : ℕ) (seen : List ℕ) : Type 0 where
   pub first : next_ticket order actor None ≡ slice_get seen 0
@@ -104,7 +91,7 @@ tickets-are ascend history actor = record {
   first = first-head actor 0 history;
   next = λ i low. (at i low).next;
   own = λ i low. (at i low).own;
-  rise = λ i j less low. rises (tickets actor history) i j (ascend actor history) less low;
+  rise = λ i j less low. place-rises (tickets actor history) i j (ascend actor history) less low;
 }
   where
     at : (i : ℕ) → i < length (tickets actor history)

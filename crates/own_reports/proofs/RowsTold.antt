@@ -8,7 +8,7 @@ use Rattle.std.proofs.lemmas.List.Folds.{list_any-append}
 use Rattle.std.proofs.lemmas.List.Sums.{fold-append}
 use Rattle.directory.specs.Writes.{numbers_from}
 use Rattle.directory.specs.declared.answers.Done.{Done}
-use Rattle.directory.specs.declared.answers.Done.TheVariants.{Moved, Switched, Found, Off, Again}
+use Rattle.directory.specs.declared.answers.Done.TheVariants.{Moved, Switched}
 use Rattle.directory.specs.CallLines.{actor_of}
 use Rattle.report_check.specs.Parts.{at_start, tell, told_before}
 use Rattle.own_reports.proofs.Runs.{HaveRuns}
@@ -30,32 +30,23 @@ rows-none test lines from (suc count) none =
     ∙ rows-none test lines (suc from) count (λ actor low high. none actor (omega (arith, low)) (omega (arith, high)))
 
 module _ (homes : List ℕ) (sub ticket : ℕ) where
+  -- a line more
+  pub told-push : (before : List Done) (line : Done)
+      → told_before homes (before ++ line ∷ []) sub ticket ≡ tell sub ticket (told_before homes before sub ticket) line
+  told-push before line = fold-append (tell sub ticket) (at_start (slice_index homes sub)) before (line ∷ [])
+
   told-other : (before : List Done) (call : Done) → actor_of call ≢ sub
       → told_before homes (before ++ call ∷ []) sub ticket ≡ told_before homes before sub ticket
   told-other before (Moved actor number from to weight first commit last) other =
-      rw (
-        fold-append (tell sub ticket) (at_start (slice_index homes sub)) before
-            (Moved actor number from to weight first commit last ∷ []),
-        test-other actor sub commit ticket other,
-      ) refl
+      told-push before _ ∙ rw (test-other actor sub commit ticket other) refl
   told-other before (Switched actor off node number at) other =
-      rw (
-        fold-append (tell sub ticket) (at_start (slice_index homes sub)) before
-            (Switched actor off node number at ∷ []),
-        test-other actor sub at ticket other,
-      ) refl
-  told-other before (Found actor from other node number level weight first last) differs =
-      fold-append (tell sub ticket) (at_start (slice_index homes sub)) before _
-  told-other before (Off actor from other node number level weight first last) differs =
-      fold-append (tell sub ticket) (at_start (slice_index homes sub)) before _
-  told-other before (Again actor from other why weight first last) differs =
-      fold-append (tell sub ticket) (at_start (slice_index homes sub)) before _
+      told-push before _ ∙ rw (test-other actor sub at ticket other) refl
+  told-other before call other = told-push before call
 
   -- the lines of another actor tell nothing
   told-skip : (actor : ℕ) (seen : List ℕ) (p : ℕ) (before calls : List Done) → actor ≢ sub
       → HaveRuns actor seen p calls
       → told_before homes (before ++ calls) sub ticket ≡ told_before homes before sub ticket
-  unfolding HaveRuns
   told-skip actor seen p before [] other runs =
       ap (λ (ls : List Done). told_before homes ls sub ticket) (append-nil before)
   told-skip actor seen p before (call ∷ calls) other runs =
@@ -107,9 +98,7 @@ module _ (homes : List ℕ) (sub ticket : ℕ) where
           ap (λ (ls : List Done). told_before homes ls sub ticket)
           (sym (append_assoc before (lines from) (flat_map lines (numbers_from (suc from) count))))
           ∙ rows-told (suc from) count (before ++ lines from)
-          (λ actor more less. runs actor (omega (arith, more)) (omega (arith, less))) (next other) (omega (arith, high))
+          (λ actor more less. runs actor (omega (arith, more)) (omega (arith, less))) (omega (arith, low, other))
+          (omega (arith, high))
           (told-skip from (seen from) 0 before (lines from) other (runs from (omega arith) (omega arith)) ∙ none)
     ]
-      where
-        next : (from ≡ sub → ⊥) → suc from ≤ sub
-        next other = omega (arith, other, low)

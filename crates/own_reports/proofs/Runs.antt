@@ -30,7 +30,7 @@ IsRun seen p e (Off actor from sub node number level weight first last) = HasEnd
 IsRun seen p e (Again actor from sub why weight first last) = HasEnds seen p e first last
 
 -- calls of an actor have all its tickets from a place on, one after another
-unfoldable pub HaveRuns : ℕ → List ℕ → ℕ → List Done → Type 0
+abbrev pub HaveRuns : ℕ → List ℕ → ℕ → List Done → Type 0
 HaveRuns actor seen p [] = p ≡ length seen
 HaveRuns actor seen p (call ∷ later) =
     (e : ℕ) × (e < length seen) × (actor_of call ≡ actor) × IsRun seen p e call
@@ -50,16 +50,16 @@ in-order seen p e rise le low = elim (cases_lt p e) [
       subst (λ k. slice_index seen p ≤ slice_index seen k) same (omega arith)
 ]
 
-has-ends : (order seen : List ℕ) (actor p e first last : ℕ) (before : Option ℕ) → AreTickets order actor seen
-    → next_ticket order actor before ≡ slice_get seen p → e < length seen → HasEnds seen p e first last
-    → has_tickets order before actor first last ≡ true
-has-ends order seen actor p e first last before are next low ends =
-    and_from (is_number first (next_ticket order actor before)) _
+has-ends : (order seen : List ℕ) (actor a p e first last : ℕ) (before : Option ℕ) → AreTickets order actor seen
+    → next_ticket order actor before ≡ slice_get seen p → e < length seen → a ≡ actor → HasEnds seen p e first last
+    → has_tickets order before a first last ≡ true
+has-ends order seen actor a p e first last before are next low same ends =
+    rw same (and_from (is_number first (next_ticket order actor before)) _
     (ap (is_number first) (next ∙ slice_get-get_or seen p 0 (omega (arith, low, ends.0)))
     ∙ is-self first (slice_index seen p) ends.1)
     (and_from (is_ticket order actor last) _
     (ap (is_ticket order actor) ends.2 ∙ are.own e low)
-    (le-true first last (omega (arith, ends.1, ends.2, in-order seen p e are.rise ends.0 low))))
+    (le-true first last (omega (arith, ends.1, ends.2, in-order seen p e are.rise ends.0 low)))))
 
 -- a call with its run has its tickets
 run-holds : (order seen : List ℕ) (actor p e : ℕ) (before : Option ℕ) (call : Done) → AreTickets order actor seen
@@ -67,11 +67,10 @@ run-holds : (order seen : List ℕ) (actor p e : ℕ) (before : Option ℕ) (cal
     → IsRun seen p e call → (tickets_hold order before call ≡ true) × (end_of call ≡ slice_index seen e)
 run-holds order seen actor p e before (Moved a n from to w first commit last) are next low same (ends, run) =
     let here : AreTickets order a seen = subst (λ k. AreTickets order k seen) (sym same) are in
-    let goes : next_ticket order a before ≡ slice_get seen p =
-    subst (λ k. next_ticket order k before ≡ slice_get seen p) (sym same) next in
     let commits : commit ≡ slice_index seen run.0 = run.3 in (
       and_from (has_tickets order before a first last) _
-          (has-ends order seen a p e first last before here goes low ends) (and_from (is_ticket order a commit) _
+          (has-ends order seen actor a p e first last before are next low same ends)
+          (and_from (is_ticket order a commit) _
           (ap (is_ticket order a) commits ∙ here.own run.0 (omega (arith, run.2, low)))
           (and_from (ltb first commit) (ltb commit last)
           (lt-true first commit (omega (arith, ends.1, commits, here.rise p run.0 run.1 (omega (arith, run.2, low)))))
@@ -84,21 +83,12 @@ run-holds order seen actor p e before (Switched a off node n ticket) are next lo
       ∙ is-self ticket (slice_index seen p) run.1,
   run.1 ∙ ap (slice_index seen) run.0,
 )
-run-holds order seen actor p e before (Found a from sub node n level w first last) are next low same ends = (
-  has-ends order seen a p e first last before (subst (λ k. AreTickets order k seen) (sym same) are)
-      (ap (λ k. next_ticket order k before) same ∙ next) low ends,
-  ends.2,
-)
-run-holds order seen actor p e before (Off a from sub node n level w first last) are next low same ends = (
-  has-ends order seen a p e first last before (subst (λ k. AreTickets order k seen) (sym same) are)
-      (ap (λ k. next_ticket order k before) same ∙ next) low ends,
-  ends.2,
-)
-run-holds order seen actor p e before (Again a from sub why w first last) are next low same ends = (
-  has-ends order seen a p e first last before (subst (λ k. AreTickets order k seen) (sym same) are)
-      (ap (λ k. next_ticket order k before) same ∙ next) low ends,
-  ends.2,
-)
+run-holds order seen actor p e before (Found a from sub node n level w first last) are next low same ends =
+    (has-ends order seen actor a p e first last before are next low same ends, ends.2)
+run-holds order seen actor p e before (Off a from sub node n level w first last) are next low same ends =
+    (has-ends order seen actor a p e first last before are next low same ends, ends.2)
+run-holds order seen actor p e before (Again a from sub why w first last) are next low same ends =
+    (has-ends order seen actor a p e first last before are next low same ends, ends.2)
 
 -- the first of these calls, if there is one, is of no actor below this one
 abbrev pub IsFrom : ℕ → List Done → Type 0
@@ -120,7 +110,7 @@ runs-hold : (order seen : List ℕ) (actor p : ℕ) (before : Option ℕ) (call 
     → AreTickets order actor seen → next_ticket order actor before ≡ slice_get seen p
     → HaveRuns actor seen p (call ∷ later) → IsFrom (suc actor) rest → HaveTickets order None rest
     → HaveTickets order before (call ∷ later ++ rest)
-unfolding HaveTickets HaveRuns
+unfolding HaveTickets
 runs-hold order seen actor p before call [] rest are next runs others held =
     let here = run-holds order seen actor p runs.0 before call are next runs.1 runs.2 runs.3 in
     let last : is_last call rest ≡ true = other-last actor call rest runs.2 others in
@@ -148,7 +138,6 @@ runs-hold order seen actor p before call (other ∷ later) rest are next runs ot
 runs-join : (order seen : List ℕ) (actor : ℕ) (calls rest : List Done) → AreTickets order actor seen
     → HaveRuns actor seen 0 calls → IsFrom (suc actor) rest → HaveTickets order None rest
     → HaveTickets order None (calls ++ rest) × IsFrom actor (calls ++ rest)
-unfolding HaveRuns
 runs-join order seen actor [] rest are runs others held = (held, weaker rest others)
   where
     weaker : (rest : List Done) → IsFrom (suc actor) rest → IsFrom actor rest

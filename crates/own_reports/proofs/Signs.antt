@@ -10,7 +10,7 @@ use Rattle.directory.specs.Outcomes.{answer_line, found_line}
 use Rattle.directory.specs.Standing.{number}
 use Rattle.directory.specs.declared.answers.Done.{Done}
 use Rattle.directory.specs.declared.answers.Found.{Found}
-use Rattle.directory.specs.declared.answers.Found.TheVariants.{At, Off as OffAt, Again}
+use Rattle.directory.specs.declared.answers.Found.TheVariants.{At}
 use Rattle.report_check.specs.Parts.{is_switch_at, next_ticket, open_passage, told_before, unconfirmed}
 
 pub same-true : (a b : ℕ) → a ≡ b → (a == b) ≡ true
@@ -24,8 +24,7 @@ lt-true n m e = grind (arith, nat_tests)
 pub found-no-switch : (t caller : ℕ) (call : FindCall) (found : Found) (first last : ℕ)
     → is_switch_at t (found_line caller call found first last) ≡ false
 found-no-switch t caller call (At node number level weight) first last = refl
-found-no-switch t caller call (OffAt node number level weight) first last = refl
-found-no-switch t caller call (Again why weight) first last = refl
+found-no-switch t caller call _ first last = refl
 
 pub finds-no-switch : (t caller : ℕ) (seen : List ℕ) (answers : List Answer)
     → list_any (is_switch_at t) (map (answer_line caller seen) answers) ≡ false
@@ -38,10 +37,7 @@ finds-no-switch t caller seen (answer ∷ answers) =
 -- what is told is a node, a number and a state
 pub told-true : (off : Bool) (n node q number : ℕ) (o : Bool) → n ≡ node → q ≡ number → o ≡ off
     → (eqb n node && (eqb q number && cond off o (not o))) ≡ true
-told-true true n node q number true a b c = grind (arith, nat_tests)
-told-true true n node q number false a b c = let bad : false ≡ true = c in cc
-told-true false n node q number true a b c = let bad : true ≡ false = c in cc
-told-true false n node q number false a b c = grind (arith, nat_tests)
+told-true off n node q number o a b c = grind (arith, nat_tests)
 
 pub get-take : {A : Type 0} (xs : List A) (k i : ℕ) → i < k → slice_get (take k xs) i ≡ slice_get xs i
 get-take xs zero i low = absurd (omega (arith, low))

@@ -3,7 +3,7 @@
 use Rattle.std.proofs.Common.{◌≡◌, ℕ, zero, suc, ◌*◌, ◌^◌, ◌<◌, ◌≤◌, ◌&&◌, Bool, true, false, cond, ltb, List, length, map, refl, arith, subst, length-append, inl, inr}
 use Rattle.std.specs.Prelude.{flat_map}
 use Rattle.std.proofs.Math.Nat.{pow-le-pow_left, pow-le-pow_right, pow-succ'}
-use Rattle.std.proofs.lemmas.Bool.{cases_lt}
+use Rattle.std.proofs.lemmas.Bool.{and_parts, cases_lt}
 use Rattle.std.proofs.lemmas.Bool.Decides.{nat_tests}
 use Rattle.std.proofs.lemmas.List.{length-map}
 use Rattle.std.proofs.lemmas.Nat.{mul-le}
@@ -37,16 +37,9 @@ only-then true d m h = h refl
 only-then false d m h = omega arith
 
 both-below : (u v n : ℕ) → (ltb u n && ltb v n) ≡ true → (u < n) × (v < n)
-both-below u v n e = (one (ltb u n) refl e, two (ltb u n) (ltb v n) refl e)
-  where
-    one : (a : Bool) → ltb u n ≡ a → (a && ltb v n) ≡ true → u < n
-    one true is e = grind (arith, nat_tests)
-    one false is e = let bad : false ≡ true = e in cc
-
-    two : (a b : Bool) → ltb v n ≡ b → (a && b) ≡ true → v < n
-    two a true is e = grind (arith, nat_tests)
-    two true false is e = let bad : false ≡ true = e in cc
-    two false false is e = let bad : false ≡ true = e in cc
+both-below u v n e =
+    let both = and_parts (ltb u n) (ltb v n) e in
+    (grind (arith, nat_tests, both.0), grind (arith, nat_tests, both.1))
 
 top-reaches : (top d : ℕ) → d ≤ 2 ^ 30 → ((i : ℕ) → i < top → 2 ^ i < d) → 2 ^ top ≤ 2 ^ 31
 top-reaches zero d few least = omega arith

@@ -1,5 +1,5 @@
 -- The calls of an outcome have the slots of the input.
-use Rattle.std.proofs.Common.{◌≡◌, ℕ, suc, ◌+◌, ◌<◌, Bool, true, false, List, [], ◌∷◌, ◌++◌, length, take, drop, map, get_or, refl, ap, sym, ◌∙◌, arith, subst, append_assoc, append-nil, length-append}
+use Rattle.std.proofs.Common.{◌≡◌, ℕ, suc, ◌+◌, ◌<◌, Bool, true, false, List, [], ◌∷◌, ◌++◌, length, take, drop, map, get_or, refl, ap, ap₂, sym, ◌∙◌, arith, subst, append_assoc, append-nil, length-append}
 use Rattle.std.specs.Prelude.{All, flat_map, slice_index}
 use Rattle.std.proofs.lemmas.List.{get_or-drop, get_or-take, length-drop, length-map, length-take, map-append, take-append-drop}
 use Rattle.std.proofs.lemmas.List.Elements.{All-head, All-tail}
@@ -15,7 +15,7 @@ use Rattle.directory.specs.declared.answers.Done.{Done}
 use Rattle.directory.specs.declared.answers.Done.TheVariants.{Moved, Switched, Again as AgainBy}
 use Rattle.directory.specs.declared.answers.Why.TheVariants.{NoEntry}
 use Rattle.directory.specs.declared.answers.Found.{Found}
-use Rattle.directory.specs.declared.answers.Found.TheVariants.{At, Off as OffAt, Again}
+use Rattle.directory.specs.declared.answers.Found.TheVariants.{At}
 use Rattle.net_reader.specs.declared.said.Call.{Call}
 use Rattle.net_reader.specs.declared.said.Call.TheVariants as said
 use Rattle.net_reader.specs.Input.{Contents}
@@ -29,14 +29,13 @@ use Rattle.own_reports.proofs.FindRuns.{calling-in, finds-over}
 
 made-same : {A : Type 0} (make : ℕ → ℕ → A) {p q u v : ℕ} {xs ys : List A} → p ≡ q → u ≡ v → xs ≡ ys
     → make p u ∷ xs ≡ make q v ∷ ys
-made-same make {p} {q} {u} {v} {xs} {ys} a b c =
-    ap (λ k. make k u ∷ xs) a ∙ ap (λ k. make q k ∷ xs) b ∙ ap (λ zs. make q v ∷ zs) c
+made-same make a b c = cc
 
 head-tail : {A : Type 0} {x y : A} {xs ys : List A} → x ≡ y → xs ≡ ys → x ∷ xs ≡ y ∷ ys
-head-tail {A} {x} {y} {xs} {ys} a b = ap (λ z. z ∷ xs) a ∙ ap (λ zs. y ∷ zs) b
+head-tail a b = cc
 
 both-parts : {A : Type 0} {xs ys us vs : List A} → xs ≡ ys → us ≡ vs → xs ++ us ≡ ys ++ vs
-both-parts {A} {xs} {ys} {us} {vs} a b = ap (λ zs. zs ++ us) a ∙ ap (λ zs. ys ++ zs) b
+both-parts a b = cc
 
 -- a subscriber's lines have the slots of its script
 step-slots : (setting : Setting) (sub : ℕ) (course : Course) (script : List Call) (seen : List ℕ)
@@ -67,8 +66,7 @@ found-slot : (caller : ℕ) (call : FindCall) (found : Found) (first last : ℕ)
     → slot_told (found_line caller call found first last)
     ≡ slot_told (AgainBy caller call.from call.sub NoEntry 0 0 0)
 found-slot caller call (At node number level weight) first last = refl
-found-slot caller call (OffAt node number level weight) first last = refl
-found-slot caller call (Again why weight) first last = refl
+found-slot caller call _ first last = refl
 
 find-slots : (caller place number n count : ℕ) (seen : List ℕ) (answers : List Answer) (script : List Call)
     → map (λ (answer : Answer). answer.call) answers ≡ map find_of script → All (IsSearch n count) script
@@ -146,15 +144,11 @@ outcome-slots contents setting history valid same over =
     rows-slots homes (caller_lines setting scripts history) (length homes) theirs (λ i low.
     of-caller i (omega (arith, low, length-drop (length homes) contents.scripts))) in
     map-append slot_told (flat_map (sub_lines setting scripts history) (numbers_from 0 (subs setting))) _
-    ∙ ap (λ k. map slot_told (flat_map (sub_lines setting scripts history) (numbers_from 0 k))
-    ++ map slot_told (flat_map (caller_lines setting scripts history)
-    (numbers_from (subs setting) (length scripts.finds))))
-    (count ∙ sym short)
-    ∙ ap (λ k. map slot_told (flat_map (sub_lines setting scripts history) (numbers_from 0 (length mine)))
-    ++ map slot_told (flat_map (caller_lines setting scripts history) (numbers_from k (length scripts.finds)))) count
-    ∙ ap (λ k. map slot_told (flat_map (sub_lines setting scripts history) (numbers_from 0 (length mine)))
-    ++ map slot_told (flat_map (caller_lines setting scripts history) (numbers_from (length homes) k))) finders
-    ∙ both-parts movers seekers
+    ∙ both-parts
+    (ap (λ k. map slot_told (flat_map (sub_lines setting scripts history) (numbers_from 0 k))) (count ∙ sym short)
+    ∙ movers)
+    (ap₂ (λ k n. map slot_told (flat_map (caller_lines setting scripts history) (numbers_from k n))) count finders
+    ∙ seekers)
     ∙ ap (λ k. slots_from homes 0 mine ++ slots_from homes k theirs)
     (let z : length homes ≡ 0 + length mine = omega (arith, short) in z)
     ∙ sym (slots-append homes 0 mine theirs)

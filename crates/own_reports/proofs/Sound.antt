@@ -1,5 +1,5 @@
 -- What the directory reports is read as its outcome, in which no part is broken.
-use Rattle.std.proofs.Common.{◌≡◌, ℕ, suc, Bool, true, false, cond, List, [], ◌∷◌, Option, None, refl, ap, ◌∙◌, arith}
+use Rattle.std.proofs.Common.{◌≡◌, ℕ, suc, Bool, true, cond, List, [], ◌∷◌, Option, None, refl, ap, ◌∙◌, arith}
 use Rattle.std.specs.Prelude.{All}
 use Rattle.std.specs.List.{list_all}
 use Rattle.std.proofs.lemmas.List.Elements.{All-head, All-tail}
@@ -10,12 +10,11 @@ use Rattle.region_plan.specs.Matched.{PlansBoundFinds, PlansHaveFewReaders}
 use Rattle.region_plan.specs.Meanings.{PlansMean}
 use Rattle.region_plan.specs.Plan.{PlanData}
 use Rattle.report_check.specs.declared.verdict.Flaw.{Flaw}
-use Rattle.report_check.specs.declared.verdict.Flaw.TheVariants as flaws
-use Rattle.report_check.specs.declared.verdict.Verdict.TheVariants.{Sound, Unsound}
+use Rattle.report_check.specs.declared.verdict.Verdict.TheVariants.{Sound}
 use Rattle.report_check.specs.Forms.{ReportsAreRead}
 use Rattle.report_check.specs.Parts.{again_holds, place_holds, weight_holds}
 use Rattle.report_check.specs.Slots.{slots_for}
-use Rattle.report_check.specs.Verdicts.{bounds_of, end_before, has_call, line_behind, or_flaw, verdict_from, verdict_on}
+use Rattle.report_check.specs.Verdicts.{bounds_of, end_before, has_call, or_flaw, verdict_from, verdict_on}
 use Rattle.stretch_laws.specs.Plans.{PlansTrack}
 use Rattle.own_reports.specs.Reports.{HaveTickets, KeepsParts, OutcomesHaveForm, OwnReportsAreSound, PlacesAreTold, TicketsAreTold, outcome_under, plan_in}
 use Rattle.own_reports.proofs.Inputs.{setting_in}
@@ -24,11 +23,7 @@ use Rattle.own_reports.proofs.Sizes.{IsSmall, small-in}
 -- a line that keeps all parts has no flaw
 no-flaw : (a b c d : Bool) (w x y z : Option Flaw) → a ≡ true → b ≡ true → c ≡ true → d ≡ true
     → cond a (cond b (cond c (cond d None w) x) y) z ≡ None
-no-flaw a b c d w x y z p q r s =
-    ap (λ t. cond t (cond b (cond c (cond d None w) x) y) z) p
-    ∙ ap (λ t. cond t (cond c (cond d None w) x) y) q
-    ∙ ap (λ t. cond t (cond d None w) x) r
-    ∙ ap (λ t. cond t None w) s
+no-flaw a b c d w x y z p q r s = rw (p, q, r, s) refl
 
 -- where no line has a flaw, and no ticket is a stranger's, the verdict is so
 sound-from : (plan : PlanData) (homes : List ℕ) (scripts : List (List Call)) (outcome : Outcome) (lines : ℕ)
@@ -37,12 +32,7 @@ sound-from : (plan : PlanData) (homes : List ℕ) (scripts : List (List Call)) (
     → list_all (has_call scripts) outcome.order ≡ true
     → verdict_from plan homes scripts outcome lines before later ≡ Sound
 unfolding HaveTickets verdict_from
-sound-from plan homes scripts outcome lines before [] held kept known = pass (list_all (has_call scripts) outcome.order)
-    known
-  where
-    pass : (b : Bool) → b ≡ true → cond b Sound (Unsound (line_behind lines) flaws.Tickets) ≡ Sound
-    pass true e = refl
-    pass false e = let bad : false ≡ true = e in cc
+sound-from plan homes scripts outcome lines before [] held kept known = rw known refl
 sound-from plan homes scripts outcome lines before (call ∷ later) held kept known =
     let parts = All-head (KeepsParts plan homes outcome.calls outcome.order) call later kept in
     ap (λ flaw. or_flaw lines flaw (verdict_from plan homes scripts outcome (suc lines) (end_before call later) later))

@@ -4,7 +4,7 @@ use Rattle.std.specs.Prelude.{slice_index}
 use Rattle.std.proofs.lemmas.List.{get_or-drop, get_or-take, length-drop, length-map, length-take, drop-drop}
 use Rattle.entry_word.specs.declared.visit.Visit.{Visit}
 use Rattle.directory.specs.Settings.{Setting, start, subs}
-use Rattle.directory.specs.Courses.{Course, Move, Step, after_step, course_at, move_to, next_move, switch_off, switch_on}
+use Rattle.directory.specs.Courses.{Course, Move, Step, after_step, course_at, move_to, next_move}
 use Rattle.entry_word.specs.declared.mark.PresenceMark.TheVariants.{Gone, Here}
 use Rattle.directory.specs.Writes.{Write, erasure_writes, mark_at, move_writes, new_address, numbers_from, purge_writes, step_writes, visit_of, writes}
 use Rattle.directory.specs.Histories.{History, own, tickets}
@@ -39,6 +39,9 @@ move-long setting course move =
 pub part-at : (seen : List ℕ) (p n i : ℕ) → i < n → slice_index (take n (drop p seen)) i ≡ slice_index seen (p + i)
 part-at seen p n i low = get_or-take n (drop p seen) i 0 low ∙ get_or-drop p seen i 0
 
+pub part-first : (seen : List ℕ) (p n : ℕ) → 0 < n → slice_index (take n (drop p seen)) 0 ≡ slice_index seen p
+part-first seen p n some = part-at seen p n 0 some ∙ ap (slice_index seen) (let z : p + 0 ≡ p = omega arith in z)
+
 part-length : (seen : List ℕ) (p n : ℕ) → p + n ≤ length seen → length (take n (drop p seen)) ≡ n
 part-length seen p n fits = omega (arith, length-take n (drop p seen), length-drop p seen, fits)
 
@@ -59,7 +62,7 @@ step-run setting sub course (move_to node) seen p e ends fits =
       (
         (
           omega (arith, ends, long),
-          part-at seen p n 0 (omega (arith, long)) ∙ ap (slice_index seen) (let z : p + 0 ≡ p = omega arith in z),
+          part-first seen p n (omega (arith, long)),
           ap (λ k. slice_index (take n (drop p seen)) (k - 1)) count ∙ part-at seen p n (n - 1) (omega (arith, long))
               ∙ ap (slice_index seen) last_place,
         ),
@@ -71,34 +74,19 @@ step-run setting sub course (move_to node) seen p e ends fits =
         ),
       ),
     )
-step-run setting sub course switch_off seen p e ends fits = (
-  refl,
-  (
-    omega (arith, ends),
-    part-at seen p 1 0 (omega arith)
-        ∙ ap (slice_index seen) (let z : p + 0 ≡ p = omega arith in z),
-  ),
-)
-step-run setting sub course switch_on seen p e ends fits = (
-  refl,
-  (
-    omega (arith, ends),
-    part-at seen p 1 0 (omega arith)
-        ∙ ap (slice_index seen) (let z : p + 0 ≡ p = omega arith in z),
-  ),
-)
+step-run setting sub course _ seen p e ends fits =
+    (refl, (omega (arith, ends), part-first seen p 1 (omega arith)))
 
 -- a step has a write
 pub some-writes : (setting : Setting) (course : Course) (step : Step) → 0 < length (step_writes setting course step)
 some-writes setting course (move_to node) = omega (arith, move-long setting course (next_move setting course node))
-some-writes setting course switch_off = omega arith
-some-writes setting course switch_on = omega arith
+some-writes setting course _ = omega arith
 
 -- the runs of the lines of steps
 pub step-runs : (setting : Setting) (sub : ℕ) (course : Course) (steps : List Step) (seen : List ℕ) (p : ℕ)
     → p + length (writes setting course steps) ≡ length seen
     → HaveRuns sub seen p (step_lines setting sub course steps (drop p seen))
-unfolding writes step_lines HaveRuns
+unfolding writes step_lines
 step-runs setting sub course [] seen p ends = omega (arith, ends)
 step-runs setting sub course (step ∷ steps) seen p ends =
     let n : ℕ = length (step_writes setting course step) in

@@ -32,8 +32,7 @@ all-pass test (v ∷ history) each =
 no-writes : (setting : Setting) (sub : ℕ) (steps : List Step) (k : ℕ) → steps ≡ []
     → slice_get (visits setting sub steps) k ≡ None
 unfolding writes
-no-writes setting sub [] k none = refl
-no-writes setting sub (step ∷ steps) k none = let bad : step ∷ steps ≡ [] = none in cc
+no-writes setting sub steps k none = rw none refl
 
 -- an actor without a call has no visit
 pub idle : (contents : Contents) (setting : Setting) (history : History) (actor : ℕ) → IsValid contents

@@ -22,7 +22,7 @@ use Rattle.report_check.specs.Parts.{is_switch_at}
 use Rattle.own_reports.proofs.Cuts.{IsOver, Laws, all_writes, cut-below, cut-past, legal-before, made-before, made_before, off-before}
 use Rattle.own_reports.proofs.Order.{tickets-are}
 use Rattle.own_reports.proofs.Plain.{off_by}
-use Rattle.own_reports.proofs.StepRuns.{all-made, part-at, some-writes}
+use Rattle.own_reports.proofs.StepRuns.{all-made, part-first, some-writes}
 use Rattle.own_reports.proofs.Tellings.{off-after}
 use Rattle.std.proofs.lemmas.Bool.{eqb-true, or_cases}
 use Rattle.directory.specs.ListLaws.{slice_get-right}
@@ -63,8 +63,8 @@ module _ (setting : Setting) (sub t : ℕ) (seen : List ℕ) (all : List Write) 
             (sym (drop-drop (length ws) p seen)) ∙ behind)
       ]
     where
-      place-of : (p : ℕ) → slice_index (take 1 (drop p seen)) 0 ≡ slice_index seen p
-      place-of p = part-at seen p 1 0 (omega arith) ∙ ap (slice_index seen) (let z : p + 0 ≡ p = omega arith in z)
+      now : (w : Write) (ws : List Write) → all ≡ done ++ w ∷ ws → slice_get all p ≡ Some w
+      now w ws is = ap (λ (xs : List Write). slice_get xs p) is ∙ slice_get-right done _ p 0 (omega (arith, place))
 
       at_step : (step : Step) → MayStep setting course step → p < length seen
           → all ≡ done ++ (step_writes setting course step ++ writes setting (after_step setting course step) steps)
@@ -72,32 +72,15 @@ module _ (setting : Setting) (sub t : ℕ) (seen : List ℕ) (all : List Write) 
           (take (length (step_writes setting course step)) (drop p seen))) ≡ true
           → IsSwitchTicket seen all t
       at_step (move_to node) may low is found = let bad : false ≡ true = found in cc
-      at_step switch_off may low is found = (
-        p,
-        low,
-        sym (eqb-true _ t found) ∙ place-of p,
-        (
-          last_stop course,
-          length course.moves,
-          inl (ap (λ (xs : List Write). slice_get xs p) is ∙ slice_get-right done _ p 0 (omega (arith, place))),
-        ),
-      )
-      at_step switch_on may low is found = (
-        p,
-        low,
-        sym (eqb-true _ t found) ∙ place-of p,
-        (
-          last_stop course,
-          length course.moves,
-          inr (
-            ap (λ (xs : List Write). slice_get xs p) is ∙ slice_get-right done _ p 0 (omega (arith, place)),
-            ap (λ (xs : List Write). off_by false (take p xs)) is
-                ∙ ap (off_by false) (take-append-le p done _ (omega (arith, place))
-                ∙ take_all p done (omega (arith, place)))
-                ∙ off ∙ may,
-          ),
-        ),
-      )
+      at_step switch_off may low is found =
+          let at = sym (eqb-true _ t found) ∙ part-first seen p 1 (omega arith) in
+          (p, low, at, (last_stop course, length course.moves, inl (now _ _ is)))
+      at_step switch_on may low is found =
+          let at = sym (eqb-true _ t found) ∙ part-first seen p 1 (omega arith) in
+          let off_there : off_by false (take p all) ≡ true = ap (λ (xs : List Write). off_by false (take p xs)) is
+          ∙ ap (off_by false) (take-append-le p done _ (omega (arith, place)) ∙ take_all p done (omega (arith, place)))
+          ∙ off ∙ may in
+          (p, low, at, (last_stop course, length course.moves, inr (now _ _ is, off_there)))
 
 -- ---- what stands at a ticket
 
@@ -111,16 +94,10 @@ small-at (x ∷ ws) zero w small is = subst IsSmallWrite (same_Some x w is) smal
 small-at (x ∷ ws) (suc i) w small is = small-at ws i w small.1 is
 
 never : (p q r : Bool) → q ≡ true → (p && not (p && (q || r))) ≡ false
-never true true r e = refl
-never true false r e = let bad : false ≡ true = e in cc
-never false q r e = refl
+never p q r e = rw e (grind arith)
 
 never-on : (p q r s : Bool) → r ≡ true → s ≡ true → (p && not (p && (q || (r && s)))) ≡ false
-never-on true true r s e f = refl
-never-on true false true true e f = refl
-never-on true false true false e f = let bad : false ≡ true = f in cc
-never-on true false false s e f = let bad : false ≡ true = e in cc
-never-on false q r s e f = refl
+never-on p q r s e f = rw (e, f) (grind arith)
 
 module _ (laws : Laws) (setting : Setting) (scripts : Scripts) (history : History)
     (over : IsOver setting scripts history) (sub : ℕ) (known : sub < subs setting) where

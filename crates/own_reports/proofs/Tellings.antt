@@ -18,9 +18,10 @@ use Rattle.directory.specs.StepLaws.{take-append}
 use Rattle.directory.specs.Writes.{Write, mark_at, move_writes, step_writes, writes}
 use Rattle.directory.specs.declared.answers.Done.{Done}
 use Rattle.directory.specs.declared.answers.Done.TheVariants.{Moved, Switched}
-use Rattle.report_check.specs.Parts.{at_start, tell, told_before}
+use Rattle.report_check.specs.Parts.{tell, told_before}
 use Rattle.own_reports.proofs.Plain.{commits_in, move-commits, move-confirm, move-on, move-waits, off_by}
-use Rattle.own_reports.proofs.StepRuns.{move-long, part-at}
+use Rattle.own_reports.proofs.StepRuns.{move-long, part-at, part-first}
+use Rattle.own_reports.proofs.RowsTold.{told-push}
 use Rattle.directory.specs.ListLaws.{slice_get-right, slice_get-left, last_or-push}
 
 test-now : (sub commit ticket : ℕ) → commit < ticket → (eqb sub sub && ltb commit ticket) ≡ true
@@ -32,12 +33,11 @@ test-later sub commit ticket low = grind (arith, nat_tests)
 -- the last commit, its ticket and its weight: the write behind it confirms it
 abbrev pub IsLast : Setting → List ℕ → List Write → Option Commit → Option ℕ → ℕ → Type 0
 IsLast setting seen all None None weight = Unit {0}
-IsLast setting seen all None (Some ticket) weight = ⊥
-IsLast setting seen all (Some commit) None weight = ⊥
 IsLast setting seen all (Some commit) (Some ticket) weight =
     (j : ℕ) × (suc j < length seen) × (ticket ≡ slice_index seen j)
     × (slice_get all (suc j) ≡ Some (mark_at commit.to (Here commit.number)))
     × (weight ≡ setting.distance commit.from commit.to)
+IsLast setting seen all _ _ weight = ⊥
 
 -- what lines tell before a ticket is what these writes tell
 pub record IsToldBy (setting : Setting) (homes : List ℕ) (sub ticket : ℕ) (seen : List ℕ) (all : List Write)
@@ -61,7 +61,7 @@ module _ (setting : Setting) (homes : List ℕ) (sub ticket : ℕ) (seen : List 
       let line : Done = Moved sub move.number move.from move.to move.weight first commit last in
       let grown : commits_in (made ++ more) ≡ commits_in made ++ commit_by move ∷ [] =
       filter_map-append write_commit made more ∙ ap (λ cs. commits_in made ++ cs) one in
-      let joined = fold-append (tell sub ticket) (at_start (slice_index homes sub)) lines (line ∷ []) in record {
+      let joined = told-push homes sub ticket lines line in record {
         node = rw (joined, test-now sub commit ticket low)
             (sym (ap (fold (λ node (c : Commit). c.to) (slice_index homes sub)) grown
             ∙ fold-append (λ node (c : Commit). c.to) (slice_index homes sub) (commits_in made) (commit_by move ∷ [])));
@@ -75,61 +75,23 @@ module _ (setting : Setting) (homes : List ℕ) (sub ticket : ℕ) (seen : List 
             (sym (ap (last_or None) grown ∙ last_or-push None (commits_in made) (commit_by move))) is);
       }
 
-  -- a move that wasn't committed before the ticket
-  told-waiting : (lines : List Done) (made more : List Write) (number from to weight first commit last : ℕ)
-      → IsToldBy setting homes sub ticket seen all lines made → ticket ≤ commit
-      → commits_in more ≡ [] → off_by (off_by false made) more ≡ off_by false made
-      → IsToldBy setting homes sub ticket seen all
-      (lines ++ Moved sub number from to weight first commit last ∷ []) (made ++ more)
-  told-waiting lines made more number from to weight first commit last told far none still =
-      let line : Done = Moved sub number from to weight first commit last in
+  -- a line that tells of no move before the ticket, and writes that are no commit
+  told-still : (lines : List Done) (made more : List Write) (line : Done) (off : Bool)
+      → IsToldBy setting homes sub ticket seen all lines made → commits_in more ≡ []
+      → tell sub ticket (told_before homes lines sub ticket) line
+      ≡ record (told_before homes lines sub ticket) { is_off = off } → off_by (off_by false made) more ≡ off
+      → IsToldBy setting homes sub ticket seen all (lines ++ line ∷ []) (made ++ more)
+  told-still lines made more line off told none tells turned =
       let same : commits_in (made ++ more) ≡ commits_in made =
       filter_map-append write_commit made more ∙ ap (λ cs. commits_in made ++ cs) none ∙ append-nil (commits_in made) in
-      let joined = fold-append (tell sub ticket) (at_start (slice_index homes sub)) lines (line ∷ []) in record {
-        node = rw (joined, test-later sub commit ticket far)
-            (told.node ∙ sym (ap (fold (λ node (c : Commit). c.to) (slice_index homes sub)) same));
-        number = rw (joined, test-later sub commit ticket far) (told.number ∙ sym (ap length same));
-        is_off = rw (joined, test-later sub commit ticket far)
-            (told.is_off ∙ sym (fold-append (λ (last : Bool) write. write_off write) false made more ∙ still));
-        last = rw (joined, test-later sub commit ticket far)
+      let joined = told-push homes sub ticket lines line ∙ tells in record {
+        node = rw joined (told.node ∙ sym (ap (fold (λ node (c : Commit). c.to) (slice_index homes sub)) same));
+        number = rw joined (told.number ∙ sym (ap length same));
+        is_off = rw joined (sym (fold-append (λ (last : Bool) write. write_off write) false made more ∙ turned));
+        last = rw joined
             (subst (λ o. IsLast setting seen all o (told_before homes lines sub ticket).commit
             (told_before homes lines sub ticket).weight) (sym (ap (last_or None) same)) told.last);
       }
-
-  -- a switch before the ticket
-  told-switched : (lines : List Done) (made more : List Write) (off : Bool) (node number at : ℕ)
-      → IsToldBy setting homes sub ticket seen all lines made → at < ticket
-      → commits_in more ≡ [] → off_by (off_by false made) more ≡ off
-      → IsToldBy setting homes sub ticket seen all (lines ++ Switched sub off node number at ∷ []) (made ++ more)
-  told-switched lines made more off node number at told low none turned =
-      let line : Done = Switched sub off node number at in
-      let same : commits_in (made ++ more) ≡ commits_in made =
-      filter_map-append write_commit made more ∙ ap (λ cs. commits_in made ++ cs) none ∙ append-nil (commits_in made) in
-      let joined = fold-append (tell sub ticket) (at_start (slice_index homes sub)) lines (line ∷ []) in record {
-        node = rw (joined, test-now sub at ticket low)
-            (told.node ∙ sym (ap (fold (λ node (c : Commit). c.to) (slice_index homes sub)) same));
-        number = rw (joined, test-now sub at ticket low) (told.number ∙ sym (ap length same));
-        is_off = rw (joined, test-now sub at ticket low)
-            (sym (fold-append (λ (last : Bool) write. write_off write) false made more ∙ turned));
-        last = rw (joined, test-now sub at ticket low)
-            (subst (λ o. IsLast setting seen all o (told_before homes lines sub ticket).commit
-            (told_before homes lines sub ticket).weight) (sym (ap (last_or None) same)) told.last);
-      }
-
-  -- a switch that isn't before the ticket
-  told-unswitched : (lines : List Done) (made more : List Write) (off : Bool) (node number at : ℕ)
-      → IsToldBy setting homes sub ticket seen all lines made → ticket ≤ at → more ≡ []
-      → IsToldBy setting homes sub ticket seen all (lines ++ Switched sub off node number at ∷ []) (made ++ more)
-  told-unswitched lines made more off node number at told far none =
-      let line : Done = Switched sub off node number at in
-      let same : made ++ more ≡ made = ap (λ (ws : List Write). made ++ ws) none ∙ append-nil made in
-      let joined = fold-append (tell sub ticket) (at_start (slice_index homes sub)) lines (line ∷ []) in
-      subst (IsToldBy setting homes sub ticket seen all (lines ++ line ∷ [])) (sym same) (record {
-        node = rw (joined, test-later sub at ticket far) told.node;
-        number = rw (joined, test-later sub at ticket far) told.number;
-        is_off = rw (joined, test-later sub at ticket far) told.is_off;
-        last = rw (joined, test-later sub at ticket far) told.last;
-      })
 
   -- how many of all writes are made before the ticket
   pub record IsCount (made : ℕ) : Type 0 where
@@ -188,11 +150,11 @@ module _ (setting : Setting) (homes : List ℕ) (sub ticket : ℕ) (seen : List 
             (omega (arith, here, low)) (move-commits (m - p) setting course move (omega (arith, more))) still
             (i, inside, here, confirm, refl)
         | inr far ↦
-            told-waiting lines (take m done) (take (m - p) ws) move.number move.from move.to move.weight
-            (slice_index chunk 0) (slice_index chunk (suc (suc move.renewed))) (slice_index chunk (length chunk - 1))
-            told
-            (omega (arith, here, far))
-            (move-waits (m - p) setting course move (omega (arith, count.past i (omega (arith, inside)) far))) still
+            told-still lines (take m done) (take (m - p) ws) (Moved sub move.number move.from move.to move.weight
+            (slice_index chunk 0) (slice_index chunk (suc (suc move.renewed))) (slice_index chunk (length chunk - 1)))
+            _ told (move-waits (m - p) setting course move (omega (arith, count.past i (omega (arith, inside)) far)))
+            (rw (test-later sub (slice_index chunk (suc (suc move.renewed))) ticket (omega (arith, here, far))) refl)
+            (still ∙ sym told.is_off)
       ]
 
   switch-told : (course : Course) (step : Step) (write : Write) (off : Bool) (node number p m : ℕ) (done : List Write)
@@ -203,20 +165,22 @@ module _ (setting : Setting) (homes : List ℕ) (sub ticket : ℕ) (seen : List 
       (take m done ++ take (m - p) (write ∷ []))
   switch-told course step write off node number p m done lines count fits none turns told =
       let at : ℕ = slice_index (take 1 (drop p seen)) 0 in
-      let here : at ≡ slice_index seen p =
-      part-at seen p 1 0 (omega arith) ∙ ap (slice_index seen) (let z : p + 0 ≡ p = omega arith in z) in
+      let here = part-first seen p 1 (omega arith) in
       elim (cases_lt (slice_index seen p) ticket) [
         | inl low ↦
             let whole : take (m - p) (write ∷ []) ≡ write ∷ [] =
             take_all (m - p) (write ∷ []) (omega (arith, count.below p (omega (arith, fits)) low)) in
-            told-switched lines (take m done) (take (m - p) (write ∷ [])) off node number at told
-            (omega (arith, here, low))
+            told-still lines (take m done) (take (m - p) (write ∷ [])) (Switched sub off node number at) off told
             (ap commits_in whole ∙ ap (λ o. cons_option o []) none)
+            (rw (test-now sub at ticket (omega (arith, here, low))) refl)
             (ap (off_by (off_by false (take m done))) whole ∙ turns)
         | inr far ↦
-            let empty : m - p ≡ 0 = omega (arith, count.past p (omega (arith, fits)) far) in
-            told-unswitched lines (take m done) (take (m - p) (write ∷ [])) off node number at told
-            (omega (arith, here, far)) (ap (λ k. take k (write ∷ [])) empty)
+            let empty : take (m - p) (write ∷ []) ≡ [] =
+            ap (λ k. take k (write ∷ [])) (let e : m - p ≡ 0 = omega (arith, count.past p (omega (arith, fits)) far) in
+            e) in
+            told-still lines (take m done) (take (m - p) (write ∷ [])) (Switched sub off node number at) _ told
+            (ap commits_in empty) (rw (test-later sub at ticket (omega (arith, here, far))) refl)
+            (ap (off_by (off_by false (take m done))) empty ∙ sym told.is_off)
       ]
 
   step-told : (course : Course) (step : Step) (p m : ℕ) (done later : List Write) (lines : List Done) → IsCount m
@@ -245,10 +209,7 @@ module _ (setting : Setting) (homes : List ℕ) (sub ticket : ℕ) (seen : List 
       ∙ ap (off_by false) (sym (take_all (length ws) ws (omega arith)))
       ∙ move-on (length ws) setting course (next_move setting course node)
       ∙ sym may.is_on
-  off-after course switch_off done may now =
-      fold-append (λ (last : Bool) write. write_off write) false done _
-  off-after course switch_on done may now =
-      fold-append (λ (last : Bool) write. write_off write) false done _
+  off-after course _ done may now = fold-append (λ (last : Bool) write. write_off write) false done _
 
   -- the lines of steps tell what their writes tell
   pub steps-told : (course : Course) (steps : List Step) (p m : ℕ) (done : List Write) (lines : List Done) → IsCount m

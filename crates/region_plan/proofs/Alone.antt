@@ -1,6 +1,5 @@
 -- A network and k have one plan.
-use Rattle.std.proofs.Common.{◌≡◌, ℕ, zero, suc, ◌<◌, Bool, true, List, [], ◌∷◌, map, length, get_or, refl, sym}
-use Rattle.std.proofs.Common.{◌∙◌, ap, subst, arith}
+use Rattle.std.proofs.Common.{◌≡◌, ℕ, zero, suc, ◌<◌, Bool, true, List, [], ◌∷◌, length, get_or, refl, sym, ◌∙◌, ap, subst, arith}
 use Rattle.std.specs.Prelude.{All}
 use Rattle.std.proofs.lemmas.List.{get_or_default, same_lists}
 use Rattle.std.proofs.lemmas.List.Elements.{All-nil, All-cons, All-append, All-head, All-tail}
@@ -9,7 +8,7 @@ use Rattle.net_graph.specs.Network.{Network}
 use Rattle.net_graph.specs.Walks.{IsLeastWeight}
 use Rattle.node_set.specs.Ascending.{has, IsAscending}
 use Rattle.distances.specs.Table.{DistanceTable, DistancesAreOne}
-use Rattle.coarse_cover.specs.Coarsening.{cluster_of, phase, phases, without_home}
+use Rattle.coarse_cover.specs.Coarsening.{all_clusters, cluster_of, phase, phases, without_home}
 use Rattle.coarse_cover.specs.Covers.{cluster_list, as_cluster}
 use Rattle.coarse_cover.specs.declared.cover.Cluster.{Cluster}
 use Rattle.cluster_tree.specs.Tree.{WeighedCluster, IsDepth, weight_beside, within, inside_weight}
@@ -17,13 +16,14 @@ use Rattle.cluster_tree.specs.PlaceLaws.{has_place, beside_place}
 use Rattle.region_plan.specs.Plan.{PlanCluster, Level, PlanData, level_at, levels_of, top_of, no_level}
 use Rattle.node_set.specs.Balls.{GrownCluster}
 use Rattle.node_set.specs.BallLaws.{ascending-union_of}
-use Rattle.region_plan.specs.Regions.{regions_of, readers_of}
+use Rattle.region_plan.specs.Regions.{regions_of}
 use Rattle.mean_cover.specs.Covering.{mean_cluster, mean_clusters, mean_covering}
 use Rattle.region_plan.specs.Coverings.{covering_of}
-use Rattle.region_plan.specs.Meanings.{IsTop, IsClusterOf, AreClustersOf, IsCoveredPlan, IsLevelOf}
+use Rattle.region_plan.specs.Meanings.{IsClusterOf, AreClustersOf, IsCoveredPlan, IsLevelOf, as_tree}
 use Rattle.region_plan.specs.declared.covering.Covering.{Covering}
 use Rattle.region_plan.specs.declared.covering.Covering.TheVariants.{Phased, Mean}
-use Rattle.region_plan.specs.Meanings.{as_tree}
+use Rattle.region_plan.proofs.Covered.{one_phase}
+use Rattle.region_plan.proofs.Spanning.{for_each_listed}
 use Rattle.region_plan.specs.MeaningLaws.{depths_are_one, tops_are_one}
 
 -- ---- the clusters of a coarsening have ascending members
@@ -34,6 +34,10 @@ Ascends c = IsAscending c.members
 abbrev Rises : Cluster → Type 0
 Rises c = IsAscending c.members.members
 
+shown_rises : (n p : ℕ) (c : GrownCluster) → Ascends c → Rises (as_cluster n p c)
+unfolding as_cluster
+shown_rises n p c ascends = ascends
+
 phase_ascends : (balls : List (List ℕ)) (k r more : ℕ) (waiting : List ℕ) → All Ascends (phase balls k r more waiting)
 unfolding phase cluster_of
 phase_ascends balls k r zero waiting = All-nil Ascends
@@ -43,29 +47,16 @@ phase_ascends balls k r (suc more) (a ∷ rest) =
     All-cons Ascends cluster (phase balls k r more _) (ascending-union_of balls cluster.homed)
     (phase_ascends balls k r more _)
 
-phases_ascend : (balls : List (List ℕ)) (k more : ℕ) (left : List ℕ) → All (All Ascends) (phases balls k more left)
-unfolding phases
-phases_ascend balls k zero left = All-nil (All Ascends)
-phases_ascend balls k (suc more) [] = All-nil (All Ascends)
+phases_ascend : (balls : List (List ℕ)) (k more : ℕ) (left : List ℕ)
+    → All Ascends (all_clusters (phases balls k more left))
+unfolding all_clusters phases
+phases_ascend balls k zero left = All-nil Ascends
+phases_ascend balls k (suc more) [] = All-nil Ascends
 phases_ascend balls k (suc more) (v ∷ vs) =
     let n = length (v ∷ vs) in
     let clusters = phase balls k n n (v ∷ vs) in
-    All-cons (All Ascends) clusters (phases balls k more (without_home clusters (v ∷ vs)))
+    All-append Ascends clusters (all_clusters (phases balls k more (without_home clusters (v ∷ vs))))
     (phase_ascends balls k n n (v ∷ vs)) (phases_ascend balls k more (without_home clusters (v ∷ vs)))
-
-shown_rise : (n p : ℕ) (cs : List GrownCluster) → All Ascends cs → All Rises (map (as_cluster n p) cs)
-unfolding as_cluster
-shown_rise n p [] all = All-nil Rises
-shown_rise n p (c ∷ cs) all = All-cons Rises (as_cluster n p c) (map (as_cluster n p) cs) (All-head Ascends c cs all)
-    (shown_rise n p cs (All-tail Ascends c cs all))
-
-listed_rise : (n p : ℕ) (all : List (List GrownCluster)) → All (All Ascends) all → All Rises (cluster_list n p all)
-unfolding cluster_list
-listed_rise n p [] h = All-nil Rises
-listed_rise n p (cs ∷ later) h =
-    All-append Rises (map (as_cluster n p) cs) (cluster_list n (suc p) later)
-    (shown_rise n p cs (All-head (All Ascends) cs later h))
-    (listed_rise n (suc p) later (All-tail (All Ascends) cs later h))
 
 -- the same of a mean cover
 mean_ascends : (balls : List (List ℕ)) (k more : ℕ) (waiting : List ℕ)
@@ -78,10 +69,10 @@ mean_ascends balls k (suc more) (a ∷ rest) =
     All-cons Ascends cluster (mean_clusters balls k more _) (ascending-union_of balls cluster.homed)
     (mean_ascends balls k more _)
 
-covering_ascends : (covering : Covering) (balls : List (List ℕ)) → All (All Ascends) (covering_of covering balls)
+covering_ascends : (covering : Covering) (balls : List (List ℕ))
+    → All Ascends (all_clusters (covering_of covering balls))
 covering_ascends (Phased k) balls = phases_ascend balls k _ _
-covering_ascends (Mean k) balls = All-cons (All Ascends) (mean_covering balls k) [] (mean_ascends balls k _ _)
-    (All-nil (All Ascends))
+covering_ascends (Mean k) balls = rw (one_phase (mean_covering balls k)) (mean_ascends balls k _ _)
 
 -- ---- one cluster
 
@@ -102,9 +93,6 @@ same_cluster : (one_weight : LeastIsOne) {network : Network} {made : Cluster} {d
     → IsClusterOf network made d → IsClusterOf network made e → d ≡ e
 same_cluster one_weight {network} {made} {d} {e} rises p q =
     let xs = made.members.members in
-    let leader : d.leader ≡ e.leader = p.leader ∙ sym q.leader in
-    let phase_is : d.phase ≡ e.phase = p.phase ∙ sym q.phase in
-    let members : d.members ≡ e.members = p.members ∙ sym q.members in
     let weights : d.weights ≡ e.weights =
     same_weights xs d.weights e.weights rises (p.count ∙ ap length p.members) (q.count ∙ ap length q.members)
     (λ v h. ap (λ ys. weight_beside v ys d.weights) (sym p.members)
@@ -139,16 +127,12 @@ same_level : (one_weight : LeastIsOne) {network : Network} {table : DistanceTabl
     {one two : Level} → IsLevelOf network table covering i one → IsLevelOf network table covering i two → one ≡ two
 same_level one_weight {network} {table} {covering} {i} {one} {two} p q =
     let rise : All Rises (cluster_list table.nodes 0 (regions_of table covering i)) =
-    listed_rise table.nodes 0 (regions_of table covering i) (covering_ascends covering _) in
+    for_each_listed Rises Ascends table.nodes (shown_rises table.nodes) 0 (regions_of table covering i)
+    (covering_ascends covering _) in
     let clusters : one.clusters ≡ two.clusters =
     same_clusters one_weight network (cluster_list table.nodes 0 (regions_of table covering i)) one.clusters
     two.clusters
     rise p.clusters q.clusters in
-    let exponent : one.exponent ≡ two.exponent = p.exponent ∙ sym q.exponent in
-    let threshold : one.threshold ≡ two.threshold = p.threshold ∙ sym q.threshold in
-    let phases_are : one.phases ≡ two.phases = p.phases ∙ sym q.phases in
-    let homes : one.homes ≡ two.homes = p.homes ∙ sym q.homes in
-    let readers_are : one.readers ≡ two.readers = p.readers ∙ ap (readers_of table.nodes) clusters ∙ sym q.readers in
     let parts : ◌≡◌ {A = Level} (record {
       exponent = one.exponent;
       threshold = one.threshold;
@@ -170,31 +154,23 @@ same_level one_weight {network} {table} {covering} {i} {one} {two} p q =
 pub one_plan : (one_table : DistancesAreOne) (one_weight : LeastIsOne) {network : Network} {covering : Covering}
     {one two : PlanData} → IsCoveredPlan covering network one → IsCoveredPlan covering network two → one ≡ two
 one_plan one_table one_weight {network} {covering} {one} {two} p q =
-    let a : one.distances ≡ two.distances = tables in
-    let b : one.k ≡ two.k = trade_off in
-    let r : one.reach ≡ two.reach = p.reach ∙ sym q.reach in
-    let c : one.levels ≡ two.levels = levels in
     let parts : ◌≡◌ {A = PlanData}
     (record { k = one.k; reach = one.reach; distances = one.distances; levels = one.levels })
-    (record { k = two.k; reach = two.reach; distances = two.distances; levels = two.levels }) = cc in
+    (record { k = two.k; reach = two.reach; distances = two.distances; levels = two.levels }) =
+    cc (tables, levels) in
     parts
   where
     tables : one.distances ≡ two.distances
     tables = one_table network one.distances two.distances p.distances q.distances
 
-    trade_off : one.k ≡ two.k
-    trade_off = p.trade_off ∙ sym q.trade_off
-
     tops : top_of one ≡ top_of two
-    tops = tops_are_one two.distances (top_of one) (top_of two)
-        (subst (λ (t : DistanceTable). IsTop t (top_of one)) tables p.top) q.top
+    tops = tops_are_one two.distances (top_of one) (top_of two) (rw tables at p.top) q.top
 
     count : levels_of one ≡ levels_of two
     count = omega (arith, tops, p.some, q.some)
 
     level : (i : ℕ) → i < levels_of one → level_at one i ≡ level_at two i
-    level i below = same_level one_weight (subst (λ (t : DistanceTable). IsLevelOf network t covering i
-        (level_at one i)) tables (p.each i below)) (q.each i (omega (arith, count)))
+    level i below = same_level one_weight (rw tables at (p.each i below)) (q.each i (omega (arith, count)))
 
     levels : one.levels ≡ two.levels
     levels = same_lists one.levels two.levels count (λ i d below.

@@ -1,6 +1,5 @@
 -- The most looks and the most writes of the directory over a plan, from the plan's own data.
-use Rattle.std.proofs.Common.{◌≡◌, ℕ, suc, ◌+◌, ◌*◌, ◌-◌, ◌<◌, ◌≤◌, List, [], ◌∷◌, length, length-append, map, refl, take}
-use Rattle.std.proofs.Common.{sym, ◌∙◌, ap, arith}
+use Rattle.std.proofs.Common.{◌≡◌, ℕ, suc, ◌+◌, ◌*◌, ◌-◌, ◌<◌, ◌≤◌, List, [], ◌∷◌, length, length-append, map, refl, take, sym, ◌∙◌, ap, arith, add-zero, zero-add}
 use Rattle.std.specs.Prelude.{flat_map}
 use Rattle.std.specs.List.{sum_by}
 use Rattle.std.proofs.lemmas.List.{length-map, take_more}
@@ -30,13 +29,10 @@ module _ (v : ℕ) (at : ℕ → Level) where
       next : (i k : ℕ) → suc i + k ≡ i + suc k
       next i k = omega arith
 
-      none : (i : ℕ) → i ≡ i + 0
-      none i = omega arith
-
       here : length {A = Reader} (map (λ c. record { level = i; cluster = c }) (readers_in (at i) v))
           ≡ length (readers_in level v)
       here = length-map {B = Reader} (readers_in (at i) v) (λ c. record { level = i; cluster = c })
-          ∙ ap (λ l. length (readers_in l v)) (ap at (none i) ∙ same 0 (omega arith))
+          ∙ ap (λ l. length (readers_in l v)) (ap at (sym (add-zero i)) ∙ same 0 (omega arith))
 
 pub looks_counted : (plan : PlanData) (starts : List ℕ) (v : ℕ) → 1 ≤ levels_of plan
     → most_looks (setting_of plan starts) v
@@ -46,10 +42,7 @@ looks_counted plan starts v some =
     ap (λ n. 1 + n + nodes_of plan + 3)
     (ap (λ m. length {A = Reader} (flat_map
     (λ j. map (λ c. record { level = j; cluster = c }) (readers_in (level_at plan j) v)) (numbers_from 0 m))) count
-    ∙ count_read v (level_at plan) 0 plan.levels (λ k h. ap (level_at plan) (zero_first k)))
-  where
-    zero_first : (k : ℕ) → 0 + k ≡ k
-    zero_first k = omega arith
+    ∙ count_read v (level_at plan) 0 plan.levels (λ k h. ap (level_at plan) (zero-add k)))
 
 pub writes_counted : (plan : PlanData) (starts : List ℕ) → 1 ≤ levels_of plan → most_writes (setting_of plan starts)
     ≡ 3 + 2 * levels_of plan + nodes_of plan

@@ -1,10 +1,7 @@
 -- The two coverings have the same laws: their clusters are shaped, and each ball has a home.
-use Rattle.std.proofs.Common.{◌≡◌, ℕ, suc, ◌-◌, ◌*◌, ◌<◌, ◌≤◌, true, List, [], ◌∷◌, length, map, refl, sym, ◌∙◌}
-use Rattle.std.proofs.Common.{ap, subst, arith}
-use Rattle.std.specs.Prelude.{All, slice_index_or}
+use Rattle.std.proofs.Common.{◌≡◌, ℕ, ◌-◌, ◌*◌, ◌≤◌, List, [], ◌∷◌, map, refl, sym, ◌∙◌, ap, arith}
 use Rattle.std.proofs.lemmas.List.{append-nil}
-use Rattle.node_set.specs.Ascending.{has}
-use Rattle.node_set.specs.Balls.{GrownCluster, IsShaped, centres, home_of}
+use Rattle.node_set.specs.Balls.{GrownCluster, centres, home_of}
 use Rattle.coarse_cover.specs.Coarsening.{ClustersAreShaped, HomesAreFound, all_clusters}
 use Rattle.coarse_cover.specs.Covers.{IsCover, as_cluster, cluster_list}
 use Rattle.coarse_cover.specs.declared.cover.Cluster.{Cluster}
@@ -24,14 +21,12 @@ one_phase all = append-nil all
 pub coverings_shaped : ClustersAreShaped → MeanClustersAreShaped → CoveringsAreShaped
 coverings_shaped phased mean (Phased k) balls low centred inside = phased balls k low centred
 coverings_shaped phased mean (Mean k) balls low centred inside =
-    subst (All (IsShaped balls (suc k))) (sym (one_phase (mean_covering balls k))) (mean balls k low centred inside)
+    rw (one_phase (mean_covering balls k)) (mean balls k low centred inside)
 
 pub coverings_homed : HomesAreFound → MeanHomesAreFound → CoveringsHaveHomes
 coverings_homed phased mean (Phased k) balls v d low centred inside below = phased balls k v d low centred below
 coverings_homed phased mean (Mean k) balls v d low centred inside below =
-    subst (λ (cs : List GrownCluster). (home_of cs v < length cs)
-    × (has v (slice_index_or cs (home_of cs v) d).homed ≡ true))
-    (sym (one_phase (mean_covering balls k))) (mean balls k v d low centred inside below)
+    rw (one_phase (mean_covering balls k)) (mean balls k v d low centred inside below)
 
 -- the reach of a covering by the growths of its clusters
 pub reach_is : (covering : Covering) → 1 ≤ trade_off_of covering → 2 * steps_of covering - 1 ≡ reach_of covering

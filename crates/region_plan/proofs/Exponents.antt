@@ -1,7 +1,5 @@
 -- The exponents of distances, and levels whose balls are those of the level below.
-use Rattle.std.proofs.Common.{◌≡◌, inl, inr, ℕ, zero, suc, ◌+◌, ◌-◌, ◌*◌, ◌^◌, ◌<◌, ◌≤◌, Bool, false, List}
-use Rattle.std.proofs.Common.{◌++◌, ◌∷◌, []}
-use Rattle.std.proofs.Common.{length, map, get_or, refl, sym, ◌∙◌, ap, subst, arith}
+use Rattle.std.proofs.Common.{◌≡◌, inl, inr, ℕ, zero, suc, ◌+◌, ◌-◌, ◌*◌, ◌^◌, ◌<◌, ◌≤◌, Bool, false, List, ◌++◌, ◌∷◌, [], length, map, get_or, refl, sym, ◌∙◌, ap, arith}
 use Rattle.std.specs.Prelude.{nat_le}
 use Rattle.std.proofs.Math.Nat.{pow-le-pow_right, pow-suc}
 use Rattle.std.proofs.lemmas.Bool.{cases_lt, false≢true, le-leb, lt-leb}
@@ -10,16 +8,18 @@ use Rattle.node_set.specs.Balls.{centres, home_of}
 use Rattle.node_set.specs.SetLaws.{passing_same}
 use Rattle.distances.specs.Table.{DistanceTable, dist, ball_of}
 use Rattle.coarse_cover.specs.Coarsening.{all_clusters}
-use Rattle.coarse_cover.specs.Covers.{cluster_list}
 use Rattle.region_plan.specs.Plan.{Level, level_in, no_level}
 use Rattle.region_plan.specs.Coverings.{covering_of}
 use Rattle.region_plan.specs.Regions.{balls_of, regions_of, threshold_of}
 use Rattle.region_plan.specs.declared.covering.Covering.{Covering}
-use Rattle.region_plan.specs.Meanings.{AreClustersOf, IsLevelOf}
+use Rattle.region_plan.specs.Meanings.{IsLevelOf}
 use Rattle.region_plan.specs.Kept.{AreLevelsOf, IsSized, level_with}
 use Rattle.region_plan.specs.Spread.{AreMarked, HasExponent}
 use Rattle.region_plan.proofs.Levels.{levels_more}
 use Rattle.region_plan.proofs.Lists.{map_same}
+
+pub two : 1 ≤ 2
+two = omega arith
 
 -- two powers of which each just reaches the distance
 one_exponent : (d e i : ℕ) → d ≤ 2 ^ e → 2 ^ e < 2 * d → 2 ^ i < d → d ≤ 2 ^ suc i → e ≡ suc i
@@ -31,9 +31,6 @@ one_exponent d e i reached just above within = elim (cases_lt e (suc i)) [
     | inr same ↦ omega arith
   ]
 ]
-  where
-    two : 1 ≤ 2
-    two = omega arith
 
 -- where an exponent has no mark, no distance lies between its power and the one below
 none_between : {marks : List Bool} {d : ℕ} (i : ℕ) → HasExponent marks d → get_or marks (suc i) false ≡ false
@@ -80,7 +77,7 @@ module _ (table : DistanceTable) (marks : List Bool) (marked : AreMarked table m
         exponent = refl;
         threshold = refl;
         phases = is.phases ∙ ap length regions;
-        clusters = subst (λ r. AreClustersOf network (cluster_list table.nodes 0 r) level.clusters) regions is.clusters;
+        clusters = rw (← regions) is.clusters;
         homes = is.homes ∙ ap (λ r. map (home_of (all_clusters r)) (centres table.nodes)) regions;
         readers = is.readers;
       }

@@ -1,11 +1,9 @@
 -- The clusters of each node, while they are counted.
-use Rattle.std.proofs.Common.{◌≡◌, inl, inr, ℕ, zero, suc, ◌+◌, ◌<◌, ◌≤◌, Bool, true, false, cond, ◌||◌, List, []}
-use Rattle.std.proofs.Common.{◌∷◌, ◌++◌, length, take, set, get_or, refl, sym, ◌∙◌, ap, subst, arith, add-zero, zero-add}
+use Rattle.std.proofs.Common.{◌≡◌, inl, inr, ℕ, zero, suc, ◌+◌, ◌<◌, ◌≤◌, Bool, true, false, cond, ◌||◌, List, [], ◌∷◌, ◌++◌, length, take, set, get_or, refl, sym, ◌∙◌, ap, arith, add-zero, zero-add}
 use Rattle.std.specs.Prelude.{◌==◌, All}
 use Rattle.std.proofs.lemmas.Bool.{cases_eq, eq-eqb, ne_eqb}
 use Rattle.std.proofs.lemmas.Grind.{get_or_default_zero}
-use Rattle.std.proofs.lemmas.List.{get_or-set_same, get_or-set_other}
-use Rattle.std.proofs.lemmas.List.{length-set, take_more}
+use Rattle.std.proofs.lemmas.List.{get_or-set_same, get_or-set_other, length-set, take_more}
 use Rattle.node_set.specs.Ascending.{has, IsAscending, sift}
 use Rattle.node_set.specs.SetLaws.{has-append, below_each, length-cond, length-passing-add, length-passing-le}
 use Rattle.region_plan.specs.Plan.{PlanCluster, cluster_in}
@@ -62,15 +60,14 @@ module _ (members old counts : List ℕ) (i : ℕ) (short : i < length members)
     count = length-set counts m (get_or counts m 0 + 1) ∙ before.count;
     each = λ v v_below. elim (cases_eq v m) [
       | inl same ↦
-          subst (λ u. get_or (set counts m (get_or counts m 0 + 1)) u 0
-          ≡ get_or old u 0 + cond (has u (take (i + 1) members)) 1 0) (sym same)
-          (get_or-set_same counts m (get_or counts m 0 + 1) 0 (omega (arith, below, before.count))
-          ∙ ap (λ n. n + 1) (uncounted ascending below)
-          ∙ sym (ap (λ b. get_or old m 0 + cond b 1 0) this_node))
+          rw (
+            same,
+            get_or-set_same counts m (get_or counts m 0 + 1) 0 (omega (arith, below, before.count)),
+            uncounted ascending below,
+            this_node,
+          ) refl
       | inr other ↦
-          get_or-set_other counts m v (get_or counts m 0 + 1) 0 other
-          ∙ before.each v v_below
-          ∙ sym (ap (λ b. get_or old v 0 + cond b 1 0) (other_node v other))
+          rw (get_or-set_other counts m v (get_or counts m 0 + 1) 0 other, other_node v other) (before.each v v_below)
     ];
   }
 
@@ -79,8 +76,7 @@ module _ (members old counts : List ℕ) (i : ℕ) (short : i < length members)
   unfolding m
   one_skipped over = record {
     count = before.count;
-    each = λ v below. before.each v below
-        ∙ sym (ap (λ b. get_or old v 0 + cond b 1 0) (other_node v (λ same. omega (arith, same, below, over))));
+    each = λ v below. rw (other_node v (λ same. omega (arith, same, below, over))) (before.each v below);
   }
 
 -- ---- one cluster more

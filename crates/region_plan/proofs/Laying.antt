@@ -1,9 +1,8 @@
 -- Clusters in flat lists, as they are pushed.
-use Rattle.std.proofs.Common.{◌≡◌, ◌<◌, ◌≤◌, ℕ, suc, ◌+◌, ◌-◌, true, List, [], ◌∷◌, ◌++◌, get_or, length, refl, subst, sym}
-use Rattle.std.proofs.Common.{◌∙◌, ap, arith, drop}
+use Rattle.std.proofs.Common.{◌≡◌, ◌<◌, ◌≤◌, ℕ, suc, ◌+◌, ◌-◌, true, List, [], ◌∷◌, ◌++◌, get_or, length, refl, subst, sym, ◌∙◌, ap, arith, drop}
 use Rattle.std.specs.Prelude.{All, Contains, slice_range}
 use Rattle.std.proofs.lemmas.List.{get_or-map, length-append, length-drop, length-map, length-take, map_push, take_all}
-use Rattle.std.proofs.lemmas.List.Elements.{All-push}
+use Rattle.std.proofs.lemmas.List.Elements.{All-cons, All-nil, All-push}
 use Rattle.node_set.specs.Ascending.{IsAscending}
 use Rattle.node_set.specs.Balls.{centres}
 use Rattle.node_set.specs.BallLaws.{length-centres}
@@ -32,12 +31,11 @@ head_short lists c view below =
       length-map lists.heads.items (cluster_under lists.nodes.items lists.weights.items),
     )
 
-module _ (lists : ClusterLists) (clusters : List PlanCluster) (c : ℕ) (head : ClusterHead) (laid : AreLaid lists)
+module _ {lists : ClusterLists} {clusters : List PlanCluster} (c : ℕ) {head : ClusterHead} (laid : AreLaid lists)
     (view : clusters_of_lists lists ≡ clusters) (below : c < length clusters)
     (at : head ≡ get_or lists.heads.items c head) where
   pub head_laid : IsLaid lists.nodes.items head
-  head_laid = subst (λ (h : ClusterHead). IsLaid lists.nodes.items h) (sym at)
-      (laid.each c head (head_short lists c view below))
+  head_laid = subst (IsLaid lists.nodes.items) (sym at) (laid.each c head (head_short lists c view below))
 
   pub head_read : cluster_under lists.nodes.items lists.weights.items head ≡ cluster_in clusters c
   head_read = ap (cluster_under lists.nodes.items lists.weights.items) at
@@ -66,8 +64,7 @@ old_laid nodes members heads each i d short =
     record {
       order = old.order;
       within = omega (arith, old.within, length-append nodes members);
-      ascending = subst IsAscending
-          (sym (range_old nodes members (get_or heads i d).start (get_or heads i d).end old.order old.within))
+      ascending = rw (range_old nodes members (get_or heads i d).start (get_or heads i d).end old.order old.within)
           old.ascending;
     }
 
@@ -78,87 +75,11 @@ clusters_stay : (nodes members weights more : List ℕ) (heads : List ClusterHea
 clusters_stay nodes members weights more [] count each = refl
 clusters_stay nodes members weights more (h ∷ hs) count each =
     let laid : IsLaid nodes h = each 0 h (omega arith) in
-    ap (λ (xs : List ℕ). make xs (slice_range (weights ++ more) h.start h.end)
-    ∷ clusters_over (nodes ++ members) (weights ++ more) hs)
-    (range_old nodes members h.start h.end laid.order laid.within)
-    ∙ ap (λ (ws : List ℕ). make (slice_range nodes h.start h.end) ws
-    ∷ clusters_over (nodes ++ members) (weights ++ more) hs)
-    (range_old weights more h.start h.end laid.order (omega (arith, laid.within, count)))
-    ∙ ap (λ (cs : List PlanCluster). cluster_under nodes weights h ∷ cs)
-    (clusters_stay nodes members weights more hs count (λ i d short. each (suc i) d (omega arith)))
-  where
-    make : List ℕ → List ℕ → PlanCluster
-    make xs ws = record { leader = h.leader; phase = h.phase; members = xs; weights = ws; depth = h.depth }
-
-module _ (old new : ClusterLists) (members weights : List ℕ) (leader phase depth start end : ℕ) (laid : AreLaid old)
-    (nodes_now : new.nodes.items ≡ old.nodes.items ++ members)
-    (weights_now : new.weights.items ≡ old.weights.items ++ weights)
-    (heads_now : new.heads.items ≡ old.heads.items ++ record {
-      leader = leader;
-      phase = phase;
-      depth = depth;
-      start = start;
-      end = end;
-    } ∷ [])
-    (count : length weights ≡ length members) (begins : start ≡ length old.nodes.items)
-    (ends : end ≡ length new.nodes.items) where
-  head : ClusterHead
-  head = record { leader = leader; phase = phase; depth = depth; start = start; end = end }
-
-  long : length new.nodes.items ≡ length old.nodes.items + length members
-  long = ap (length {A = ℕ}) nodes_now ∙ length-append old.nodes.items members
-
-  here : slice_range new.nodes.items start end ≡ members
-  here = ap (λ (xs : List ℕ). slice_range xs start end) nodes_now
-      ∙ range_new old.nodes.items members begins (ends ∙ ap (length {A = ℕ}) nodes_now)
-
-  beside : slice_range new.weights.items start end ≡ weights
-  beside = ap (λ (xs : List ℕ). slice_range xs start end) weights_now
-      ∙ range_new old.weights.items weights (omega (arith, begins, laid.count))
-      (omega (arith, ends, long, laid.count, count, length-append old.weights.items weights))
-
-  pub still_laid : IsAscending members → AreLaid new
-  unfolding head
-  still_laid ascending = record {
-    count = omega (
-      arith,
-      ap (length {A = ℕ}) weights_now,
-      length-append old.weights.items weights,
-      long,
-      laid.count,
-      count,
-    );
-    each = subst (λ (hs : List ClusterHead). All (IsLaid new.nodes.items) hs) (sym heads_now)
-        (All-push (IsLaid new.nodes.items) old.heads.items head
-        (subst (λ (xs : List ℕ). All (IsLaid xs) old.heads.items) (sym nodes_now)
-        (old_laid old.nodes.items members old.heads.items laid.each))
-        (record {
-          order = omega (arith, begins, ends, long);
-          within = omega (arith, ends);
-          ascending = subst IsAscending (sym here) ascending;
-        }));
-  }
-
-  pub cluster_pushed : clusters_of_lists new ≡ clusters_of_lists old ++ record {
-    leader = leader;
-    phase = phase;
-    members = members;
-    weights = weights;
-    depth = depth;
-  } ∷ []
-  unfolding head
-  cluster_pushed =
-      ap (clusters_over new.nodes.items new.weights.items) heads_now
-      ∙ map_push (cluster_under new.nodes.items new.weights.items) old.heads.items head
-      ∙ ap (λ (cs : List PlanCluster). cs ++ cluster_under new.nodes.items new.weights.items head ∷ [])
-      (ap (λ (xs : List ℕ). clusters_over xs new.weights.items old.heads.items) nodes_now
-      ∙ ap (λ (ws : List ℕ). clusters_over (old.nodes.items ++ members) ws old.heads.items) weights_now
-      ∙ clusters_stay old.nodes.items members old.weights.items weights old.heads.items laid.count laid.each)
-      ∙ ap (λ (xs : List ℕ). clusters_of_lists old ++ make xs (slice_range new.weights.items start end) ∷ []) here
-      ∙ ap (λ (ws : List ℕ). clusters_of_lists old ++ make members ws ∷ []) beside
-    where
-      make : List ℕ → List ℕ → PlanCluster
-      make xs ws = record { leader = leader; phase = phase; members = xs; weights = ws; depth = depth }
+    rw (
+      range_old nodes members h.start h.end laid.order laid.within,
+      range_old weights more h.start h.end laid.order (omega (arith, laid.within, count)),
+      clusters_stay nodes members weights more hs count (λ i d short. each (suc i) d (omega arith)),
+    ) refl
 
 -- ---- a cluster of a cover more
 
@@ -173,8 +94,8 @@ leader_below {made} belongs spanned sound =
       belongs.nodes,
     )
 
-module _ (network : Network) (made : Cluster) (old new : ClusterLists) (start end depth : ℕ) (laid : AreLaid old)
-    (nodes_now : new.nodes.items ≡ old.nodes.items ++ made.members.members)
+module _ {network : Network} (made : Cluster) {old : ClusterLists} (new : ClusterLists) {start end depth : ℕ}
+    (laid : AreLaid old) (nodes_now : new.nodes.items ≡ old.nodes.items ++ made.members.members)
     (heads_now : new.heads.items ≡ old.heads.items ++ record {
       leader = made.first;
       phase = made.phase;
@@ -184,11 +105,40 @@ module _ (network : Network) (made : Cluster) (old new : ClusterLists) (start en
     } ∷ [])
     (begins : start ≡ length old.nodes.items) (ends : end ≡ length new.nodes.items)
     (is : AreWeightsWritten network made.members.members made.first old.weights.items new.weights.items depth) where
+  abbrev pushed_head : ClusterHead
+  pushed_head = record { leader = made.first; phase = made.phase; depth = depth; start = start; end = end }
+
+  long : length new.nodes.items ≡ length old.nodes.items + length made.members.members
+  long = ap (length {A = ℕ}) nodes_now ∙ length-append old.nodes.items made.members.members
+
+  here : slice_range new.nodes.items start end ≡ made.members.members
+  here = ap (λ (xs : List ℕ). slice_range xs start end) nodes_now
+      ∙ range_new old.nodes.items made.members.members begins (ends ∙ ap (length {A = ℕ}) nodes_now)
+
+  beside : slice_range new.weights.items start end ≡ is.weights
+  beside = ap (λ (xs : List ℕ). slice_range xs start end) is.appended
+      ∙ range_new old.weights.items is.weights (omega (arith, begins, laid.count))
+      (omega (arith, ends, long, laid.count, is.sound.count, length-append old.weights.items is.weights))
+
   pub made_laid : IsAscending made.members.members → AreLaid new
-  made_laid ascending =
-      still_laid old new made.members.members is.weights made.first made.phase depth start end laid nodes_now
-      is.appended
-      heads_now is.sound.count begins ends ascending
+  made_laid ascending = record {
+    count = omega (
+      arith,
+      ap (length {A = ℕ}) is.appended,
+      length-append old.weights.items is.weights,
+      long,
+      laid.count,
+      is.sound.count,
+    );
+    each = rw heads_now
+        (All-push (IsLaid new.nodes.items) old.heads.items pushed_head
+        (rw nodes_now (old_laid old.nodes.items made.members.members old.heads.items laid.each))
+        (record {
+          order = omega (arith, begins, ends, long);
+          within = omega (arith, ends);
+          ascending = rw here ascending;
+        }));
+  }
 
   pub made_pushed : IsPushed network made old new
   made_pushed = record {
@@ -200,13 +150,21 @@ module _ (network : Network) (made : Cluster) (old new : ClusterLists) (start en
       depth = depth;
     };
     is = row_is made refl is;
-    pushed = cluster_pushed old new made.members.members is.weights made.first made.phase depth start end laid nodes_now
-        is.appended heads_now is.sound.count begins ends;
+    pushed = rw (
+      heads_now,
+      map_push (cluster_under new.nodes.items new.weights.items) old.heads.items pushed_head,
+      here,
+      beside,
+      nodes_now,
+      is.appended,
+      clusters_stay old.nodes.items made.members.members old.weights.items is.weights old.heads.items laid.count
+          laid.each,
+    ) refl;
   }
 
 -- ---- the cluster of all nodes
 
-module _ (table : DistanceTable) (metric : IsMetric table) (lists : ClusterLists) (depth end : ℕ)
+module _ {table : DistanceTable} (metric : IsMetric table) (lists : ClusterLists) {depth end : ℕ}
     (heads_now : lists.heads.items ≡ record { leader = 0; phase = 0; depth = depth; start = 0; end = end } ∷ [])
     (all : lists.nodes.items ≡ centres table.nodes) (row : IsRowOf table 0 lists.weights.items)
     (ends : end ≡ length lists.nodes.items) (bound : All (λ x. x ≤ depth) lists.weights.items)
@@ -217,46 +175,32 @@ module _ (table : DistanceTable) (metric : IsMetric table) (lists : ClusterLists
   whole_range : (xs : List ℕ) → length xs ≡ end → slice_range xs 0 end ≡ xs
   whole_range xs same = take_all (end - 0) xs (omega arith)
 
-  pub whole_laid : AreLaid lists
-  whole_laid = record {
-    count = count;
-    each = subst (λ (hs : List ClusterHead). All (IsLaid lists.nodes.items) hs) (sym heads_now)
-        (All-push (IsLaid lists.nodes.items) [] (record { leader = 0; phase = 0; depth = depth; start = 0; end = end })
-        (λ i d short. absurd (omega arith))
-        (record {
-          order = omega arith;
-          within = omega (arith, ends);
-          ascending = subst IsAscending (sym (whole_range lists.nodes.items (sym ends) ∙ all))
-              (ascending-passing (λ x. true) 0 table.nodes);
-        }));
-  }
-
-  read : clusters_of_lists lists ≡ record {
-    leader = 0;
-    phase = 0;
-    members = lists.nodes.items;
-    weights = lists.weights.items;
-    depth = depth;
-  } ∷ []
-  read =
-      ap (clusters_over lists.nodes.items lists.weights.items) heads_now
-      ∙ ap (λ (xs : List ℕ). make xs (slice_range lists.weights.items 0 end) ∷ [])
-      (whole_range lists.nodes.items (sym ends))
-      ∙ ap (λ (ws : List ℕ). make lists.nodes.items ws ∷ [])
-      (whole_range lists.weights.items (omega (arith, count, ends)))
-    where
-      make : List ℕ → List ℕ → PlanCluster
-      make xs ws = record { leader = 0; phase = 0; members = xs; weights = ws; depth = depth }
-
-  pub whole_alone : IsWholeAlone table (clusters_of_lists lists)
-  whole_alone = record {
-    cluster = record {
-      leader = 0;
-      phase = 0;
-      members = lists.nodes.items;
-      weights = lists.weights.items;
-      depth = depth;
-    };
-    alone = read;
-    whole = whole_is table metric lists.weights.items depth lists.nodes.items all row bound attained;
-  }
+  pub whole_made : AreLaid lists × IsWholeAlone table (clusters_of_lists lists)
+  whole_made = (
+    record {
+      count = count;
+      each = rw heads_now
+          (All-cons (IsLaid lists.nodes.items)
+          (record { leader = 0; phase = 0; depth = depth; start = 0; end = end }) [] (record {
+            order = omega arith;
+            within = omega (arith, ends);
+            ascending = subst IsAscending (sym (whole_range lists.nodes.items (sym ends) ∙ all))
+                (ascending-passing (λ x. true) 0 table.nodes);
+          }) (All-nil (IsLaid lists.nodes.items)));
+    },
+    record {
+      cluster = record {
+        leader = 0;
+        phase = 0;
+        members = lists.nodes.items;
+        weights = lists.weights.items;
+        depth = depth;
+      };
+      alone = rw (
+        heads_now,
+        whole_range lists.nodes.items (sym ends),
+        whole_range lists.weights.items (omega (arith, count, ends)),
+      ) refl;
+      whole = whole_is metric all row bound attained;
+    },
+  )

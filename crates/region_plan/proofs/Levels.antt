@@ -1,6 +1,5 @@
 -- A level as it is built, and the plan of all levels.
-use Rattle.std.proofs.Common.{◌≡◌, ℕ, ◌+◌, ◌-◌, ◌^◌, ◌<◌, ◌≤◌, List, [], ◌∷◌, ◌++◌, length, get_or, refl, sym, ◌∙◌}
-use Rattle.std.proofs.Common.{ap, subst, inl, inr, arith}
+use Rattle.std.proofs.Common.{◌≡◌, ℕ, ◌+◌, ◌-◌, ◌^◌, ◌<◌, ◌≤◌, List, [], ◌∷◌, ◌++◌, length, refl, sym, ◌∙◌, ap, subst, inl, inr, arith}
 use Rattle.std.specs.Prelude.{All, nat_le}
 use Rattle.std.proofs.lemmas.Bool.{cases_lt}
 use Rattle.std.proofs.lemmas.List.{get_or_append_left, get_or_push, length_push}
@@ -10,14 +9,12 @@ use Rattle.node_set.specs.Nodes.{Nodes}
 use Rattle.distances.specs.Table.{DistanceTable, AreDistancesOf, IsMetric, ball_of, dist}
 use Rattle.coarse_cover.specs.Coarsening.{all_clusters}
 use Rattle.coarse_cover.specs.Covers.{IsCover}
-use Rattle.coarse_cover.specs.declared.cover.Cluster.{Cluster}
 use Rattle.coarse_cover.specs.declared.cover.Cover.{Cover}
 use Rattle.node_set.specs.declared.workspace.Workspace.{Workspace}
 use Rattle.node_set.specs.Workspaces.{IsWorkspace}
 use Rattle.region_plan.specs.Plan.{PlanCluster, Level, PlanData, level_in, no_level}
 use Rattle.region_plan.specs.Regions.{balls_of, regions_of, readers_of, threshold_of}
-use Rattle.region_plan.specs.Meanings.{IsTop, AreClustersOf, IsLevelOf}
-use Rattle.region_plan.specs.Meanings.{IsCoveredPlan}
+use Rattle.region_plan.specs.Meanings.{IsTop, AreClustersOf, IsLevelOf, IsCoveredPlan}
 use Rattle.region_plan.specs.Kept.{AreLevelsOf, IsSpanned, IsSized, Shape, level_of, plan_with, shape_with}
 use Rattle.region_plan.specs.Coverings.{CoveringsAreShaped, covering_of, reach_of, trade_off_of}
 use Rattle.region_plan.specs.declared.covering.Covering.{Covering}
@@ -43,11 +40,10 @@ balls_are_rows {table} metric i u v u_below v_below =
         ap (has x) (get_or-map_centres (λ y. ball_of table y (2 ^ i)) table.nodes w [] w_below)
         ∙ has-passing (λ y. nat_le (dist table w y) (2 ^ i)) x 0 table.nodes (omega arith) (omega arith)
 
-module _ (network : Network) (table : DistanceTable) (metric : IsMetric table) (least : AreDistancesOf network table)
-    (sound : IsNetwork network) (covering : Covering) (i : ℕ) (low : 1 ≤ trade_off_of covering)
-    (now : List Nodes) (sets_are : sets now ≡ balls_of table i) where
+module _ {table : DistanceTable} (metric : IsMetric table) (i : ℕ) (now : List Nodes)
+    (are : sets now ≡ balls_of table i) where
   count : length now ≡ table.nodes
-  count = sym (length-sets now) ∙ ap length sets_are ∙ length-map_centres (λ v. ball_of table v (2 ^ i)) table.nodes
+  count = sym (length-sets now) ∙ ap length are ∙ length-map_centres (λ v. ball_of table v (2 ^ i)) table.nodes
 
   pub balls_few : length now ≤ 1024
   balls_few = omega (arith, count, metric.few)
@@ -56,59 +52,60 @@ module _ (network : Network) (table : DistanceTable) (metric : IsMetric table) (
   balls_rooms rooms = subst (λ (n : ℕ). All (λ (b : Nodes). b.room ≡ n) now) (sym count) rooms
 
   -- the workspace is for as many balls
-  pub balls_work : (work : Workspace) → IsWorkspace table.nodes work → IsWorkspace (length now) work
-  balls_work work = subst (λ (n : ℕ). IsWorkspace n work) (sym count)
+  pub balls_work : {work : Workspace} → IsWorkspace table.nodes work → IsWorkspace (length now) work
+  balls_work {work} = subst (λ (n : ℕ). IsWorkspace n work) (sym count)
 
-  pub nodes_work : (work : Workspace) → IsWorkspace (length now) work → IsWorkspace network.nodes work
-  nodes_work work = subst (λ (n : ℕ). IsWorkspace n work) (count ∙ least.nodes)
-
-  pub balls_centred : AreCentred (sets now)
-  balls_centred = subst (λ (bs : List (List ℕ)). AreCentred bs) (sym sets_are)
-      (centred network table metric least sound covering i low)
-
-  pub balls_inside : AreInside (sets now)
-  balls_inside = subst (λ (bs : List (List ℕ)). AreInside bs) (sym sets_are)
-      (inside network table metric least sound covering i low)
+  pub nodes_work : {network : Network} {work : Workspace} → AreDistancesOf network table → IsWorkspace (length now) work
+      → IsWorkspace network.nodes work
+  nodes_work {work} least = subst (λ (n : ℕ). IsWorkspace n work) (count ∙ least.nodes)
 
   -- the balls are their own rows
   pub balls_turned : AreTurned (sets now) (sets now)
-  balls_turned = subst (λ (bs : List (List ℕ)). AreTurned bs bs) (sym sets_are) (balls_are_rows metric i)
+  balls_turned = rw are (balls_are_rows metric i)
 
-  module _ (cover : Cover) (exact : IsCover (length now) (covering_of covering (sets now)) cover) where
-    cover_is : IsCover table.nodes (regions_of table covering i) cover
-    cover_is = subst (λ (n : ℕ). IsCover n (regions_of table covering i) cover) count
-        (subst (λ (bs : List (List ℕ)). IsCover (length now) (covering_of covering bs) cover) sets_are exact)
+  pub balls_centred : {network : Network} → AreDistancesOf network table → IsNetwork network → AreCentred (sets now)
+  balls_centred least sound = subst AreCentred (sym are) (centred metric least sound i)
 
-    pub cover_spanned : CoveringsAreShaped → All (IsSpanned network) cover.clusters.items
-    cover_spanned law = subst (λ (cs : List Cluster). All (IsSpanned network) cs) (sym cover_is.clusters)
-        (listed_spanned network table metric least sound covering i low law)
+  pub balls_inside : {network : Network} → AreDistancesOf network table → IsNetwork network → AreInside (sets now)
+  balls_inside least sound = subst AreInside (sym are) (inside metric least sound i)
 
-    pub homes_count : length cover.home.items ≡ table.nodes
-    homes_count = ap length cover_is.homes
-        ∙ length-map_centres (home_of (all_clusters (regions_of table covering i))) table.nodes
+  module _ (covering : Covering) {cover : Cover} (exact : IsCover (length now) (covering_of covering (sets now)) cover)
+    where
+      cover_is : IsCover table.nodes (regions_of table covering i) cover
+      cover_is = rw (count, are) at exact
 
-    module _ (rows : List PlanCluster) (rows_are : AreClustersOf network cover.clusters.items rows)
-        (few : length cover.clusters.items ≤ length now) where
-      pub rows_few : length rows ≤ table.nodes
-      rows_few = omega (arith, clusters_count network cover.clusters.items rows rows_are, count)
+      pub cover_spanned : {network : Network} → AreDistancesOf network table → IsNetwork network
+          → 1 ≤ trade_off_of covering → CoveringsAreShaped → All (IsSpanned network) cover.clusters.items
+      cover_spanned {network} least sound low law = subst (All (IsSpanned network)) (sym cover_is.clusters)
+          (listed_spanned metric least sound i covering low law)
 
-      pub level_built : (shape : Shape) → shape ≡ shape_with cover.phases rows cover.home.items
-          → IsLevelOf network table covering i (level_of i (threshold_of i) shape)
-      level_built shape made =
-          subst (λ (s : Shape). IsLevelOf network table covering i (level_of i (threshold_of i) s)) (sym made) (record {
-            exponent = refl;
-            threshold = refl;
-            phases = cover_is.phases;
-            clusters = subst (λ (cs : List Cluster). AreClustersOf network cs rows) cover_is.clusters rows_are;
-            homes = cover_is.homes;
-            readers = ap (λ n. readers_of n rows) homes_count;
-          })
+      pub homes_count : length cover.home.items ≡ table.nodes
+      homes_count = ap length cover_is.homes
+          ∙ length-map_centres (home_of (all_clusters (regions_of table covering i))) table.nodes
 
-      pub level_fits : (shape : Shape) → i ≤ 30 → shape ≡ shape_with cover.phases rows cover.home.items
-          → IsSized table.nodes (level_of i (threshold_of i) shape)
-      level_fits shape light made =
-          level_sized i (threshold_of i) cover.phases rows cover.home.items (ap (level_of i (threshold_of i)) made)
-          homes_count rows_few light
+      module _ (network : Network) (rows : List PlanCluster)
+          (rows_are : AreClustersOf network cover.clusters.items rows)
+          (few : length cover.clusters.items ≤ length now) where
+        pub rows_few : length rows ≤ table.nodes
+        rows_few = omega (arith, clusters_count network cover.clusters.items rows rows_are, count)
+
+        pub level_built : (shape : Shape) → shape ≡ shape_with cover.phases rows cover.home.items
+            → IsLevelOf network table covering i (level_of i (threshold_of i) shape)
+        level_built shape made =
+            rw made (record {
+              exponent = refl;
+              threshold = refl;
+              phases = cover_is.phases;
+              clusters = rw cover_is.clusters at rows_are;
+              homes = cover_is.homes;
+              readers = ap (λ n. readers_of n rows) homes_count;
+            })
+
+        pub level_fits : (shape : Shape) → i ≤ 30 → shape ≡ shape_with cover.phases rows cover.home.items
+            → IsSized table.nodes (level_of i (threshold_of i) shape)
+        level_fits shape light made =
+            level_sized i (threshold_of i) cover.phases rows cover.home.items (ap (level_of i (threshold_of i)) made)
+            homes_count rows_few light
 
 -- ---- the levels, one after another
 
@@ -117,14 +114,10 @@ pub more_levels : {network : Network} {table : DistanceTable} {covering : Coveri
     → ((j : ℕ) → j < i → IsLevelOf network table covering j (level_in old j)) → IsLevelOf network table covering i level
     → new ≡ old ++ level ∷ [] → (j : ℕ) → j < i + 1 → IsLevelOf network table covering j (level_in new j)
 more_levels {network} {table} {covering} {i} old {new} {level} count each is now j below = elim (cases_lt j i) [
-  | inl less ↦ subst (λ (l : Level). IsLevelOf network table covering j l)
-      (sym (ap (λ (ls : List Level). get_or ls j no_level) now
-      ∙ get_or_append_left old (level ∷ []) no_level j (omega (arith, count)))) (each j less)
+  | inl less ↦ rw (now, get_or_append_left old (level ∷ []) no_level j (omega (arith, count))) (each j less)
   | inr more ↦
-      let same : i ≡ j = omega arith in
-      subst (λ (m : ℕ). IsLevelOf network table covering m (level_in new m)) same
-      (subst (λ (l : Level). IsLevelOf network table covering i l)
-      (sym (ap (λ (ls : List Level). get_or ls i no_level) now ∙ get_or_push old level no_level i count)) is)
+      let same : j ≡ i = omega arith in
+      rw (same, now, get_or_push old level no_level i count) is
 ]
 
 -- one level more
@@ -134,8 +127,7 @@ pub levels_more : {network : Network} {table : DistanceTable} {covering : Coveri
 levels_more {table} {old} {level} before is sized now = record {
   count_is = ap (length {A = Level}) now ∙ length_push old level ∙ ap (λ n. n + 1) before.count_is;
   each = more_levels old before.count_is before.each is now;
-  sized = subst (λ (ls : List Level). All (IsSized table.nodes) ls) (sym now)
-      (All-push (IsSized table.nodes) old level before.sized sized);
+  sized = rw now (All-push (IsSized table.nodes) old level before.sized sized);
 }
 
 -- a level over a table of its own
@@ -153,15 +145,12 @@ pub plan_built : {network : Network} {table copy : DistanceTable} {covering : Co
     → ((j : ℕ) → j < top + 1 → IsLevelOf network table covering j (level_in levels j))
     → IsCoveredPlan covering network plan
 plan_built {network} {table} {covering} {k} {reach} {top} levels least same k_is reach_is is count top_is each =
-    subst (λ (p : PlanData). IsCoveredPlan covering network p)
-    (sym (is ∙ ap (λ t. plan_with k reach t levels) same)) (record {
+    let last : top ≡ length levels - 1 = omega (arith, count) in
+    rw (is, same) (record {
       distances = least;
       trade_off = k_is;
       reach = reach_is;
       some = omega (arith, count);
-      top = subst (λ (t : ℕ). IsTop table t) last top_is;
+      top = subst (IsTop table) last top_is;
       each = λ j h. each j (omega (arith, count));
     })
-  where
-    last : top ≡ length levels - 1
-    last = omega (arith, count)

@@ -1,6 +1,5 @@
 -- Numbers from 0 on, and what stands beside a member.
-use Rattle.std.proofs.Common.{◌≡◌, ℕ, zero, suc, ◌+◌, ◌<◌, ◌≤◌, true, List, [], ◌∷◌, ◌++◌, drop, length, map}
-use Rattle.std.proofs.Common.{refl, sym, ◌∙◌, ap, subst, arith}
+use Rattle.std.proofs.Common.{◌≡◌, ℕ, zero, suc, ◌+◌, ◌<◌, ◌≤◌, true, List, [], ◌∷◌, ◌++◌, drop, length, map, refl, sym, ◌∙◌, ap, arith}
 use Rattle.std.proofs.Math.Seq.{drop-append_seam}
 use Rattle.std.specs.Prelude.{All}
 use Rattle.std.proofs.lemmas.List.Elements.{All-drop}
@@ -36,4 +35,4 @@ pub next_holds : {X : Type 0} (P : X → Type 0) {all : List X} (before : List X
 next_holds {X} P {all} before {rest} {later} {x} whole next holds =
     let dropped : drop (length before) all ≡ x ∷ later =
     ap (λ (xs : List X). drop (length before) xs) whole ∙ drop-append_seam before rest ∙ next in
-    subst (λ (xs : List X). All P xs) dropped (All-drop P (length before) all holds) 0 x (omega arith)
+    rw dropped at (All-drop P (length before) all holds) 0 x (omega arith)

@@ -1,11 +1,7 @@
 -- The parts of a level, step by step.
-use Rattle.std.proofs.Common.{◌≡◌, ℕ, zero, suc, ◌+◌, ◌-◌, ◌<◌, ◌≤◌, true, cond, List, [], ◌∷◌, ◌++◌}
-use Rattle.std.proofs.Common.{length, map, take, drop, replicate, get_or, refl, sym, ◌∙◌, ap, subst, arith}
+use Rattle.std.proofs.Common.{◌≡◌, ℕ, zero, suc, ◌+◌, ◌-◌, ◌<◌, ◌≤◌, true, cond, List, [], ◌∷◌, ◌++◌, length, map, take, drop, replicate, get_or, refl, sym, ◌∙◌, ap, subst, arith}
 use Rattle.std.specs.Prelude.{All, Contains, slice_range}
-use Rattle.std.proofs.lemmas.List.{map_push, length-append, length-drop, length-replicate}
-use Rattle.std.proofs.lemmas.List.{get_or_default}
-use Rattle.std.proofs.lemmas.List.{take_all, take-append-le}
-use Rattle.std.proofs.lemmas.List.{drop-append-le, drop_all}
+use Rattle.std.proofs.lemmas.List.{map_push, length-append, length-drop, length-replicate, get_or_default, take_all, take-append-le, drop-append-le, drop_all}
 use Rattle.net_graph.specs.Network.{Network}
 use Rattle.node_set.specs.Ascending.{has, sift}
 use Rattle.node_set.specs.Nodes.{Nodes}
@@ -16,9 +12,8 @@ use Rattle.cluster_tree.specs.Inside.{AreWeightsWritten, make_cluster}
 use Rattle.cluster_tree.specs.Tree.{weight_beside, IsTreeOf}
 use Rattle.region_plan.specs.Plan.{PlanCluster, Level}
 use Rattle.region_plan.specs.Regions.{clusters_with, readers_of}
-use Rattle.region_plan.specs.Meanings.{IsTop, IsClusterOf}
+use Rattle.region_plan.specs.Meanings.{IsTop, IsClusterOf, AreClustersOf}
 use Rattle.region_plan.specs.Flat.{IsWhole, IsWholeAlone, IsFlatLevel}
-use Rattle.region_plan.specs.Meanings.{AreClustersOf}
 use Rattle.region_plan.specs.Kept.{IsSized, level_of, shape_with}
 use Rattle.node_set.specs.Balls.{centres, sets}
 use Rattle.node_set.specs.BallLaws.{below_centre, has_centre, length-map_centres, get_or-map_centres}
@@ -51,7 +46,7 @@ pub more_balls : (table : DistanceTable) (radius v : ℕ) (old : List Nodes) {ne
 more_balls table radius v old ball before is now =
     made_more (λ u. ball_of table u radius) v before is (ap sets now ∙ map_push (λ (b : Nodes). b.members) old ball)
 
-module _ (table : DistanceTable) (metric : IsMetric table) (cells : List ℕ) (depth : ℕ) (nodes : List ℕ)
+module _ {table : DistanceTable} (metric : IsMetric table) {cells nodes : List ℕ} {depth : ℕ}
     (all : nodes ≡ centres table.nodes) (row : IsRowOf table 0 cells)
     (bound : All (λ x. x ≤ depth) cells) (attained : 0 < length cells → Contains cells depth) where
   filled : cells ≡ map (λ u. dist table 0 u) (centres table.nodes)
@@ -95,9 +90,7 @@ pub flat_level_is : {table : DistanceTable} {top : ℕ} {clusters : List PlanClu
     → IsTop table top → IsWholeAlone table clusters → homes ≡ replicate {A = ℕ} table.nodes 0
     → level ≡ level_of top 1 (shape_with 1 clusters homes) → IsFlatLevel table level
 flat_level_is {table} {top} {homes} top_is alone zeros is =
-    subst (λ (l : Level). IsFlatLevel table l) (sym is)
-    (subst (λ (cs : List PlanCluster). IsFlatLevel table (level_of top 1 (shape_with 1 cs homes))) (sym alone.alone)
-    (record {
+    rw (is, alone.alone) (record {
       exponent = top_is;
       threshold = refl;
       phases = refl;
@@ -108,7 +101,7 @@ flat_level_is {table} {top} {homes} top_is alone zeros is =
           (ap (length {A = ℕ}) zeros ∙ length-replicate {A = ℕ} table.nodes 0)
           ∙ map_same (clusters_with (alone.cluster ∷ [])) (λ v. 0 ∷ []) table.nodes
           (λ v h. ap (λ b. cond b (0 ∷ []) []) (ap (has v) alone.whole.members ∙ has_centre table.nodes v h));
-    }))
+    })
   where
     replicated_from : (v n : ℕ) → replicate {A = ℕ} n 0 ≡ map (λ v. 0) (sift (λ x. true) v n)
     replicated_from v zero = refl
@@ -120,12 +113,10 @@ flat_level_is {table} {top} {homes} top_is alone zeros is =
 pub level_sized : {n : ℕ} (exponent threshold phases : ℕ) (clusters : List PlanCluster) (homes : List ℕ) {level : Level}
     → level ≡ level_of exponent threshold (shape_with phases clusters homes) → length homes ≡ n → length clusters ≤ n
     → exponent ≤ 30 → IsSized n level
-level_sized {n} exponent threshold phases clusters homes is nodes few light =
-    subst (λ (l : Level). IsSized n l) (sym is)
-    (record {
+level_sized exponent threshold phases clusters homes is nodes few light =
+    rw is (record {
       homes = nodes;
-      readers = length-map_centres (clusters_with clusters) (length homes)
-          ∙ nodes;
+      readers = length-map_centres (clusters_with clusters) (length homes) ∙ nodes;
       clusters = few;
       exponent = light;
     })

@@ -1,6 +1,5 @@
 -- The plan of a network is matched, and its clusters are within their radius.
-use Rattle.std.proofs.Common.{◌≡◌, ℕ, ◌*◌, ◌^◌, ◌<◌, ◌≤◌, true, List, [], length, get_or, refl, sym, ◌∙◌, ap}
-use Rattle.std.proofs.Common.{subst, arith}
+use Rattle.std.proofs.Common.{◌≡◌, ℕ, ◌*◌, ◌^◌, ◌<◌, ◌≤◌, true, List, [], length, get_or, refl, sym, ◌∙◌, ap, arith}
 use Rattle.std.proofs.lemmas.List.{get_or-map}
 use Rattle.net_graph.specs.Walks.{IsLeastWeight, weight_of, everywhere}
 use Rattle.net_graph.specs.Network.{Network, IsNetwork}
@@ -13,16 +12,14 @@ use Rattle.coarse_cover.specs.Covers.{cluster_list}
 use Rattle.coarse_cover.specs.declared.cover.Cluster.{Cluster}
 use Rattle.coarse_cover.specs.CoverLaws.{cluster_list_nodes, length-cluster_list}
 use Rattle.cluster_tree.specs.Tree.{within}
-use Rattle.region_plan.specs.Plan.{PlanData, nodes_of, levels_of, top_of, distance, level_at, no_cluster, cluster_in}
-use Rattle.region_plan.specs.Plan.{cluster_at, clusters_of, members_of, home, readers, leader, inside}
+use Rattle.region_plan.specs.Plan.{PlanData, nodes_of, levels_of, top_of, distance, level_at, no_cluster, cluster_in, cluster_at, clusters_of, members_of, home, readers, leader, inside}
 use Rattle.region_plan.specs.Regions.{balls_of, regions_of, clusters_with}
 use Rattle.region_plan.specs.Coverings.{CoveringsAreShaped, CoveringsHaveHomes, reach_of, trade_off_of}
 use Rattle.region_plan.specs.Meanings.{IsClusterOf, IsCoveredPlan, IsLevelOf}
 use Rattle.region_plan.specs.declared.covering.Covering.{Covering}
 use Rattle.region_plan.specs.Matched.{IsMatched, IsWithinReach, BoundsFinds}
 use Rattle.region_plan.proofs.Reaching.{to_ball}
-use Rattle.region_plan.proofs.Spanning.{IsClose, centred, listed_close}
-use Rattle.region_plan.proofs.Spanning.{inside as inside_balls}
+use Rattle.region_plan.proofs.Spanning.{IsClose, centred, listed_close, inside as inside_balls}
 use Rattle.node_set.specs.Balls.{GrownCluster, ball, home_of}
 use Rattle.node_set.specs.BallLaws.{union_has, length-map_centres, get_or-map_centres}
 use Rattle.region_plan.proofs.Making.{clusters_count, clusters_at}
@@ -34,8 +31,8 @@ no_made = record { first = 0; members = record { room = 0; members = [] }; phase
 abbrev no_grown : GrownCluster
 no_grown = record { first = 0; growths = 0; homed = []; members = [] }
 
-module _ (shape : CoveringsAreShaped) (found : CoveringsHaveHomes) (network : Network) (sound : IsNetwork network)
-    (covering : Covering) (low : 1 ≤ trade_off_of covering) (plan : PlanData) (metric : IsMetric plan.distances)
+module _ (shape : CoveringsAreShaped) (found : CoveringsHaveHomes) {network : Network} (sound : IsNetwork network)
+    {covering : Covering} (low : 1 ≤ trade_off_of covering) {plan : PlanData} (metric : IsMetric plan.distances)
     (is : IsCoveredPlan covering network plan) where
   module _ (i : ℕ) (below : i < levels_of plan) where
     abbrev made : List Cluster
@@ -52,8 +49,7 @@ module _ (shape : CoveringsAreShaped) (found : CoveringsHaveHomes) (network : Ne
         (omega (arith, as_many))
 
     close : (c : ℕ) → c < clusters_of plan i → IsClose network (reach_of covering * 2 ^ i) (get_or made c no_made)
-    close c h = listed_close network plan.distances metric is.distances sound covering i low shape c no_made
-        (omega (arith, as_many))
+    close c h = listed_close metric is.distances sound i covering low shape c no_made (omega (arith, as_many))
 
     made_member : (c v : ℕ) → c < clusters_of plan i → has v (members_of plan i c) ≡ true
         → has v (get_or made c no_made).members.members ≡ true
@@ -91,7 +87,7 @@ module _ (shape : CoveringsAreShaped) (found : CoveringsHaveHomes) (network : Ne
         sound.limits.edges (λ x hx inner. refl)
         (get_or made c no_made).first walk.steps v first walk.walk)
         in
-        subst (λ u. distance plan u v ≤ inside plan i c v) (sym (cluster_is c h).leader) (omega (arith, far, walk.sum))
+        rw (cluster_is c h).leader (omega (arith, far, walk.sum))
 
     pub inside_near : (c v : ℕ) → c < clusters_of plan i → has v (members_of plan i c) ≡ true
         → inside plan i c v ≤ reach_of covering * 2 ^ i
@@ -118,18 +114,11 @@ module _ (shape : CoveringsAreShaped) (found : CoveringsHaveHomes) (network : Ne
     found_home : (v : ℕ) → v < nodes_of plan → (home_of groups v < length groups)
         × (has v (get_or groups (home_of groups v) no_grown).homed ≡ true)
     found_home v h =
-        found covering (balls_of plan.distances i) v no_grown low
-        (centred network plan.distances metric is.distances sound covering i low)
-        (inside_balls network plan.distances metric is.distances sound covering i low) (ball_below v h)
+        found covering (balls_of plan.distances i) v no_grown low (centred metric is.distances sound i)
+        (inside_balls metric is.distances sound i) (ball_below v h)
 
     pub home_below : (v : ℕ) → v < nodes_of plan → home plan i v < clusters_of plan i
-    home_below v h =
-        omega (
-          arith,
-          home_is v h,
-          groups_count,
-          (found_home v h).0,
-        )
+    home_below v h = omega (arith, home_is v h, groups_count, (found_home v h).0)
 
     group_members : (c : ℕ) → c < length groups → (get_or made c no_made).members.members
         ≡ (get_or groups c no_grown).members
@@ -143,22 +132,17 @@ module _ (shape : CoveringsAreShaped) (found : CoveringsHaveHomes) (network : Ne
         → has x (members_of plan i (home plan i v)) ≡ true
     in_home v x h member =
         let c : ℕ = home_of groups v in
-        let is_within : c < length groups =
-        (found_home v h).0
-        in
-        let homed = (found_home v h).1 in
-        let shaped = shape covering (balls_of plan.distances i) low
-        (centred network plan.distances metric is.distances sound covering i low)
-        (inside_balls network plan.distances metric is.distances sound covering i low) c no_grown is_within in
-        subst (λ d. has x (members_of plan i d) ≡ true) (sym (home_is v h))
+        let is_within : c < length groups = (found_home v h).0 in
+        let shaped = shape covering (balls_of plan.distances i) low (centred metric is.distances sound i)
+        (inside_balls metric is.distances sound i) c no_grown is_within in
+        rw (home_is v h)
         (ap (has x) ((cluster_is c (omega (arith, groups_count))).members ∙ group_members c is_within ∙ shaped.1)
-        ∙ union_has (balls_of plan.distances i) x v (get_or groups c no_grown).homed homed member)
+        ∙ union_has (balls_of plan.distances i) x v (get_or groups c no_grown).homed (found_home v h).1 member)
 
     near_home : (u v : ℕ) → u < nodes_of plan → v < nodes_of plan → distance plan u v ≤ 2 ^ i
         → has v (members_of plan i (home plan i u)) ≡ true
     near_home u v hu hv near =
-        in_home u v hu (to_ball network plan.distances metric is.distances sound.limits.edges (2 ^ i)
-        (balls_of plan.distances i) refl u v hu hv near)
+        in_home u v hu (to_ball metric is.distances sound.limits.edges (2 ^ i) u v hu hv near)
 
     pub reads : (v : ℕ) → v < nodes_of plan → readers plan i v ≡ clusters_with (level_at plan i).clusters v
     reads v h = ap (λ (xs : List (List ℕ)). get_or xs v []) level.readers
@@ -173,13 +157,12 @@ module _ (shape : CoveringsAreShaped) (found : CoveringsHaveHomes) (network : Ne
         ap (has (home plan i u)) (reads v hv)
         ∙ has-passing (λ c. has v (cluster_in (level_at plan i).clusters c).members) (home plan i u) 0
         (clusters_of plan i) (omega arith) (omega (arith, home_below u hu))
-        ∙ near_home u v hu hv (subst (λ e. distance plan u v ≤ 2 ^ e) level.exponent near)
+        ∙ near_home u v hu hv (rw level.exponent at near)
 
     pub all_home : (u v : ℕ) → u < nodes_of plan → v < nodes_of plan → i ≡ top_of plan
         → has u (members_of plan i (home plan i v)) ≡ true
     all_home u v hu hv last =
-        near_home v u hv hu (subst (λ e. distance plan v u ≤ 2 ^ e) (sym last)
-        (omega (arith, is.top.greatest.greatest v u hv hu, is.top.enough)))
+        near_home v u hv hu (rw last (omega (arith, is.top.greatest.greatest v u hv hu, is.top.enough)))
 
   plan_matched : IsMatched plan
   plan_matched =
@@ -200,10 +183,7 @@ module _ (shape : CoveringsAreShaped) (found : CoveringsHaveHomes) (network : Ne
       }
 
   plan_near : IsWithinReach plan
-  plan_near i c v h hc member =
-      subst (λ j. inside plan i c v ≤ j * 2 ^ (level_at plan i).exponent) (sym is.reach)
-      (subst (λ e. inside plan i c v ≤ reach_of covering * 2 ^ e) (sym (is.each i h).exponent)
-      (inside_near i h c v hc member))
+  plan_near i c v h hc member = rw (is.reach, (is.each i h).exponent) (inside_near i h c v hc member)
 
   pub plan_bounds : BoundsFinds plan
   plan_bounds = record {

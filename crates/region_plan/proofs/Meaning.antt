@@ -1,6 +1,5 @@
 -- The plan of a network is what its parts say in words of walks, and the only plan that is.
-use Rattle.std.proofs.Common.{◌≡◌, ℕ, zero, suc, ◌+◌, ◌-◌, ◌*◌, ◌/◌, ◌%◌, ◌^◌, ◌<◌, ◌≤◌, Bool, true, List, [], ◌∷◌, get_or}
-use Rattle.std.proofs.Common.{length, map, refl, sym, ◌∙◌, ap, subst, inl, inr, arith, nat_le}
+use Rattle.std.proofs.Common.{◌≡◌, ℕ, zero, suc, ◌+◌, ◌-◌, ◌*◌, ◌/◌, ◌%◌, ◌^◌, ◌<◌, ◌≤◌, Bool, true, List, [], ◌∷◌, get_or, length, map, refl, sym, ◌∙◌, ap, subst, inl, inr, arith, nat_le}
 use Rattle.std.specs.Prelude.{All}
 use Rattle.std.proofs.lemmas.Bool.{cases_lt, leb-false, leb-true}
 use Rattle.std.proofs.lemmas.List.{length-map, get_or-map}
@@ -8,12 +7,10 @@ use Rattle.std.proofs.lemmas.List.Elements.{All-head, All-tail}
 use Rattle.std.proofs.lemmas.Nat.{div-add-mod', div_below}
 use Rattle.net_graph.specs.LeastWeights.{LeastWeightsAreFound, least_weight}
 use Rattle.net_graph.specs.Network.{Network, IsNetwork}
-use Rattle.net_graph.specs.Walks.{IsLeastWeight}
 use Rattle.node_set.specs.Ascending.{has}
 use Rattle.node_set.specs.Balls.{least}
 use Rattle.node_set.specs.BallLaws.{get_or-map_centres, length-map_centres, least_first, least_passes, least_within}
-use Rattle.distances.specs.Table.{DistanceTable, AreDistancesOf, DistancesAreOne, IsDiameter, IsMetric}
-use Rattle.distances.specs.Table.{NetworksHaveDistances, table_of}
+use Rattle.distances.specs.Table.{DistanceTable, AreDistancesOf, DistancesAreOne, IsDiameter, IsMetric, NetworksHaveDistances, table_of}
 use Rattle.coarse_cover.specs.Coarsening.{CoversAreSparse}
 use Rattle.coarse_cover.specs.Covers.{cluster_list}
 use Rattle.coarse_cover.specs.declared.cover.Cluster.{Cluster}
@@ -21,14 +18,12 @@ use Rattle.cluster_tree.specs.PlaceLaws.{beside_map, has_place, member_place}
 use Rattle.cluster_tree.specs.Tree.{weight_beside, within}
 use Rattle.region_plan.specs.Kept.{IsSpanned}
 use Rattle.mean_cover.specs.Covering.{MeanCoversAreSmall}
-use Rattle.region_plan.specs.Coverings.{CoveringsAreShaped, CoveringsHaveHomes, trade_off_of}
+use Rattle.region_plan.specs.Coverings.{CoveringsAreShaped, CoveringsHaveHomes}
 use Rattle.region_plan.specs.Matched.{CoveredPlansBoundFinds, MeanPlansHaveSmallSums, PlansHaveFewReaders}
 use Rattle.region_plan.specs.Measures.{most}
-use Rattle.region_plan.specs.Meanings.{IsTop, IsClusterOf, AreClustersOf, IsCoveredPlan, IsLevelOf, PlansMean}
-use Rattle.region_plan.specs.Meanings.{CoveredPlansMean, CoveredPlansAreOne}
-use Rattle.region_plan.specs.Plan.{Level, no_level}
-use Rattle.region_plan.specs.Regions.{covered_plan, level_for, mean_plan, plan_of, plan_over, regions_of, top_for, weighed}
-use Rattle.region_plan.specs.declared.covering.Covering.{Covering}
+use Rattle.region_plan.specs.Meanings.{IsTop, IsClusterOf, AreClustersOf, PlansMean, CoveredPlansMean, CoveredPlansAreOne}
+use Rattle.region_plan.specs.Plan.{no_level}
+use Rattle.region_plan.specs.Regions.{covered_plan, level_for, plan_over, regions_of, top_for, weighed}
 use Rattle.region_plan.specs.declared.covering.Covering.TheVariants.{Mean}
 use Rattle.region_plan.proofs.Alone.{LeastIsOne, one_plan}
 use Rattle.region_plan.proofs.Matching.{plan_bounds}
@@ -75,7 +70,7 @@ top_is {diameter = d} greatest =
         | inl less ↦ leb-true d (2 ^ least test d) (least_passes test d less)
         | inr whole ↦
             let same : least test d ≡ d = omega (arith, least_within test d) in
-            subst (λ i. d ≤ 2 ^ i) (sym same) (omega (arith, power_above d))
+            rw same (omega (arith, power_above d))
       ];
       least = λ i h. leb-false d (2 ^ i) (least_first test d i h);
     }
@@ -101,8 +96,7 @@ module _ (found : LeastWeightsAreFound) (network : Network) (sound : IsNetwork n
         tree = record {
           leader_is = refl;
           members_are = refl;
-          each = λ v h. subst (λ w. IsLeastWeight network.edges (within xs) made.first v w) (sym (beside v h))
-              (found network (within xs) made.first v sound.limits (spanned.reached v h));
+          each = λ v h. rw (beside v h) (found network (within xs) made.first v sound.limits (spanned.reached v h));
         };
         count = count;
         depth = record {
@@ -133,41 +127,32 @@ module _ (found : LeastWeightsAreFound) (network : Network) (sound : IsNetwork n
 
 -- ---- a level, and the plan
 
-module _ (found : LeastWeightsAreFound) (shape : CoveringsAreShaped) (network : Network) (sound : IsNetwork network)
-    (table : DistanceTable) (metric : IsMetric table) (are : AreDistancesOf network table) (covering : Covering)
-    (low : 1 ≤ trade_off_of covering) where
-  level_is : (i : ℕ) → IsLevelOf network table covering i (level_for network table covering i)
-  level_is i = record {
-    exponent = refl;
-    threshold = refl;
-    phases = refl;
-    clusters = clusters_are found network sound (cluster_list table.nodes 0 (regions_of table covering i))
-        (listed_spanned network table metric are sound covering i low shape);
-    homes = refl;
-    readers = refl;
-  }
-
-  plan_is : IsCoveredPlan covering network (plan_over network table covering)
-  plan_is =
-      let top : ℕ = top_for (most table.cells) in
-      let count = length-map_centres (level_for network table covering) (top + 1) in
-      let last : top ≡ length (plan_over network table covering).levels - 1 = omega (arith, count) in
-      record {
-        distances = are;
-        trade_off = refl;
-        reach = refl;
-        some = omega (arith, count);
-        top = subst (IsTop table) last (top_is (widest table metric.some metric.count));
-        each = λ i h. subst (λ (l : Level). IsLevelOf network table covering i l)
-            (sym (get_or-map_centres (level_for network table covering) (top + 1) i no_level (omega (arith, h, count))))
-            (level_is i);
-      }
-
 pub means : LeastWeightsAreFound → NetworksHaveDistances → CoveringsAreShaped → CoveredPlansMean
 unfolding covered_plan
 means found distances shape covering network sound low =
-    let table = distances network sound in
-    plan_is found shape network sound (table_of network) table.1 table.0 covering low
+    let table : DistanceTable = table_of network in
+    let are : AreDistancesOf network table = (distances network sound).0 in
+    let metric : IsMetric table = (distances network sound).1 in
+    let top : ℕ = top_for (most table.cells) in
+    let count = length-map_centres (level_for network table covering) (top + 1) in
+    let last : top ≡ length (plan_over network table covering).levels - 1 = omega (arith, count) in
+    record {
+      distances = are;
+      trade_off = refl;
+      reach = refl;
+      some = omega (arith, count);
+      top = subst (IsTop table) last (top_is (widest table metric.some metric.count));
+      each = λ i h. rw (get_or-map_centres (level_for network table covering) (top + 1) i no_level
+          (omega (arith, h, count))) (record {
+            exponent = refl;
+            threshold = refl;
+            phases = refl;
+            clusters = clusters_are found network sound (cluster_list table.nodes 0 (regions_of table covering i))
+                (listed_spanned metric are sound i covering low shape);
+            homes = refl;
+            readers = refl;
+          });
+    }
 
 -- ---- the only plan that is
 
@@ -180,17 +165,14 @@ pub bounds : CoveredPlansMean → NetworksHaveDistances → CoveringsAreShaped �
     → CoveredPlansBoundFinds
 unfolding covered_plan
 bounds plans_mean distances shape homes covering network sound low =
-    plan_bounds shape homes network sound covering low (covered_plan covering network) (distances network sound).1
-    (plans_mean covering network sound low)
+    plan_bounds shape homes sound low (distances network sound).1 (plans_mean covering network sound low)
 
 pub sparse : PlansMean → NetworksHaveDistances → CoversAreSparse → PlansHaveFewReaders
 unfolding covered_plan
 sparse plans_mean distances covers network k sound low =
-    few_readers covers network sound k low (plan_of network k) (distances network sound).1
-    (plans_mean network k sound low)
+    few_readers covers sound low (distances network sound).1 (plans_mean network k sound low)
 
 pub small : CoveredPlansMean → NetworksHaveDistances → MeanCoversAreSmall → MeanPlansHaveSmallSums
 unfolding covered_plan
 small plans_mean distances covers network k sound low =
-    small_sums covers network sound k low (mean_plan network k) (distances network sound).1
-    (plans_mean (Mean k) network sound low)
+    small_sums covers sound low (distances network sound).1 (plans_mean (Mean k) network sound low)

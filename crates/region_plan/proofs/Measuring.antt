@@ -1,6 +1,5 @@
 -- The greatest of some numbers, one after another.
-use Rattle.std.proofs.Common.{◌≡◌, ℕ, zero, suc, ◌+◌, ◌<◌, ◌≤◌, List, [], ◌∷◌, ◌++◌, length, map, take, get_or, refl}
-use Rattle.std.proofs.Common.{sym, ◌∙◌, ap, arith, rules, inl, inr}
+use Rattle.std.proofs.Common.{◌≡◌, ℕ, zero, suc, ◌+◌, ◌<◌, ◌≤◌, List, [], ◌∷◌, ◌++◌, length, map, take, get_or, refl, sym, ◌∙◌, ap, arith, rules, inl, inr}
 use Rattle.std.proofs.lemmas.Bool.{cases_lt}
 use Rattle.std.specs.Prelude.{max}
 use Rattle.std.specs.Ordering.{ord_max, nat_cmp}
@@ -10,6 +9,12 @@ use Rattle.std.proofs.Math.Nat.{max-zero, zero-max, le-max_left, le-max_right}
 use Rattle.region_plan.specs.Plan.{PlanData, Level, no_level, level_at, level_in, readers}
 use Rattle.region_plan.specs.Measures.{most, degree_in, degree_of}
 use Rattle.region_plan.specs.Kept.{Shape, readers_for, shape_of}
+
+greater_is : (a b : ℕ) {new : ℕ} → new ≡ ord_max nat_cmp a b → new ≡ max a b
+greater_is a b is = first_of (omega arith, grind (arith, nat_tests), grind arith, search rules)
+
+pub max_few : (a b c : ℕ) {new : ℕ} → new ≡ ord_max nat_cmp a b → a ≤ c → b ≤ c → new ≤ c
+max_few a b c is left right = omega (arith, greater_is a b is)
 
 max_both : (a b c : ℕ) → max (max a b) c ≡ max a (max b c)
 max_both a b c = omega arith
@@ -24,12 +29,13 @@ most_more xs i below is = ap most (take_more xs i 0 below) ∙ most_push (take i
     ∙ ap (λ n. max (most (take i xs)) n) is
 
 pub degree_step : (shape : Shape) (v : ℕ) {old len new : ℕ} {row : List ℕ} → v < length shape.readers
-    → old ≡ most (take v (map length shape.readers)) → len ≡ length row → row ≡ readers_for shape v → new ≡ max old len
+    → old ≡ most (take v (map length shape.readers)) → len ≡ length row → row ≡ readers_for shape v
+    → new ≡ ord_max nat_cmp old len
     → new ≡ most (take (v + 1) (map length shape.readers))
 degree_step shape v {len} below before is reads now =
     let at : get_or (map length shape.readers) v 0 ≡ len = get_or-map length shape.readers v [] 0 below
     ∙ ap length (sym reads) ∙ sym is in
-    now ∙ ap (λ n. max n len) before ∙ sym (most_more (map length shape.readers) v
+    greater_is _ len now ∙ ap (λ n. max n len) before ∙ sym (most_more (map length shape.readers) v
     (omega (arith, length-map shape.readers (length {A = ℕ}))) at)
 
 pub degree_done : (shape : Shape) (v : ℕ) {degree : ℕ} → length shape.readers ≤ v
@@ -39,18 +45,13 @@ degree_done shape v past is = is
 
 pub level_step : (levels : List Level) (i : ℕ) {old d new : ℕ} {shape : Shape} → i < length levels
     → old ≡ most (take i (map degree_in levels)) → shape ≡ shape_of (level_in levels i)
-    → d ≡ most (map length shape.readers) → new ≡ max old d → new ≡ most (take (i + 1) (map degree_in levels))
+    → d ≡ most (map length shape.readers) → new ≡ ord_max nat_cmp old d
+    → new ≡ most (take (i + 1) (map degree_in levels))
 level_step levels i {d} below before is reads now =
     let at : get_or (map degree_in levels) i 0 ≡ d = get_or-map degree_in levels i no_level 0 below
     ∙ sym (reads ∙ ap (λ (s : Shape). most (map length s.readers)) is) in
-    now ∙ ap (λ n. max n d) before ∙ sym (most_more (map degree_in levels) i
+    greater_is _ d now ∙ ap (λ n. max n d) before ∙ sym (most_more (map degree_in levels) i
     (omega (arith, length-map levels degree_in)) at)
-
-pub max_few : (a b c : ℕ) {new : ℕ} → new ≡ max a b → a ≤ c → b ≤ c → new ≤ c
-max_few a b c is left right = omega arith
-
-pub greater_is : (a b : ℕ) {new : ℕ} → new ≡ ord_max nat_cmp a b → new ≡ max a b
-greater_is a b is = first_of (omega arith, grind (arith, nat_tests), grind arith, search rules)
 
 -- no number is above the greatest
 pub most_bounds : (xs : List ℕ) (i : ℕ) → get_or xs i 0 ≤ most xs

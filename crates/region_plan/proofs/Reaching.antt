@@ -1,8 +1,7 @@
 -- Walks inside unions of balls: a least walk from a centre stays in its ball, so a cluster is spanned from its leader.
-use Rattle.std.proofs.Common.{◌≡◌, ◌⊎◌, ℕ, zero, suc, ◌+◌, ◌*◌, ◌<◌, ◌≤◌, Bool, true, false, ◌||◌, List, [], ◌∷◌, ◌++◌}
-use Rattle.std.proofs.Common.{length, map, get_or, refl, sym, ◌∙◌, ap, subst, inl, inr, arith, eqb, eq-eqb}
+use Rattle.std.proofs.Common.{◌≡◌, ℕ, zero, suc, ◌+◌, ◌*◌, ◌<◌, ◌≤◌, Bool, true, false, ◌||◌, List, [], ◌∷◌, ◌++◌, map, refl, sym, ◌∙◌, ap, subst, inl, inr, arith, eqb, eq-eqb}
 use Rattle.std.specs.Prelude.{All}
-use Rattle.std.proofs.lemmas.Bool.{cases_lt, eqb-true}
+use Rattle.std.proofs.lemmas.Bool.{cases_lt, eqb-true, false≢true, or_cases}
 use Rattle.std.proofs.lemmas.List.{get_or_past}
 use Rattle.net_graph.specs.declared.edge.Edge.{Edge}
 use Rattle.net_graph.specs.Walks.{Joins, Step, IsWalk, weight_of, everywhere}
@@ -12,10 +11,9 @@ use Rattle.node_set.specs.Ascending.{has}
 use Rattle.node_set.specs.SetLaws.{share_gives}
 use Rattle.distances.specs.Table.{DistanceTable, AreDistancesOf, IsMetric, dist, ball_of}
 use Rattle.distances.specs.TableLaws.{ball_members}
-use Rattle.node_set.specs.BallLaws.{next_growth_means, length-map_centres, get_or-map_centres}
+use Rattle.node_set.specs.BallLaws.{next_growth_means, length-map_centres, get_or-map_centres, union_has, union_from, union_more, touches_own, growth_first}
 use Rattle.cluster_tree.specs.Tree.{within}
 use Rattle.node_set.specs.Balls.{ball, union_of, growth, centres}
-use Rattle.node_set.specs.BallLaws.{union_has, union_from, union_more, touches_own, growth_first}
 
 -- ---- walks that aren't heavier
 
@@ -38,7 +36,7 @@ pub near_more : {edges : List Edge} {inside : ℕ → Bool} {u v a : ℕ} (b : �
 near_more b less near =
     record { steps = near.steps; walk = near.walk; light = omega (arith, near.light) }
 
-module _ (network : Network) (table : DistanceTable) (metric : IsMetric table) (least : AreDistancesOf network table)
+module _ {network : Network} {table : DistanceTable} (metric : IsMetric table) (least : AreDistancesOf network table)
     (limits : All (IsEdge network.nodes) network.edges) where
   -- ---- a least walk from a centre stays in the ball
 
@@ -79,20 +77,19 @@ module _ (network : Network) (table : DistanceTable) (metric : IsMetric table) (
 
   -- ---- the balls of a radius
 
-  module _ (r : ℕ) (balls : List (List ℕ)) (are : balls ≡ map (λ v. ball_of table v r) (centres table.nodes)) where
-    count : length balls ≡ table.nodes
-    count = ap length are ∙ length-map_centres (λ v. ball_of table v r) table.nodes
+  module _ (r : ℕ) where
+    abbrev pub balls : List (List ℕ)
+    balls = map (λ v. ball_of table v r) (centres table.nodes)
 
     ball_is : (v : ℕ) → v < table.nodes → ball balls v ≡ ball_of table v r
-    ball_is v h = ap (λ (bs : List (List ℕ)). get_or bs v []) are
-        ∙ get_or-map_centres (λ u. ball_of table u r) table.nodes v [] h
+    ball_is v h = get_or-map_centres (λ u. ball_of table u r) table.nodes v [] h
 
     pub in_ball : (v x : ℕ) → has x (ball balls v) ≡ true → (v < table.nodes) × (x < table.nodes) × (dist table v x ≤ r)
     in_ball v x h = elim (cases_lt v table.nodes) [
       | inl below ↦ let both = (ball_members table v r x).0 (ap (has x) (sym (ball_is v below)) ∙ h)
           in (below, both.0, both.1)
-      | inr past ↦ absurd (let none : false ≡ true = sym (ap (has x) (get_or_past balls v [] (omega (arith, count))))
-          ∙ h in cc)
+      | inr past ↦ absurd (false≢true (sym (ap (has x) (get_or_past balls v []
+          (omega (arith, length-map_centres (λ u. ball_of table u r) table.nodes)))) ∙ h))
     ]
 
     pub to_ball : (v x : ℕ) → v < table.nodes → x < table.nodes → dist table v x ≤ r → has x (ball balls v) ≡ true
@@ -105,12 +102,8 @@ module _ (network : Network) (table : DistanceTable) (metric : IsMetric table) (
 
     module _ (waiting : List ℕ) (a : ℕ) (below : a < table.nodes) (waits : has a waiting ≡ true) where
       only : (v : ℕ) → has v (a ∷ []) ≡ true → a ≡ v
-      only v h = elim (cases_or (eqb v a) h)
-          [ inl same ↦ sym (eqb-true v a same) | inr none ↦ absurd (let no : false ≡ true = none in cc) ]
-        where
-          cases_or : (b : Bool) → (b || false) ≡ true → (b ≡ true) ⊎ (false ≡ true)
-          cases_or true h = inl refl
-          cases_or false h = inr h
+      only v h = elim (or_cases (eqb v a) false h)
+          [ inl same ↦ sym (eqb-true v a same) | inr none ↦ absurd (false≢true none) ]
 
       taken : (j v : ℕ) → has v (growth balls waiting a j) ≡ true → (v < table.nodes) × (has v waiting ≡ true)
       taken zero v h =

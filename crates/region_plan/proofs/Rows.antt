@@ -1,8 +1,5 @@
 -- A cluster's row, and a table's readers, as they are read.
-use Rattle.std.proofs.Common.{◌≡◌, Ok, Err, ℕ, zero, suc, ◌+◌, ◌-◌, ◌<◌, ◌≤◌, true, false, List, [], ◌∷◌, length}
-use Rattle.std.proofs.Common.{drop, get_or}
-use Rattle.std.proofs.Common.{sym}
-use Rattle.std.proofs.Common.{◌∙◌, ap, subst, arith}
+use Rattle.std.proofs.Common.{◌≡◌, Ok, Err, ℕ, zero, suc, ◌+◌, ◌-◌, ◌<◌, ◌≤◌, true, false, List, [], ◌∷◌, length, drop, get_or, sym, ◌∙◌, ap, subst, arith}
 use Rattle.std.specs.List.Sorted.{IsBinarySearchResult}
 use Rattle.std.specs.Ordering.{nat_cmp}
 use Rattle.std.proofs.lemmas.List.Sorted.{searched}
@@ -14,7 +11,7 @@ use Rattle.node_set.specs.Ascending.{has, IsAscending}
 use Rattle.node_set.specs.SetLaws.{below_each, length-passing-le}
 use Rattle.region_plan.specs.Plan.{PlanCluster, cluster_in, weight_in}
 use Rattle.region_plan.specs.Regions.{clusters_with}
-use Rattle.region_plan.specs.Kept.{AreRows, IsTable, Shape, readers_for, shape_with}
+use Rattle.region_plan.specs.Kept.{AreBeside, AreRows, Shape, readers_for, shape_with}
 use Rattle.node_set.specs.BallLaws.{get_or-map_centres, length-map_centres}
 
 -- ---- what a search for a member says
@@ -30,7 +27,7 @@ pub found_member : (xs : List ℕ) (v k : ℕ) → IsAscending xs → IsBinarySe
     → true ≡ has v xs
 found_member xs v k ascending result =
     let at = searched xs v (Ok k) result (rising xs ascending) in
-    sym (subst (λ y. has y xs ≡ true) at.1 (has_place xs k at.0))
+    sym (rw at.1 at (has_place xs k at.0))
 
 pub missed_member : (xs : List ℕ) (v : ℕ) {k : ℕ} → IsAscending xs → IsBinarySearchResult (λ y. nat_cmp y v) xs (Err k)
     → false ≡ has v xs
@@ -39,87 +36,77 @@ missed_member xs v {k} ascending result =
 
 -- ---- readers
 
-pub readers_count : (phases : ℕ) (clusters : List PlanCluster) (homes : List ℕ) {shape : Shape}
-    → shape_with phases clusters homes ≡ shape → length shape.readers ≡ length shape.homes
-readers_count phases clusters homes is =
-    subst (λ (l : Shape). length l.readers ≡ length l.homes) is
+pub readers_count : {phases : ℕ} {clusters : List PlanCluster} {homes : List ℕ} {shape : Shape}
+    → shape_with phases clusters homes ≡ shape → length shape.readers ≡ length homes
+readers_count {clusters} {homes} is =
+    subst (λ (l : Shape). length l.readers ≡ length homes) is
     (length-map_centres (clusters_with clusters) (length homes))
 
 pub length-containing : (clusters : List PlanCluster) (v : ℕ) → length (clusters_with clusters v) ≤ length clusters
 length-containing clusters v = length-passing-le (λ c. has v (cluster_in clusters c).members) 0 (length clusters)
 
-pub starts_long : (phases : ℕ) {clusters : List PlanCluster} (homes : List ℕ) {starts readers : List ℕ} {shape : Shape}
-    (v : ℕ) → AreRows (length homes) clusters starts readers → shape_with phases clusters homes ≡ shape
-    → v < length shape.homes → v + 1 < length starts
-starts_long phases homes v rows view below =
-    omega (arith, rows.count, subst (λ (l : Shape). v < length l.homes) (sym view) below)
+module _ {phases : ℕ} {clusters : List PlanCluster} {homes starts readers : List ℕ} {shape : Shape} (v : ℕ)
+    (rows : AreRows (length homes) clusters starts readers) (view : shape_with phases clusters homes ≡ shape)
+    (below : v < length shape.homes) where
+  short : v < length homes
+  short = subst (λ (l : Shape). v < length l.homes) (sym view) below
 
-module _ (phases : ℕ) (clusters : List PlanCluster) (homes starts readers : List ℕ) (shape : Shape)
-    (v first next : ℕ) (list : List ℕ)
-    (rows : AreRows (length homes) clusters starts readers)
-    (view : shape_with phases clusters homes ≡ shape) (below : v < length shape.homes)
-    (at_first : first ≡ get_or starts v first) (at_next : next ≡ get_or starts (v + 1) next) (whole : list ≡ readers)
-  where
-    short : v < length homes
-    short = subst (λ (l : Shape). v < length l.homes) (sym view) below
+  in_shape : clusters_with clusters v ≡ readers_for shape v
+  in_shape = sym (get_or-map_centres (clusters_with clusters) (length homes) v [] short)
+      ∙ ap (λ (l : Shape). readers_for l v) view
 
+  pub starts_long : v + 1 < length starts
+  starts_long = omega (arith, rows.count, short)
+
+  module _ {first : ℕ} (at_first : first ≡ get_or starts v first) where
     starts_at : first ≡ get_or starts v 0
-    starts_at = get_or_read starts v first (omega (arith, rows.count, short)) at_first 0
+    starts_at = get_or_read starts v first (omega (arith, starts_long)) at_first 0
 
-    ends_at : next ≡ get_or starts (v + 1) 0
-    ends_at = get_or_read starts (v + 1) next (omega (arith, rows.count, short)) at_next 0
+    module _ {next : ℕ} {list : List ℕ} (at_next : next ≡ get_or starts (v + 1) next) (whole : list ≡ readers) where
+      ends_at : next ≡ get_or starts (v + 1) 0
+      ends_at = get_or_read starts (v + 1) next starts_long at_next 0
 
-    pub row_order : first ≤ next
-    row_order = omega (arith, starts_at, ends_at, rows.order v short)
+      pub row_order : first ≤ next
+      row_order = omega (arith, starts_at, ends_at, rows.order v short)
 
-    row_is : slice_range list first next ≡ clusters_with clusters v
-    row_is = rw (starts_at, ends_at, whole) (rows.each v short)
+      row_is : slice_range list first next ≡ clusters_with clusters v
+      row_is = rw (starts_at, ends_at, whole) (rows.each v short)
 
-    pub read_row : slice_range list first next ≡ readers_for shape v
-    read_row = row_is ∙ sym (get_or-map_centres (clusters_with clusters) (length homes) v [] short)
-        ∙ ap (λ (l : Shape). readers_for l v) view
+      pub read_row : slice_range list first next ≡ readers_for shape v
+      read_row = row_is ∙ in_shape
 
-    pub row_short : length (slice_range list first next) ≤ length shape.clusters
-    row_short = subst (λ (l : Shape). length (slice_range list first next) ≤ length l.clusters) view
-        (subst (λ xs. length xs ≤ length clusters) (sym row_is) (length-containing clusters v))
+      pub row_short : length (slice_range list first next) ≤ length shape.clusters
+      row_short = subst (λ (l : Shape). length (slice_range list first next) ≤ length l.clusters) view
+          (omega (arith, ap length row_is, length-containing clusters v))
 
--- ---- the weight beside a reader
+    -- ---- the weight beside a reader
 
-module _ (phases : ℕ) (clusters : List PlanCluster) (homes starts readers weights : List ℕ)
-    (shape : Shape) (v first place : ℕ) (table : IsTable (length homes) clusters starts readers weights)
-    (view : shape_with phases clusters homes ≡ shape) (below : v < length shape.homes)
-    (inside : place < length (readers_for shape v)) (at_first : first ≡ get_or starts v first) where
-  node_short : v < length homes
-  node_short = subst (λ (l : Shape). v < length l.homes) (sym view) below
+    module _ {weights : List ℕ} (place : ℕ) (beside : AreBeside (length homes) clusters starts readers weights)
+        (inside : place < length (readers_for shape v)) where
+      list_is : readers_for shape v ≡ slice_range readers (get_or starts v 0) (get_or starts (v + 1) 0)
+      list_is = sym (rows.each v short ∙ in_shape)
 
-  begins : first ≡ get_or starts v 0
-  begins = get_or_read starts v first (omega (arith, table.rows.count, node_short)) at_first 0
+      place_short : get_or starts v 0 + place < get_or starts (v + 1) 0
+      place_short =
+          omega (
+            arith,
+            subst (λ xs. place < length xs) list_is inside,
+            length-take (get_or starts (v + 1) 0 - get_or starts v 0) (drop (get_or starts v 0) readers),
+          )
 
-  list_is : readers_for shape v ≡ slice_range readers (get_or starts v 0) (get_or starts (v + 1) 0)
-  list_is = sym (table.rows.each v node_short
-      ∙ sym (get_or-map_centres (clusters_with clusters) (length homes) v [] node_short)
-      ∙ ap (λ (l : Shape). readers_for l v) view)
+      pub weight_short : first + place < length weights
+      weight_short =
+          omega (arith, starts_at, place_short, beside.count, rows.within (v + 1) (omega (arith, short)))
 
-  place_short : get_or starts v 0 + place < get_or starts (v + 1) 0
-  place_short =
-      omega (
-        arith,
-        subst (λ xs. place < length xs) list_is inside,
-        length-take (get_or starts (v + 1) 0 - get_or starts v 0) (drop (get_or starts v 0) readers),
-      )
+      reader_is : get_or readers (get_or starts v 0 + place) 0 ≡ get_or (readers_for shape v) place 0
+      reader_is = sym (ap (λ (xs : List ℕ). get_or xs place 0) list_is
+          ∙ get_or-take (get_or starts (v + 1) 0 - get_or starts v 0) (drop (get_or starts v 0) readers) place 0
+          (omega (arith, place_short)) ∙ get_or-drop (get_or starts v 0) readers place 0)
 
-  pub weight_short : first + place < length weights
-  weight_short =
-      omega (arith, begins, place_short, table.beside.count, table.rows.within (v + 1) (omega (arith, node_short)))
-
-  reader_is : get_or readers (get_or starts v 0 + place) 0 ≡ get_or (readers_for shape v) place 0
-  reader_is = sym (ap (λ (xs : List ℕ). get_or xs place 0) list_is
-      ∙ get_or-take (get_or starts (v + 1) 0 - get_or starts v 0) (drop (get_or starts v 0) readers) place 0
-      (omega (arith, place_short)) ∙ get_or-drop (get_or starts v 0) readers place 0)
-
-  pub weight_read : get_or weights (first + place) 0 ≡ weight_in shape.clusters (get_or (readers_for shape v) place 0) v
-  weight_read =
-      ap (λ i. get_or weights (i + place) 0) begins
-      ∙ table.beside.each v (get_or starts v 0 + place) node_short (omega arith) place_short
-      ∙ ap (λ c. weight_in clusters c v) reader_is
-      ∙ ap (λ (l : Shape). weight_in l.clusters (get_or (readers_for shape v) place 0) v) view
+      pub weight_read : get_or weights (first + place) 0
+          ≡ weight_in shape.clusters (get_or (readers_for shape v) place 0) v
+      weight_read =
+          ap (λ i. get_or weights (i + place) 0) starts_at
+          ∙ beside.each v (get_or starts v 0 + place) short (omega arith) place_short
+          ∙ ap (λ c. weight_in clusters c v) reader_is
+          ∙ ap (λ (l : Shape). weight_in l.clusters (get_or (readers_for shape v) place 0) v) view

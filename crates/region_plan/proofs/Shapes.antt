@@ -1,5 +1,5 @@
 -- Levels over the shapes that they share.
-use Rattle.std.proofs.Common.{◌≡◌, ℕ, suc, ◌<◌, List, [], ◌∷◌, ◌++◌, length, get_or, refl, subst, sym, ◌∙◌, ap, arith, ◌-◌}
+use Rattle.std.proofs.Common.{◌≡◌, ℕ, suc, ◌<◌, List, [], ◌∷◌, ◌++◌, length, get_or, refl, sym, ◌∙◌, ap, arith, ◌-◌}
 use Rattle.std.specs.Prelude.{All}
 use Rattle.std.proofs.lemmas.List.{get_or-map, get_or_append_left, get_or_push, length-map, map_push}
 use Rattle.region_plan.specs.Plan.{Level, level_in, no_level}
@@ -16,10 +16,10 @@ pub shape_added : (shapes : List Shape) (shape : Shape) (heads : List LevelHead)
     → levels_over (shapes ++ shape ∷ []) heads ≡ levels_over shapes heads
 shape_added shapes shape [] below = refl
 shape_added shapes shape (h ∷ hs) below =
-    ap (λ (s : Shape). level_of h.exponent h.threshold s ∷ levels_over (shapes ++ shape ∷ []) hs)
-    (get_or_append_left shapes (shape ∷ []) (shape_of no_level) h.table (below 0 h (omega arith)))
-    ∙ ap (λ (ls : List Level). level_under shapes h ∷ ls)
-    (shape_added shapes shape hs (λ i d short. below (suc i) d (omega arith)))
+    rw (
+      get_or_append_left shapes (shape ∷ []) (shape_of no_level) h.table (below 0 h (omega arith)),
+      shape_added shapes shape hs (λ i d short. below (suc i) d (omega arith)),
+    ) refl
 
 -- a level more, over a shape more
 pub level_pushed : (shapes : List Shape) {new_shapes : List Shape} (shape : Shape) (heads : List LevelHead)
@@ -29,14 +29,15 @@ pub level_pushed : (shapes : List Shape) {new_shapes : List Shape} (shape : Shap
     → new_heads ≡ heads ++ record { exponent = exponent; threshold = threshold; table = place } ∷ []
     → levels_over new_shapes new_heads ≡ levels ++ level_of exponent threshold shape ∷ []
 level_pushed shapes shape heads {new_heads} {levels} exponent threshold {place} view below grown last now =
-    let head : LevelHead = record { exponent = exponent; threshold = threshold; table = place } in
-    ap (λ (ss : List Shape). levels_over ss new_heads) grown
-    ∙ ap (λ (hs : List LevelHead). levels_over (shapes ++ shape ∷ []) hs) now
-    ∙ map_push (level_under (shapes ++ shape ∷ [])) heads head
-    ∙ ap (λ (ls : List Level). ls ++ level_under (shapes ++ shape ∷ []) head ∷ [])
-    (shape_added shapes shape heads below ∙ view)
-    ∙ ap (λ (s : Shape). levels ++ level_of exponent threshold s ∷ [])
-    (get_or_push shapes shape (shape_of no_level) place (sym last))
+    rw (
+      grown,
+      now,
+      map_push (level_under (shapes ++ shape ∷ [])) heads
+          (record { exponent = exponent; threshold = threshold; table = place }),
+      shape_added shapes shape heads below,
+      view,
+      get_or_push shapes shape (shape_of no_level) place (sym last),
+    ) refl
 
 -- ---- a level that shares the shape of the last one
 
@@ -45,18 +46,17 @@ pub heads_count : (shapes : List Shape) (heads : List LevelHead) {levels : List 
 heads_count shapes heads view =
     sym (length-map heads (level_under shapes)) ∙ ap (length {A = Level}) view
 
-module _ (shapes : List Shape) (heads new_heads : List LevelHead) (levels : List Level) (exponent threshold at : ℕ)
-    (last : LevelHead) (view : levels_over shapes heads ≡ levels) (some : 0 < length levels)
+module _ (shapes : List Shape) (heads : List LevelHead) {levels : List Level} {at : ℕ} {last : LevelHead}
+    (view : levels_over shapes heads ≡ levels) (some : 0 < length levels)
     (at_is : at ≡ length heads - 1) (here : last ≡ get_or heads at last) where
   pub last_within : All (λ (h : LevelHead). h.table < length shapes) heads → last.table < length shapes
-  last_within below = subst (λ (h : LevelHead). h.table < length shapes) (sym here)
-      (below at last (omega (arith, heads_count shapes heads view)))
+  last_within below = rw here (below at last (omega (arith, heads_count shapes heads view)))
 
-  pub level_shared : new_heads
+  pub level_shared : {new_heads : List LevelHead} (exponent threshold : ℕ) → new_heads
       ≡ heads ++ record { exponent = exponent; threshold = threshold; table = last.table } ∷ []
       → levels_over shapes new_heads
       ≡ levels ++ level_with exponent threshold (level_in levels (length levels - 1)) ∷ []
-  level_shared now =
+  level_shared exponent threshold now =
       let same : level_under shapes last ≡ level_in levels (length levels - 1) =
       ap (level_under shapes) here
       ∙ sym (get_or-map (level_under shapes) heads at last no_level

@@ -10,7 +10,7 @@ use Rattle.coarse_cover.specs.CoverLaws.{cluster_list_nodes}
 use Rattle.coarse_cover.specs.Covers.{cluster_list}
 use Rattle.mean_cover.specs.Covering.{MeanCoversAreSmall, mean_covering, sum_of_sizes}
 use Rattle.region_plan.specs.Matched.{HasSmallSum}
-use Rattle.region_plan.specs.Meanings.{IsCoveredPlan, IsLevelOf}
+use Rattle.region_plan.specs.Meanings.{IsCoveredPlan}
 use Rattle.region_plan.specs.Plan.{PlanCluster, PlanData, level_at, levels_of, nodes_of}
 use Rattle.region_plan.specs.Regions.{balls_of, regions_of}
 use Rattle.region_plan.specs.declared.covering.Covering.TheVariants.{Mean}
@@ -27,28 +27,23 @@ sum_over f (x ∷ xs) =
     ∙ ap (λ (n : ℕ). length (f x) + n) (sum_over f xs)
     ∙ sym (sum_by-cons (length {A = ℕ}) (f x) (map f xs))
 
-module _ (covers : MeanCoversAreSmall) (network : Network) (sound : IsNetwork network) (k : ℕ) (low : 1 ≤ k)
-    (plan : PlanData) (metric : IsMetric plan.distances) (is : IsCoveredPlan (Mean k) network plan) where
+module _ (covers : MeanCoversAreSmall) {network : Network} (sound : IsNetwork network) {k : ℕ} (low : 1 ≤ k)
+    {plan : PlanData} (metric : IsMetric plan.distances) (is : IsCoveredPlan (Mean k) network plan) where
   sizes_are : (i : ℕ) → i < levels_of plan → sum_by (λ (c : PlanCluster). length c.members) (level_at plan i).clusters
       ≡ sum_of_sizes (mean_covering (balls_of plan.distances i) k)
   sizes_are i below =
       let regions : List (List GrownCluster) = regions_of plan.distances (Mean k) i in
-      let level : IsLevelOf network plan.distances (Mean k) i (level_at plan i) = is.each i below in
       sum_over (λ (c : PlanCluster). c.members) (level_at plan i).clusters
       ∙ ap (sum_by (length {A = ℕ}))
-      (same_nodes network (cluster_list (nodes_of plan) 0 (regions_of plan.distances (Mean k) i))
-      (level_at plan i).clusters level.clusters
-      ∙ cluster_list_nodes (nodes_of plan) 0 (regions_of plan.distances (Mean k) i)
+      (same_nodes network (cluster_list (nodes_of plan) 0 regions) (level_at plan i).clusters (is.each i below).clusters
+      ∙ cluster_list_nodes (nodes_of plan) 0 regions
       ∙ ap (map (λ (c : GrownCluster). c.members)) (one_phase (mean_covering (balls_of plan.distances i) k)))
       ∙ sym (sum_over (λ (c : GrownCluster). c.members) (mean_covering (balls_of plan.distances i) k))
 
   pub small_sums : HasSmallSum plan
   small_sums i below =
-      subst (λ (j : ℕ). sum_by (λ (c : PlanCluster). length c.members) (level_at plan i).clusters ^ j
-      ≤ nodes_of plan ^ (j + 1)) (sym is.trade_off)
-      (subst (λ (t : ℕ). t ^ k ≤ nodes_of plan ^ (k + 1)) (sym (sizes_are i below))
+      rw (is.trade_off, sizes_are i below)
       (subst (λ (n : ℕ). sum_of_sizes (mean_covering (balls_of plan.distances i) k) ^ k ≤ n ^ (k + 1))
       (length-map_centres (λ u. ball_of plan.distances u (2 ^ i)) (nodes_of plan))
-      (covers (balls_of plan.distances i) k low
-      (centred network plan.distances metric is.distances sound (Mean k) i low)
-      (inside network plan.distances metric is.distances sound (Mean k) i low))))
+      (covers (balls_of plan.distances i) k low (centred metric is.distances sound i)
+      (inside metric is.distances sound i)))

@@ -1,6 +1,5 @@
 -- The clusters of a level: each is spanned from its leader, within its radius.
-use Rattle.std.proofs.Common.{◌≡◌, ℕ, suc, ◌+◌, ◌-◌, ◌*◌, ◌^◌, ◌<◌, ◌≤◌, true, List, [], ◌∷◌, ◌++◌, length, map, get_or}
-use Rattle.std.proofs.Common.{refl, sym, ◌∙◌, ap, subst, arith}
+use Rattle.std.proofs.Common.{◌≡◌, ℕ, suc, ◌+◌, ◌-◌, ◌*◌, ◌^◌, ◌<◌, ◌≤◌, true, List, [], ◌∷◌, ◌++◌, length, map, get_or, sym, ◌∙◌, ap, subst, arith}
 use Rattle.std.specs.Prelude.{All}
 use Rattle.std.proofs.Math.Nat.{mul-le-mul_right}
 use Rattle.std.proofs.lemmas.List.{length-append, get_or_append_left, get_or-append-add}
@@ -57,63 +56,53 @@ close_spans close = record {
   reached = λ v h. let near = close.near v h in record { steps = near.steps; walk = near.walk };
 }
 
-module _ (network : Network) (table : DistanceTable) (metric : IsMetric table) (least : AreDistancesOf network table)
-    (sound : IsNetwork network) (covering : Covering) (i : ℕ) (low : 1 ≤ trade_off_of covering) where
+module _ {network : Network} {table : DistanceTable} (metric : IsMetric table) (least : AreDistancesOf network table)
+    (sound : IsNetwork network) (i : ℕ) where
+  count : length (balls_of table i) ≡ table.nodes
+  count = length-map_centres (λ u. ball_of table u (2 ^ i)) table.nodes
+
   pub centred : AreCentred (balls_of table i)
-  centred v h = own_ball network table metric least sound.limits.edges (2 ^ i) (balls_of table i) refl v
-      (omega (arith, length-map_centres (λ u. ball_of table u (2 ^ i)) table.nodes))
+  centred v h = own_ball metric least sound.limits.edges (2 ^ i) v (omega (arith, count))
 
   -- the nodes of balls are nodes
   pub inside : AreInside (balls_of table i)
-  inside v x h =
-      let within = in_ball network table metric least sound.limits.edges (2 ^ i) (balls_of table i) refl v x h in
-      omega (arith, within.1, length-map_centres (λ u. ball_of table u (2 ^ i)) table.nodes)
+  inside v x h = omega (arith, (in_ball metric least sound.limits.edges (2 ^ i) v x h).1, count)
 
-  shape_close : (p : ℕ) (c : GrownCluster) → IsShaped (balls_of table i) (steps_of covering) c
-      → IsClose network (reach_of covering * 2 ^ i) (as_cluster table.nodes p c)
-  unfolding as_cluster
-  shape_close p c shaped =
-      let waiting : List ℕ = shaped.3.0 in
-      let below : c.first < table.nodes = omega (
-        arith,
-        shaped.2,
-        length-map_centres (λ u. ball_of table u (2 ^ i))
-            table.nodes,
-      ) in
-      let is : c.members ≡ union_of (balls_of table i) (growth (balls_of table i) waiting c.first c.growths) =
-      shaped.1 ∙ ap (union_of (balls_of table i)) shaped.3.2
-      in
-      record {
-        room = least.nodes;
-        leads = ap (has c.first) is ∙ union_has (balls_of table i) c.first c.first
-            (growth (balls_of table i) waiting c.first c.growths)
-            (growth_leads network table metric least sound.limits.edges (2 ^ i) (balls_of table i) refl waiting c.first
-            below shaped.3.1 c.growths)
-            (own_ball network table metric least sound.limits.edges (2 ^ i) (balls_of table i) refl c.first below);
-        below = λ v h.
-            let from = union_from (balls_of table i) v (growth (balls_of table i) waiting c.first c.growths)
-            (ap (has v) (sym is) ∙ h) in
-            let here = in_ball network table metric least sound.limits.edges (2 ^ i) (balls_of table i) refl from.0 v
-            from.2 in
-            omega (arith, here.1, least.nodes);
-        near = λ v h.
-            near_more (reach_of covering * 2 ^ i) (enough c.growths (steps_of covering) (reach_of covering) (2 ^ i)
-            shaped.0 (reach_is covering low)) (subst (λ (xs : List ℕ). IsNoHeavier network.edges (within xs) c.first v
-            ((2 * c.growths + 1) * 2 ^ i)) (sym is) (near_leader network table metric least sound.limits.edges (2 ^ i)
-            (balls_of table i) refl waiting c.first below shaped.3.1 c.growths v (ap (has v) (sym is) ∙ h)));
-      }
-    where
-      enough : (j k w r : ℕ) → j < k → 2 * k - 1 ≡ w → (2 * j + 1) * r ≤ w * r
-      enough j k w r h is = mul-le-mul_right r (omega arith)
+  module _ (covering : Covering) (low : 1 ≤ trade_off_of covering) where
+    shape_close : (p : ℕ) (c : GrownCluster) → IsShaped (balls_of table i) (steps_of covering) c
+        → IsClose network (reach_of covering * 2 ^ i) (as_cluster table.nodes p c)
+    unfolding as_cluster
+    shape_close p c shaped =
+        let waiting : List ℕ = shaped.3.0 in
+        let grown : List ℕ = growth (balls_of table i) waiting c.first c.growths in
+        let below : c.first < table.nodes = omega (arith, shaped.2, count) in
+        let is : c.members ≡ union_of (balls_of table i) grown =
+        shaped.1 ∙ ap (union_of (balls_of table i)) shaped.3.2
+        in
+        record {
+          room = least.nodes;
+          leads = ap (has c.first) is ∙ union_has (balls_of table i) c.first c.first grown
+              (growth_leads metric least sound.limits.edges (2 ^ i) waiting c.first below shaped.3.1 c.growths)
+              (own_ball metric least sound.limits.edges (2 ^ i) c.first below);
+          below = λ v h.
+              let from = union_from (balls_of table i) v grown (ap (has v) (sym is) ∙ h) in
+              omega (arith, (in_ball metric least sound.limits.edges (2 ^ i) from.0 v from.2).1, least.nodes);
+          near = λ v h.
+              near_more (reach_of covering * 2 ^ i) (enough c.growths (steps_of covering) (reach_of covering) (2 ^ i)
+              shaped.0 (reach_is covering low)) (rw is (near_leader metric least sound.limits.edges (2 ^ i) waiting
+              c.first below shaped.3.1 c.growths v (ap (has v) (sym is) ∙ h)));
+        }
+      where
+        enough : (j k w r : ℕ) → j < k → 2 * k - 1 ≡ w → (2 * j + 1) * r ≤ w * r
+        enough j k w r h is = mul-le-mul_right r (omega arith)
 
-  pub listed_close : CoveringsAreShaped
-      → All (IsClose network (reach_of covering * 2 ^ i)) (cluster_list table.nodes 0 (regions_of table covering i))
-  listed_close law =
-      for_each_listed (IsClose network (reach_of covering * 2 ^ i)) (IsShaped (balls_of table i) (steps_of covering))
-      table.nodes shape_close 0
-      (regions_of table covering i)
-      (law covering (balls_of table i) low centred inside)
+    pub listed_close : CoveringsAreShaped
+        → All (IsClose network (reach_of covering * 2 ^ i)) (cluster_list table.nodes 0 (regions_of table covering i))
+    listed_close law =
+        for_each_listed (IsClose network (reach_of covering * 2 ^ i)) (IsShaped (balls_of table i) (steps_of covering))
+        table.nodes shape_close 0 (regions_of table covering i)
+        (law covering (balls_of table i) low centred inside)
 
-  pub listed_spanned : CoveringsAreShaped → All (IsSpanned network)
-      (cluster_list table.nodes 0 (regions_of table covering i))
-  listed_spanned law j d h = close_spans (listed_close law j d h)
+    pub listed_spanned : CoveringsAreShaped → All (IsSpanned network)
+        (cluster_list table.nodes 0 (regions_of table covering i))
+    listed_spanned law j d h = close_spans (listed_close law j d h)

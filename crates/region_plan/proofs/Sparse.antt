@@ -1,10 +1,10 @@
 -- Few clusters of a plan overlap: each node reads no more clusters of a level than the level has phases.
-use Rattle.std.proofs.Common.{◌≡◌, ℕ, zero, suc, ◌+◌, ◌*◌, ◌^◌, ◌<◌, ◌≤◌, Bool, true, false, cond, List, [], ◌∷◌, length, map}
-use Rattle.std.proofs.Common.{get_or, refl, sym, ◌∙◌, ap, subst, inl, inr, arith}
+use Rattle.std.proofs.Common.{◌≡◌, ℕ, suc, ◌+◌, ◌*◌, ◌^◌, ◌<◌, ◌≤◌, Bool, cond, List, [], ◌∷◌, length, map, get_or, refl, sym, ◌∙◌, ap, subst, inl, inr, arith, add-zero, zero-add}
 use Rattle.std.specs.List.{count_by, sum_by}
 use Rattle.std.proofs.Math.Nat.{pow-le-pow_left}
 use Rattle.std.proofs.lemmas.Bool.{cases_lt}
-use Rattle.std.proofs.lemmas.List.{get_or-map, length-map}
+use Rattle.std.proofs.lemmas.List.{get_or-map, get_or_past, length-map}
+use Rattle.node_set.specs.SetLaws.{length-cond}
 use Rattle.std.proofs.lemmas.List.Sums.{sum_by-cons}
 use Rattle.net_graph.specs.Network.{Network, IsNetwork}
 use Rattle.node_set.specs.Ascending.{has, sift}
@@ -18,8 +18,7 @@ use Rattle.coarse_cover.specs.declared.cover.Cluster.{Cluster}
 use Rattle.region_plan.specs.Matched.{HasFewReaders}
 use Rattle.region_plan.specs.Meanings.{AreClustersOf, IsLevelOf, IsPlanOf}
 use Rattle.region_plan.specs.Measures.{degree_in, degree_of}
-use Rattle.region_plan.specs.Plan.{PlanCluster, PlanData, cluster_in, level_at, levels_of, no_level, nodes_of}
-use Rattle.region_plan.specs.Plan.{readers}
+use Rattle.region_plan.specs.Plan.{PlanCluster, PlanData, cluster_in, level_at, levels_of, no_level, nodes_of, readers}
 use Rattle.region_plan.specs.Regions.{balls_of, clusters_with, regions_of}
 use Rattle.region_plan.specs.declared.covering.Covering.TheVariants.{Phased}
 use Rattle.region_plan.proofs.Measuring.{greatest_in}
@@ -38,26 +37,15 @@ sifted : (v : ℕ) (test : ℕ → Bool) (from : ℕ) (clusters : List PlanClust
     → length (sift test from (length clusters)) ≡ have v (nodes_in clusters)
 sifted v test from [] same = refl
 sifted v test from (c ∷ cs) same =
-    one (test from) (has v c.members) here
+    length-cond (test from) from (sift test (suc from) (length cs))
+    ∙ ap (λ b. cond b 1 0 + length (sift test (suc from) (length cs)))
+    (ap test (sym (add-zero from)) ∙ same 0 (omega arith))
     ∙ ap (λ n. cond (has v c.members) 1 0 + n) (sifted v test (suc from) cs (λ j h.
     ap test (next from j) ∙ same (suc j) (omega arith)))
     ∙ sym (sum_by-cons (λ (m : List ℕ). cond (has v m) 1 0) c.members (nodes_in cs))
   where
     next : (i j : ℕ) → suc i + j ≡ i + suc j
     next i j = omega arith
-
-    none : (i : ℕ) → i ≡ i + 0
-    none i = omega arith
-
-    here : test from ≡ has v c.members
-    here = ap test (none from) ∙ same 0 (omega arith)
-
-    one : (a b : Bool) → a ≡ b → length (cond a (from ∷ sift test (suc from) (length cs))
-        (sift test (suc from) (length cs))) ≡ cond b 1 0 + length (sift test (suc from) (length cs))
-    one true true e = omega arith
-    one false false e = omega arith
-    one true false e = cc
-    one false true e = cc
 
 pub same_nodes : (network : Network) (made : List Cluster) (clusters : List PlanCluster)
     → AreClustersOf network made clusters → nodes_in clusters ≡ map (λ (c : Cluster). c.members.members) made
@@ -73,12 +61,9 @@ read_count : (network : Network) (n v : ℕ) (regions : List (List GrownCluster)
     → length (clusters_with clusters v) ≡ count_by (λ c. has v c.members) (all_clusters regions)
 read_count network n v regions clusters are =
     sifted v (λ c. has v (cluster_in clusters c).members) 0 clusters
-    (λ j h. ap (λ i. has v (cluster_in clusters i).members) (zero_first j))
+    (λ j h. ap (λ i. has v (cluster_in clusters i).members) (zero-add j))
     ∙ ap (have v) (same_nodes network (cluster_list n 0 regions) clusters are ∙ cluster_list_nodes n 0 regions)
     ∙ sym (count_lists (λ (c : GrownCluster). c.members) v (all_clusters regions))
-  where
-    zero_first : (j : ℕ) → 0 + j ≡ j
-    zero_first j = omega arith
 
 -- a level at which a node reads as many clusters as the degree
 record IsAttained (plan : PlanData) : Type 0 where
@@ -103,22 +88,20 @@ attained plan some wide =
           ∙ sym (get_or-map degree_in plan.levels top.at no_level 0 below) ∙ top.is;
     }
 
-module _ (sparse : CoversAreSparse) (network : Network) (sound : IsNetwork network) (k : ℕ) (low : 1 ≤ k)
-    (plan : PlanData) (metric : IsMetric plan.distances) (is : IsPlanOf network k plan) where
+module _ (sparse : CoversAreSparse) {network : Network} (sound : IsNetwork network) {k : ℕ} (low : 1 ≤ k)
+    {plan : PlanData} (metric : IsMetric plan.distances) (is : IsPlanOf network k plan) where
   at_level : (i : ℕ) → (length (regions_of plan.distances (Phased k) i) ^ k ≤ k ^ k * nodes_of plan)
       × ((v : ℕ) → count_by (λ c. has v c.members) (all_clusters (regions_of plan.distances (Phased k) i))
       ≤ length (regions_of plan.distances (Phased k) i))
   at_level i =
-      let here = sparse (balls_of plan.distances i) k low (centred network plan.distances metric is.distances sound
-      (Phased k) i low)
-      in (
+      let here = sparse (balls_of plan.distances i) k low (centred metric is.distances sound i) in (
         subst (λ n. length (regions_of plan.distances (Phased k) i) ^ k ≤ k ^ k * n)
             (length-map_centres (λ u. ball_of plan.distances u (2 ^ i)) (nodes_of plan)) here.0,
         here.1,
       )
 
   phases_few : (i : ℕ) → i < levels_of plan → (level_at plan i).phases ^ k ≤ k ^ k * nodes_of plan
-  phases_few i below = subst (λ p. p ^ k ≤ k ^ k * nodes_of plan) (sym (is.each i below).phases) (at_level i).0
+  phases_few i below = rw (is.each i below).phases (at_level i).0
 
   read_few : (i v : ℕ) → i < levels_of plan → length (readers plan i v) ≤ (level_at plan i).phases
   read_few i v below =
@@ -138,15 +121,10 @@ module _ (sparse : CoversAreSparse) (network : Network) (sound : IsNetwork netwo
         | inr past ↦ omega (
           arith,
           ap length rows,
-          ap length (past_end (map (clusters_with clusters) (centres (nodes_of plan))) v
+          ap length (get_or_past (map (clusters_with clusters) (centres (nodes_of plan))) v []
               (omega (arith, length-map_centres (clusters_with clusters) (nodes_of plan)))),
         )
       ]
-    where
-      past_end : (xs : List (List ℕ)) (i : ℕ) → length xs ≤ i → get_or xs i [] ≡ []
-      past_end [] i h = refl
-      past_end (x ∷ xs) zero h = absurd (omega arith)
-      past_end (x ∷ xs) (suc i) h = past_end xs i (omega arith)
 
   wide : (i : ℕ) → i < levels_of plan → 0 < length (level_at plan i).readers
   wide i below = omega (
@@ -165,9 +143,7 @@ module _ (sparse : CoversAreSparse) (network : Network) (sound : IsNetwork netwo
         read_few top.level top.node top.below,
       ) in
       record {
-        phases = λ i h. subst (λ j. (level_at plan i).phases ^ j ≤ j ^ j * nodes_of plan) (sym is.trade_off)
-            (phases_few i h);
+        phases = λ i h. rw is.trade_off (phases_few i h);
         read = read_few;
-        degree = subst (λ j. degree_of plan ^ j ≤ j ^ j * nodes_of plan) (sym is.trade_off)
-            (omega (arith, pow-le-pow_left reads k, phases_few top.level top.below));
+        degree = rw is.trade_off (omega (arith, pow-le-pow_left reads k, phases_few top.level top.below));
       }

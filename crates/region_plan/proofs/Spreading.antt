@@ -1,6 +1,5 @@
 -- The exponents of distances, as they are written and read.
-use Rattle.std.proofs.Common.{◌≡◌, inl, inr, ℕ, zero, suc, ◌+◌, ◌*◌, ◌^◌, ◌<◌, ◌≤◌, Bool, true, false, List}
-use Rattle.std.proofs.Common.{ap, get_or, length, map, set, subst, sym, take, ◌∙◌, arith}
+use Rattle.std.proofs.Common.{◌≡◌, inl, inr, ℕ, zero, suc, ◌+◌, ◌*◌, ◌^◌, ◌<◌, ◌≤◌, Bool, true, false, List, ap, get_or, length, map, set, sym, take, ◌∙◌, arith}
 use Rattle.std.specs.Prelude.{All, nat_le, slice_index, slice_range}
 use Rattle.std.proofs.Math.Nat.{pow-le-pow_right, pow-suc}
 use Rattle.std.proofs.lemmas.Bool.{cases_lt, false≢true, le-leb, leb-true, lt-leb}
@@ -14,10 +13,8 @@ use Rattle.node_set.specs.Ascending.{sift}
 use Rattle.distances.specs.Table.{DistanceTable, IsMetric, IsRowOf, ball_of, dist}
 use Rattle.distances.specs.TableLaws.{part_is_row}
 use Rattle.region_plan.specs.Spread.{AreExponents, AreExponentsTo, AreMarked, HasExponent, IsExponent}
+use Rattle.region_plan.proofs.Exponents.{two}
 use Rattle.region_plan.proofs.Making.{more_balls}
-
-two : 1 ≤ 2
-two = omega arith
 
 -- ---- the exponent that just reaches a distance
 
@@ -87,13 +84,10 @@ pub row_written : {table : DistanceTable} {u at : ℕ} {row : List ℕ} (old new
 row_written {table} {u} {at} old new begins is before kept here w v w_below v_below = elim (cases_lt w u) [
   | inl less ↦
       let within : w * table.nodes + v < at = omega (arith, row_fits w table.nodes u table.nodes less (omega arith)) in
-      subst (λ e. IsExponent (dist table w v) e) (sym (kept (w * table.nodes + v) within)) (before w v less v_below)
+      rw (kept (w * table.nodes + v) within) (before w v less v_below)
   | inr last ↦
-      let same : u ≡ w = omega arith in
-      subst (λ x. IsExponent (dist table x v) (slice_index new (x * table.nodes + v))) same
-      (subst (λ p. IsExponent (dist table u v) (slice_index new (p + v))) begins
-      (subst (λ d. IsExponent d (slice_index new (at + v))) (is.each v v_below)
-      (here v (omega (arith, is.count)))))
+      let same : w ≡ u = omega arith in
+      rw (same, ← is.each v v_below, ← begins) (here v (omega (arith, is.count)))
 ]
 
 -- the numbers of a row within a radius are the ball's nodes
@@ -110,8 +104,7 @@ pub ball_within : {table : DistanceTable} {exponents row : List ℕ} (v i : ℕ)
     → sift (λ x. nat_le (slice_index row x) i) 0 (length row) ≡ ball_of table v (2 ^ i)
 ball_within {table} {exponents} v i are below is =
     let as_table : DistanceTable = record { nodes = table.nodes; cells = exponents } in
-    row_within i (subst (λ (r : List ℕ). IsRowOf as_table v r) (sym is)
-    (part_is_row table.nodes v exponents are.count below))
+    row_within i (rw is (part_is_row table.nodes v exponents are.count below))
     ∙ passing_same (λ w. nat_le (dist as_table v w) i) (λ w. nat_le (dist table v w) (2 ^ i)) 0 table.nodes
     (λ w low high. are.each v w below (omega arith) i)
 

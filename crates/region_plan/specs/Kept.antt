@@ -2,17 +2,14 @@
 -- memory, with a weight beside each reader, and what levels share; and what the private functions
 -- find of clusters.
 -- Key law: `plan_is_sound` (every plan has these sizes, is matched and within its reach).
-use Rattle.std.specs.Prelude.{◌≡◌, ℕ, true, ◌+◌, ◌≤◌, ◌<◌, List, [], All}
-use Rattle.std.specs.Prelude.{length}
-use Rattle.std.specs.Prelude.{map, slice_index, slice_index_or, slice_range}
+use Rattle.std.specs.Prelude.{◌≡◌, ℕ, true, ◌+◌, ◌≤◌, ◌<◌, List, [], All, length, map, slice_index, slice_index_or, slice_range}
 use Rattle.net_graph.specs.Network.{Network}
 use Rattle.net_graph.specs.Walks.{IsReached}
 use Rattle.node_set.specs.Ascending.{has}
 use Rattle.coarse_cover.specs.declared.cover.Cluster.{Cluster}
 use Rattle.cluster_tree.specs.Tree.{within}
 use Rattle.distances.specs.Table.{DistanceTable, IsMetric}
-use Rattle.region_plan.specs.Plan.{PlanCluster, PlanData, Level, nodes_of, levels_of, no_level}
-use Rattle.region_plan.specs.Plan.{level_in, weight_in}
+use Rattle.region_plan.specs.Plan.{PlanCluster, PlanData, Level, nodes_of, levels_of, no_level, level_in, weight_in}
 use Rattle.region_plan.specs.Regions.{clusters_with, readers_of}
 use Rattle.region_plan.specs.Meanings.{IsLevelOf}
 use Rattle.region_plan.specs.Matched.{IsMatched, IsWithinReach}

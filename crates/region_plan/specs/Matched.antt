@@ -8,9 +8,7 @@
 use Rattle.std.specs.Prelude.{◌≡◌, ℕ, ◌+◌, ◌*◌, ◌^◌, ◌<◌, ◌≤◌, true, length, sum_by}
 use Rattle.node_set.specs.Ascending.{has}
 use Rattle.distances.specs.Table.{IsMetric}
-use Rattle.region_plan.specs.Plan.{PlanCluster, PlanData, nodes_of, levels_of, top_of, distance, level_at}
-use Rattle.region_plan.specs.Plan.{clusters_of, members_of, home, readers, leader, inside}
-use Rattle.region_plan.specs.Plan.{threshold}
+use Rattle.region_plan.specs.Plan.{PlanCluster, PlanData, nodes_of, levels_of, top_of, distance, level_at, clusters_of, members_of, home, readers, leader, inside, threshold}
 use Rattle.region_plan.specs.Coverings.{trade_off_of}
 use Rattle.region_plan.specs.Regions.{clusters_with, covered_plan, mean_plan, plan_of, threshold_of}
 use Rattle.region_plan.specs.declared.covering.Covering.{Covering}

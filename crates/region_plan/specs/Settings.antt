@@ -3,8 +3,7 @@
 -- Key law: in stretch_laws, `plans_track` (what the directory's laws ask of a setting holds of it).
 use Rattle.std.specs.Prelude.{ℕ, ◌&&◌, nat_lt, if◌then◌else◌, List}
 use Rattle.directory.specs.Settings.{Setting}
-use Rattle.region_plan.specs.Plan.{PlanData, nodes_of, top_of, distance, threshold, home, readers}
-use Rattle.region_plan.specs.Plan.{leader, inside}
+use Rattle.region_plan.specs.Plan.{PlanData, nodes_of, top_of, distance, threshold, home, readers, leader, inside}
 
 -- the setting of a plan, with these start nodes
 abbrev pub setting_of : PlanData → List ℕ → Setting

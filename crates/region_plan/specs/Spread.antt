@@ -3,8 +3,7 @@
 -- distance has the exponent of the upper one. Only the private functions of this crate speak of
 -- them.
 -- Key law: `Spread::new` makes them of a table of distances (`IsSpreadOf`).
-use Rattle.std.specs.Prelude.{◌≡◌, ℕ, Bool, true, false, ◌+◌, ◌*◌, ◌^◌, ◌≤◌, ◌<◌, List, All, slice_index_or}
-use Rattle.std.specs.Prelude.{length, nat_le, slice_index}
+use Rattle.std.specs.Prelude.{◌≡◌, ℕ, Bool, true, false, ◌+◌, ◌*◌, ◌^◌, ◌≤◌, ◌<◌, List, All, slice_index_or, length, nat_le, slice_index}
 use Rattle.distances.specs.Table.{DistanceTable, dist}
 use Rattle.region_plan.specs.declared.spread.Spread.{Spread}
 

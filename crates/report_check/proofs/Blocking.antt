@@ -1,9 +1,9 @@
 -- Lines that are looked up in the block of their actor, and not gone through.
+use Rattle.std.proofs.lemmas.Bool.{eqb-false, ne_eqb, or_from, or_parts}
 use Rattle.std.proofs.Common.{◌≡◌, ◌≢◌, ℕ, suc, ◌+◌, ◌-◌, ◌<◌, ◌≤◌, Bool, true, false, cond, eqb, ltb, fold, map, List, [], ◌∷◌, ◌++◌, length, take, drop, get_or, set, length-set, length-take, Some, refl, ap, sym, subst, ◌∙◌, arith}
 use Rattle.std.specs.Prelude.{◌&&◌, ◌||◌, slice_index_or}
 use Rattle.std.specs.List.{between, list_any}
-use Rattle.std.proofs.lemmas.Bool.{or_from, or_parts}
-use Rattle.std.proofs.lemmas.Bool.Decides.{Decides-eqb, nat_tests}
+use Rattle.std.proofs.lemmas.Bool.Decides.{Decides-eqb}
 use Rattle.std.proofs.lemmas.List.{drop-append-le, drop-map, drop_all, get_or-map, get_or-set_other, get_or-set_same, length-map, take-map, take_more}
 use Rattle.std.proofs.lemmas.List.Edits.{split_between}
 use Rattle.std.proofs.lemmas.List.Folds.{list_any-append}
@@ -17,9 +17,8 @@ use Rattle.report_check.specs.declared.calls.Line.{Line}
 use Rattle.report_check.specs.ReadLines.{done_of}
 use Rattle.report_check.specs.declared.told.Told.{Told}
 use Rattle.report_check.specs.Blocks.{AreBlocks, IsBlock, SwitchesAlike, TellsAlike, grown, is_switched, no_block}
-use Rattle.report_check.specs.Parts.{is_of}
+use Rattle.report_check.specs.Parts.{is_of, is_switch_at, tell}
 use Rattle.directory.specs.CallLines.{actor_of}
-use Rattle.report_check.specs.Parts.{is_switch_at, tell}
 
 -- ---- blocks while they are made
 
@@ -81,19 +80,9 @@ grown-at {counts} {calls} {place} false e is = record {
 
 pub block-line : {counts : Done → Bool} {calls : List Done} {place : ℕ} {block : Block}
     → IsSoFar counts calls place block → IsSoFar counts calls (place + 1) (grown block place)
-block-line {counts} {calls} {place} {block} is =
-    subst (IsSoFar counts calls (place + 1)) refl (at (eqb block.end 0) refl)
-  where
-    at : (first : Bool) → eqb block.end 0 ≡ first → IsSoFar counts calls (place + 1) (grown block place)
-    at first e = subst (λ (b : Bool). IsSoFar counts calls (place + 1)
-        (cond b (record { start = place; end = place + 1 }) (record { start = block.start; end = place + 1 }))) (sym e)
-        (grown-at first e is)
+block-line {block} is = grown-at (eqb block.end 0) refl is
 
 -- ---- what a block tells
-
-parted : (calls : List Done) (start end : ℕ) → start ≤ end
-    → calls ≡ take start calls ++ (between start end calls ++ drop end calls)
-parted calls start end low = split_between calls start end low
 
 tell-other : (actor ticket : ℕ) (told : Told) (call : Done) → is_of actor call ≡ false
     → tell actor ticket told call ≡ told
@@ -127,7 +116,7 @@ tells-alike actor {calls} {block} is ticket told =
     let a = take block.start calls in
     let b = between block.start block.end calls in
     let c = drop block.end calls in
-    sym (ap (fold f told) (parted calls block.start block.end is.low) ∙ fold-append f told a (b ++ c)
+    sym (ap (fold f told) (split_between calls block.start block.end is.low) ∙ fold-append f told a (b ++ c)
     ∙ ap (λ t. fold f t (b ++ c)) (tell-others actor ticket told a is.before) ∙ fold-append f told b c
     ∙ tell-others actor ticket (fold f told b) c is.behind)
 
@@ -146,27 +135,27 @@ switch-others ticket (call ∷ calls) e =
     or_from (is_switch_at ticket call) (list_any (is_switch_at ticket) calls) (switch-other ticket call both.0)
     (switch-others ticket calls both.1)
 
+-- what counts in a block counts in all, where nothing does outside
+any-within : (counts : Done → Bool) (calls : List Done) (block : Block) → block.start ≤ block.end
+    → list_any counts (take block.start calls) ≡ false → list_any counts (drop block.end calls) ≡ false
+    → list_any counts (between block.start block.end calls) ≡ list_any counts calls
+any-within counts calls block low before behind =
+    let b = between block.start block.end calls in
+    let c = drop block.end calls in
+    sym (ap (list_any counts) (split_between calls block.start block.end low)
+    ∙ list_any-append counts (take block.start calls) (b ++ c) ∙ ap (λ t. t || list_any counts (b ++ c)) before
+    ∙ list_any-append counts b c ∙ ap (λ t. list_any counts b || t) behind ∙ or-false (list_any counts b))
+
 pub switches-alike : {calls : List Done} {block : Block} → IsBlock is_switched calls block → (ticket : ℕ)
     → list_any (is_switch_at ticket) (between block.start block.end calls) ≡ list_any (is_switch_at ticket) calls
 switches-alike {calls} {block} is ticket =
-    let p = is_switch_at ticket in
-    let a = take block.start calls in
-    let b = between block.start block.end calls in
-    let c = drop block.end calls in
-    sym (ap (list_any p) (parted calls block.start block.end is.low) ∙ list_any-append p a (b ++ c)
-    ∙ ap (λ t. t || list_any p (b ++ c)) (switch-others ticket a is.before) ∙ list_any-append p b c
-    ∙ ap (λ t. list_any p b || t) (switch-others ticket c is.behind) ∙ or-false (list_any p b))
+    any-within (is_switch_at ticket) calls block is.low (switch-others ticket (take block.start calls) is.before)
+    (switch-others ticket (drop block.end calls) is.behind)
 
 -- one of the lines of a block counts where one of all does
 pub any-alike : {counts : Done → Bool} {calls : List Done} {block : Block} → IsBlock counts calls block
     → list_any counts (between block.start block.end calls) ≡ list_any counts calls
-any-alike {counts} {calls} {block} is =
-    let a = take block.start calls in
-    let b = between block.start block.end calls in
-    let c = drop block.end calls in
-    sym (ap (list_any counts) (parted calls block.start block.end is.low) ∙ list_any-append counts a (b ++ c)
-    ∙ ap (λ t. t || list_any counts (b ++ c)) is.before ∙ list_any-append counts b c
-    ∙ ap (λ t. list_any counts b || t) is.behind ∙ or-false (list_any counts b))
+any-alike {counts} {calls} {block} is = any-within counts calls block is.low is.before is.behind
 
 -- ---- lines as the code keeps them
 
@@ -208,18 +197,8 @@ line-other {counts} lines {place} d low is no-line =
     block-other (done_of d) (omega (arith, low, length-map lines done_of)) is
     (ap counts (get_or-map done_of lines place d (done_of d) low) ∙ no-line)
 
-true-not-false : true ≡ false → ⊥
-true-not-false e = cc
-
-pub not-same : (a b : ℕ) → eqb a b ≡ false → a ≢ b
-not-same a b e = λ same. true-not-false (sym ((Decides-eqb a b).1 same) ∙ e)
-
 pub swapped : (a b : ℕ) → eqb a b ≡ false → eqb b a ≡ false
-swapped a b e = at (eqb b a) refl
-  where
-    at : (same : Bool) → eqb b a ≡ same → same ≡ false
-    at true s = absurd (true-not-false (sym ((Decides-eqb a b).1 (sym ((Decides-eqb b a).0 s))) ∙ e))
-    at false s = refl
+swapped a b e = ne_eqb b a (λ same. eqb-false a b e (sym same))
 
 -- the block of an actor more, where the line is this actor's
 pub blocks-line : (lines : List Line) (blocks : List Block) {blocks' : List Block} {place actor : ℕ} (d : Line)
@@ -243,7 +222,7 @@ blocks-line lines blocks {blocks'} {place} {actor} d low whose known same is a f
         subst (IsSoFar (is_of a) (map done_of lines) (place + 1)) (sym value)
         (block-line (is a (omega (arith, few, count))))
     at false e =
-        let other : a ≢ actor = not-same a actor e in
+        let other : a ≢ actor = eqb-false a actor e in
         let value : get_or blocks' a no_block ≡ get_or blocks a no_block =
         ap (λ bs. get_or bs a no_block) same
         ∙ get_or-set_other blocks actor a (grown (get_or blocks actor no_block) place) no_block other in
@@ -256,7 +235,4 @@ pub blocks-other : (lines : List Line) (blocks : List Block) {place actor : ℕ}
     → a < length blocks → IsSoFar (is_of a) (map done_of lines) (place + 1) (get_or blocks a no_block)
 blocks-other lines blocks {actor} d low whose unknown is a few =
     line-other lines d low (is a few) (ap (λ x. eqb x a) (sym whose)
-    ∙ swapped a actor (apart a actor (omega (arith, few, unknown))))
-  where
-    apart : (x y : ℕ) → x < y → eqb x y ≡ false
-    apart x y h = grind (arith, nat_tests)
+    ∙ ne_eqb actor a (λ same. omega (arith, same, few, unknown)))

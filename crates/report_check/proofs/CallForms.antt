@@ -1,4 +1,5 @@
 -- A call that is read has the slot that was asked for, and its numbers can be written.
+use Rattle.report_check.proofs.Texts.{bind-elim, number-low}
 use Rattle.std.proofs.Common.{◌≡◌, ℕ, ◌<◌, Bool, true, false, List, [], ◌∷◌, Option, Some, None, refl, subst, codes}
 use Rattle.outside.specs.Texts.{fields}
 use Rattle.directory.specs.declared.answers.Done.{Done}
@@ -13,8 +14,7 @@ use Rattle.report_check.specs.declared.slots.Slot.{Slot}
 use Rattle.report_check.specs.declared.slots.Slot.TheVariants.{Move, Switch, Find}
 use Rattle.report_check.specs.Forms.{AreVisitsBelow, IsCallBelow, IsLevelBelow, IsPlaceBelow, IsWhyBelow, slot_told}
 use Rattle.report_check.specs.Reading.{again_in, answer, answer_in, call_in, closing_in, empty_or_other, found_or_other, given_in, labelled_in, level_in, level_or_dash, most, move_in, number_in, off_or_again, other_why, place_in, switch_in, visits_in, why_in, word_in}
-use Rattle.report_check.proofs.CallTexts.{bind-elim, value-is}
-use Rattle.report_check.proofs.Texts.{number-low}
+use Rattle.report_check.proofs.CallTexts.{value-is}
 
 -- a call has this slot, and its numbers can be written
 abbrev pub IsFormed : Bounds → Slot → Done → Type 0
@@ -28,7 +28,7 @@ label-low label limit text {found} e =
 pub closing-low : (label text : List ℕ) {found : ℕ × List ℕ} → closing_in label text ≡ Some found → found.0 < most
 closing-low label text {found} e =
     bind-elim (labelled_in label most text) _ e (λ l el nl. bind-elim (word_in (10 ∷ []) l.1) _ nl
-    (λ r er nr. subst (λ n. n < most) (value-is l.0 found.0 r found.1 nr) (label-low label most text el)))
+    (λ r er nr. rw (value-is l.0 found.0 r found.1 nr) at (label-low label most text el)))
 
 move-formed : (bounds : Bounds) (actor number from to : ℕ) (text rest : List ℕ) (call : Done)
     → move_in actor number from to text ≡ Some (call, rest) → IsFormed bounds (Move actor number from to) call

@@ -1,5 +1,6 @@
 -- The line of a call that is read is the text that report_text writes of it.
-use Rattle.std.proofs.Common.{◌≡◌, ℕ, ◌^◌, ◌≤◌, Bool, true, false, cond, List, [], ◌∷◌, ◌++◌, Option, Some, None, refl, ap, sym, ◌∙◌, arith, codes, append_assoc, append-nil}
+use Rattle.std.proofs.lemmas.Option.{same_Some}
+use Rattle.std.proofs.Common.{◌≡◌, ℕ, ◌^◌, ◌≤◌, Bool, true, false, cond, List, [], ◌∷◌, ◌++◌, Option, Some, None, refl, ap, sym, ◌∙◌, codes, append_assoc, append-nil}
 use Rattle.outside.specs.Texts.{field, fields}
 use Rattle.directory.specs.declared.answers.Done.{Done}
 use Rattle.directory.specs.declared.answers.Done.TheVariants.{Moved, Switched, Again}
@@ -11,8 +12,9 @@ use Rattle.report_check.specs.declared.calls.Place.{Place}
 use Rattle.report_check.specs.declared.calls.Visits.{Visits}
 use Rattle.report_check.specs.declared.slots.Slot.{Slot}
 use Rattle.report_check.specs.declared.slots.Slot.TheVariants.{Move, Switch, Find}
-use Rattle.report_check.specs.Reading.{◌>>=◌, again_in, answer, answer_in, call_in, closing_in, empty_or_other, found_or_other, given_in, labelled_in, level_in, level_or_dash, most, move_in, number_in, off_or_again, other_why, place_in, switch_in, visits_in, why_in, word_in}
-use Rattle.report_check.proofs.Texts.{bind-inv, number-text, word-text}
+use Rattle.report_check.specs.Reading.{again_in, answer, answer_in, call_in, closing_in, empty_or_other, found_or_other, given_in, labelled_in, level_in, level_or_dash, most, move_in, number_in, off_or_again, other_why, place_in, switch_in, visits_in, why_in, word_in}
+use Rattle.report_check.proofs.Texts.{bind-elim, number-text, word-text}
+use Rattle.report_check.proofs.ReadBack.{high}
 
 -- words in front of what follows
 word-front : (ws text : List ℕ) {mid : List ℕ} (more rest : List ℕ) → word_in ws text ≡ Some mid → mid ≡ more ++ rest
@@ -32,35 +34,17 @@ label-front : (label : List ℕ) (limit : ℕ) (text : List ℕ) {found : ℕ ×
     → labelled_in label limit text ≡ Some found → found.1 ≡ more ++ rest
     → text ≡ (label ++ (field found.0 ++ more)) ++ rest
 label-front label limit text {found} more rest high e later =
-    let went : (mid : List ℕ) × (word_in label text ≡ Some mid) × (number_in limit mid ≡ Some found) =
-    bind-inv (word_in label text) (number_in limit) e in
-    word-front label text (field found.0 ++ more) rest went.1
-    (number-front limit found.0 went.0 more rest high went.2 later)
+    bind-elim (word_in label text) (number_in limit) e (λ mid em nm.
+    word-front label text (field found.0 ++ more) rest em (number-front limit found.0 mid more rest high nm later))
 
 -- the value and the rest of a reading
 pub value-is : {A : Type 0} (x y : A) (text rest : List ℕ)
     → ◌≡◌ {A = Option (A × List ℕ)} (Some (x, text)) (Some (y, rest)) → x ≡ y
-value-is x y text rest e = ap (λ o. first-or x o) e
-  where
-    first-or : {A : Type 0} → A → Option (A × List ℕ) → A
-    first-or x None = x
-    first-or x (Some p) = p.0
+value-is {A} x y text rest e = ap (λ (p : A × List ℕ). p.0) (same_Some (x, text) (y, rest) e)
 
 pub rest-is : {A : Type 0} (x y : A) (text rest : List ℕ)
     → ◌≡◌ {A = Option (A × List ℕ)} (Some (x, text)) (Some (y, rest)) → text ≡ rest
-rest-is x y text rest e = ap (λ o. second-of o) e
-  where
-    second-of : {A : Type 0} → Option (A × List ℕ) → List ℕ
-    second-of None = []
-    second-of (Some p) = p.1
-
-high : most ≤ 2 ^ 63
-high = omega arith
-
-pub bind-elim : {A B P : Type 0} (o : Option A) (f : A → Option B) {y : B} → (o >>= f) ≡ Some y
-    → ((x : A) → o ≡ Some x → f x ≡ Some y → P) → P
-bind-elim None f {y} e go = let bad : None ≡ Some y = e in cc
-bind-elim (Some x) f e go = go x refl e
+rest-is {A} x y text rest e = ap (λ (p : A × List ℕ). p.1) (same_Some (x, text) (y, rest) e)
 
 -- a label and a number at the end of a line
 pub closing-front : (label text : List ℕ) {found : ℕ × List ℕ} {rest : List ℕ} → closing_in label text ≡ Some found

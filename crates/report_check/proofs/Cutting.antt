@@ -1,5 +1,5 @@
 -- Which lines cut a text, by what the code tests.
-use Rattle.std.proofs.Common.{◌≡◌, ◌≢◌, ℕ, suc, ◌+◌, ◌-◌, ◌<◌, ◌≤◌, Bool, true, false, cond, eqb, List, [], ◌∷◌, ◌++◌, length, take, drop, get_or, Option, Some, None, refl, ap, sym, subst, ◌∙◌, arith}
+use Rattle.std.proofs.Common.{◌≡◌, ◌≢◌, ℕ, suc, ◌+◌, ◌-◌, ◌<◌, ◌≤◌, Bool, true, false, cond, eqb, List, [], ◌∷◌, ◌++◌, length, take, drop, get_or, Option, Some, None, refl, ap, sym, subst, ◌∙◌, arith, true≢false}
 use Rattle.std.specs.Option.{is_some}
 use Rattle.std.specs.Prelude.{◌==◌, IfNone, IfSome, codes}
 use Rattle.std.specs.Str.{bytes_eq}
@@ -9,6 +9,7 @@ use Rattle.std.proofs.lemmas.Slice.Eq.{bytes_eq-Decides}
 use Rattle.net_reader.specs.TextLines.{fields_from, is_blank, without_return}
 use Rattle.report_check.specs.Cuts.{behind_blanks, is_cut, is_report_alone}
 use Rattle.report_check.specs.Reading.{word_in}
+use Rattle.net_reader.specs.LineLaws.{without_return-behind}
 
 -- ---- the only field of a line
 
@@ -61,9 +62,6 @@ not-alone : (field : List ℕ) (fields : List (List ℕ)) → bytes_eq field (co
     → is_report_alone (field ∷ fields) ≡ false
 not-alone field [] e = e
 not-alone field (other ∷ fields) e = refl
-
-true-not-false : true ≡ false → ⊥
-true-not-false e = cc
 
 -- what holds in both cases of a test
 by-test : {A : Type 0} (test : Bool) (P : A → Type 0) {x y : A} → (test ≡ true → P x) → (test ≡ false → P y)
@@ -123,8 +121,8 @@ blank-other : (w c : ℕ) (ws text : List ℕ) → is_blank w ≡ false → is_b
 blank-other w c ws text plain blank =
     by-test (eqb w c) (λ (o : Option (List ℕ)). rest_alone o ≡ false) (λ e.
     let is : w ≡ c = (Decides-eqb w c).0 e in
-    let wrong : is_blank c ≡ false = subst (λ (x : ℕ). is_blank x ≡ false) is plain in
-    absurd (true-not-false (sym blank ∙ wrong))) (λ e. refl)
+    let wrong : is_blank c ≡ false = rw is at plain in
+    absurd (true≢false (sym blank ∙ wrong))) (λ e. refl)
 
 -- a byte of the word more
 word-more : (b : ℕ) (field : List ℕ) (w : ℕ) (ws : List ℕ)
@@ -140,14 +138,13 @@ word-more b field w ws short off plain next (c ∷ text) =
     (cond (eqb w c) (word_in ws text) None)) (λ s. not-alone (b ∷ field) (fields_from [] text) short
     ∙ sym (blank-other w c ws text plain s)) (λ s. by-test (eqb w c)
     (λ (o : Option (List ℕ)). is_report_alone (fields_from (b ∷ field ++ c ∷ []) text) ≡ rest_alone o)
-    (λ e. subst (λ (x : ℕ). is_report_alone (fields_from (b ∷ field ++ x ∷ []) text) ≡ rest_alone (word_in ws text))
-    ((Decides-eqb w c).0 e) (next text)) (λ e. off-word b (field ++ c ∷ []) text (off c e)))
+    (λ e. rw ((Decides-eqb w c).0 e) at (next text)) (λ e. off-word b (field ++ c ∷ []) text (off c e)))
 
 -- which byte doesn't go on with the word
 other-byte : (w c : ℕ) (later : Bool) → eqb w c ≡ false → cond (eqb c w) later false ≡ false
 other-byte w c later e =
     by-test (eqb c w) (λ (t : Bool). t ≡ false) (λ s. absurd
-    (true-not-false (sym ((Decides-eqb w c).1 (sym ((Decides-eqb c w).0 s))) ∙ e))) (λ s. refl)
+    (true≢false (sym ((Decides-eqb w c).1 (sym ((Decides-eqb c w).0 s))) ∙ e))) (λ s. refl)
 
 from-repor : (text : List ℕ) → is_report_alone (fields_from (codes "repor") text)
     ≡ rest_alone (word_in (codes "t") text)
@@ -175,8 +172,8 @@ alone-is (c ∷ text) =
     by-same (is_blank c) (λ (fs : List (List ℕ)) (t : List ℕ). is_report_alone fs ≡ rest_alone
     (word_in (codes "report") t)) (λ s. alone-is text) (λ s. by-test (eqb 114 c)
     (λ (o : Option (List ℕ)). is_report_alone (fields_from (c ∷ []) text) ≡ rest_alone o)
-    (λ e. subst (λ (x : ℕ). is_report_alone (fields_from (x ∷ []) text) ≡ rest_alone (word_in (codes "eport") text))
-    ((Decides-eqb 114 c).0 e) (from-r text)) (λ e. off-word c [] text (other-byte 114 c (begins [] (codes "eport")) e)))
+    (λ e. rw ((Decides-eqb 114 c).0 e) at (from-r text)) (λ e. off-word c [] text (other-byte 114 c
+    (begins [] (codes "eport")) e)))
 
 -- the code's test
 pub cut-tested : (line : List ℕ) {text : List ℕ} {found : Option (List ℕ)} → text ≡ behind_blanks (without_return line)
@@ -191,7 +188,7 @@ nil-test (x ∷ xs) = grind (arith, nat_tests)
 pub cut-some : (o : Option (Unit {0})) {found empty : Bool} (line : List ℕ) {front : List ℕ} (rest : List ℕ)
     → found ≡ is_some o → found ≡ true → IfSome o (λ done. word_in (codes "report") front ≡ Some rest)
     → front ≡ behind_blanks (without_return line) → empty ≡ (length (behind_blanks rest) == 0) → empty ≡ is_cut line
-cut-some None line rest is yes' word same e = absurd (true-not-false (sym yes' ∙ is))
+cut-some None line rest is yes' word same e = absurd (true≢false (sym yes' ∙ is))
 cut-some (Some done) line rest is yes' word same e =
     e ∙ sym (nil-test (behind_blanks rest)) ∙ cut-tested line same word
 
@@ -199,14 +196,9 @@ pub cut-none : (o : Option (Unit {0})) {found : Bool} (line : List ℕ) {front :
     → found ≡ false → IfNone o (word_in (codes "report") front ≡ None) → front ≡ behind_blanks (without_return line)
     → found ≡ is_cut line
 cut-none None line is none word same = none ∙ cut-tested line same word
-cut-none (Some done) line is none word same = absurd (true-not-false (sym is ∙ none))
+cut-none (Some done) line is none word same = absurd (true≢false (sym is ∙ none))
 
 -- ---- the carriage return
-
-pub return-dropped : (front : List ℕ) → without_return (front ++ 13 ∷ []) ≡ front
-return-dropped [] = refl
-return-dropped (a ∷ []) = refl
-return-dropped (a ∷ b ∷ front) = ap (λ t. a ∷ t) (return-dropped (b ∷ front))
 
 pub return-kept : (line : List ℕ) → get_or line (length line - 1) 0 ≢ 13 → without_return line ≡ line
 return-kept [] other = refl
@@ -225,7 +217,7 @@ return-at-end line some is =
     sym (take_all (length line - 1 + 1) line (omega arith))
     ∙ take_more line (length line - 1) 0 (omega (arith, some))
     ∙ ap (λ b. take (length line - 1) line ++ b ∷ []) is in
-    sym (ap without_return e ∙ return-dropped (take (length line - 1) line))
+    sym (ap without_return e ∙ without_return-behind (take (length line - 1) line))
 
 -- ---- the blanks at the front
 

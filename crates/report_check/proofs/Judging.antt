@@ -1,5 +1,5 @@
 -- One step of the loop over the lines of calls.
-use Rattle.std.proofs.Common.{◌≡◌, ℕ, suc, ◌+◌, ◌<◌, ◌≤◌, Bool, true, cond, eqb, not, map, List, ◌∷◌, length, drop, get_or, Option, Some, None, ap, sym, ◌∙◌, arith, add-one}
+use Rattle.std.proofs.Common.{refl, ◌≡◌, ℕ, ◌+◌, ◌<◌, ◌≤◌, Bool, true, cond, eqb, not, map, List, ◌∷◌, length, drop, get_or, Option, Some, None, ap, sym, ◌∙◌, arith, add-one}
 use Rattle.std.proofs.lemmas.List.{drop_more, drop_all, get_or-map, length-map}
 use Rattle.std.specs.List.{list_all}
 use Rattle.directory.specs.declared.answers.Done.{Done}
@@ -13,7 +13,7 @@ use Rattle.report_check.specs.declared.verdict.Verdict.TheVariants.{Sound, Unsou
 use Rattle.report_check.specs.ReadLines.{done_of}
 use Rattle.directory.specs.CallLines.{actor_of}
 use Rattle.report_check.specs.Parts.{end_of}
-use Rattle.report_check.specs.Verdicts.{end_before, flaw_of, has_call, is_first_last, is_last, is_last_at, line_behind, or_flaw, strangers, verdict_from}
+use Rattle.report_check.specs.Verdicts.{flaw_of, has_call, is_first_last, is_last, is_last_at, line_behind, strangers, verdict_from}
 
 pub last-none : (lines : List Line) (i : ℕ) (d : Line) → i + 1 ≡ length lines
     → true ≡ is_last_at (map done_of lines) i
@@ -26,23 +26,17 @@ last-none lines i d whole =
 pub last-next : (lines : List Line) (i : ℕ) (d : Line) {a b : ℕ} → i < length lines → (i + 1 ≡ length lines → ⊥)
     → a ≡ actor_of (done_of (get_or lines (i + 1) d)) → b ≡ actor_of (done_of (get_or lines i d))
     → not (eqb a b) ≡ is_last_at (map done_of lines) i
-last-next lines i d {a} low inside is was =
+last-next lines i d low inside is was =
     let count : length (map done_of lines) ≡ length lines = length-map lines done_of in
-    let more : i + 1 < length lines = further (i + 1) (length lines) (omega (arith, low)) inside in
-    let next : get_or (map done_of lines) (i + 1) (done_of d) ≡ done_of (get_or lines (i + 1) d) =
-    get_or-map done_of lines (i + 1) d (done_of d) more in
-    let this : get_or (map done_of lines) i (done_of d) ≡ done_of (get_or lines i d) =
-    get_or-map done_of lines i d (done_of d) low in
-    sym (ap is_first_last (drop_more (map done_of lines) i (done_of d) (omega (arith, low, count)))
-    ∙ ap (is_last (get_or (map done_of lines) i (done_of d)))
-    (drop_more (map done_of lines) (i + 1) (done_of d) (omega (arith, more, count)))
-    ∙ ap (λ c. not (eqb (actor_of c) (actor_of (get_or (map done_of lines) i (done_of d))))) next
-    ∙ ap (λ c. not (eqb (actor_of (done_of (get_or lines (i + 1) d))) (actor_of c))) this
-    ∙ ap (λ x. not (eqb x (actor_of (done_of (get_or lines i d))))) (sym is)
-    ∙ ap (λ x. not (eqb a x)) (sym was))
-  where
-    further : (m n : ℕ) → m ≤ n → (m ≡ n → ⊥) → m < n
-    further m n h e = grind (arith, h, e)
+    let more : i + 1 < length lines = omega (arith, low, inside) in
+    rw (
+      is,
+      was,
+      drop_more (map done_of lines) i (done_of d) (omega (arith, low, count)),
+      drop_more (map done_of lines) (i + 1) (done_of d) (omega (arith, more, count)),
+      get_or-map done_of lines (i + 1) d (done_of d) more,
+      get_or-map done_of lines i d (done_of d) low,
+    ) refl
 
 pub line-bad : (plan : PlanData) (homes : List ℕ) (scripts : List (List Call)) (calls : List Done) (order : List ℕ)
     (i : ℕ) (d : Done) (before : Option ℕ) {cause : Flaw} → i < length calls
@@ -52,10 +46,7 @@ pub line-bad : (plan : PlanData) (homes : List ℕ) (scripts : List (List Call))
 unfolding verdict_from
 line-bad plan homes scripts calls order i d before low e =
     let cut : drop i calls ≡ get_or calls i d ∷ drop (i + 1) calls = drop_more calls i d low in
-    ap (λ cs. verdict_from plan homes scripts (record { calls = calls; order = order }) i before cs) cut
-    ∙ ap (λ o. or_flaw i o (verdict_from plan homes scripts (record { calls = calls; order = order }) (suc i)
-    (end_before (get_or calls i d) (drop (i + 1) calls)) (drop (i + 1) calls)))
-    (ap (λ b. flaw_of plan homes calls order before b (get_or calls i d)) (sym (ap is_first_last cut)) ∙ e)
+    rw (cut, rw cut at e) refl
 
 pub line-good : (plan : PlanData) (homes : List ℕ) (scripts : List (List Call)) (calls : List Done) (order : List ℕ)
     (i : ℕ) (d : Done) (before : Option ℕ) → i < length calls
@@ -66,14 +57,7 @@ pub line-good : (plan : PlanData) (homes : List ℕ) (scripts : List (List Call)
 unfolding verdict_from
 line-good plan homes scripts calls order i d before low e =
     let cut : drop i calls ≡ get_or calls i d ∷ drop (i + 1) calls = drop_more calls i d low in
-    ap (λ cs. verdict_from plan homes scripts (record { calls = calls; order = order }) i before cs) cut
-    ∙ ap (λ o. or_flaw i o (verdict_from plan homes scripts (record { calls = calls; order = order }) (suc i)
-    (end_before (get_or calls i d) (drop (i + 1) calls)) (drop (i + 1) calls)))
-    (ap (λ b. flaw_of plan homes calls order before b (get_or calls i d)) (sym (ap is_first_last cut)) ∙ e)
-    ∙ ap (λ b. verdict_from plan homes scripts (record { calls = calls; order = order }) (suc i)
-    (cond b None (Some (end_of (get_or calls i d)))) (drop (i + 1) calls)) (sym (ap is_first_last cut))
-    ∙ ap (λ k. verdict_from plan homes scripts (record { calls = calls; order = order }) k
-    (cond (is_last_at calls i) None (Some (end_of (get_or calls i d)))) (drop (i + 1) calls)) (sym (add-one i))
+    rw (cut, rw cut at e, add-one i) refl
 
 pub lines-done : (plan : PlanData) (homes : List ℕ) (scripts : List (List Call)) (calls : List Done) (order : List ℕ)
     {i : ℕ} (before : Option ℕ) {n : ℕ} → length calls ≤ i → i ≡ n
@@ -81,9 +65,7 @@ pub lines-done : (plan : PlanData) (homes : List ℕ) (scripts : List (List Call
     scripts order n
 unfolding verdict_from
 lines-done plan homes scripts calls order {i} before high same =
-    ap (λ cs. verdict_from plan homes scripts (record { calls = calls; order = order }) i before cs)
-    (drop_all i calls high)
-    ∙ ap (strangers scripts order) same
+    rw (drop_all i calls high, same) refl
 
 pub called : (scripts : List (List Call)) (order : List ℕ) (lines : ℕ) {b : Bool}
     → b ≡ list_all (has_call scripts) order → strangers scripts order lines ≡ cond b Sound
@@ -123,8 +105,7 @@ judge-good plan homes scripts lines order i d before {now} {last} low ends fine 
     ap (λ b. flaw_of plan homes calls order before b (get_or calls i (done_of d))) (sym ends)
     ∙ ap (λ c. flaw_of plan homes calls order before last c) this ∙ sym fine in
     let later : now ≡ cond (is_last_at calls i) None (Some (end_of (get_or calls i (done_of d)))) =
-    is ∙ ap (λ b. cond b None (Some (end_of (done_of (get_or lines i d))))) ends
-    ∙ ap (λ c. cond (is_last_at calls i) None (Some (end_of c))) (sym this) in
+    rw (this, ← ends) is in
     ap (λ b. verdict_from plan homes scripts (record { calls = calls; order = order }) (i + 1) b (drop (i + 1) calls))
     later
     ∙ sym (line-good plan homes scripts calls order i (done_of d) before

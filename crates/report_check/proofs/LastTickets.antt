@@ -1,15 +1,15 @@
 -- The last ticket of each actor: while they are found, and asked of.
+use Rattle.std.proofs.lemmas.Bool.{eqb-false, leb-false, leb-true, ne_eqb, or_from, or_parts}
 use Rattle.std.proofs.Common.{◌≡◌, ◌≢◌, ℕ, zero, suc, ◌+◌, ◌-◌, ◌<◌, ◌≤◌, Bool, true, false, cond, eqb, leb, List, [], ◌∷◌, ◌++◌, length, take, drop, get_or, set, length-set, length-take, length-drop, Some, None, refl, ap, sym, subst, ◌∙◌, arith}
 use Rattle.std.specs.List.{list_any}
-use Rattle.std.proofs.lemmas.Bool.Decides.{Decides-eqb, nat_tests}
+use Rattle.std.proofs.lemmas.Bool.Decides.{Decides-eqb}
 use Rattle.std.proofs.lemmas.List.{drop-append-le, drop-drop, drop_all, get_or-drop, get_or-set_other, get_or-set_same, take_more}
 use Rattle.std.proofs.lemmas.List.Folds.{list_any-append}
 use Rattle.directory.specs.declared.answers.Done.{Done}
 use Rattle.report_check.specs.Blocks.{AreBehind, IsBehind}
 use Rattle.directory.specs.CallLines.{actor_of}
 use Rattle.report_check.specs.Parts.{end_of, first_from, is_missing, none_left}
-use Rattle.std.proofs.lemmas.Bool.{or_from, or_parts}
-use Rattle.report_check.proofs.Blocking.{not-same, swapped}
+use Rattle.report_check.proofs.Blocking.{swapped}
 
 -- ---- the last tickets
 
@@ -89,7 +89,7 @@ behind-more {order} behind {behind'} {ticket} {actor} low whose known same is a 
         subst (IsBehindSoFar order (ticket + 1) a) (sym value) (behind-own order ticket (sym whose ∙ sym own))
     at false e =
         let value : get_or behind' a 0 ≡ get_or behind a 0 =
-        ap (λ bs. get_or bs a 0) same ∙ get_or-set_other behind actor a (ticket + 1) 0 (not-same a actor e) in
+        ap (λ bs. get_or bs a 0) same ∙ get_or-set_other behind actor a (ticket + 1) 0 (eqb-false a actor e) in
         subst (IsBehindSoFar order (ticket + 1) a) (sym value)
         (behind-other low (is a (omega (arith, few, count))) (ap (λ x. eqb x a) (sym whose) ∙ swapped a actor e))
 
@@ -100,16 +100,7 @@ pub behind-past : {order : List ℕ} (behind : List ℕ) {ticket actor : ℕ} �
     → IsBehindSoFar order (ticket + 1) a (get_or behind a 0)
 behind-past behind {actor} low whose unknown is a few =
     behind-other low (is a few) (ap (λ x. eqb x a) (sym whose)
-    ∙ swapped a actor (apart a actor (omega (arith, few, unknown))))
-  where
-    apart : (x y : ℕ) → x < y → eqb x y ≡ false
-    apart x y h = grind (arith, nat_tests)
-
-within : (m n : ℕ) → leb m n ≡ true → m ≤ n
-within m n e = grind (arith, nat_tests, e)
-
-over : (m n : ℕ) → leb m n ≡ false → n < m
-over m n e = grind (arith, nat_tests, e)
+    ∙ ne_eqb actor a (λ same. omega (arith, same, few, unknown)))
 
 any-behind : (p : ℕ → Bool) (xs : List ℕ) (k : ℕ) → list_any p xs ≡ false → list_any p (drop k xs) ≡ false
 any-behind p xs zero e = e
@@ -133,13 +124,13 @@ none-behind {order} {actor} {n} end is = at (leb n (suc end)) refl
     at : (low : Bool) → leb n (suc end) ≡ low
         → low ≡ is_missing (first_from actor (suc end) (drop (suc end) order))
     at true e =
-        let low : n ≤ suc end = within n (suc end) e in
+        let low : n ≤ suc end = leb-true n (suc end) e in
         sym (ap is_missing (first-never actor (suc end) (drop (suc end) order)
         (ap (λ (k : ℕ). list_any (λ other. eqb other actor) (drop k order)) (sym (same low))
         ∙ ap (list_any (λ other. eqb other actor)) (sym (drop-drop (suc end - n) n order))
         ∙ any-behind (λ other. eqb other actor) (drop n order) (suc end - n) is.none)))
     at false e =
-        let high : suc end < n = over n (suc end) e in
+        let high : suc end < n = leb-false n (suc end) e in
         sym (first-once (suc end) (drop (suc end) order) (n - 1 - suc end) 0
         (omega (arith, high, is.few, length-drop (suc end) order))
         (get_or-drop (suc end) order (n - 1 - suc end) 0 ∙ ap (λ (i : ℕ). get_or order i 0) (place high)

@@ -146,7 +146,7 @@ label-then label limit n more rest f low few stop h =
 bind-to : {A B : Type 0} {o : Option A} {x : A} (f : A → Option B) {y : Option B} → o ≡ Some x → f x ≡ y → (o >>= f) ≡ y
 bind-to f e h = ap (λ p. p >>= f) e ∙ h
 
-high : most ≤ 2 ^ 63
+pub high : most ≤ 2 ^ 63
 high = omega arith
 
 -- a label and a number at the end of a line are read

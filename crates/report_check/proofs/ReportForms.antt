@@ -1,4 +1,6 @@
 -- A report that is read is the text of what was read, which has the form of reports.
+use Rattle.std.proofs.lemmas.Option.{same_Some}
+use Rattle.report_check.proofs.Texts.{bind-elim, number-low, number-text, word-text}
 use Rattle.std.proofs.Common.{◌≡◌, ◌⊎◌, inl, inr, ℕ, zero, suc, ◌+◌, ◌%◌, ◌^◌, ◌<◌, ◌≤◌, Bool, true, false, cond, eqb, List, [], ◌∷◌, ◌++◌, length, take, drop, map, Option, Some, None, Result, Ok, Err, refl, ap, sym, ◌∙◌, arith, subst, codes, append_assoc, append-nil, length-append}
 use Rattle.std.specs.Prelude.{All}
 use Rattle.std.specs.List.{concat}
@@ -17,9 +19,11 @@ use Rattle.report_check.specs.declared.slots.Slot.{Slot}
 use Rattle.report_check.specs.Forms.{HasForm, IsCallBelow, ReadReportsAreText, slot_told}
 use Rattle.report_check.specs.Reading.{◌>>=◌, and_then, call_in, calls_in, end_in, ended, ends_with, in_order, lines_before_end, lines_more, most, nothing_behind, number_in, numbers_in, or_lines, order_in, order_line_count, orders_in, word_in}
 use Rattle.report_check.proofs.CallForms.{IsFormed, call-formed, closing-low}
-use Rattle.report_check.proofs.CallTexts.{bind-elim, call-text, closing-front}
+use Rattle.report_check.proofs.CallTexts.{call-text, closing-front}
 use Rattle.report_check.proofs.ReportRead.{AreSmall, text-parts}
-use Rattle.report_check.proofs.Texts.{number-low, number-text, word-text}
+
+ok-is : {A : Type 0} (x y : A) → ◌≡◌ {A = Result A ℕ} (Ok x) (Ok y) → x ≡ y
+ok-is x y e = cc
 
 -- ---- the calls
 
@@ -44,9 +48,6 @@ calls-read-back bounds before [] text {found} few short e =
       low = All-nil (IsCallBelow bounds);
       parts = ap (λ (p : List Done × List ℕ). p.1) same;
     }
-  where
-    ok-is : (x y : List Done × List ℕ) → ◌≡◌ {A = Result (List Done × List ℕ) ℕ} (Ok x) (Ok y) → x ≡ y
-    ok-is x y e = cc
 calls-read-back bounds before (slot ∷ slots) text {found} few short e =
     at_call (call_in bounds slot text) refl e
     (λ call rest. calls-read-back bounds (before ++ call ∷ []) slots rest few short)
@@ -84,7 +85,7 @@ none-more : (room : ℕ) (before text : List ℕ) {mid : List ℕ} (found : List
     → word_in (10 ∷ []) text ≡ Some mid
     → ◌≡◌ {A = Option (List ℕ × List ℕ)} (Some (before, mid)) (Some found) → AreNumbers room before text found
 none-more room before text {mid} found is e =
-    let same : (before, mid) ≡ found = some-is (before, mid) found e in record {
+    let same : (before, mid) ≡ found = same_Some (before, mid) found e in record {
       numbers = [];
       all = sym (ap (λ (p : List ℕ × List ℕ). p.0) same) ∙ sym (append-nil before);
       few = omega arith;
@@ -92,9 +93,6 @@ none-more room before text {mid} found is e =
       parts = word-text (10 ∷ []) text is
           ∙ ap (λ (p : List ℕ × List ℕ). (10 ∷ []) ++ p.1) same;
     }
-  where
-    some-is : (x y : List ℕ × List ℕ) → ◌≡◌ {A = Option (List ℕ × List ℕ)} (Some x) (Some y) → x ≡ y
-    some-is x y e = cc
 
 one-more : (room n : ℕ) (before text rest : List ℕ) (found : List ℕ × List ℕ) → number_in most text ≡ Some (n, rest)
     → AreNumbers room (before ++ n ∷ []) rest found → AreNumbers (suc room) before text found
@@ -164,9 +162,6 @@ no-orders before text found e =
       parts = ap (λ (p : List ℕ × List ℕ). p.1) same;
       full = inr refl;
     }
-  where
-    ok-is : (x y : List ℕ × List ℕ) → ◌≡◌ {A = Result (List ℕ × List ℕ) ℕ} (Ok x) (Ok y) → x ≡ y
-    ok-is x y e = cc
 
 -- a line in front of others is a piece of all numbers
 cut-front : (before line : List ℕ) {later : List ℕ} → length before % 64 ≡ 0 → 0 < length line → length line ≤ 64
@@ -269,12 +264,9 @@ end-read-back lines text made {outcome} e = at_end (end_in text) refl e
         → nothing_behind lines rest made ≡ Ok outcome → IsWhole text made outcome
     at_rest n [] same is e = record {
       is = ok-is made outcome e;
-      low = subst (λ k. k < most) same is.low;
+      low = rw same at is.low;
       parts = is.parts ∙ ap (λ k. last_line k ++ []) same;
     }
-      where
-        ok-is : (x y : Outcome) → ◌≡◌ {A = Result Outcome ℕ} (Ok x) (Ok y) → x ≡ y
-        ok-is x y e = cc
     at_rest n (b ∷ rest) same is e = let bad : Err (suc lines) ≡ Ok outcome = e in cc
 
     at_count : (n : ℕ) (rest : List ℕ) (t : Bool) → eqb n (length made.order) ≡ t → IsEnd text n rest

@@ -26,25 +26,22 @@ pub front-plain : (text : List ℕ) (start at : ℕ) → start ≤ at → at < l
     → take at text ≡ take start text ++ between start at text
     → take (at + 1) text ≡ take start text ++ between start (at + 1) text
 front-plain text start at low below front =
-    take_more text at 0 below ∙ ap (λ t. t ++ get_or text at 0 ∷ []) front
-    ∙ append_assoc (take start text) (between start at text) (get_or text at 0 ∷ [])
-    ∙ ap (λ t. take start text ++ t) (sym (between_more text start at 0 low below))
+    rw (take_more text at 0 below, front, between_more text start at 0 low below)
+    (append_assoc (take start text) (between start at text) (get_or text at 0 ∷ []))
 
 pub input-goes : (text : List ℕ) (start at : ℕ) → start ≤ at → at < length text → get_or text at 0 ≢ 10
     → input_from (between start at text) (drop at text)
     ≡ input_from (between start (at + 1) text) (drop (at + 1) text)
 input-goes text start at low below other =
-    ap (λ t. input_from (between start at text) t) (drop_more text at 0 below)
-    ∙ input-plain (between start at text) (drop (at + 1) text) (get_or text at 0) other
-    ∙ ap (λ t. input_from t (drop (at + 1) text)) (sym (between_more text start at 0 low below))
+    rw (drop_more text at 0 below, between_more text start at 0 low below)
+    (input-plain (between start at text) (drop (at + 1) text) (get_or text at 0) other)
 
 pub report-goes : (text : List ℕ) (start at : ℕ) → start ≤ at → at < length text → get_or text at 0 ≢ 10
     → report_from (between start at text) (drop at text)
     ≡ report_from (between start (at + 1) text) (drop (at + 1) text)
 report-goes text start at low below other =
-    ap (λ t. report_from (between start at text) t) (drop_more text at 0 below)
-    ∙ report-plain (between start at text) (drop (at + 1) text) (get_or text at 0) other
-    ∙ ap (λ t. report_from t (drop (at + 1) text)) (sym (between_more text start at 0 low below))
+    rw (drop_more text at 0 below, between_more text start at 0 low below)
+    (report-plain (between start at text) (drop (at + 1) text) (get_or text at 0) other)
 
 -- the end of a line that doesn't cut
 pub front-line : (text : List ℕ) (at : ℕ)
@@ -82,9 +79,8 @@ pub report-line : (text : List ℕ) (start at : ℕ) → at < length text → ge
     → report_from (between start at text) (drop at text)
     ≡ report_from (between (at + 1) (at + 1) text) (drop (at + 1) text)
 report-line text start at below is keeps =
-    ap (λ t. report_from (between start at text) t) (feed text at below is)
-    ∙ report-feed (between start at text) (drop (at + 1) text) keeps
-    ∙ ap (λ t. report_from t (drop (at + 1) text)) (sym (between_none text (at + 1)))
+    rw (feed text at below is, between_none text (at + 1))
+    (report-feed (between start at text) (drop (at + 1) text) keeps)
 
 -- the line that cuts
 input-cut : (line text : List ℕ) → is_cut line ≡ true → input_from line (10 ∷ text) ≡ []
@@ -99,16 +95,14 @@ pub input-found : (text : List ℕ) (start at : ℕ) → at < length text → ge
     → is_cut (between start at text) ≡ true
     → take start text ++ input_from (between start at text) (drop at text) ≡ take start text
 input-found text start at below is cuts =
-    ap (λ t. take start text ++ input_from (between start at text) t) (feed text at below is)
-    ∙ ap (λ t. take start text ++ t) (input-cut (between start at text) (drop (at + 1) text) cuts)
-    ∙ append-nil (take start text)
+    rw (feed text at below is, input-cut (between start at text) (drop (at + 1) text) cuts)
+    (append-nil (take start text))
 
 pub report-found : (text : List ℕ) (start at : ℕ) → at < length text → get_or text at 0 ≡ 10
     → is_cut (between start at text) ≡ true
     → report_from (between start at text) (drop at text) ≡ drop (at + 1) text
 report-found text start at below is cuts =
-    ap (λ t. report_from (between start at text) t) (feed text at below is)
-    ∙ report-cut (between start at text) (drop (at + 1) text) cuts
+    rw (feed text at below is) (report-cut (between start at text) (drop (at + 1) text) cuts)
 
 -- the last line, without a line feed
 input-last : (line : List ℕ) → input_from line [] ≡ cond (is_cut line) [] line
@@ -122,24 +116,18 @@ report-last line = refl
 pub input-end : (text : List ℕ) (start at : ℕ) → length text ≤ at → is_cut (between start at text) ≡ true
     → take start text ++ input_from (between start at text) (drop at text) ≡ take start text
 input-end text start at past cuts =
-    ap (λ t. take start text ++ input_from (between start at text) t) (drop_all at text past)
-    ∙ ap (λ t. take start text ++ t)
-    (input-last (between start at text) ∙ ap (λ t. cond t [] (between start at text)) cuts)
-    ∙ append-nil (take start text)
+    rw (drop_all at text past, input-last (between start at text), cuts) (append-nil (take start text))
 
 pub input-whole : (text : List ℕ) (start at : ℕ) → length text ≤ at → is_cut (between start at text) ≡ false
     → take at text ≡ take start text ++ between start at text
     → take start text ++ input_from (between start at text) (drop at text) ≡ text
 input-whole text start at past keeps front =
-    ap (λ t. take start text ++ input_from (between start at text) t) (drop_all at text past)
-    ∙ ap (λ t. take start text ++ t)
-    (input-last (between start at text) ∙ ap (λ t. cond t [] (between start at text)) keeps)
-    ∙ sym front ∙ take_all at text past
+    rw (drop_all at text past, input-last (between start at text), keeps) (sym front ∙ take_all at text past)
 
 pub report-end : (text : List ℕ) (start at : ℕ) → length text ≤ at
     → report_from (between start at text) (drop at text) ≡ []
 report-end text start at past =
-    ap (λ t. report_from (between start at text) t) (drop_all at text past) ∙ report-last (between start at text)
+    rw (drop_all at text past) (report-last (between start at text))
 
 -- a place in the text: where its line begins, and how far the search went
 pub record IsPlace (text : List ℕ) (start at : ℕ) : Type 0 where
@@ -170,5 +158,4 @@ place-line {text} {start} {at} is below same keeps = record {
 pub last-line : (text : List ℕ) (start at : ℕ) → length text ≤ at → at ≤ length text
     → between start at text ≡ take (length text - start) (drop start text)
 last-line text start at past end =
-    let same : at ≡ length text = omega (arith, past, end) in
-    ap (λ (n : ℕ). between start n text) same
+    let same : at ≡ length text = omega (arith, past, end) in rw same refl

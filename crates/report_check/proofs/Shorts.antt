@@ -1,8 +1,9 @@
 -- Numbers of few digits, read at once.
-use Rattle.std.proofs.Common.{◌≡◌, ◌≢◌, ℕ, ◌+◌, ◌-◌, ◌*◌, ◌<◌, ◌≤◌, Bool, true, false, cond, eqb, List, [], ◌∷◌, length, drop, get_or, Some, None, refl, ap, sym, ◌∙◌, arith}
+use Rattle.std.proofs.Common.{inl, inr, ◌≡◌, ◌≢◌, ℕ, ◌+◌, ◌-◌, ◌*◌, ◌<◌, ◌≤◌, true, false, cond, List, [], ◌∷◌, length, drop, get_or, Some, None, refl, ap, sym, ◌∙◌, arith}
+use Rattle.std.proofs.lemmas.Bool.{cases_eq, eq-eqb, ne_eqb}
 use Rattle.std.proofs.lemmas.Bool.Decides.{Decides-eqb, nat_tests}
 use Rattle.std.specs.Char.{is_ascii_digit}
-use Rattle.report_check.specs.Reading.{digits_from, digits_of, most, number_in, starts_with_digit, word_in}
+use Rattle.report_check.specs.Reading.{digits_from, digits_of, most, number_in, word_in}
 use Rattle.report_check.proofs.Steps.{digits-more, digits-stop}
 
 -- a digit is at most 9
@@ -16,13 +17,7 @@ blank-in text = refl
 -- digits that begin with one that isn't 0
 digits-some : (a : ℕ) (text : List ℕ) → is_ascii_digit a ≡ true → a ≢ 48
     → digits_of most (a ∷ text) ≡ digits_from most 0 (a ∷ text)
-digits-some a text digit some = at (eqb a 48) refl
-  where
-    at : (zero : Bool) → eqb a 48 ≡ zero
-        → cond zero (cond (starts_with_digit text) None (Some (0, text)))
-        (cond (is_ascii_digit a) (digits_from most 0 (a ∷ text)) None) ≡ digits_from most 0 (a ∷ text)
-    at true e = absurd (some ((Decides-eqb a 48).0 e))
-    at false e = ap (λ t. cond t (digits_from most 0 (a ∷ text)) None) digit
+digits-some a text digit some = rw (ne_eqb a 48 some, digit) refl
 
 -- one digit more that stays below the limit
 more : (value : ℕ) (b : ℕ) (text : List ℕ) → value < 1000 → is_ascii_digit b ≡ true
@@ -37,22 +32,13 @@ stop value b text other = digits-stop most value (b ∷ text) (omega arith) othe
 -- a single digit
 digit-alone : (a b : ℕ) (text : List ℕ) → is_ascii_digit a ≡ true → is_ascii_digit b ≡ false
     → digits_of most (a ∷ b ∷ text) ≡ Some (a - 48, b ∷ text)
-digit-alone a b text digit other = at (eqb a 48) refl
-  where
-    first : 10 * 0 + (a - 48) ≡ a - 48
-    first = omega arith
-
-    at : (zero : Bool) → eqb a 48 ≡ zero
-        → cond zero (cond (is_ascii_digit b) None (Some (0, b ∷ text)))
-        (cond (is_ascii_digit a) (digits_from most 0 (a ∷ b ∷ text)) None) ≡ Some (a - 48, b ∷ text)
-    at true e =
-        let is : a ≡ 48 = (Decides-eqb a 48).0 e in
-        ap (λ t. cond t None (Some (0, b ∷ text))) other
-        ∙ ap (λ (n : ℕ). Some (n - 48, b ∷ text)) (sym is)
-    at false e =
-        ap (λ t. cond t (digits_from most 0 (a ∷ b ∷ text)) None) digit
-        ∙ more 0 a (b ∷ text) (omega arith) digit ∙ stop (10 * 0 + (a - 48)) b text other
-        ∙ ap (λ (n : ℕ). Some (n, b ∷ text)) first
+digit-alone a b text digit other = elim (cases_eq a 48) [
+  | inl zero ↦ rw (eq-eqb a 48 zero, other) (ap (λ (n : ℕ). Some (n - 48, b ∷ text)) (sym zero))
+  | inr some ↦
+      let first : 10 * 0 + (a - 48) ≡ a - 48 = omega arith in
+      rw (ne_eqb a 48 some, digit) (more 0 a (b ∷ text) (omega arith) digit
+      ∙ stop (10 * 0 + (a - 48)) b text other ∙ ap (λ (n : ℕ). Some (n, b ∷ text)) first)
+]
 
 pub one-digit : (text : List ℕ) {n : ℕ} → 5 ≤ length text → get_or text 0 0 ≡ 32
     → is_ascii_digit (get_or text 1 0) ≡ true → is_ascii_digit (get_or text 2 0) ≡ false → n ≡ get_or text 1 0 - 48
@@ -116,11 +102,7 @@ feed-ended (b ∷ text) none = absurd (omega (arith, none))
 pub feed-differs : (text : List ℕ) → 1 ≤ length text → get_or text 0 0 ≢ 10 → word_in (10 ∷ []) text ≡ None
 unfolding word_in
 feed-differs [] some other = absurd (omega (arith, some))
-feed-differs (b ∷ text) some other = at (eqb 10 b) refl
-  where
-    at : (same : Bool) → eqb 10 b ≡ same → cond same (word_in [] text) None ≡ None
-    at true e = absurd (other (sym ((Decides-eqb 10 b).0 e)))
-    at false e = refl
+feed-differs (b ∷ text) some other = rw (ne_eqb 10 b (λ same. other (sym same))) refl
 
 pub feed-goes : (text : List ℕ) → 1 ≤ length text → get_or text 0 0 ≡ 10
     → word_in (10 ∷ []) text ≡ Some (drop 1 text)

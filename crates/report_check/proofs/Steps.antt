@@ -1,5 +1,6 @@
 -- One step of each reading loop.
-use Rattle.std.proofs.Common.{◌≡◌, ◌≢◌, ℕ, suc, ◌+◌, ◌-◌, ◌*◌, ◌<◌, ◌≤◌, Bool, true, false, cond, eqb, ltb, List, [], ◌∷◌, ◌++◌, append_assoc, append-nil, add-one, length, drop, get_or, Option, Some, None, IfNone, refl, ap, sym, ◌∙◌, arith}
+use Rattle.std.proofs.lemmas.Bool.{le-ltb, lt-ltb, cases_Bool}
+use Rattle.std.proofs.Common.{inl, inr, ◌≡◌, ◌≢◌, ℕ, suc, ◌+◌, ◌-◌, ◌*◌, ◌<◌, ◌≤◌, true, false, cond, eqb, ltb, List, [], ◌∷◌, ◌++◌, append_assoc, append-nil, add-one, length, drop, get_or, Option, Some, None, IfNone, refl, ap, sym, ◌∙◌, arith}
 use Rattle.std.proofs.lemmas.Bool.Decides.{nat_tests}
 use Rattle.std.proofs.lemmas.List.{drop_more, drop_all}
 use Rattle.std.specs.Char.{is_ascii_digit}
@@ -18,11 +19,11 @@ unfolding word_in
 word-ended ws i [] low none = ap (λ xs. word_in xs []) (drop_more ws i 0 low)
 word-ended ws i (b ∷ text) low none = absurd (omega (arith, none))
 
-compare : {w b : ℕ} (some : Option (List ℕ)) → b ≡ w → cond (eqb w b) some None ≡ some
-compare some e = grind (arith, nat_tests)
+pick-yes : {A : Type 0} {x y : ℕ} (a b : A) → x ≡ y → cond (eqb x y) a b ≡ a
+pick-yes a b e = grind (arith, nat_tests)
 
-differ : (w b : ℕ) (some : Option (List ℕ)) → w ≢ b → cond (eqb w b) some None ≡ None
-differ w b some e = grind (arith, nat_tests)
+pick-no : {A : Type 0} (x y : ℕ) (a b : A) → x ≢ y → cond (eqb x y) a b ≡ b
+pick-no x y a b e = grind (arith, nat_tests)
 
 pub word-goes : (ws : List ℕ) (i : ℕ) (text : List ℕ) → i < length ws → 1 ≤ length text
     → get_or text 0 0 ≡ get_or ws i 0 → word_in (drop i ws) text ≡ word_in (drop (i + 1) ws) (drop 1 text)
@@ -30,7 +31,7 @@ unfolding word_in
 word-goes ws i [] low some same = absurd (omega (arith, some))
 word-goes ws i (b ∷ text) low some same =
     ap (λ xs. word_in xs (b ∷ text)) (drop_more ws i 0 low)
-    ∙ compare (word_in (drop (i + 1) ws) text) same
+    ∙ pick-yes (word_in (drop (i + 1) ws) text) None (sym same)
 
 pub word-differs : (ws : List ℕ) (i : ℕ) (text : List ℕ) → i < length ws → 1 ≤ length text
     → get_or ws i 0 ≢ get_or text 0 0 → word_in (drop i ws) text ≡ None
@@ -38,17 +39,11 @@ unfolding word_in
 word-differs ws i [] low some other = absurd (omega (arith, some))
 word-differs ws i (b ∷ text) low some other =
     ap (λ xs. word_in xs (b ∷ text)) (drop_more ws i 0 low)
-    ∙ differ (get_or ws i 0) b (word_in (drop (i + 1) ws) text) other
+    ∙ pick-no (get_or ws i 0) b (word_in (drop (i + 1) ws) text) None other
 
 pub word-done : (ws : List ℕ) (i : ℕ) (text : List ℕ) → length ws ≤ i → word_in (drop i ws) text ≡ Some text
 unfolding word_in
 word-done ws i text high = ap (λ xs. word_in xs text) (drop_all i ws high)
-
-below : (a b : ℕ) {A : Type 0} (x y : A) → a < b → cond (ltb a b) x y ≡ x
-below a b x y e = grind (arith, nat_tests)
-
-above : (a b : ℕ) {A : Type 0} (x y : A) → b ≤ a → cond (ltb a b) x y ≡ y
-above a b x y e = grind (arith, nat_tests)
 
 pub digits-more : (limit value : ℕ) (text : List ℕ) → 1 ≤ length text → is_ascii_digit (get_or text 0 0) ≡ true
     → 10 * value + (get_or text 0 0 - 48) < limit
@@ -56,18 +51,14 @@ pub digits-more : (limit value : ℕ) (text : List ℕ) → 1 ≤ length text �
 unfolding digits_from
 digits-more limit value [] some digit low = absurd (omega (arith, some))
 digits-more limit value (b ∷ text) some digit low =
-    ap (λ t. cond t (cond (ltb (10 * value + (b - 48)) limit) (digits_from limit (10 * value + (b - 48)) text) None)
-    (Some (value, b ∷ text))) digit
-    ∙ below (10 * value + (b - 48)) limit (digits_from limit (10 * value + (b - 48)) text) None low
+    rw (digit, lt-ltb (10 * value + (b - 48)) limit low) refl
 
 pub digits-over : (limit value : ℕ) (text : List ℕ) → 1 ≤ length text → is_ascii_digit (get_or text 0 0) ≡ true
     → limit ≤ 10 * value + (get_or text 0 0 - 48) → digits_from limit value text ≡ None
 unfolding digits_from
 digits-over limit value [] some digit high = absurd (omega (arith, some))
 digits-over limit value (b ∷ text) some digit high =
-    ap (λ t. cond t (cond (ltb (10 * value + (b - 48)) limit) (digits_from limit (10 * value + (b - 48)) text) None)
-    (Some (value, b ∷ text))) digit
-    ∙ above (10 * value + (b - 48)) limit (digits_from limit (10 * value + (b - 48)) text) None high
+    rw (digit, le-ltb (10 * value + (b - 48)) limit high) refl
 
 pub digits-stop : (limit value : ℕ) (text : List ℕ) → 1 ≤ length text → is_ascii_digit (get_or text 0 0) ≡ false
     → digits_from limit value text ≡ Some (value, text)
@@ -147,65 +138,36 @@ pub pass-none : {A : Type 0} {P : Type 0} (o : Option A) → P → IfNone o P
 pass-none None p = p
 pass-none (Some x) p = tt
 
-chosen : (w b : ℕ) (xs ys text : List ℕ) {mid : List ℕ} → cond (eqb w b) (word_in xs text) None ≡ Some mid
-    → (word_in xs text ≡ Some mid → word_in (xs ++ ys) text ≡ word_in ys mid)
-    → cond (eqb w b) (word_in (xs ++ ys) text) None ≡ word_in ys mid
-chosen w b xs ys text {mid} e go = by (eqb w b) refl
-  where
-    by : (t : Bool) → eqb w b ≡ t → cond (eqb w b) (word_in (xs ++ ys) text) None ≡ word_in ys mid
-    by true is =
-        ap (λ t. cond t (word_in (xs ++ ys) text) None) is
-        ∙ go (sym (ap (λ t. cond t (word_in xs text) None) is) ∙ e)
-    by false is =
-        let none : None ≡ Some mid = sym (ap (λ t. cond t (word_in xs text) None) is) ∙ e in cc
-
-left-out : (w b : ℕ) (xs ys text : List ℕ) → cond (eqb w b) (word_in xs text) None ≡ None
-    → (word_in xs text ≡ None → word_in (xs ++ ys) text ≡ None)
-    → cond (eqb w b) (word_in (xs ++ ys) text) None ≡ None
-left-out w b xs ys text e go = by (eqb w b) refl
-  where
-    by : (t : Bool) → eqb w b ≡ t → cond (eqb w b) (word_in (xs ++ ys) text) None ≡ None
-    by true is =
-        ap (λ t. cond t (word_in (xs ++ ys) text) None) is
-        ∙ go (sym (ap (λ t. cond t (word_in xs text) None) is) ∙ e)
-    by false is = ap (λ t. cond t (word_in (xs ++ ys) text) None) is
-
-first-of : List ℕ → Option (List ℕ) → Option (List ℕ)
-first-of ys None = None
-first-of ys (Some text) = word_in ys text
-
-pick-yes : {A : Type 0} {x y : ℕ} (a b : A) → x ≡ y → cond (eqb x y) a b ≡ a
-pick-yes a b e = grind (arith, nat_tests)
-
-pick-no : {A : Type 0} (x y : ℕ) (a b : A) → x ≢ y → cond (eqb x y) a b ≡ b
-pick-no x y a b e = grind (arith, nat_tests)
-
 -- two texts, one behind the other
 pub word-then : (xs ys text : List ℕ) {mid : List ℕ} → word_in xs text ≡ Some mid
     → word_in (xs ++ ys) text ≡ word_in ys mid
-unfolding word_in first-of
-word-then [] ys text e = ap (λ (o : Option (List ℕ)). first-of ys o) e
+unfolding word_in
+word-then [] ys text {mid} e = let same : text ≡ mid = cc in rw same refl
 word-then (x ∷ xs) ys [] e = cc
-word-then (x ∷ xs) ys (b ∷ text) e = chosen x b xs ys text e (word-then xs ys text)
+word-then (x ∷ xs) ys (b ∷ text) {mid} e = elim (cases_Bool (eqb x b)) [
+  | inl is ↦ rw is (word-then xs ys text (rw is at e))
+  | inr is ↦ let bad : None ≡ Some mid = rw is at e in cc
+]
 
 pub word-missing : (xs ys text : List ℕ) → word_in xs text ≡ None → word_in (xs ++ ys) text ≡ None
 unfolding word_in
 word-missing [] ys text e = let bad : Some text ≡ None = e in cc
 word-missing (x ∷ xs) ys [] e = refl
-word-missing (x ∷ xs) ys (b ∷ text) e = left-out x b xs ys text e (word-missing xs ys text)
+word-missing (x ∷ xs) ys (b ∷ text) e = elim (cases_Bool (eqb x b)) [
+  | inl is ↦ rw is (word-missing xs ys text (rw is at e))
+  | inr is ↦ rw is refl
+]
 
 pub fields-step : (numbers : List ℕ) (i : ℕ) (text : List ℕ) {mid : List ℕ} → i < length numbers
     → word_in (field (get_or numbers i 0)) text ≡ Some mid → word_in (fields (drop i numbers)) text ≡ word_in
     (fields (drop (i + 1) numbers)) mid
 fields-step numbers i text low e =
-    ap (λ ns. word_in (fields ns) text) (drop_more numbers i 0 low)
-    ∙ word-then (field (get_or numbers i 0)) (fields (drop (i + 1) numbers)) text e
+    rw (drop_more numbers i 0 low) (word-then (field (get_or numbers i 0)) (fields (drop (i + 1) numbers)) text e)
 
 pub fields-missing : (numbers : List ℕ) (i : ℕ) (text : List ℕ) → i < length numbers
     → word_in (field (get_or numbers i 0)) text ≡ None → word_in (fields (drop i numbers)) text ≡ None
 fields-missing numbers i text low e =
-    ap (λ ns. word_in (fields ns) text) (drop_more numbers i 0 low)
-    ∙ word-missing (field (get_or numbers i 0)) (fields (drop (i + 1) numbers)) text e
+    rw (drop_more numbers i 0 low) (word-missing (field (get_or numbers i 0)) (fields (drop (i + 1) numbers)) text e)
 
 pub first-step : (order : List ℕ) (a t : ℕ) → t < length order → get_or order t 0 ≢ a
     → first_from a t (drop t order) ≡ first_from a (t + 1) (drop (t + 1) order)
@@ -219,8 +181,7 @@ pub first-found : (order : List ℕ) {a : ℕ} (t : ℕ) → t < length order �
     → first_from a t (drop t order) ≡ Some t
 unfolding first_from
 first-found order {a} t low same =
-    ap (first_from a t) (drop_more order t 0 low)
-    ∙ pick-yes (Some t) (first_from a (suc t) (drop (t + 1) order)) same
+    rw (drop_more order t 0 low) (pick-yes (Some t) (first_from a (suc t) (drop (t + 1) order)) same)
 
 pub first-none : (order : List ℕ) (a t : ℕ) → length order ≤ t → first_from a t (drop t order) ≡ None
 unfolding first_from
@@ -230,25 +191,20 @@ pub meets-last : (calls : List Done) (order : List ℕ) (sub last t : ℕ) → t
     → meets_from calls sub last t (drop t order) ≡ false
 unfolding meets_from
 meets-last calls order sub last t low high =
-    ap (meets_from calls sub last t) (drop_more order t 0 low) ∙ above t last _ false high
+    rw (drop_more order t 0 low, le-ltb t last high) refl
 
 pub meets-here : (calls : List Done) (order : List ℕ) (sub last t : ℕ) → t < length order → t < last
     → is_of_move calls sub t (get_or order t 0) ≡ true → meets_from calls sub last t (drop t order) ≡ true
 unfolding meets_from
 meets-here calls order sub last t low early moving =
-    ap (meets_from calls sub last t) (drop_more order t 0 low)
-    ∙ below t last _ false early
-    ∙ ap (λ b. cond b true (meets_from calls sub last (suc t) (drop (t + 1) order))) moving
+    rw (drop_more order t 0 low, lt-ltb t last early, moving) refl
 
 pub meets-step : (calls : List Done) (order : List ℕ) (sub last t : ℕ) → t < length order → t < last
     → is_of_move calls sub t (get_or order t 0) ≡ false
     → meets_from calls sub last t (drop t order) ≡ meets_from calls sub last (t + 1) (drop (t + 1) order)
 unfolding meets_from
 meets-step calls order sub last t low early other =
-    ap (meets_from calls sub last t) (drop_more order t 0 low)
-    ∙ below t last _ false early
-    ∙ ap (λ b. cond b true (meets_from calls sub last (suc t) (drop (t + 1) order))) other
-    ∙ ap (λ k. meets_from calls sub last k (drop (t + 1) order)) (sym (add-one t))
+    rw (drop_more order t 0 low, lt-ltb t last early, other, add-one t) refl
 
 pub meets-none : (calls : List Done) (order : List ℕ) (sub last t : ℕ) → length order ≤ t
     → meets_from calls sub last t (drop t order) ≡ false

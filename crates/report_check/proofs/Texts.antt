@@ -1,4 +1,5 @@
 -- What is read is the text that report_text writes of it.
+use Rattle.std.proofs.lemmas.Option.{same_Some}
 use Rattle.std.proofs.Common.{◌≡◌, ◌≢◌, ℕ, ◌+◌, ◌-◌, ◌*◌, ◌^◌, ◌<◌, ◌≤◌, ◌&&◌, Bool, true, false, cond, eqb, ltb, List, [], ◌∷◌, ◌++◌, Option, Some, None, refl, ap, sym, ◌∙◌, arith, subst, codes}
 use Rattle.std.proofs.lemmas.Bool.Decides.{nat_tests}
 use Rattle.std.proofs.lemmas.Fmt.{decimal-digits_value, decimal_digit}
@@ -9,11 +10,10 @@ use Rattle.outside.specs.Texts.{field}
 use Rattle.report_check.proofs.ReadBack.{read_on, reads_numerals}
 use Rattle.report_check.specs.Reading.{◌>>=◌, digits_from, digits_in, digits_of, number_in, starts_with_digit, word_in}
 
--- how a reading that goes on went so far
-pub bind-inv : {A B : Type 0} (o : Option A) (f : A → Option B) {y : B} → (o >>= f) ≡ Some y
-    → (x : A) × (o ≡ Some x) × (f x ≡ Some y)
-bind-inv None f {y} e = let bad : None ≡ Some y = e in cc
-bind-inv (Some x) f e = (x, refl, e)
+pub bind-elim : {A B P : Type 0} (o : Option A) (f : A → Option B) {y : B} → (o >>= f) ≡ Some y
+    → ((x : A) → o ≡ Some x → f x ≡ Some y → P) → P
+bind-elim None f {y} e go = let bad : None ≡ Some y = e in cc
+bind-elim (Some x) f e go = go x refl e
 
 same-byte : (w b : ℕ) (ws : List ℕ) {text rest : List ℕ} (t : Bool) → eqb w b ≡ t
     → cond t (word_in ws text) None ≡ Some rest → (word_in ws text ≡ Some rest → text ≡ ws ++ rest)
@@ -41,15 +41,9 @@ record IsRun (limit value : ℕ) (text : List ℕ) (n : ℕ) (rest : List ℕ) :
 
 none-read : (value n : ℕ) (text rest : List ℕ)
     → ◌≡◌ {A = Option (ℕ × List ℕ)} (Some (value, text)) (Some (n, rest)) → (value ≡ n) × (text ≡ rest)
-none-read value n text rest e = (ap (λ o. first o) e, ap (λ o. second o) e)
-  where
-    first : Option (ℕ × List ℕ) → ℕ
-    first None = 0
-    first (Some p) = p.0
-
-    second : Option (ℕ × List ℕ) → List ℕ
-    second None = []
-    second (Some p) = p.1
+none-read value n text rest e =
+    let same : (value, text) ≡ (n, rest) = same_Some (value, text) (n, rest) e in
+    (ap (λ (p : ℕ × List ℕ). p.0) same, ap (λ (p : ℕ × List ℕ). p.1) same)
 
 run-step : {limit : ℕ} (value b : ℕ) {n : ℕ} {text rest : List ℕ} (t u : Bool) → is_ascii_digit b ≡ t
     → ltb (10 * value + (b - 48)) limit ≡ u
@@ -74,7 +68,7 @@ run-step {limit} value b {n} {text} {rest} false u digit small e go =
       parts = both.1;
       digits = refl;
       number = sym both.0;
-      low = λ h. subst (λ k. k < limit) both.0 h;
+      low = λ h. rw both.0 at h;
       stop = sym (ap starts_with_digit both.1) ∙ digit;
     }
 
@@ -87,7 +81,7 @@ digits-run limit value [] n rest e =
       parts = both.1;
       digits = refl;
       number = sym both.0;
-      low = λ h. subst (λ k. k < limit) both.0 h;
+      low = λ h. rw both.0 at h;
       stop = sym (ap starts_with_digit both.1);
     }
 digits-run limit value (b ∷ text) n rest e =
@@ -151,11 +145,9 @@ digits-read limit n text rest false high e = let bad : None ≡ Some (n, rest) =
 -- a number is read where it stands behind a blank
 pub number-text : (limit n : ℕ) (text rest : List ℕ) → limit ≤ 2 ^ 63 → number_in limit text ≡ Some (n, rest)
     → text ≡ field n ++ rest
-number-text limit n text rest high e =
-    let went : (mid : List ℕ) × (word_in (codes " ") text ≡ Some mid) × (digits_in limit mid ≡ Some (n, rest)) =
-    bind-inv (word_in (codes " ") text) (digits_in limit) e in
-    word-text (codes " ") text went.1
-    ∙ ap (λ (xs : List ℕ). 32 ∷ xs) (digits-read limit n went.0 rest (ltb 0 limit) high went.2)
+number-text limit n text rest high e = bind-elim (word_in (codes " ") text) (digits_in limit) e
+    (λ mid em nm. word-text (codes " ") text em
+    ∙ ap (λ (xs : List ℕ). 32 ∷ xs) (digits-read limit n mid rest (ltb 0 limit) high nm))
 
 -- a number that is read is below its limit
 first-low : (limit b n : ℕ) (text rest : List ℕ) (z t : Bool) → 0 < limit
@@ -183,10 +175,8 @@ digits-low limit n (b ∷ text) rest true is e =
 digits-low limit n text rest false is e = let bad : None ≡ Some (n, rest) = e in cc
 
 pub number-low : (limit n : ℕ) (text rest : List ℕ) → number_in limit text ≡ Some (n, rest) → n < limit
-number-low limit n text rest e =
-    let went : (mid : List ℕ) × (word_in (codes " ") text ≡ Some mid) × (digits_in limit mid ≡ Some (n, rest)) =
-    bind-inv (word_in (codes " ") text) (digits_in limit) e in
-    digits-low limit n went.0 rest (ltb 0 limit) refl went.2
+number-low limit n text rest e = bind-elim (word_in (codes " ") text) (digits_in limit) e
+    (λ mid em nm. digits-low limit n mid rest (ltb 0 limit) refl nm)
 
 -- no digit stands behind a number that is read
 first-stops : (limit b n : ℕ) (text rest : List ℕ) (z t : Bool)
@@ -213,7 +203,5 @@ digits-stop limit n text rest false e = let bad : None ≡ Some (n, rest) = e in
 
 pub number-stops : (limit n : ℕ) (text rest : List ℕ) → number_in limit text ≡ Some (n, rest)
     → starts_with_digit rest ≡ false
-number-stops limit n text rest e =
-    let went : (mid : List ℕ) × (word_in (codes " ") text ≡ Some mid) × (digits_in limit mid ≡ Some (n, rest)) =
-    bind-inv (word_in (codes " ") text) (digits_in limit) e in
-    digits-stop limit n went.0 rest (ltb 0 limit) went.2
+number-stops limit n text rest e = bind-elim (word_in (codes " ") text) (digits_in limit) e
+    (λ mid em nm. digits-stop limit n mid rest (ltb 0 limit) nm)

@@ -13,13 +13,7 @@ level-go : (i : ℕ) (level : Level) (levels : List Level) (rest : List ℕ)
     ≡ level_line i level ++ (clusters_text 0 level.clusters ++ (homes_line level ++ (levels_text (i + 1) levels ++
     rest)))
 unfolding levels_text
-level-go i level levels rest =
-    append_assoc (level_line i level ++ (clusters_text 0 level.clusters ++ homes_line level)) (levels_text (i + 1)
-    levels) rest
-    ∙ append_assoc (level_line i level) (clusters_text 0 level.clusters ++ homes_line level) (levels_text (i + 1)
-    levels ++ rest)
-    ∙ ap (λ t. level_line i level ++ t)
-    (append_assoc (clusters_text 0 level.clusters) (homes_line level) (levels_text (i + 1) levels ++ rest))
+level-go i level levels rest = simp append_assoc
 
 pub level-part : (plan : PlanData) (i : ℕ) → i < levels_of plan
     → levels_left plan i ≡ level_line i (level_at plan i) ++ clusters_left plan i 0
@@ -76,13 +70,14 @@ homes-more xs from v line order below is =
     let found : get_or (drop from xs) (v - from) 0 ≡ get_or xs v 0 =
     get_or-drop from xs (v - from) 0 ∙ ap (λ i. get_or xs i 0) at in
     let count : v - from + 1 ≡ v + 1 - from = omega (arith, order) in
-    is
-    ∙ ap (λ x. fields (take (v - from) (drop from xs)) ++ field x) (sym found)
-    ∙ ap (λ t. fields (take (v - from) (drop from xs)) ++ t) (sym (append-nil (field (get_or (drop from xs) (v - from)
-    0))))
-    ∙ sym (flat_map-append field (take (v - from) (drop from xs)) (get_or (drop from xs) (v - from) 0 ∷ []))
-    ∙ ap fields (sym (take_more (drop from xs) (v - from) 0 inside))
-    ∙ ap (λ k. fields (take k (drop from xs))) count
+    rw (
+      is,
+      ← count,
+      take_more (drop from xs) (v - from) 0 inside,
+      flat_map-append field (take (v - from) (drop from xs)) (get_or (drop from xs) (v - from) 0 ∷ []),
+      found,
+    )
+    (ap (λ t. fields (take (v - from) (drop from xs)) ++ t) (sym (append-nil (field (get_or xs v 0)))))
 
 pub homes-cut : (xs : List ℕ) (from to : ℕ) (rest : List ℕ) → from ≤ to
     → fields (drop from xs) ++ rest ≡ fields (take (to - from) (drop from xs)) ++ (fields (drop to xs) ++ rest)

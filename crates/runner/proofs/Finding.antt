@@ -1,8 +1,8 @@
 -- A caller's part of a worker: its next look is made.
-use Rattle.std.proofs.Common.{◌≡◌, ℕ, suc, ◌+◌, ◌-◌, ◌<◌, ◌≤◌, ◌^◌, true, List, [], ◌∷◌, ◌++◌, Option, length, map, take, drop, get_or, refl, sym, ap, ◌∙◌, subst, arith}
-use Rattle.std.specs.Prelude.{All, option_map, Some, None, sum_by}
+use Rattle.std.proofs.Common.{◌≡◌, ℕ, suc, ◌+◌, ◌-◌, ◌<◌, ◌≤◌, ◌^◌, true, List, [], ◌∷◌, Option, length, map, drop, get_or, refl, sym, ap, ◌∙◌, subst, arith}
+use Rattle.std.specs.Prelude.{Some, None, sum_by}
 use Rattle.std.specs.Option.{is_some}
-use Rattle.std.proofs.lemmas.List.{length-map, length-drop, take_all, take-append-le}
+use Rattle.std.proofs.lemmas.List.{length-map, length-drop}
 use Rattle.std.proofs.lemmas.List.Sums.{sum_by-cons}
 use Rattle.entry_word.specs.declared.visit.Act.TheVariants.{Look}
 use Rattle.directory.specs.Settings.{Setting}
@@ -10,15 +10,14 @@ use Rattle.directory.specs.Finds.{FindCall, Pursuit, after_word, answer_of, at_o
 use Rattle.directory.specs.Histories.{History, before, cell}
 use Rattle.directory.specs.Looks.{look_by}
 use Rattle.directory.specs.HistoryLaws.{next-caller}
-use Rattle.directory.specs.Orders.{AreValid, Caller as Seeker, IsFindCall, after_read, caller_in, finds_of, key_in, with_pursuit}
+use Rattle.directory.specs.Orders.{AreValid, Caller as Seeker, IsFindCall, after_read, caller_in, finds_of, with_pursuit}
 use Rattle.directory.specs.Statements.{CallersKept, CallersRead, LooksFall}
 use Rattle.directory.specs.declared.answers.Found.{Found}
 use Rattle.distances.specs.Table.{DistanceTable}
 use Rattle.machine.specs.Stands.{IsWalking}
 use Rattle.machine.specs.WalkingLaws.{Walks, drop-more, read-on, walking}
-use Rattle.net_reader.specs.declared.said.Call.{Call}
 use Rattle.net_reader.specs.Input.{Contents}
-use Rattle.net_reader.specs.Valid.{IsSearch, IsValid}
+use Rattle.net_reader.specs.Valid.{IsValid}
 use Rattle.region_plan.specs.Plan.{PlanData, nodes_of}
 use Rattle.scripts.specs.Laws.{ScriptsAreValid}
 use Rattle.scripts.specs.ScriptLaws.{calls-few, finds-are}
@@ -33,6 +32,7 @@ use Rattle.runner.specs.PlayLaws.{caller-in}
 use Rattle.station.specs.Walking.{HasLookedOn, HasLostLook}
 use Rattle.runner.specs.Roles.{IsFinder, IsSetFor}
 use Rattle.runner.specs.declared.finder.Finder.{Finder}
+use Rattle.std.proofs.Math.Seq.{take-append_seam}
 
 -- the walk of a caller's part
 pub walking-of : {input : Contents} {setup : Setup} {actor : ℕ} {seen : History} {spare : ℕ} {finder : Finder}
@@ -109,16 +109,6 @@ look-room {input} {setup} {actor} {seen} {finder} {walk} its some =
       ap (λ cs. looks_after setting cs seeker.pursuit) at.calls_are,
     )
 
--- the finds of a caller's script begin within the plan
-pub script-searches : {input : Contents} (plan : PlanData) (actor : ℕ) {script : List Call} {count : ℕ} → IsValid input
-    → nodes_of plan ≡ input.nodes → length input.homes ≤ actor → actor < length input.scripts
-    → script ≡ get_or input.scripts actor [] → count ≡ length input.homes → All (IsSearch (nodes_of plan) count) script
-script-searches {input} plan actor {script} {count} valid nodes high low same few =
-    subst (λ n. All (IsSearch n count) script) (sym nodes)
-    (subst (λ n. All (IsSearch input.nodes n) script) (sym few)
-    (subst (λ s. All (IsSearch input.nodes (length input.homes)) s) (sym same)
-    (valid.searches actor high low)))
-
 -- the looks that are left before a first look
 pub looks-origin : (setting : Setting) (finds : List FindCall)
     → looks_after setting finds at_origin ≡ sum_by (λ (find : FindCall). most_looks setting find.from) finds
@@ -127,9 +117,7 @@ looks-origin setting (call ∷ later) = sym (sum_by-cons (λ (find : FindCall). 
 
 pub room-of : (setting : Setting) (spare : ℕ) {one two : List FindCall} {pursuit other : Pursuit} → one ≡ two
     → pursuit ≡ other → looks_after setting two other ≤ spare → looks_after setting one pursuit ≤ spare
-room-of setting spare {two} {pursuit} e f room =
-    subst (λ finds. looks_after setting finds pursuit ≤ spare) (sym e)
-    (subst (λ s. looks_after setting two s ≤ spare) (sym f) room)
+room-of setting spare e f room = rw (e, f) room
 
 -- a caller that has a walk has done fewer finds than its script has, and these are few
 pub done-low : {input : Contents} {setup : Setup} {actor : ℕ} {seen : History} {spare : ℕ} {finder : Finder}
@@ -161,19 +149,15 @@ lost-look {input} {setup} {old} {first} {last} {walk} homes its some on same =
     let actor = old.view.low in
     let seeker = caller_in setting scripts old.view.seen actor in
     let at = walking setup.plan seeker.calls seeker.pursuit first.walk walk some its.walk in
-    let key : key_of at.call seeker.pursuit ≡ Some on.key =
-    ap (λ c. key_of c seeker.pursuit) (sym at.its) ∙ (ap (key_of (call_of walk)) (sym at.so_far) ∙ on.wanted) in
-    let still : last ≡ first =
-    same ∙ (ap (λ w. record first { walk = Some w }) on.same ∙ ap (λ o. record first { walk = o }) (sym some)) in (
+    let key : key_of at.call seeker.pursuit ≡ Some on.key = rw (at.its, at.so_far) at on.wanted in
+    let still : last ≡ first = rw (same, on.same, ← some) in (
       record {
         visit = look_by actor on.key;
         is_next = next-caller setting scripts old.view.seen actor (omega (arith, its.high, ap length homes))
-            ∙ ap (λ o. option_map (look_by actor) o)
-            (ap (λ cs. key_in cs seeker.pursuit) at.calls_are ∙ key);
+            ∙ rw (at.calls_are, key);
         lost = on.lost;
       },
-      subst (λ (p : PassData). IsFinder input setup p.view.low p.view.seen p.spare last) (sym on.lost.turn)
-          (subst (IsFinder input setup actor old.view.seen old.spare) (sym still) its),
+      rw (on.lost.turn, still) its,
     )
 
 -- what is known once a caller has looked
@@ -208,27 +192,23 @@ looked kept read fall {input} {setup} {old} {new} {finder} {walk} {ticket} homes
     let at = walking setup.plan seeker.calls seeker.pursuit finder.walk walk some its.walk in
     let visited : HasVisited old (Look on.key) ticket new = on.visited in
     let front : before ticket new.view.seen ≡ visited.earlier =
-    ap (take ticket) visited.seen
-    ∙ (ap (λ t. take t (visited.earlier ++ look_by actor on.key ∷ [])) (sym visited.count)
-    ∙ (take-append-le (length visited.earlier) visited.earlier (look_by actor on.key ∷ []) (omega arith)
-    ∙ take_all (length visited.earlier) visited.earlier (omega arith))) in
+    rw (visited.seen, ← visited.count, take-append_seam) in
     let word = cell setting visited.earlier on.key in
     let pursuit = after_word setting at.call seeker.pursuit word in
-    let key : key_of at.call seeker.pursuit ≡ Some on.key =
-    ap (λ c. key_of c seeker.pursuit) (sym at.its) ∙ (ap (key_of (call_of walk)) (sym at.so_far) ∙ on.wanted) in
+    let key : key_of at.call seeker.pursuit ≡ Some on.key = rw (at.its, at.so_far) at on.wanted in
     let reads : caller_in setting scripts new.view.seen actor ≡ after_read setting seeker word =
-    ap (λ h. caller_in setting scripts h actor) visited.seen
-    ∙ (read setting scripts visited.earlier actor on.key
-    ∙ ap (λ c. after_read setting c word)
-    (caller-in kept setting scripts actor old.view.seen visited.earlier visited.begins visited.visits)) in
+    rw (
+      visited.seen,
+      read setting scripts visited.earlier actor on.key,
+      caller-in kept setting scripts actor old.view.seen visited.earlier visited.begins visited.visits,
+    ) in
     record {
       made = record {
         act = Look on.key;
         ticket = ticket;
         visited = visited;
         is_next = next-caller setting scripts old.view.seen actor (omega (arith, its.high, ap length homes))
-            ∙ ap (λ o. option_map (look_by actor) o)
-            (ap (λ cs. key_in cs seeker.pursuit) at.calls_are ∙ key);
+            ∙ rw (at.calls_are, key);
       };
       call = at.call;
       later = at.later;
@@ -236,10 +216,7 @@ looked kept read fall {input} {setup} {old} {new} {finder} {walk} {ticket} homes
       word = word;
       left = sym at.calls_are ∙ its.left;
       its = on.call ∙ at.its;
-      pursuit_is = on.pursuit
-          ∙ (ap (λ h. after_word setting (call_of walk) (pursuit_of setup.plan walk) (cell setting h on.key)) front
-          ∙ (ap (λ s. after_word setting (call_of walk) s word) at.so_far
-          ∙ ap (λ c. after_word setting c seeker.pursuit word) at.its));
+      pursuit_is = rw (on.pursuit, front, at.so_far, at.its);
       goes = on.goes;
       is = λ answer ends. reads ∙ read-on setting seeker at.call at.later word answer at.calls_are ends;
       unanswered = at.calls_are;
@@ -267,19 +244,13 @@ looked-on {input} {setup} {old} {new} last its at none script subs done walk =
     ap (λ (s : Seeker). s.calls) is ∙ at.unanswered in
     let pursuit : (caller_in setting scripts new.view.seen old.view.low).pursuit ≡ at.pursuit =
     ap (λ (s : Seeker). s.pursuit) is in
-    subst (λ a. IsFinder input setup a new.view.seen new.spare last) (sym visited.same.actor)
-    (record {
+    rw visited.same.actor (record {
       high = its.high;
       low = its.low;
       script = script ∙ its.script;
       subs = subs ∙ its.subs;
-      walk = subst (λ cs. IsWalking setup.plan cs (caller_in setting scripts new.view.seen old.view.low).pursuit
-          last.walk)
-          (sym finds)
-          (subst (λ s. IsWalking setup.plan (at.call ∷ at.later) s last.walk) (sym pursuit)
-          (subst (IsWalking setup.plan (at.call ∷ at.later) at.pursuit) (sym walk)
-          (at.its, at.pursuit_is, at.goes, unanswered)));
-      left = finds ∙ (at.left ∙ ap (λ n. drop n (finds_of setting scripts old.view.low)) (sym done));
+      walk = rw (finds, pursuit, walk) (at.its, at.pursuit_is, at.goes, unanswered);
+      left = rw (finds, done) at.left;
       room = room-of setting new.spare finds pursuit (omega (arith, at.fewer, visited.spare));
     })
 
@@ -304,17 +275,12 @@ looked-up {input} {setup} {old} {new} {first} last {found} its at some script su
     more.1 ∙ ap (λ n. drop n (finds_of setting scripts old.view.low)) (sym done) in
     let all : map find_of first.script.items ≡ finds_of setting scripts old.view.low =
     ap (map find_of) its.script ∙ sym (finds-are input setting old.view.low homes its.high its.low) in
-    subst (λ a. IsFinder input setup a new.view.seen new.spare last) (sym visited.same.actor)
-    (record {
+    rw visited.same.actor (record {
       high = its.high;
       low = its.low;
       script = script ∙ its.script;
       subs = subs ∙ its.subs;
-      walk = subst (λ cs. IsWalking setup.plan cs (caller_in setting scripts new.view.seen old.view.low).pursuit
-          last.walk)
-          (sym (finds ∙ (later ∙ ap (drop last.done) (sym all))))
-          (subst (λ s. IsWalking setup.plan (drop last.done (map find_of first.script.items)) s last.walk)
-          (sym pursuit) walk);
+      walk = rw (pursuit, finds, later, ← all) walk;
       left = finds ∙ later;
       room = room-of setting new.spare finds pursuit (omega
           (arith, at.fewer, visited.spare, looks-origin setting at.later));

@@ -1,7 +1,7 @@
 -- What becomes of a run in the end.
-use Rattle.std.proofs.Common.{◌≡◌, ◌⊎◌, inl, inr, ℕ, zero, suc, ◌+◌, ◌<◌, ◌≤◌, List, [], ◌∷◌, ◌++◌, length, map, take, drop, get_or, refl, sym, ap, ◌∙◌, subst, arith}
-use Rattle.std.specs.Prelude.{All, Some, slice_get, option_to_list}
-use Rattle.std.proofs.lemmas.List.{get_or-map, length-map, take_all, take-append-le}
+use Rattle.std.proofs.Common.{◌≡◌, inl, inr, ℕ, zero, suc, ◌+◌, ◌<◌, List, [], ◌∷◌, ◌++◌, length, map, take, drop, get_or, sym, ap, ◌∙◌, subst, arith}
+use Rattle.std.specs.Prelude.{All, Some, slice_get, option_to_list, option_map}
+use Rattle.std.proofs.lemmas.List.{get_or-map, length-map}
 use Rattle.std.proofs.lemmas.Bool.{cases_lt}
 use Rattle.directory.specs.Settings.{Setting}
 use Rattle.directory.specs.Histories.{History, IsFront, own}
@@ -18,7 +18,7 @@ use Rattle.region_plan.specs.Settings.{setting_of}
 use Rattle.scripts.specs.Scripts.{scripts_of}
 use Rattle.station.specs.Closing.{IsOrder}
 use Rattle.station.specs.Opening.{setup_of}
-use Rattle.station.specs.Passes.{IsFreshPass, IsPassOf, PassData, TrackerData, actor_of, fresh_view}
+use Rattle.station.specs.Passes.{IsFreshPass, IsPassOf, PassData, TrackerData, actor_of}
 use Rattle.station.specs.declared.view.View.{View}
 use Rattle.station.specs.Setup.{Setup, setting_in}
 use Rattle.runner.specs.Playing.{IsPlayedBy}
@@ -27,6 +27,9 @@ use Rattle.runner.specs.Roles.{HasBegunNone, IsSetFor}
 use Rattle.runner.specs.Runs.{AreFreshWorkers, AreWorkersOf, HasFinished, IsOutcomeOfRun, actors_of}
 use Rattle.runner.specs.Workers.{IsFreshWorker, IsWorkerOf, MayServe}
 use Rattle.runner.specs.declared.worker.Worker.{Worker}
+use Rattle.std.proofs.Math.Seq.{take-append_seam}
+use Rattle.runner.proofs.Turning.{get-seam}
+use Rattle.std.proofs.lemmas.Option.{slice_get-map}
 
 get-map : {A B : Type 0} (f : A → B) (xs : List A) (k : ℕ) {x : A} → slice_get xs k ≡ Some x
     → slice_get (map f xs) k ≡ Some (f x)
@@ -44,6 +47,12 @@ turns-front setting scripts (actor ∷ order) history =
     (front-append history (option_to_list (next setting scripts history actor)))
     (turns-front setting scripts order one)
 
+-- the pass of a worker
+pass-at : (workers : List Worker) (k : ℕ) {worker : Worker} → slice_get workers k ≡ Some worker
+    → slice_get (map (λ (w : Worker). w.pass) workers) k ≡ Some worker.pass
+pass-at workers k h =
+    slice_get-map (λ (w : Worker). w.pass) workers k ∙ ap (option_map (λ (w : Worker). w.pass)) h
+
 -- the setting of a tracker is that of its input and its plan
 pub set-over : {input : Contents} {setup : Setup} {plan : PlanData} {distances : DistanceTable}
     → IsSetFor input setup plan distances → setting_over input plan ≡ setting_in setup
@@ -58,23 +67,19 @@ pub order-played : {input : Contents} {tracker : TrackerData} {workers : List Wo
     → IsPlayed (setting_in tracker.setup) (scripts_of input) its.history
 order-played {input} {tracker} {workers} are count its =
     all-played (setting_in tracker.setup) (scripts_of input) its.history
-    (λ actor. at actor (cases_lt actor (length workers)))
-  where
-    at : (actor : ℕ) → (actor < length workers) ⊎ (length workers ≤ actor)
-        → IsPlayedBy (setting_in tracker.setup) (scripts_of input) actor its.history
-    at actor (inl low) =
-        let found = slice_get-within workers actor low in
-        let worker : Worker = found.0 in
-        let each = are.each actor worker found.1 in
-        let there : slice_get (map (λ (w : Worker). w.pass) workers) actor ≡ Some worker.pass =
-        get-map (λ (w : Worker). w.pass) workers actor found.1 in
-        subst (λ a. IsPlayedBy (setting_in tracker.setup) (scripts_of input) a its.history) each.1
-        (played-in (setting_in tracker.setup) (scripts_of input) (actor_of worker.pass) worker.pass.view.seen
-        its.history
-        (its.seen actor worker.pass there) (its.visits actor worker.pass there) each.0.played)
-    at actor (inr high) = λ ticket visit got mine.
-        absurd (own-none actor its.history ticket visit
-        (its.known actor (omega (arith, high, are.count, count))) got mine)
+    (λ actor. elim (cases_lt actor (length workers)) [
+      | inl low ↦
+          let found = slice_get-within workers actor low in
+          let worker : Worker = found.0 in
+          let each = are.each actor worker found.1 in
+          let there : slice_get (map (λ (w : Worker). w.pass) workers) actor ≡ Some worker.pass =
+          get-map (λ (w : Worker). w.pass) workers actor found.1 in
+          subst (λ a. IsPlayedBy (setting_in tracker.setup) (scripts_of input) a its.history) each.1
+          (played-in (setting_in tracker.setup) (scripts_of input) (actor_of worker.pass) worker.pass.view.seen
+          its.history (its.seen actor worker.pass there) (its.visits actor worker.pass there) each.0.played)
+      | inr high ↦ λ ticket visit got mine. absurd (own-none actor its.history ticket visit
+          (its.known actor (omega (arith, high, are.count, count))) got mine)
+    ])
 
 -- a run is finished
 pub finished : HistoriesAreOrdered → {input : Contents} {tracker : TrackerData} {plan : PlanData}
@@ -89,9 +94,9 @@ finished ordered {input} {tracker} {workers} {order} set are its is =
     let played = order-played are set.actors its in
     record {
       history = its.history;
-      seen = λ k worker at. its.seen k worker.pass (get-map (λ (w : Worker). w.pass) workers k at);
+      seen = λ k worker at. its.seen k worker.pass (pass-at workers k at);
       visits = λ k worker at. subst (λ a. own a its.history ≡ own a worker.pass.view.seen) (are.each k worker at).1
-          (its.visits k worker.pass (get-map (λ (w : Worker). w.pass) workers k at));
+          (its.visits k worker.pass (pass-at workers k at));
       known = λ actor high. its.known actor (omega (arith, high, are.count, set.actors));
       legal = its.legal;
       played = played;
@@ -125,19 +130,14 @@ at-some (y ∷ ys) (suc i) at = let deep = at-some ys i at in (omega (arith, dee
 pub fresh-serves : {input : Contents} {plan : PlanData} {tracker : TrackerData} {actor : ℕ} {pass : PassData}
     → IsFreshPass tracker actor pass → IsSetFor input tracker.setup plan plan.distances → actor < length input.scripts
     → MayServe input plan pass
-fresh-serves {input} {plan} {tracker} {actor} {pass} fresh set low =
-    subst (λ (p : PassData). MayServe input plan p) (sym (whole pass (fresh_view tracker.setup actor) fresh.view))
-    (record {
-      set = set;
-      outside = refl;
-      known = low;
-      none = refl;
-      bare = refl;
-      few = omega (arith, fresh.spare);
-    })
-  where
-    whole : (p : PassData) (view : View) → p.view ≡ view → p ≡ record p { view = view }
-    whole p view e = subst (λ v. p ≡ record p { view = v }) e refl
+fresh-serves fresh set low = record {
+  set = rw fresh.view set;
+  outside = rw fresh.view;
+  known = rw fresh.view low;
+  none = rw fresh.view;
+  bare = rw fresh.view;
+  few = omega (arith, fresh.spare);
+}
 
 -- and its worker is that of the actor
 pub fresh-actor : {tracker : TrackerData} {actor : ℕ} {pass made : PassData} → IsFreshPass tracker actor pass
@@ -191,10 +191,6 @@ one-fresh {tracker} workers {worker} {actor} each last its k one at =
     at_end (suc j) h e = cc
 
 -- what stands between two parts of a list
-get-seam : {A : Type 0} (before later : List A) (x : A) → slice_get (before ++ x ∷ later) (length before) ≡ Some x
-get-seam [] later x = refl
-get-seam (y ∷ before) later x = get-seam before later x
-
 pub at-seam : {A : Type 0} {all : List A} (before : List A) {rest later : List A} {x : A} → all ≡ before ++ rest
     → rest ≡ x ∷ later → slice_get all (length before) ≡ Some x
 at-seam before {later} {x} whole next =
@@ -217,8 +213,7 @@ all-of {tracker} {workers} {passes} are same k d low =
 pub put-back : {A : Type 0} (xs ys : List A) {n : ℕ} → n ≡ length ys → length xs ≡ length ys
     → take n (xs ++ drop (length xs) ys) ≡ xs
 put-back xs ys {n} whole same =
-    take-append-le n xs (drop (length xs) ys) (omega (arith, whole, same))
-    ∙ take_all n xs (omega (arith, whole, same))
+    rw (whole, ← same, take-append_seam)
 
 -- a worker that a call has changed
 pub changed : {input : Contents} {tracker : TrackerData} {argument last old new : Worker} {k : ℕ} → argument ≡ old

@@ -6,21 +6,21 @@ use Rattle.std.proofs.lemmas.Option.{slice_get_within}
 use Rattle.std.proofs.lemmas.List.{append-nil, take_all, length_push, length-map}
 use Rattle.entry_word.specs.declared.visit.Visit.{Visit}
 use Rattle.directory.specs.Settings.{Setting, start}
-use Rattle.directory.specs.Courses.{MayStep, MaySteps, Step, course_at}
+use Rattle.directory.specs.Courses.{Step, course_at}
 use Rattle.directory.specs.Amid.{course_of}
 use Rattle.directory.specs.Histories.{own, puts_to}
 use Rattle.directory.specs.Keys.{act_node}
 use Rattle.directory.specs.HistoryLaws.{next-sub}
 use Rattle.directory.specs.Legal.{IsScript}
 use Rattle.directory.specs.Orders.{AreValid, next, script_visits, steps_of}
-use Rattle.directory.specs.StepLaws.{past-end, take-append, take-more, visits-append, visits_in}
+use Rattle.directory.specs.StepLaws.{past-end, take-append, take-more, visits-append, visits_in, may-take}
 use Rattle.directory.specs.Writes.{visit_of, visits}
 use Rattle.handset.specs.Condition.{GoesWith, HandsetData}
 use Rattle.handset.specs.StepWrites.{due, due_at}
 use Rattle.handset.specs.StageLaws.{IsRestAfter, rests}
 use Rattle.handset.specs.Stands.{StandsForSteps}
 use Rattle.machine.specs.RestLaws.{may-begin}
-use Rattle.machine.specs.ScriptVisits.{in-script, may-at, may-take, step-at, visits-longer}
+use Rattle.machine.specs.ScriptVisits.{in-script, may-at, step-at, visits-longer}
 use Rattle.machine.specs.Subscribers.{MayBegin}
 use Rattle.net_reader.specs.declared.said.Call.{Call}
 use Rattle.net_reader.specs.Input.{Contents}
@@ -29,7 +29,7 @@ use Rattle.region_plan.specs.Plan.{PlanData}
 use Rattle.region_plan.specs.Settings.{setting_of}
 use Rattle.scripts.specs.Laws.{ScriptsAreValid}
 use Rattle.scripts.specs.ScriptLaws.{IsStep, course-steps, steps-are}
-use Rattle.scripts.specs.Scripts.{IsSettingOf, scripts_of, step_of}
+use Rattle.scripts.specs.Scripts.{scripts_of, step_of}
 use Rattle.station.specs.Handsets.{HandsetGoesOn, IsHandsetOf}
 use Rattle.station.specs.Passes.{PassData}
 use Rattle.station.specs.Plays.{visit_by}
@@ -38,10 +38,11 @@ use Rattle.station.specs.Visits.{HasLost, HasVisited}
 use Rattle.station.specs.declared.turns.Held.{Held}
 use Rattle.station.specs.declared.view.View.{View}
 use Rattle.runner.specs.Playing.{HasLostNext, HasMadeNext, next_of}
-use Rattle.runner.specs.PlayLaws.{own-next}
 use Rattle.runner.specs.Roles.{HasBegun, IsMover, IsSetFor, IsUnderWay}
 use Rattle.runner.specs.declared.mover.Mover.{Mover}
 use Rattle.directory.specs.ListLaws.{option_map-some}
+use Rattle.runner.proofs.Finding.{set-setting}
+use Rattle.station.specs.TicketLaws.{own-visited}
 
 pub due-some : {A : Type 0} (o : Option A) → IsSome o → (x : A) × (o ≡ Some x)
 due-some None h = cc
@@ -66,11 +67,8 @@ next-due {input} {setup} {view} {mover} {result} part is all =
     let n = length (puts_to view.low view.seen) in
     let its = part.its in
     let mine : result ≡ slice_get (visits setting view.low (take mover.begun steps)) n =
-    is ∙ (ap (λ s. slice_get (visits setting s its.steps) n) its.sub
-    ∙ ap (λ ss. slice_get (visits setting view.low ss) n) part.begun.steps_are) in
-    next-sub setting scripts view.seen view.low its.script.known
-    ∙ (ap (λ xs. slice_get (visits setting view.low steps) (length xs)) part.begun.alone
-    ∙ at result mine all)
+    rw (its.sub, part.begun.steps_are) at is in
+    next-sub setting scripts view.seen view.low its.script.known ∙ rw part.begun.alone (at result mine all)
   where
     at : (r : Option Visit)
         → r ≡ slice_get (visits (setting_in setup) view.low (take mover.begun (steps_of (scripts_of input) view.low)))
@@ -79,9 +77,7 @@ next-due {input} {setup} {view} {mover} {result} part is all =
         → slice_get (visits (setting_in setup) view.low (steps_of (scripts_of input) view.low))
         (length (puts_to view.low view.seen)) ≡ r
     at None e whole =
-        let every : mover.begun ≡ length (steps_of (scripts_of input) view.low) = whole refl in
-        ap (λ ss. slice_get (visits (setting_in setup) view.low ss) (length (puts_to view.low view.seen)))
-        (sym (take_all mover.begun (steps_of (scripts_of input) view.low) (omega (arith, every)))) ∙ sym e
+        rw (take_all mover.begun (steps_of (scripts_of input) view.low) (omega (arith, whole refl))) at (sym e)
     at (Some visit) e whole =
         in-script (setting_in setup) view.low mover.begun (length (puts_to view.low view.seen))
         (steps_of (scripts_of input) view.low) visit (sym e)
@@ -116,15 +112,10 @@ ready scripts {input} {setup} {plan} {view} {mover} {call} set part idle is shor
     reads ∙ ap (λ s. get_or s mover.begun call) part.begun.script in
     let none : due (setting_of plan []) mover.handset ≡ None = sym is ∙ idle in
     let shorter : mover.begun < length script = omega (arith, short, ap length part.begun.script) in
-    let nothing : due setting mover.handset ≡ None =
-    subst (λ p. due (setting_of p []) mover.handset ≡ None) set.plan_is none in
+    let nothing : due setting mover.handset ≡ None = rw set.plan_is at none in
     let rest : IsRestAfter setting mover.handset.sub mover.handset its.steps (length (puts_to view.low view.seen)) =
     rests setting mover.handset its.steps (length (puts_to view.low view.seen)) its.stands nothing in
-    let is_setting : IsSettingOf input setting = record {
-      nodes = subst (λ (p : PlanData). (setting_of p setup.homes).nodes ≡ input.nodes) set.plan_is set.together.nodes;
-      starts = set.homes;
-    } in
-    let are : AreValid setting (scripts_of input) = scripts input setting valid is_setting in
+    let are : AreValid setting (scripts_of input) = scripts input setting valid (set-setting set) in
     let whole : IsScript setting view.low (steps_of (scripts_of input) view.low) =
     are.steps view.low its.script.known in
     let step : slice_get (steps_of (scripts_of input) view.low) mover.begun ≡ Some (step_of call) =
@@ -135,10 +126,8 @@ ready scripts {input} {setup} {plan} {view} {mover} {call} set part idle is shor
     record {
       may = may-begin setup.plan setup.homes mover.handset its.steps (length (puts_to view.low view.seen)) call rest
           is_step
-          (subst (λ s. MayStep setting (course_of setting s its.steps) (step_of call)) (sym its.sub)
-          (subst (λ ss. MayStep setting (course_of setting view.low ss) (step_of call)) (sym part.begun.steps_are)
-          (may-at setting (course_at (start setting view.low)) (steps_of (scripts_of input) view.low) mover.begun
-          (step_of call) whole.allowed step)));
+          (rw (its.sub, part.begun.steps_are) (may-at setting (course_at (start setting view.low))
+          (steps_of (scripts_of input) view.low) mover.begun (step_of call) whole.allowed step));
       step = step;
       all = rest.all ∙ ap (λ s. length (visits setting s its.steps)) its.sub;
       script = whole;
@@ -157,19 +146,18 @@ begun-more {input} {setup} {view} {old} new {call} part at goes same stands scri
     let its = part.its in
     let steps : List Step = its.steps ++ step_of call ∷ [] in
     let are : steps ≡ take new.begun all =
-    ap (λ ss. ss ++ step_of call ∷ []) part.begun.steps_are
-    ∙ (sym (take-more all old.begun (step_of call) at.step) ∙ ap (λ k. take k all) (sym more)) in
+    rw (part.begun.steps_are, more, take-more all old.begun (step_of call) at.step) in
     let n = length (puts_to view.low view.seen) in
     let longer = visits-longer setting view.low its.steps (step_of call) in
     let none : n - length (visits setting view.low its.steps) ≡ 0 = omega (arith, at.all) in
     let kept : take n (visits setting view.low its.steps) ≡ take n (visits setting view.low steps) =
-    sym (ap (take n) (visits-append setting view.low (course_at (start setting view.low)) its.steps
-    (step_of call ∷ []))
-    ∙ (take-append n (visits setting view.low its.steps)
-    (visits_in setting view.low (course_of setting view.low its.steps) (step_of call ∷ []))
-    ∙ (ap (λ k. take n (visits setting view.low its.steps) ++ take k
-    (visits_in setting view.low (course_of setting view.low its.steps) (step_of call ∷ []))) none
-    ∙ append-nil (take n (visits setting view.low its.steps))))) in (
+    rw (
+      visits-append setting view.low (course_at (start setting view.low)) its.steps (step_of call ∷ []),
+      take-append n (visits setting view.low its.steps)
+          (visits_in setting view.low (course_of setting view.low its.steps) (step_of call ∷ [])),
+      none,
+      append-nil (take n (visits setting view.low its.steps)),
+    ) in (
       record {
         its = record {
           goes = goes;
@@ -178,8 +166,7 @@ begun-more {input} {setup} {view} {old} new {call} part at goes same stands scri
           script = record {
             known = at.script.known;
             begins = at.script.begins;
-            allowed = subst (MaySteps setting (course_at (start setting view.low))) (sym are)
-                (may-take setting (course_at (start setting view.low)) all new.begun at.script.allowed);
+            allowed = rw are (may-take setting (course_at (start setting view.low)) all new.begun at.script.allowed);
           };
           stands = stands;
           made = its.made ∙ kept;
@@ -213,13 +200,9 @@ pub still-due : {input : Contents} {setup : Setup} {plan : PlanData} {distances 
     (length (puts_to view.low view.seen))) → is_some result ≡ true → IsUnderWay input setup view spare mover
 still-due {setup} {view} {mover} {result} set part stands some =
     let made = length (puts_to view.low view.seen) in
-    let here = subst (λ (p : PlanData). StandsForSteps (setting_of p setup.homes) mover.handset part.its.steps made
-    → result ≡ slice_get (visits (setting_of p setup.homes) mover.handset.sub part.its.steps) made) set.plan_is stands
-    part.its.stands in (part, λ none. absurd (never result some (here ∙ none)))
-  where
-    never : (o : Option Visit) → is_some o ≡ true → o ≡ None → ⊥
-    never None h e = cc
-    never (Some x) h e = cc
+    let here : result ≡ slice_get (visits (setting_in setup) mover.handset.sub part.its.steps) made =
+    (rw set.plan_is at stands) part.its.stands in
+    (part, λ none. let never : false ≡ true = rw (here ∙ none) at some in cc)
 
 -- no step is left
 pub all-begun : {input : Contents} {setup : Setup} {plan : PlanData} {distances : DistanceTable} {view : View}
@@ -284,9 +267,9 @@ put-made {input} {setup} {old} {new} {first} last {visit} {ticket} part is next 
     ap (λ a. record { actor = a; act = visit.act }) (sym part.its.sub)
     ∙ sym (due-actor (setting_in setup) first.handset is) in
     let mine : own old.view.low new.view.seen ≡ own old.view.low old.view.seen ++ visit ∷ [] =
-    own-next old new visit.act ticket visited ∙ ap (λ v. own old.view.low old.view.seen ++ v ∷ []) same in
+    own-visited visited ∙ ap (λ v. own old.view.low old.view.seen ++ v ∷ []) same in
     let puts : puts_to old.view.low new.view.seen ≡ puts_to old.view.low old.view.seen ++ visit ∷ [] =
-    subst (λ a. puts_to a new.view.seen ≡ puts_to old.view.low old.view.seen ++ visit ∷ []) low on.puts in (
+    rw low at on.puts in (
       record {
         act = visit.act;
         ticket = ticket;
@@ -299,10 +282,9 @@ put-made {input} {setup} {old} {new} {first} last {visit} {ticket} part is next 
             (record {
               low = part.begun.low;
               script = script ∙ part.begun.script;
-              steps_are = on.steps_are ∙ (part.begun.steps_are
-                  ∙ ap (λ k. take k (steps_of (scripts_of input) old.view.low)) (sym begun));
+              steps_are = on.steps_are ∙ rw begun part.begun.steps_are;
               few = omega (arith, begun, part.begun.few);
-              alone = mine ∙ (ap (λ xs. xs ++ visit ∷ []) part.begun.alone ∙ sym puts);
+              alone = rw (mine, puts, part.begun.alone);
               room = omega (
                 arith,
                 part.begun.room,
@@ -321,22 +303,19 @@ mover-held : {input : Contents} {setup : Setup} {old new : PassData} {place : �
     → IsMover input setup new.view new.spare last
 mover-held {input} {setup} {old} last lost part handset script begun =
     let its = part.its in
-    subst (λ (p : PassData). IsMover input setup p.view p.spare last) (sym lost.turn)
-    (record {
+    rw lost.turn (record {
       its = record {
-        goes = subst (GoesWith setup.plan) (sym handset) its.goes;
-        sub = ap (λ (h : HandsetData). h.sub) handset ∙ its.sub;
+        goes = rw handset its.goes;
+        sub = rw handset its.sub;
         steps = its.steps;
         script = its.script;
-        stands = subst (λ (h : HandsetData). StandsForSteps (setting_in setup) h its.steps
-            (length (puts_to old.view.low old.view.seen))) (sym handset) its.stands;
+        stands = rw handset its.stands;
         made = its.made;
       };
       begun = record {
         low = part.begun.low;
         script = script ∙ part.begun.script;
-        steps_are = part.begun.steps_are
-            ∙ ap (λ k. take k (steps_of (scripts_of input) old.view.low)) (sym begun);
+        steps_are = rw begun part.begun.steps_are;
         few = omega (arith, begun, part.begun.few);
         alone = part.begun.alone;
         room = part.begun.room;
@@ -355,10 +334,7 @@ pub put-on : {input : Contents} {setup : Setup} {plan : PlanData} (old new : Pas
 put-on {input} {setup} {plan} old new {first} last ticket plan_is part next some made on script begun =
     let found = due-some (due (setting_of plan []) first.handset) some in
     put-made last part (subst (λ (p : PlanData). due (setting_of p []) first.handset ≡ Some found.0) plan_is found.1)
-    (subst (λ (p : PlanData). next_of input setup old.view ≡ due (setting_of p []) first.handset) plan_is next)
-    (subst (λ o. IfSome o (λ (visit : Visit). HasVisited old visit.act ticket new)) found.1 made)
-    (subst (λ o. IfSome o (λ (visit : Visit). (own : IsHandsetOf setup old.view first.handset)
-    → HandsetGoesOn setup old.view new.view last.handset own.steps visit)) found.1 on part.its) script begun
+    (rw plan_is at next) (rw found.1 at made) ((rw found.1 at on) part.its) script begun
 
 pub put-held : {input : Contents} {setup : Setup} (old new : PassData) {first : Mover} (last : Mover)
     (wanted : Option Visit) (held : Held) → next_of input setup old.view ≡ wanted → IsSome wanted

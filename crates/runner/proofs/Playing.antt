@@ -1,24 +1,15 @@
 -- A machine that has played an order: it stands for the history of its turns.
-use Rattle.std.proofs.Common.{◌≡◌, ℕ, List, [], sym, ap, ◌∙◌, subst}
-use Rattle.directory.specs.Settings.{Setting}
-use Rattle.directory.specs.Orders.{Scripts, after_turns, history_of}
+use Rattle.std.proofs.Common.{◌≡◌, ℕ, List, [], ap, ◌∙◌}
+use Rattle.directory.specs.Orders.{after_turns, history_of}
 use Rattle.directory.specs.Outcomes.{outcome_of}
 use Rattle.net_reader.specs.Seen.{seen_input}
-use Rattle.region_plan.specs.Settings.{setting_of}
 use Rattle.machine.specs.Stands.{setting_over}
 use Rattle.net_reader.specs.declared.input.Input.{Input}
 use Rattle.region_plan.specs.Plan.{PlanData}
 use Rattle.machine.specs.declared.machine.Machine.{Machine}
 use Rattle.machine.specs.Machines.{HasHistory, IsSame, scripts_at, setting_at}
 use Rattle.scripts.specs.Scripts.{scripts_of}
-
--- a machine that keeps its input and its plan keeps its setting and its scripts
-of_same : (P : Setting → Scripts → Type 0) (old new : Machine) → IsSame old new
-    → P (setting_at old) (scripts_at old) → P (setting_at new) (scripts_at new)
-of_same P old new same p =
-    subst (λ input. P (setting_of new.plan.now (seen_input input).homes) (scripts_of (seen_input input))) (sym same.0)
-    (subst (λ plan. P (setting_of plan (seen_input old.input.now).homes) (scripts_of (seen_input old.input.now)))
-    (sym same.1) p)
+use Rattle.machine.specs.RestLaws.{of_same}
 
 -- the end of an order
 pub play-ended : (old : Machine) {mid new : Machine} (order : List ℕ) → IsSame old mid → IsSame mid new

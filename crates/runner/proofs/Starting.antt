@@ -1,7 +1,7 @@
 -- What a worker does before its first visit, and how many visits it makes at most.
-use Rattle.std.proofs.Common.{◌≡◌, inl, inr, ℕ, ◌<◌, ◌≤◌, List, [], ◌∷◌, length, map, take, drop, get_or, refl, sym, ap, ◌∙◌, subst, arith, Vec, Global}
+use Rattle.std.proofs.Common.{◌≡◌, inl, inr, ℕ, ◌<◌, ◌≤◌, List, [], length, map, get_or, refl, sym, ap, ◌∙◌, arith}
 use Rattle.std.proofs.lemmas.Bool.{cases_lt}
-use Rattle.std.proofs.lemmas.List.{get_or-map, length-map}
+use Rattle.std.proofs.lemmas.List.{length-map}
 use Rattle.directory.specs.Settings.{Setting, start}
 use Rattle.directory.specs.Courses.{course_at}
 use Rattle.directory.specs.Finds.{at_origin}
@@ -30,37 +30,26 @@ use Rattle.runner.specs.PlayLaws.{caller-in}
 use Rattle.runner.specs.Roles.{IsFinder, IsMover, IsSetFor, MayStart}
 use Rattle.runner.specs.declared.finder.Finder.{Finder}
 use Rattle.runner.specs.declared.mover.Mover.{Mover}
-use Rattle.runner.proofs.Finding.{looks-origin, room-of, script-searches, set-setting}
-
--- the script that the code reads
-pub script-is : (scripts : List (Vec Call Global)) (actor : ℕ) {held : Vec Call Global} {script : List Call}
-    → actor < length (map (λ (s : Vec Call Global). s.items) scripts) → held ≡ get_or scripts actor held
-    → script ≡ held.items → script ≡ get_or (map (λ (s : Vec Call Global). s.items) scripts) actor []
-script-is scripts actor {held} low same its = its ∙ (ap (λ (s : Vec Call Global). s.items) same
-    ∙ sym (get_or-map (λ (s : Vec Call Global). s.items) scripts actor held []
-    (omega (arith, low, length-map scripts (λ (s : Vec Call Global). s.items)))))
+use Rattle.runner.proofs.Finding.{looks-origin, room-of, set-setting}
+use Rattle.machine.specs.ScriptVisits.{script-searches}
 
 -- all finds of an actor's script begin at nodes of the plan
 step-inside : (nodes : ℕ) (call : Call) → IsStep call → BeginsInside nodes call
-step-inside nodes (calls.Move to) its = tt
 step-inside nodes (calls.Find from sub) its = absurd its
-step-inside nodes calls.Off its = tt
-step-inside nodes calls.On its = tt
+step-inside nodes call its = tt
 
 search-inside : (nodes subs : ℕ) (call : Call) → IsSearch nodes subs call → BeginsInside nodes call
-search-inside nodes subs (calls.Move to) its = tt
 search-inside nodes subs (calls.Find from sub) its = its.0
-search-inside nodes subs calls.Off its = tt
-search-inside nodes subs calls.On its = tt
+search-inside nodes subs call its = tt
 
 pub begin-inside : {input : Contents} {plan : PlanData} {actor : ℕ} {script : List Call} → MayStart input plan actor
     → script ≡ get_or input.scripts actor [] → BeginInside (nodes_of plan) script
 begin-inside {input} {plan} {actor} {script} may same k d low =
     elim (cases_lt actor (length input.homes)) as (λ _. BeginsInside (nodes_of plan) (get_or script k d)) [
       | inl sub ↦ step-inside (nodes_of plan) (get_or script k d)
-          (subst (λ s. IsStep (get_or s k d)) (sym same)
-          (course-steps input.format input.nodes (get_or input.homes actor 0) _ (get_or input.scripts actor []) k d
-          (may.together.valid.courses actor sub) (omega (arith, low, ap length same))))
+          (rw same (course-steps input.format input.nodes (get_or input.homes actor 0) _
+          (get_or input.scripts actor []) k d (may.together.valid.courses actor sub)
+          (omega (arith, low, ap length same))))
       | inr high ↦ search-inside (nodes_of plan) (length input.homes) (get_or script k d)
           (script-searches plan actor may.together.valid may.together.nodes high may.known same refl k d low)
     ]
@@ -87,7 +76,7 @@ mover-at scripts short {input} mover low script begun sub goes stands most setup
     let course = course_at (start setting view.low) in
     record {
       its = record {
-        goes = subst (λ p. GoesWith p mover.handset) set.plan_is goes;
+        goes = rw set.plan_is at goes;
         sub = sub ∙ sym is;
         steps = [];
         script = record {
@@ -95,15 +84,13 @@ mover-at scripts short {input} mover low script begun sub goes stands most setup
           begins = whole.begins;
           allowed = no-steps setting course;
         };
-        stands = subst (λ (n : ℕ). StandsForSteps setting mover.handset [] n) (sym (ap length empty))
-            (subst (λ p. StandsForSteps (setting_of p setup.homes) mover.handset [] 0) set.plan_is
-            (stands setup.homes set.homes));
-        made = empty ∙ sym (take-none _ _ empty);
+        stands = rw empty (rw set.plan_is at (stands setup.homes set.homes));
+        made = rw empty;
       };
       begun = record {
         low = sub_low;
         script = its;
-        steps_are = sym (ap (λ k. take k (steps_of (scripts_of input) view.low)) begun);
+        steps_are = rw begun;
         few = omega (arith, begun);
         alone = nothing ∙ sym empty;
         room = omega (
@@ -119,10 +106,6 @@ mover-at scripts short {input} mover low script begun sub goes stands most setup
         );
       };
     }
-  where
-    take-none : {A B : Type 0} (xs : List A) (ys : List B) → xs ≡ [] → take (length xs) ys ≡ []
-    take-none [] ys e = refl
-    take-none (x ∷ xs) ys e = cc
 
 -- a caller before its first look
 caller-new : (setting : Setting) (scripts : Scripts) (actor : ℕ)
@@ -148,17 +131,13 @@ finder-at kept {input} {plan} {actor} finder high low script subs done walk most
     let calls_are : (caller_in setting scripts view.seen actor).calls ≡ finds = ap (λ (s : Seeker). s.calls) new in
     let pursuit : (caller_in setting scripts view.seen actor).pursuit ≡ at_origin =
     ap (λ (s : Seeker). s.pursuit) new in
-    subst (λ a. IsFinder input setup a view.seen spare finder) (sym is)
-    (record {
+    rw is (record {
       high = high;
       low = low;
       script = script;
       subs = subs;
-      walk = subst (λ cs. IsWalking setup.plan cs (caller_in setting scripts view.seen actor).pursuit finder.walk)
-          (sym (calls_are ∙ all))
-          (subst (λ s. IsWalking setup.plan (map find_of finder.script.items) s finder.walk) (sym pursuit)
-          (subst (λ p. IsWalking p (map find_of finder.script.items) at_origin finder.walk) set.plan_is walk));
-      left = calls_are ∙ sym (ap (λ n. drop n finds) done);
+      walk = rw (pursuit, calls_are, all) (rw set.plan_is at walk);
+      left = rw (calls_are, done);
       room = room-of setting spare (calls_are ∙ all) pursuit (omega (
         arith,
         enough,

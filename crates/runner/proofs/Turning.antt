@@ -1,7 +1,7 @@
 -- The turns of an actor at visits, and at more of them.
-use Rattle.std.proofs.Common.{◌≡◌, ℕ, ◌==◌, Bool, true, false, eqb-true, List, [], ◌∷◌, ◌++◌, cond, length, map, take, drop, refl, sym, ap, ◌∙◌, subst, arith, append_assoc}
+use Rattle.std.proofs.Common.{◌≡◌, ℕ, ◌==◌, Bool, true, false, eqb-true, List, [], ◌∷◌, ◌++◌, cond, length, map, take, drop, refl, sym, ap, ◌∙◌, subst, append_assoc}
 use Rattle.std.specs.Prelude.{All, Option, Some, None, slice_get}
-use Rattle.std.proofs.lemmas.List.{append-nil, append_cancel_left, map-append, take_all, take-append-le}
+use Rattle.std.proofs.lemmas.List.{append-nil, append_cancel_left, map-append}
 use Rattle.std.proofs.lemmas.List.Elements.{All-append, All-cons, All-nil}
 use Rattle.entry_word.specs.declared.visit.Visit.{Visit}
 use Rattle.directory.specs.Histories.{History, IsFront, own}
@@ -17,6 +17,7 @@ use Rattle.station.specs.declared.view.TurnEvent.TheVariants.{GivenBack, Lost, W
 use Rattle.runner.specs.Playing.{IsPlayedBy}
 use Rattle.runner.specs.PlayLaws.{next-in}
 use Rattle.runner.specs.Workers.{AreLostAt, AreLostBefore, HaveTurns}
+use Rattle.std.proofs.Math.Seq.{take-append_seam}
 
 -- the visit that comes first, of these and then the next one
 abbrev pub first_of : List Visit → Option Visit → Option Visit
@@ -28,9 +29,7 @@ lost-more : (actor node : ℕ) (xs ys : List TurnEvent) → AreLostAt actor node
     → AreLostAt actor node (xs ++ ys)
 lost-more actor node xs ys one two = (
   one.0 ++ two.0,
-  ap (λ l. l ++ ys) one.1
-      ∙ (ap (λ l. map (λ word. Lost actor node word) one.0 ++ l) two.1
-      ∙ sym (map-append (λ word. Lost actor node word) one.0 two.0)),
+  rw (one.1, two.1, map-append),
 )
 
 -- turns that are lost before the first of some visits, and then those of these visits
@@ -84,17 +83,15 @@ pub turns-mine : (setting : Setting) (actor : ℕ) (after : Option Visit) (visit
     → HaveTurns setting actor after visits events
     → All (λ (event : TurnEvent). event_actor event ≡ actor) events
 turns-mine setting actor None [] events turns =
-    subst (All (λ (event : TurnEvent). event_actor event ≡ actor)) (sym turns)
-    (All-nil (λ (event : TurnEvent). event_actor event ≡ actor))
+    rw turns (All-nil (λ (event : TurnEvent). event_actor event ≡ actor))
 turns-mine setting actor (Some visit) [] events turns =
-    subst (All (λ (event : TurnEvent). event_actor event ≡ actor)) (sym turns.1)
-    (lost-mine actor (act_node setting visit.act) turns.0)
+    rw turns.1 (lost-mine actor (act_node setting visit.act) turns.0)
 turns-mine setting actor after (visit ∷ later) events turns =
     let mine = λ (event : TurnEvent). event_actor event ≡ actor in
     let node = act_node setting visit.act in
-    subst (All mine) (sym turns.3)
+    rw turns.3
     (All-append mine turns.0 (Won actor node ∷ GivenBack actor node ∷ turns.1)
-    (subst (All mine) (sym turns.2.1) (lost-mine actor node turns.2.0))
+    (rw turns.2.1 (lost-mine actor node turns.2.0))
     (All-cons mine (Won actor node) (GivenBack actor node ∷ turns.1) refl
     (All-cons mine (GivenBack actor node) turns.1 refl
     (turns-mine setting actor after later turns.1 turns.4))))
@@ -129,11 +126,10 @@ own-first actor (x ∷ xs) {visit} {later} mine = at (x.actor == actor) refl min
           rest.4,
         )
 
--- a place behind a front
-get-behind : (front back : History) (visit : Visit)
-    → slice_get (front ++ visit ∷ back) (length front) ≡ Some visit
-get-behind [] back visit = refl
-get-behind (x ∷ front) back visit = get-behind front back visit
+-- what stands between two parts of a list
+pub get-seam : {A : Type 0} (before later : List A) (x : A) → slice_get (before ++ x ∷ later) (length before) ≡ Some x
+get-seam [] later x = refl
+get-seam (y ∷ before) later x = get-seam before later x
 
 -- the next visit of an actor is the first that it has made since, or if none the one that is next now
 pub next-first : CallersKept → (setting : Setting) (scripts : Scripts) (actor : ℕ) (seen new : History)
@@ -156,9 +152,8 @@ next-first kept setting scripts actor seen new (visit ∷ later) front made play
     own-append actor seen first.0 ∙ (ap (λ h. own actor seen ++ h) first.3 ∙ append-nil (own actor seen)) in
     let here = subst (λ (h : History). next setting scripts (take (length before) h) actor ≡ Some visit) whole
     (played (length before) visit
-    (ap (λ (h : History). slice_get h (length before)) whole ∙ get-behind before first.1 visit)
+    (ap (λ (h : History). slice_get h (length before)) whole ∙ get-seam before first.1 visit)
     first.4) in
     sym (next-in kept setting scripts actor seen before (front-append seen first.0) none)
     ∙ (ap (λ (h : History). next setting scripts h actor)
-    (sym (take-append-le (length before) before (visit ∷ first.1) (omega arith)
-    ∙ take_all (length before) before (omega arith))) ∙ here)
+    (sym (take-append_seam before (visit ∷ first.1))) ∙ here)

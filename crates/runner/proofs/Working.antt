@@ -1,12 +1,12 @@
 -- A worker after one try, and a new one.
-use Rattle.std.proofs.Common.{◌≡◌, ◌≢◌, Bool, ℕ, suc, ◌+◌, ◌≤◌, ◌^◌, false, true, [], ◌∷◌, ◌++◌, length, refl, sym, ap, ◌∙◌, subst, arith, append_assoc, length-append}
+use Rattle.std.proofs.Common.{◌≡◌, ◌≢◌, Bool, ℕ, suc, ◌+◌, ◌≤◌, ◌^◌, false, true, [], ◌∷◌, ◌++◌, length, refl, sym, ap, ◌∙◌, arith, append_assoc, length-append}
 use Rattle.std.specs.Prelude.{◌↔◌, None, Some, Result, Ok, Err, OnOk, max}
 use Rattle.std.specs.Result.{is_err}
 use Rattle.std.specs.declared.alloc.AllocError.{AllocError}
 use Rattle.std.proofs.Math.Nat.{le-max_right, max-le}
 use Rattle.std.proofs.lemmas.List.{append-nil, length_push}
 use Rattle.entry_word.specs.declared.visit.Visit.{Visit}
-use Rattle.directory.specs.Histories.{IsFront, own}
+use Rattle.directory.specs.Histories.{own}
 use Rattle.directory.specs.Keys.{act_node}
 use Rattle.directory.specs.HistoryLaws.{front-append, front-itself, front-through}
 use Rattle.directory.specs.Orders.{next}
@@ -20,16 +20,17 @@ use Rattle.station.specs.Plays.{visit_by}
 use Rattle.station.specs.Setup.{Setup, setting_in}
 use Rattle.station.specs.TurnLaws.{logged-more, logged-none, logged-turn, lost-append}
 use Rattle.station.specs.Turns.{lost_in}
-use Rattle.station.specs.Visits.{HasLost, HasVisited, IsSamePass}
+use Rattle.station.specs.Visits.{HasLost, HasVisited}
 use Rattle.station.specs.declared.turns.Held.{Held}
 use Rattle.station.specs.declared.view.TurnEvent.TheVariants.{GivenBack, Lost, Won}
-use Rattle.runner.specs.Playing.{HasLostNext, HasMadeNext, IsPlayedBy, next_of}
-use Rattle.runner.specs.PlayLaws.{own-next, own-none, played-next}
+use Rattle.runner.specs.Playing.{HasLostNext, HasMadeNext, next_of}
+use Rattle.runner.specs.PlayLaws.{own-none, played-next}
 use Rattle.runner.specs.Roles.{IsPrepared, IsRole, IsRoleAt, IsSetFor, TriesVisit}
-use Rattle.runner.specs.Workers.{AreLostBefore, HasGoneOn, HaveTurns, IsWorkerOf, MayPlay, MayServe, MayTry}
+use Rattle.runner.specs.Workers.{HasGoneOn, HaveTurns, IsWorkerOf, MayPlay, MayServe, MayTry}
 use Rattle.runner.proofs.Turning.{first_of, lost-none, next-first, turn-won, turns-append}
 use Rattle.runner.specs.declared.role.Role.{Role}
 use Rattle.runner.specs.declared.worker.Worker.{Worker}
+use Rattle.station.specs.TicketLaws.{own-visited}
 
 -- a visit is made
 pub gone-made : CallersKept → {input : Contents} {tracker : TrackerData} {old : Worker} (new : Worker)
@@ -39,7 +40,7 @@ pub gone-made : CallersKept → {input : Contents} {tracker : TrackerData} {old 
 gone-made kept {input} {tracker} {old} new its made role count =
     let visited : HasVisited old.pass made.act made.ticket new.pass = made.visited in
     let actor : actor_of new.pass ≡ actor_of old.pass = visited.same.actor in
-    let mine = own-next old.pass new.pass made.act made.ticket visited in
+    let mine = own-visited visited in
     let visit : Visit = visit_by old.pass.view made.act in
     let node = act_node (setting_in tracker.setup) made.act in (
       record {
@@ -50,9 +51,7 @@ gone-made kept {input} {tracker} {old} new its made role count =
           };
           outside = visited.outside;
           known = omega (arith, actor, its.known);
-          played = subst (λ a. IsPlayedBy (setting_in tracker.setup) (scripts_of input) a new.pass.view.seen)
-              (sym actor)
-              (played-next kept input tracker.setup old.pass new.pass made its.played);
+          played = rw actor (played-next kept input tracker.setup old.pass new.pass made its.played);
           made = omega (
             arith,
             count,
@@ -65,7 +64,7 @@ gone-made kept {input} {tracker} {old} new its made role count =
           role = role;
         };
         begins = front-through old.pass.view.seen visited.earlier new.pass.view.seen visited.begins
-            (subst (IsFront visited.earlier) (sym visited.seen) (front-append visited.earlier (visit ∷ [])));
+            (rw visited.seen (front-append visited.earlier (visit ∷ [])));
         same = visited.same;
         spare = omega (arith, count, visited.spare);
         visits = visit ∷ [];
@@ -89,31 +88,25 @@ gone-held {input} {tracker} {old} new {held} its missed role count =
     let lost : HasLost old.pass place held new.pass = missed.lost in
     let turn = lost.turn in
     let event = Lost (actor_of old.pass) place (suc held.by) in
-    let seen : new.pass.view.seen ≡ old.pass.view.seen = ap (λ (p : PassData). p.view.seen) turn in
-    let left : next_of input tracker.setup new.pass.view ≡ Some missed.visit =
-    ap (λ (p : PassData). next_of input tracker.setup p.view) turn ∙ missed.is_next in
+    let left : next_of input tracker.setup new.pass.view ≡ Some missed.visit = rw turn missed.is_next in
     let spare : new.pass.spare ≡ old.pass.spare = ap (λ (p : PassData). p.spare) turn in (
       record {
         worker = record {
-          of = subst (IsPassOf tracker) (sym turn) (record { table = its.of.table; setup = its.of.setup });
-          outside = ap (λ (p : PassData). p.view.inside) turn ∙ its.outside;
-          known = omega (arith, ap actor_of turn, its.known);
-          played = subst (λ (p : PassData). IsPlayedBy (setting_in tracker.setup) (scripts_of input) (actor_of p)
-              p.view.seen) (sym turn) its.played;
-          made = count ∙ (its.made ∙ sym (ap (λ (p : PassData). length (own (actor_of p) p.view.seen)) turn));
+          of = rw turn (record { table = its.of.table; setup = its.of.setup });
+          outside = rw turn its.outside;
+          known = rw turn its.known;
+          played = rw turn its.played;
+          made = rw (count, turn) its.made;
           few = omega (arith, count, spare, its.few);
           role = role;
         };
-        begins = subst (λ (p : PassData). IsFront old.pass.view.seen p.view.seen) (sym turn)
-            (front-itself old.pass.view.seen);
-        same = subst (IsSamePass old.pass) (sym turn)
-            (record { table = refl; seat = refl; setup = refl; actor = refl });
+        begins = rw turn (front-itself old.pass.view.seen);
+        same = rw turn (record { table = refl; seat = refl; setup = refl; actor = refl });
         spare = omega (arith, spare, count);
         visits = [];
-        made = ap (own (actor_of old.pass)) seen ∙ sym (append-nil (own (actor_of old.pass) old.pass.view.seen));
+        made = rw turn (sym (append-nil (own (actor_of old.pass) old.pass.view.seen)));
         events = event ∷ [];
-        turns = subst (λ v. AreLostBefore (setting_in tracker.setup) (actor_of old.pass) v (event ∷ [])) (sym left)
-            (suc held.by ∷ [], refl);
+        turns = rw left (suc held.by ∷ [], refl);
         logged = record {
           logs = (new.pass.view.turns, lost.logs, refl);
           lost = ap (λ (p : PassData). p.view.lost) turn;
@@ -129,8 +122,7 @@ worker-new : {input : Contents} {plan : PlanData} {tracker : TrackerData} {pass 
     → visits ≤ new.pass.spare → new.pass.spare ≤ 2 ^ 56
     → new.pass ≡ record pass { spare = new.pass.spare } → new.made ≡ 0 → IsWorkerOf input tracker new
 worker-new {input} {plan} {tracker} {pass} new visits may of role enough few same none =
-    let set : IsSetFor input tracker.setup plan plan.distances =
-    subst (λ (s : Setup). IsSetFor input s plan plan.distances) of.setup may.set in
+    let set : IsSetFor input tracker.setup plan plan.distances = rw of.setup at may.set in
     let view = ap (λ (p : PassData). p.view) same in
     record {
       of = record {
@@ -139,12 +131,11 @@ worker-new {input} {plan} {tracker} {pass} new visits may of role enough few sam
       };
       outside = ap (λ (p : PassData). p.view.inside) same ∙ may.outside;
       known = omega (arith, ap actor_of same, may.known);
-      played = subst (λ (v : _). IsPlayedBy (setting_in tracker.setup) (scripts_of input) v.low v.seen) (sym view)
+      played = rw view
           (λ ticket visit at mine. absurd (own-none (actor_of pass) pass.view.seen ticket visit may.none at mine));
       made = none ∙ sym (ap (λ (p : PassData). length (own (actor_of p) p.view.seen)) same ∙ ap length may.none);
       few = omega (arith, none, few);
-      role = subst (λ v. IsRole input tracker.setup v new.pass.spare new.role) (sym view)
-          (role tracker.setup pass.view new.pass.spare set refl may.none may.bare enough);
+      role = rw view (role tracker.setup pass.view new.pass.spare set refl may.none may.bare enough);
     }
 
 pub worker-reserved : {input : Contents} {plan : PlanData} {tracker : TrackerData} {pass : PassData}
@@ -205,12 +196,10 @@ turns-through kept {input} {tracker} {old} {mid} {new} one two =
     let mine : actor_of mid.pass ≡ actor = one.same.actor in
     let first : next_of input tracker.setup mid.pass.view ≡ first_of two.visits after =
     next-first kept setting (scripts_of input) (actor_of mid.pass) mid.pass.view.seen new.pass.view.seen two.visits
-    two.begins two.made
-    (subst (λ a. IsPlayedBy setting (scripts_of input) a new.pass.view.seen) two.same.actor two.worker.played)
+    two.begins two.made (rw two.same.actor at two.worker.played)
     ∙ ap (λ a. first_of two.visits (next setting (scripts_of input) new.pass.view.seen a)) (sym two.same.actor) in
-    turns-append setting actor after one.visits two.visits one.events two.events
-    (subst (λ v. HaveTurns setting actor v one.visits one.events) first one.turns)
-    (subst (λ a. HaveTurns setting a after two.visits two.events) mine two.turns)
+    turns-append setting actor after one.visits two.visits one.events two.events (rw first at one.turns)
+    (rw mine at two.turns)
 
 -- a worker that has gone on, and on
 pub gone-on : CallersKept → {input : Contents} {tracker : TrackerData} {old mid new : Worker} {held more all : ℕ}
@@ -229,9 +218,7 @@ gone-on kept {old} {mid} {new} one two sum =
       };
       spare = omega (arith, one.spare, two.spare);
       visits = one.visits ++ two.visits;
-      made = subst (λ a. own a new.pass.view.seen ≡ own a mid.pass.view.seen ++ two.visits) one.same.actor two.made
-          ∙ (ap (λ mine. mine ++ two.visits) one.made
-          ∙ append_assoc (own actor old.pass.view.seen) one.visits two.visits);
+      made = (rw one.same.actor at two.made) ∙ rw (one.made, append_assoc);
       events = one.events ++ two.events;
       turns = turns-through kept one two;
       logged = logged-more old.pass mid.pass new.pass one.events two.events one.logged two.logged;
@@ -258,21 +245,10 @@ tries-lost input setup old new (Ok done) h tries = cc
 tries-lost input setup old new (Err held) h tries = (held, tries)
 
 -- a worker that has gone on, and is prepared
-pub prepared-gone : {input : Contents} {tracker : TrackerData} {old mid : Worker} (role : Role) {held : ℕ}
+pub prepared-gone : CallersKept → {input : Contents} {tracker : TrackerData} {old mid : Worker} (role : Role) {held : ℕ}
     → HasGoneOn input tracker old mid held → IsRole input tracker.setup mid.pass.view mid.pass.spare role
     → HasGoneOn input tracker old (record mid { role = role }) held
-prepared-gone role gone prepared = record {
-  worker = (role-gone role gone.worker prepared).worker;
-  begins = gone.begins;
-  same = gone.same;
-  spare = gone.spare;
-  visits = gone.visits;
-  made = gone.made;
-  events = gone.events;
-  turns = gone.turns;
-  logged = gone.logged;
-  count = gone.count;
-}
+prepared-gone kept role gone prepared = gone-on kept gone (role-gone role gone.worker prepared) (omega arith)
 
 -- what preparing tells
 abbrev pub Prepares : Contents → Setup → PassData → Role → Bool → Type 0
@@ -282,10 +258,8 @@ Prepares input setup pass role left =
 
 pub some-left : (input : Contents) (setup : Setup) (pass : PassData) (role : Role) {left : Bool} → left ≡ true
     → Prepares input setup pass role left → next_of input setup pass.view ≢ None
-some-left input setup pass role {left} still prepares none = never left still (prepares.2.1 none)
-  where
-    never : (b : Bool) → b ≡ true → b ≡ false → ⊥
-    never b h g = cc
+some-left input setup pass role still prepares none =
+    let never : true ≡ false = sym still ∙ prepares.2.1 none in cc
 
 -- so it may try
 pub may-try : {input : Contents} {tracker : TrackerData} {plan : PlanData} {distances : DistanceTable} {mid : Worker}
@@ -304,15 +278,11 @@ may-try {input} {tracker} {mid} role {left} may still prepares = record {
 -- where the gate was closed nothing has changed
 pub kept-gone : {input : Contents} {tracker : TrackerData} {old mid new : Worker} {held : ℕ}
     → HasGoneOn input tracker old mid held → new ≡ mid → HasGoneOn input tracker old new held
-kept-gone {input} {tracker} {old} {held} gone same =
-    subst (λ (w : Worker). HasGoneOn input tracker old w held) (sym same) gone
+kept-gone gone same = rw same gone
 
 pub kept-may : {input : Contents} {tracker : TrackerData} {plan : PlanData} {distances : DistanceTable}
     {mid new : Worker} (role : Role) → MayPlay input tracker plan distances mid
     → IsRole input tracker.setup mid.pass.view mid.pass.spare role → new ≡ record mid { role = role }
     → MayPlay input tracker plan distances new
-kept-may {input} {tracker} {plan} {distances} role may prepared same =
-    subst (MayPlay input tracker plan distances) (sym same) (record {
-      set = may.set;
-      worker_is = (role-gone role may.worker_is prepared).worker;
-    })
+kept-may role may prepared same =
+    rw same (record { set = may.set; worker_is = (role-gone role may.worker_is prepared).worker })

@@ -1,10 +1,9 @@
 -- Short laws of visits that are each their actor's next one.
 -- Key laws: `next-in` and `played-in` (a history with more visits of others alone), `played-next`
 -- (a pass that has made its next visit), `all-played` (all actors together).
-use Rattle.std.proofs.Common.{◌≡◌, ◌≢◌, ◌⊎◌, inl, inr, ℕ, zero, suc, ◌+◌, ◌<◌, eq-eqb, ne_eqb, cond, List, [], ◌∷◌, ◌++◌, length, take, drop, refl, sym, ap, ◌∙◌, subst, arith, append_assoc}
+use Rattle.std.proofs.Common.{◌≡◌, ◌≢◌, ◌⊎◌, inl, inr, ℕ, zero, suc, ◌+◌, ◌<◌, ne_eqb, List, [], ◌∷◌, ◌++◌, length, take, drop, refl, sym, ap, ◌∙◌, subst, arith, append_assoc}
 use Rattle.std.specs.Prelude.{Some, slice_get, option_map, if◌then◌else◌}
 use Rattle.std.proofs.lemmas.List.{append-nil, take_all, take-append-le}
-use Rattle.entry_word.specs.declared.visit.Act.{Act}
 use Rattle.entry_word.specs.declared.visit.Visit.{Visit}
 use Rattle.directory.specs.Settings.{Setting, is_sub}
 use Rattle.directory.specs.Histories.{History, IsFront, own}
@@ -16,7 +15,7 @@ use Rattle.scripts.specs.Scripts.{scripts_of}
 use Rattle.station.specs.Passes.{PassData, actor_of}
 use Rattle.station.specs.Plays.{visit_by}
 use Rattle.station.specs.Setup.{Setup, setting_in}
-use Rattle.station.specs.TicketLaws.{front-rest, own-append, own-beyond, own-nil}
+use Rattle.station.specs.TicketLaws.{front-rest, own-beyond, own-nil}
 use Rattle.station.specs.Visits.{HasVisited}
 use Rattle.runner.specs.Playing.{HasMadeNext, IsPlayedBy}
 
@@ -134,18 +133,6 @@ played-next kept input setup old new made played =
     visited.visits ∙ made.is_next)
     (played-in setting scripts (actor_of old) old.view.seen visited.earlier visited.begins
     visited.visits played))
-
--- the visits of an actor after one of its own
-pub own-next : (old new : PassData) (act : Act) (ticket : ℕ) → HasVisited old act ticket new
-    → own (actor_of old) new.view.seen
-    ≡ own (actor_of old) old.view.seen ++ visit_by old.view act ∷ []
-own-next old new act ticket visited =
-    let actor = actor_of old in
-    let visit = visit_by old.view act in
-    ap (own actor) visited.seen
-    ∙ (own-append actor visited.earlier (visit ∷ [])
-    ∙ (ap (λ b. own actor visited.earlier ++ cond b (visit ∷ []) []) (eq-eqb actor actor refl)
-    ∙ ap (λ xs. xs ++ visit ∷ []) visited.visits))
 
 -- where it holds of each actor, each visit was its actor's next one
 pub all-played : (setting : Setting) (scripts : Scripts) (history : History)

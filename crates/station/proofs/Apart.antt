@@ -1,13 +1,13 @@
 -- Words of different nodes are different, and what a view says of the words of its node stays while
 -- these words stay.
-use Rattle.std.proofs.Common.{◌≡◌, ◌≢◌, ℕ, suc, ◌+◌, ◌*◌, ◌<◌, List, set, refl, sym, ap, ◌∙◌, arith, Some, get_or-set_other}
+use Rattle.std.proofs.Common.{◌≡◌, ◌≢◌, ℕ, suc, ◌+◌, ◌*◌, ◌<◌, Bool, true, false, true≢false, List, [], ◌∷◌, ◌++◌, drop, set, refl, sym, ap, ◌∙◌, arith, Option, Some, get_or-set_other}
 use Rattle.std.specs.Prelude.{slice_index}
 use Rattle.entry_word.specs.declared.visit.Key.{Key}
 use Rattle.directory.specs.Keys.{key_node}
-use Rattle.directory.specs.Histories.{History}
+use Rattle.directory.specs.Histories.{History, IsFront}
 use Rattle.visit_log.specs.Numbers.{cell_number, NumbersApart}
 use Rattle.station.specs.Setup.{Setup, setting_in, nodes_in, subs_in, IsCellOf, lock_word, tally_word, cell_word}
-use Rattle.station.specs.Views.{IsSoundView}
+use Rattle.station.specs.Views.{HasSeen, IsSoundView, visits_at}
 use Rattle.station.specs.Rule.{KeepsRule, IsViewOf}
 use Rattle.station.specs.declared.view.View.{View}
 
@@ -66,32 +66,58 @@ one_inside o j k {node} v u at at' inv inu =
     let theirs = (other.owner_is u.low (omega (arith, b.alone))).0 in
     sym theirs ∙ (ap o.owner (sym same) ∙ mine)
 
--- what the rule says of a view stays while the words of its node stay
-pub resound : {setup : Setup} {ws : List ℕ} (new : List ℕ) {history : History} {owner : ℕ → ℕ} {k : ℕ} {u : View}
-    → IsSoundView setup ws history owner k u → ((node i : ℕ) → u.inside ≡ Some node → IsWordAt setup node i
-    → slice_index new i ≡ slice_index ws i) → IsSoundView setup new history owner k u
-resound {setup} new o same =
+pub not_true : (b : Bool) → (b ≡ true → ⊥) → b ≡ false
+not_true true never = absurd (never refl)
+not_true false never = refl
+
+-- what the rule says of a view stays while the words that it speaks of stay, and no later visit is at its node, where
+-- the view has no more to write than before
+pub resound : {setup : Setup} {ws : List ℕ} (new : List ℕ) {history : History} (later : History) {owner : ℕ → ℕ} {k : ℕ}
+    {v : View} {seen told had : History} {unwritten : Option Key} {owes : Bool}
+    → (was : IsSoundView setup ws history owner k v)
+    → HasSeen later (record v { seen = seen; told = told; had = had; unwritten = unwritten; owes = owes })
+    → ((front : History) → IsFront front history → IsFront front later)
+    → ((node : ℕ) → v.inside ≡ Some node → visits_at (setting_in setup) node (drop v.visit_count history) ≡ []
+    → visits_at (setting_in setup) node (drop v.visit_count later) ≡ [])
+    → (owes ≡ true → v.owes ≡ true) → ((key : Key) → unwritten ≡ Some key → v.unwritten ≡ Some key)
+    → ((node : ℕ) → v.inside ≡ Some node → slice_index new (lock_word node) ≡ slice_index ws (lock_word node))
+    → ((node : ℕ) → v.inside ≡ Some node → owes ≡ true
+    → slice_index new (tally_word setup node) ≡ slice_index ws (tally_word setup node))
+    → ((key : Key) → unwritten ≡ Some key → v.inside ≡ Some (key_node (setting_in setup) key) → IsCellOf setup key
+    → slice_index new (cell_word setup key) ≡ slice_index ws (cell_word setup key))
+    → IsSoundView setup new later owner k
+    (record v { seen = seen; told = told; had = had; unwritten = unwritten; owes = owes })
+resound new later {owes} was has goes_on beside still kept lock tally cell =
     record {
-      setup_is = o.setup_is;
-      has = o.has;
-      owner_is = o.owner_is;
-      inside = λ node is. let h = o.inside node is in
+      setup_is = was.setup_is;
+      has = has;
+      owner_is = was.owner_is;
+      inside = λ node is. let h = was.inside node is in
           record {
             known = h.known;
             alone = h.alone;
-            lock = same node (lock_word node) is (is_lock refl) ∙ h.lock;
-            drawn = h.drawn;
-            owed = h.owed;
-            tally = λ owes. same node (tally_word setup node) is (is_tally refl) ∙ h.tally owes;
+            lock = lock node is ∙ h.lock;
+            drawn = λ drawn. let d = h.drawn drawn in
+                record {
+                  earlier = d.earlier;
+                  visit = d.visit;
+                  begins = goes_on (d.earlier ++ d.visit ∷ []) d.begins;
+                  mine = d.mine;
+                  meant = d.meant;
+                  at = d.at;
+                  count = d.count;
+                  last = beside node is d.last;
+                  put = λ key put. d.put key (kept key put);
+                  word = λ key put. d.word key (kept key put);
+                  moves = λ due. d.moves (still due);
+                  tally = λ due. d.tally (still due);
+                };
+            owed = λ due. h.owed (still due);
+            tally = λ due. tally node is due ∙ h.tally (still due);
           };
-      unwritten = λ key is. let h = o.unwritten key is in
-          record {
-            cell = h.cell;
-            inside = h.inside;
-            drawn = h.drawn;
-            word = same (key_node (setting_in setup) key) (cell_word setup key) h.inside
-                (is_cell key h.cell refl refl) ∙ h.word;
-          };
-      outside = o.outside;
-      others = o.others;
+      unwritten = λ key is. let h = was.unwritten key (kept key is) in
+          record { cell = h.cell; inside = h.inside; drawn = h.drawn; word = cell key is h.inside h.cell ∙ h.word };
+      outside = λ out. let calm = was.outside out in
+          (calm.0, not_true owes (λ due. true≢false (sym (still due) ∙ calm.1)));
+      others = was.others;
     }

@@ -5,9 +5,7 @@ use Rattle.std.proofs.lemmas.List.{append-nil}
 use mathlib.Core.Logic.{dite}
 use mathlib.Core.Option.{some-injective}
 use native.Mathlib.Decide.{ℕ_discrete, dec_le}
-use lib.ListN.{get_elem?}
 use Rattle.atomic_table.specs.Table.{State}
-use Rattle.atomic_table.proofs.Lists.{set_here, set_else}
 use Rattle.entry_word.specs.declared.visit.Act.{Act}
 use Rattle.station.specs.Moments.{AreOthersOut, ComesAt, EventsComeWithinCalls, GoesThrough, IsAnothers, IsLoggedAt, IsMoment, IsStepBeside, IsStepOf}
 use Rattle.station.specs.Rule.{KeepsRule, IsViewOf}
@@ -18,8 +16,8 @@ use Rattle.station.specs.declared.view.TurnEvent.{TurnEvent}
 use Rattle.station.specs.declared.view.TurnEvent.TheVariants.{Won, GivenBack, Lost}
 use Rattle.station.specs.declared.view.View.{View}
 use Rattle.station.proofs.Logging.{lock-back, lock-back_else, lock-push, lock-won, lock-won_else}
-use Rattle.station.proofs.Steps.{seat_below}
-use Rattle.station.proofs.Timing.{some-mine}
+use Rattle.station.proofs.Steps.{same_view}
+use Rattle.station.proofs.Timing.{its_seat, other_seat, some-mine}
 
 -- the parts of an event, as numbers
 kind : TurnEvent → ℕ
@@ -33,9 +31,8 @@ node_in (GivenBack actor node) = node
 node_in (Lost actor node word) = node
 
 word_in : TurnEvent → ℕ
-word_in (Won actor node) = 0
-word_in (GivenBack actor node) = 0
 word_in (Lost actor node word) = word
+word_in event = 0
 
 abbrev event_of : ℕ → ℕ → ℕ → ℕ → TurnEvent
 event_of zero actor node word = Won actor node
@@ -154,37 +151,25 @@ events-keep actor node log [] of valid foreign = ap (λ l. lock_in l node) (appe
 events-keep actor node log (event ∷ later) of valid foreign =
     let split : (log ++ event ∷ []) ++ later ≡ log ++ event ∷ later = append_assoc log (event ∷ []) later in
     let one = event-keeps node log event of.0 (valid log event later refl) foreign in
-    ap (λ l. lock_in l node) (sym split)
-    ∙ (events-keep actor node (log ++ event ∷ []) later of.1 (subst IsLog (sym split) valid)
-    (subst (IsForeign actor) (sym one) foreign) ∙ one)
+    rw (← split)
+    (events-keep actor node (log ++ event ∷ []) later of.1 (rw split valid) (rw one foreign) ∙ one)
 
 events-kept : (actor node : ℕ) (log more : List TurnEvent) → AreOf actor more
     → IsForeign actor (lock_in (log ++ more) node) → lock_in (log ++ more) node ≡ lock_in log node
 events-kept actor node log [] of foreign = ap (λ l. lock_in l node) (append-nil log)
 events-kept actor node log (event ∷ later) of foreign =
     let split : (log ++ event ∷ []) ++ later ≡ log ++ event ∷ later = append_assoc log (event ∷ []) later in
-    let rest = events-kept actor node (log ++ event ∷ []) later of.1
-    (subst (λ (l : List TurnEvent). IsForeign actor (lock_in l node)) (sym split) foreign) in
-    ap (λ l. lock_in l node) (sym split)
-    ∙ (rest ∙ event-kept node log event of.0 (subst (λ (w : ℕ). IsForeign actor w)
-    (ap (λ l. lock_in l node) (sym split) ∙ rest) foreign))
+    let rest = events-kept actor node (log ++ event ∷ []) later of.1 (rw split foreign) in
+    rw (← split) (rest ∙ event-kept node log event of.0 (rw (← rest, split) foreign))
 
 module _ (setup : Setup) (old new : State Act View) (seat : ℕ) (was : KeepsRule setup old) (is : KeepsRule setup new)
     (s : IsStepOf seat old new) where
-  its_seat : IsViewOf new.views seat s.after
-  its_seat = subst (λ (vs : List View). IsViewOf vs seat s.after) (sym s.views)
-      (set_here old.views seat s.after (seat_below old.views seat s.before s.was))
-
-  -- another seat has the view that it had
-  other_seat : (k : ℕ) → k ≢ seat → get_elem? new.views k ≡ get_elem? old.views k
-  other_seat k ne = ap (λ (vs : List View). get_elem? vs k) s.views ∙ set_else old.views seat k s.after ne
-
   -- the seat of another actor is another
   apart : (k : ℕ) (view : View) (actor : ℕ) → IsViewOf new.views k view → StandsForActor view actor
       → actor ≢ s.before.low → k ≢ seat
   apart k view actor at st ne e =
-      let same : view ≡ s.after = some-injective view s.after (sym at ∙ (ap (get_elem? new.views) e ∙ its_seat)) in
-      let mine : StandsForActor s.after actor = subst (λ (u : View). StandsForActor u actor) same st in
+      let mine : StandsForActor s.after actor = subst (λ (u : View). StandsForActor u actor)
+      (same_view new.views (its_seat s) at e) st in
       ne (omega (arith, mine.0, mine.1, s.low, s.high, s.alone))
 
   -- an event with another's behind it was there before
@@ -206,7 +191,7 @@ module _ (setup : Setup) (old new : State Act View) (seat : ℕ) (was : KeepsRul
       )))
       (λ h. let its = is.actors b (omega arith) in
       let k = is.owner b in
-      let before = sym (other_seat k (apart k its.0 b its.1 its.2 o.other)) ∙ its.1 in
+      let before = sym (other_seat s k (apart k its.0 b its.1 its.2 o.other)) ∙ its.1 in
       let has = is.logged k its.0 its.1 in
       let had = was.logged k its.0 before in
       let me = was.logged seat s.before s.was in
@@ -224,9 +209,8 @@ module _ (setup : Setup) (old new : State Act View) (seat : ℕ) (was : KeepsRul
       → (k : ℕ) (view : View) (node : ℕ) → IsViewOf old.views k view → view.inside ≡ Some node
       → view.low ≢ s.before.low → lock_in earlier node ≡ suc view.low
   named earlier more log own k view node at inside ne =
-      let away : k ≢ seat = λ e. ne (ap (λ (u : View). u.low)
-      (some-injective view s.before (sym at ∙ (ap (get_elem? old.views) e ∙ s.was)))) in
-      let there = (is.views k view (other_seat k away ∙ at)).inside node inside in
+      let away : k ≢ seat = λ e. ne (ap (λ (u : View). u.low) (same_view old.views s.was at e)) in
+      let there = (is.views k view (other_seat s k away ∙ at)).inside node inside in
       let word : lock_in (earlier ++ more) node ≡ suc view.low = ap (λ l. lock_in l node) (sym log)
       ∙ (sym (is.lock_words node there.known) ∙ there.lock) in
       let foreign : IsForeign s.before.low (lock_in (earlier ++ more) node) =
@@ -254,10 +238,9 @@ module _ (setup : Setup) (old new : State Act View) (seat : ℕ) (was : KeepsRul
       let is_suc : word ≡ suc b = omega (arith, may.1) in
       let held = is.locks node b known (here ∙ is_suc) in
       let k = is.owner b in
-      let away : k ≢ seat = λ e. let same : held.0 ≡ s.after = some-injective held.0 s.after (sym held.1
-      ∙ (ap (get_elem? new.views) e ∙ its_seat)) in
-      may.2 (is_suc ∙ ap suc (sym held.3 ∙ (ap (λ (u : View). u.low) same ∙ (s.low ∙ sym mine)))) in
-      let before = sym (other_seat k away) ∙ held.1 in
+      let away : k ≢ seat = λ e. may.2 (is_suc ∙ ap suc (sym held.3
+      ∙ (ap (λ (u : View). u.low) (same_view new.views (its_seat s) held.1 e) ∙ (s.low ∙ sym mine)))) in
+      let before = sym (other_seat s k away) ∙ held.1 in
       let named_then : suc held.0.low ≡ word = ap suc held.3 ∙ sym is_suc in (
         may.2,
         ((was.views k held.0 before).inside node held.2).lock ∙ named_then,
@@ -289,7 +272,7 @@ module _ (setup : Setup) (old new : State Act View) (seat : ℕ) (was : KeepsRul
   came_or_was earlier event mine there = ⊎_elim
       (λ (t : IsLoggedAt earlier event s.before.turns). inr t)
       (λ (absent : IsLoggedAt earlier event s.before.turns → ⊥).
-      let has = is.logged seat s.after its_seat in
+      let has = is.logged seat s.after (its_seat s) in
       let log : is.turns ≡ earlier ++ event ∷ (there.0 ++ has.later) = has.goes_on
       ∙ (ap (λ (l : List TurnEvent). l ++ has.later) there.1 ∙ append_assoc earlier (event ∷ there.0) has.later) in
       ⊎_elim
@@ -326,8 +309,7 @@ come_on {setup} {seat} {states} before earlier event first short (suc count) aft
     (λ (s : IsStepOf seat (states count) (states (suc count))).
     let was = through.keeps count (omega arith) in
     let is = through.keeps (suc count) (omega arith) in
-    let same : after ≡ s.after = some-injective after s.after (sym there
-    ∙ its_seat setup (states count) (states (suc count)) seat was is s) in
+    let same : after ≡ s.after = some-injective after s.after (sym there ∙ its_seat s) in
     let low : event_actor event ≡ s.before.low = mine ∙ (ap (λ (u : View). u.low) same ∙ s.low) in
     ⊎_elim
     (λ (comes : ComesAt setup seat earlier event (states count) (states (suc count))). (count, omega arith, comes))

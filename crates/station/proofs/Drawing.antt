@@ -1,62 +1,43 @@
 -- A ticket is drawn.
-use Rattle.std.proofs.Common.{◌≡◌, ◌≢◌, ℕ, suc, ◌+◌, ◌%◌, ◌^◌, ◌<◌, ◌≤◌, Bool, true, false, true≢false, [], ◌∷◌, ◌++◌, length, set, drop, refl, sym, ap, ◌∙◌, subst, inl, inr, ⊎_elim, arith, Option, Some, get_or-set_other, get_or-set_same, length-set, length-append}
+use Rattle.std.proofs.Common.{◌≡◌, ℕ, suc, ◌+◌, ◌%◌, ◌^◌, ◌<◌, ◌≤◌, true≢false, [], ◌∷◌, ◌++◌, length, set, drop, refl, sym, ap, ◌∙◌, subst, inl, inr, arith, Some, get_or-set_other, get_or-set_same, length-set, length-append}
 use Rattle.std.specs.Prelude.{slice_index}
-use mathlib.Core.Option.{some, none, some-injective}
+use mathlib.Core.Option.{none}
 use mathlib.Core.Logic.{dite}
 use native.Mathlib.Decide.{ℕ_discrete}
-use lib.ListN.{get_elem?}
 use Rattle.atomic_table.specs.Table.{step, keeps, Allows}
-use Rattle.atomic_table.proofs.Lists.{at_set, set_here, set_else}
+use Rattle.atomic_table.proofs.Lists.{set_here, set_else}
 use Rattle.entry_word.specs.declared.visit.Key.{Key}
 use Rattle.entry_word.specs.declared.visit.Act.{Act}
-use Rattle.entry_word.specs.declared.visit.Act.TheVariants.{Look, Put, Census}
 use Rattle.entry_word.specs.declared.visit.Visit.{Visit}
-use Rattle.directory.specs.Settings.{Setting}
-use Rattle.directory.specs.Keys.{act_node, key_node}
-use Rattle.directory.specs.Histories.{History, cell, changes_here, own}
+use Rattle.directory.specs.Histories.{History, IsFront, cell, changes_here, own}
 use Rattle.station.specs.Setup.{Setup, setting_in}
-use Rattle.station.specs.Views.{IsSoundView, IsInsideNode, StandsForActor, visits_at}
+use Rattle.station.specs.Views.{IsSoundView, StandsForActor, visits_at}
 use Rattle.station.specs.Rule.{KeepsRule, IsViewOf}
 use Rattle.station.specs.Plays.{Seat, visit_by, key_put, word_before, view_with_ticket, DrawsTicket}
 use Rattle.station.specs.Visits.{MayDraw}
 use Rattle.station.specs.declared.view.View.{View}
+use Rattle.station.proofs.Apart.{not_true, resound}
 use Rattle.station.proofs.Logging.{all-logged, log-stays}
 use Rattle.station.proofs.Fronts.{front-longer, own-other, own-mine}
-use Rattle.station.proofs.Steps.{St, with, owned, seat_below}
-use Rattle.station.proofs.Turning.{written_here, tallied_here, no_key, some_not_none, same_some}
+use Rattle.station.proofs.Steps.{St, with, owned, seat_below, each_set, no_some, same_view}
+use Rattle.station.proofs.Turning.{written_here, tallied_here, some_not_none}
 use Rattle.station.proofs.Reading.{alone}
 use Rattle.station.proofs.Writing.{still_held}
-use Rattle.station.proofs.Growing.{cell-push, word-unput, census-push, at-push, few_visits, no_wrap}
+use Rattle.station.proofs.Staying.{put_node, put_word, word-unput}
+use Rattle.station.proofs.Growing.{cell-push, census-push, at-push, few_visits, no_wrap}
 use Rattle.station.proofs.Lawful.{legal_more}
 use Rattle.station.specs.PutLaws.{puts-seen}
 use Rattle.directory.specs.HistoryLaws.{front-itself}
 use Rattle.directory.specs.Statements.{SameKey}
+use Rattle.directory.specs.ListLaws.{same_some}
 
 drop_all : (history : History) (visit : Visit) → drop (suc (length history)) (history ++ visit ∷ []) ≡ []
 drop_all [] visit = refl
 drop_all (x ∷ xs) visit = drop_all xs visit
 
-put_node : (setting : Setting) (act : Act) {key : Key} → key_put act ≡ Some key
-    → key_node setting key ≡ act_node setting act
-put_node setting (Look other) e = absurd (no_key e)
-put_node setting (Put other word) {key} e = sym (ap (λ (o : Option Key). key_node setting
-    (Rattle.std.specs.Prelude.unwrap_or o key)) e)
-put_node setting (Census node) e = absurd (no_key e)
-
-put_word : (act : Act) (key : Key) → key_put act ≡ Some key → (word : ℕ) × (act ≡ Put key word)
-put_word (Look other) key e = absurd (no_key e)
-put_word (Put other word) key e = (word, ap (λ (k : Key). Put k word) (same_some e))
-put_word (Census node) key e = absurd (no_key e)
-
 put_before : (setup : Setup) (history : History) (act : Act) {key : Key} → key_put act ≡ Some key
     → cell (setting_in setup) history key ≡ word_before setup history act
-put_before setup history (Look other) e = absurd (no_key e)
-put_before setup history (Put other word) {key} e = sym (ap (λ (o : Option Key). cell (setting_in setup) history
-    (Rattle.std.specs.Prelude.unwrap_or o key)) e)
-put_before setup history (Census node) e = absurd (no_key e)
-
-same_act : {act other : Act} → Some act ≡ Some other → act ≡ other
-same_act {act} e = ap (λ (o : Option Act). Rattle.std.specs.Prelude.unwrap_or o act) e
+put_before setup history act {key} e = sym (ap (word_before setup history) (put_word act key e).1)
 
 pub grows : SameKey → {s : St} (id : ℕ) {x new : ℕ} {v : View} {act : Act} (o : KeepsRule v.setup s)
     → IsViewOf s.views id v → MayDraw v x act → new ≡ suc (length o.history)
@@ -78,6 +59,8 @@ grows law {s} id {x} {new} {v} {act} o me may is =
     let mine = was.owner_is v.low stands in
     let words : (k : ℕ) → slice_index ws (suc k) ≡ slice_index s.words (suc k) = λ k. get_or-set_other s.words 0
     (suc k) new 0 (λ e. omega arith) in
+    let grown : (front : History) → IsFront front history → IsFront front longer =
+    λ front f. front-longer front history (visit ∷ []) f in
     record {
       history = longer;
       owner = o.owner;
@@ -85,105 +68,67 @@ grows law {s} id {x} {new} {v} {act} o me may is =
       size = length-set s.words 0 new ∙ o.size;
       few_actors = o.few_actors;
       tickets = get_or-set_same s.words 0 new 0 wide ∙ (is ∙ sym (omega (arith, length-append history (visit ∷ []))));
-      views = λ k u there. ⊎_elim
-          (λ (t : (k ≡ id) × (w ≡ u)). subst (λ (y : View). IsSoundView setup ws longer o.owner k y) t.1
-          (subst (λ (i : ℕ). IsSoundView setup ws longer o.owner i w) (sym t.0) record {
-            setup_is = λ _. refl;
-            has = record {
-              seen = front-itself longer;
-              told = front-longer v.told history
-                  (visit ∷ []) was.has.told;
-              visits = λ _ _. refl;
-              had = front-itself longer;
-              kept = λ _ _. refl;
-            };
-            owner_is = was.owner_is;
-            inside = λ node at. let e : x ≡ node = same_some (sym may.inside ∙ at) in
-                subst (λ (y : ℕ). IsInsideNode setup ws longer w y) e record {
-                  known = here.known;
-                  alone = here.alone;
-                  lock = words x ∙ here.lock;
-                  drawn = λ _. record {
-                    earlier = history;
-                    visit = visit;
-                    begins = front-itself longer;
-                    mine = refl;
-                    meant = may.intended;
-                    at = may.at;
-                    count = refl;
-                    last = ap (λ l. visits_at setting x l) (drop_all history visit);
-                    put = put_word act;
-                    word = λ key put. sym (put_before setup history act put);
-                    moves = λ due. due;
-                    tally = λ _. refl;
-                  };
-                  owed = λ _. refl;
-                  tally = λ _. words _ ∙ o.tallies x here.known
-                      (tallied_here o id x v me others (λ due _. true≢false (sym due ∙ may.clear)));
-                };
-            unwritten = λ key put. let node = put_node setting act put ∙ may.at in record {
-              cell = may.cell key put;
-              inside = may.inside ∙ ap (λ (n : ℕ). Some n) (sym node);
-              drawn = refl;
-              word = words _ ∙ (o.cells key (may.cell key put)
-                  (written_here o id v key me others node (λ had. no_key (sym may.unwritten ∙ had)))
-                  ∙ put_before setup history act put);
-            };
-            outside = λ out. absurd (some_not_none (sym may.inside ∙ out));
-            others = was.others;
-          }))
-          (λ (t : (k ≢ id) × (get_elem? s.views k ≡ some u)). let old = o.views k u t.1 in record {
-            setup_is = old.setup_is;
-            has = record {
-              seen = front-longer u.seen history (visit ∷ []) old.has.seen;
-              told = front-longer u.told history (visit ∷ []) old.has.told;
-              visits = λ actor st. own-other actor history visit (λ e. t.0 (sym (old.owner_is actor st).0
-                  ∙ (ap o.owner (sym e) ∙ mine.0)))
-                  ∙ old.has.visits actor st;
-              had = front-longer u.had history (visit ∷ []) old.has.had;
-              kept = λ actor st. own-other actor history visit (λ e. t.0 (sym (old.owner_is actor st).0
-                  ∙ (ap o.owner (sym e) ∙ mine.0)))
-                  ∙ old.has.kept actor st;
-            };
-            owner_is = old.owner_is;
-            inside = λ node at. let h = old.inside node at in record {
-              known = h.known;
-              alone = h.alone;
-              lock = words node ∙ h.lock;
-              drawn = λ drawn. let d = h.drawn drawn in record {
-                earlier = d.earlier;
-                visit = d.visit;
-                begins = front-longer (d.earlier ++ d.visit ∷ []) history (visit ∷ []) d.begins;
-                mine = d.mine;
-                meant = d.meant;
-                at = d.at;
-                count = d.count;
-                last = at-push setting node u.visit_count history visit
-                    (λ e. others k u t.0 t.1 (at ∙ ap (λ (n : ℕ). Some n) (sym e ∙ may.at))) d.last;
-                put = d.put;
-                word = d.word;
-                moves = d.moves;
-                tally = d.tally;
-              };
-              owed = h.owed;
-              tally = λ due. words _ ∙ h.tally due;
-            };
-            unwritten = λ key put. let h = old.unwritten key put in
-                record { cell = h.cell; inside = h.inside; drawn = h.drawn; word = words _ ∙ h.word };
-            outside = old.outside;
-            others = old.others;
-          })
-          (at_set s.views id k w u there);
+      views = each_set (IsSoundView setup ws longer o.owner) s.views id record {
+        setup_is = λ _. refl;
+        has = record {
+          seen = front-itself longer;
+          told = grown v.told was.has.told;
+          visits = λ _ _. refl;
+          had = front-itself longer;
+          kept = λ _ _. refl;
+        };
+        owner_is = was.owner_is;
+        inside = λ node at. rw (← same_some (sym may.inside ∙ at)) record {
+          known = here.known;
+          alone = here.alone;
+          lock = words x ∙ here.lock;
+          drawn = λ _. record {
+            earlier = history;
+            visit = visit;
+            begins = front-itself longer;
+            mine = refl;
+            meant = may.intended;
+            at = may.at;
+            count = refl;
+            last = ap (λ l. visits_at setting x l) (drop_all history visit);
+            put = put_word act;
+            word = λ key put. sym (put_before setup history act put);
+            moves = λ due. due;
+            tally = λ _. refl;
+          };
+          owed = λ _. refl;
+          tally = λ _. words _ ∙ o.tallies x here.known
+              (tallied_here o id x v me others (λ due _. true≢false (sym due ∙ may.clear)));
+        };
+        unwritten = λ key put. let node = put_node setting act put ∙ may.at in record {
+          cell = may.cell key put;
+          inside = may.inside ∙ ap (λ (n : ℕ). Some n) (sym node);
+          drawn = refl;
+          word = words _ ∙ (o.cells key (may.cell key put)
+              (written_here o id v key me others node (λ had. no_some (sym may.unwritten ∙ had)))
+              ∙ put_before setup history act put);
+        };
+        outside = λ out. absurd (some_not_none (sym may.inside ∙ out));
+        others = was.others;
+      } (λ k u ne there. let old = o.views k u there in
+          let same : (actor : ℕ) → StandsForActor u actor → own actor longer ≡ own actor history =
+          λ actor st. own-other actor history visit
+          (λ e. ne (sym (old.owner_is actor st).0 ∙ (ap o.owner (sym e) ∙ mine.0))) in
+          resound ws longer old record {
+            seen = grown u.seen old.has.seen;
+            told = grown u.told old.has.told;
+            visits = λ actor st. same actor st ∙ old.has.visits actor st;
+            had = grown u.had old.has.had;
+            kept = λ actor st. same actor st ∙ old.has.kept actor st;
+          } grown (λ node at none-there. at-push setting node u.visit_count history visit
+          (λ e. others k u ne there (at ∙ ap (λ (n : ℕ). Some n) (sym e ∙ may.at))) none-there)
+          (λ due. due) (λ _ put. put) (λ node _. words node) (λ node _ _. words _) (λ key _ _ _. words _));
       actors = λ actor below. owned s o.owner id actor v w me refl refl near (o.actors actor below);
       known = λ actor above. own-other actor history visit (λ e. omega (arith, mine.1, above, e)) ∙ o.known actor above;
       few = λ actor. dite (ℕ_discrete v.low actor)
-          (λ e. let same : own actor history ≡ own actor v.seen = subst (λ
-          (a : ℕ). own a history ≡ own a v.seen) e (was.has.visits v.low stands) in
-          let little : length (own actor v.seen) < 2 ^ 56 = subst (λ (a : ℕ). length
-          (own a v.seen) < 2 ^ 56) e may.few in
-          few_more (own actor history) visit (own actor longer) (own-mine history visit e) (subst (λ
-          (l : History). length l < 2 ^ 56) (sym same) little))
-          (λ ne. subst (λ (l : History). length l ≤ 2 ^ 56) (sym (own-other actor history visit ne)) (o.few actor));
+          (λ e. few_more (own actor history) visit (own actor longer) (own-mine history visit e)
+          (rw (← e, was.has.visits v.low stands) may.few))
+          (λ ne. rw (own-other actor history visit ne) (o.few actor));
       turns = o.turns;
       in_turn = o.in_turn;
       strangers = o.strangers;
@@ -192,17 +137,17 @@ grows law {s} id {x} {new} {v} {act} o me may is =
       locks = λ node actor known names. still_held s o.owner id v w me refl refl
           (o.locks node actor known (sym (words node) ∙ names));
       cells = λ key known quiet. words _ ∙ (o.cells key known (λ k u there put. dite (ℕ_discrete k id)
-          (λ e. let same : u ≡ v = some-injective u v (sym there ∙ (ap (get_elem? s.views) e ∙ me)) in
-          no_key (sym may.unwritten ∙ (ap (λ (y : View). y.unwritten) (sym same) ∙ put)))
+          (λ e. let same = same_view s.views me there e in
+          no_some (sym may.unwritten ∙ (ap (λ (y : View). y.unwritten) (sym same) ∙ put)))
           (λ ne. quiet k u (set_else s.views id k w ne ∙ there) put))
           ∙ sym (cell-push setting key history visit
           ∙ word-unput law key (cell setting history key) act (quiet id w (set_here s.views id w near))));
       tallies = λ node known quiet. words _ ∙ (o.tallies node known (λ k u there due at. dite (ℕ_discrete k id)
-          (λ e. let same : u ≡ v = some-injective u v (sym there ∙ (ap (get_elem? s.views) e ∙ me)) in
+          (λ e. let same = same_view s.views me there e in
           true≢false (sym due ∙ (ap (λ (y : View). y.owes) same ∙ may.clear)))
           (λ ne. quiet k u (set_else s.views id k w ne ∙ there) due at))
           ∙ sym (ap length (census-push law setting history node visit (dite (ℕ_discrete x node)
-          (λ e. inr (calm (changes_here setting history act) (λ due. quiet id w (set_here s.views id w near) due
+          (λ e. inr (not_true (changes_here setting history act) (λ due. quiet id w (set_here s.views id w near) due
           (may.inside ∙ ap (λ (n : ℕ). Some n) e))))
           (λ ne. inl (λ e. ne (sym may.at ∙ e)))))));
       legal = λ sub known. legal_more v sub history act may.may was.has.seen (was.has.visits v.low stands)
@@ -215,10 +160,6 @@ grows law {s} id {x} {new} {v} {act} o me may is =
       where
         up : (a b c : ℕ) → b ≡ a + 1 → a < c → b ≤ c
         up a b c e h = omega arith
-
-    calm : (b : Bool) → (b ≡ true → ⊥) → b ≡ false
-    calm true h = absurd (h refl)
-    calm false h = refl
 
 pub draws : SameKey → (n id : ℕ) {x : ℕ} (m : Seat) {act : Act} → MayDraw m.0 x act
     → Allows (KeepsRule m.0.setup) n id m 0 (λ y. (y + 1) % 2 ^ 64) (DrawsTicket (step n 0 1 0 none) m)
@@ -237,7 +178,7 @@ draws law n id {x} m {act} may s o wide me small =
       grows law id o me may new,
       λ node other at meant.
           let a : x ≡ node = same_some (sym may.inside ∙ at) in
-          let b : act ≡ other = same_act (sym may.intended ∙ meant) in (
+          let b : act ≡ other = same_some (sym may.intended ∙ meant) in (
             record {
               earlier = o.history;
               count = sym o.tickets;

@@ -34,9 +34,6 @@ last_left (y ∷ all) (x ∷ left) pass e =
     let first : x ≡ y = ap (λ (l : List PassData). get_or l 0 x) e in
     ((λ i. first i ∷ t.0 i), t.1)
 
-pub same_pass : {p q : PassData} → Some p ≡ Some q → p ≡ q
-same_pass {p} e = ap (λ (o : Option PassData). unwrap_or o p) e
-
 -- an actor that isn't missing has a pass
 pub find_pass : (passes : List PassData) (actor : ℕ) → ¬ HasNoPass passes actor
     → (k : ℕ) × (pass : PassData) × (slice_get passes k ≡ Some pass) × (actor_of pass ≡ actor)

@@ -1,5 +1,5 @@
 -- The passes that a tracker begins with.
-use Rattle.std.proofs.Common.{◌≡◌, ◌⊎◌, ℕ, zero, suc, ◌<◌, List, [], ◌∷◌, ◌++◌, length, Some, inl, inr, ⊎_elim, refl, sym, ap, ◌∙◌, subst}
+use Rattle.std.proofs.Common.{◌≡◌, ℕ, zero, suc, ◌<◌, List, [], ◌∷◌, ◌++◌, length, Some, sym, ap, ◌∙◌, subst}
 use Rattle.std.specs.Prelude.{All, slice_get}
 use Rattle.std.proofs.lemmas.List.Elements.{All-get_or}
 use Rattle.atomic_table.specs.Seated.{TableId}
@@ -13,6 +13,7 @@ use Rattle.station.specs.Setup.{Setup, CellsLie, setting_in}
 use Rattle.station.specs.Passes.{AreFresh, IsFreshPass, PassData, TrackerData, fresh_view}
 use Rattle.station.specs.Plays.{first_view, view_of_first}
 use Rattle.station.specs.declared.view.View.{View}
+use Rattle.directory.specs.ListLaws.{same_some}
 
 -- in a matched plan each cell lies at a node
 pub matched_lies : {plan : PlanData} (homes : List ℕ) (actors : ℕ) → IsMatched plan
@@ -49,14 +50,14 @@ pub fresh_own : (setup : Setup) (actor : ℕ) {me : Me Act View} → me ≡ (fre
 fresh_own setup actor is =
     is ∙ ap {B = Me Act View} (λ (s : Setup). (fresh_view s actor, [])) (sym (ap (λ (m : Me Act View). m.0.setup) is))
 
-pushed_at : (passes : List PassData) (pass : PassData) {found : PassData} (i : ℕ)
-    → slice_get (passes ++ pass ∷ []) i ≡ Some found → (slice_get passes i ≡ Some found) ⊎
-    ((i ≡ length passes) × (pass ≡ found))
-pushed_at [] pass zero e = inr (refl, cc)
-pushed_at [] pass (suc i) e = cc
-pushed_at (first ∷ passes) pass zero e = inl e
-pushed_at (first ∷ passes) pass (suc i) e = ⊎_elim (λ t. inl t) (λ t. inr (ap suc t.0, t.1))
-    (pushed_at passes pass i e)
+-- what holds of each pass, and of one more
+pushed : (P : ℕ → PassData → Type 0) (passes : List PassData) {pass : PassData} → P (length passes) pass
+    → ((i : ℕ) (found : PassData) → slice_get passes i ≡ Some found → P i found)
+    → (i : ℕ) (found : PassData) → slice_get (passes ++ pass ∷ []) i ≡ Some found → P i found
+pushed P [] new old zero found e = subst (P 0) (same_some e) new
+pushed P [] new old (suc i) found e = old (suc i) found e
+pushed P (first ∷ passes) new old zero found e = old 0 found e
+pushed P (first ∷ passes) new old (suc i) found e = pushed (λ k. P (suc k)) passes new (λ k. old (suc k)) i found e
 
 -- the pass of the next actor, behind fresh ones
 pub fresh_push : {tracker : TrackerData} (passes : List PassData) {made : List PassData} {pass : PassData} {actor : ℕ}
@@ -65,11 +66,8 @@ pub fresh_push : {tracker : TrackerData} (passes : List PassData) {made : List P
     → pass ≡ record { table = table; seat = seat; view = me.0; spare = 0 } → made ≡ passes ++ pass ∷ []
     → AreFresh tracker made
 fresh_push {tracker} passes {pass} {actor} seat {table} fresh count of is e grown i found there =
-    ⊎_elim (fresh i found)
-    (λ t. subst (λ (k : ℕ). IsFreshPass tracker k found) (sym (t.0 ∙ count))
-    (subst (IsFreshPass tracker actor) t.1 (record {
+    pushed (IsFreshPass tracker) passes (subst (λ (k : ℕ). IsFreshPass tracker k pass) (sym count) record {
       table = ap (λ (p : PassData). p.table) e ∙ of;
       view = ap (λ (p : PassData). p.view) e ∙ ap (λ (m : Me Act View). m.0) is;
       spare = ap (λ (p : PassData). p.spare) e;
-    })))
-    (pushed_at passes pass i (ap (λ (l : List PassData). slice_get l i) (sym grown) ∙ there))
+    }) fresh i found (ap (λ (l : List PassData). slice_get l i) (sym grown) ∙ there)

@@ -43,6 +43,10 @@ pub own-mine : {actor : ℕ} (history : List Visit) (visit : Visit) → visit.ac
 own-mine {actor} history visit mine = own-append actor history (visit ∷ [])
     ∙ ap (λ b. own actor history ++ cond b (visit ∷ []) []) (eq-eqb visit.actor actor mine)
 
+first-nil : (ps qs : List Visit) → ps ++ qs ≡ [] → ps ≡ []
+first-nil [] qs e = refl
+first-nil (p ∷ ps) qs e = absurd (omega (arith, ap length e))
+
 -- a front of a front keeps all own visits of the longer, where it has all
 pub own-between : (actor : ℕ) (xs ys zs : List Visit) → IsFront xs zs → IsFront ys zs → length xs ≤ length ys
     → own actor zs ≡ own actor xs → own actor zs ≡ own actor ys
@@ -55,17 +59,9 @@ own-between actor xs ys zs f g short same =
     let mid : own actor t.0 ≡ [] = first-nil (own actor t.0) (own actor (drop (length ys) zs)) both in
     same ∙ (sym (append-nil (own actor xs)) ∙ (ap (λ l. own actor xs ++ l) (sym mid)
     ∙ (sym (own-append actor xs t.0) ∙ ap (own actor) (sym t.1))))
-  where
-    first-nil : (ps qs : List Visit) → ps ++ qs ≡ [] → ps ≡ []
-    first-nil [] qs e = refl
-    first-nil (a ∷ ps) qs e = absurd (omega (arith, ap length e))
 
 -- an actor with no visit has none in a front
 pub own-none_longer : (actor : ℕ) (xs zs : List Visit) → IsFront xs zs → own actor zs ≡ [] → own actor xs ≡ []
 own-none_longer actor xs zs f none-there =
     first-nil (own actor xs) (own actor (drop (length xs) zs))
     (sym (own-append actor xs (drop (length xs) zs)) ∙ (ap (own actor) (sym (front-rest xs zs f)) ∙ none-there))
-  where
-    first-nil : (ps qs : List Visit) → ps ++ qs ≡ [] → ps ≡ []
-    first-nil [] qs e = refl
-    first-nil (p ∷ ps) qs e = absurd (omega (arith, ap length e))

@@ -1,5 +1,5 @@
 -- A ticket is drawn: the history has one visit more.
-use Rattle.std.proofs.Common.{◌≡◌, ◌≢◌, ◌⊎◌, ℕ, zero, suc, ◌+◌, ◌*◌, ◌%◌, ◌^◌, ◌<◌, ◌≤◌, ◌==◌, eq-eqb, ne_eqb, Bool, true, false, not, cond, [], ◌∷◌, ◌++◌, length, drop, refl, sym, ap, ◌∙◌, inl, inr, arith, Some}
+use Rattle.std.proofs.Common.{◌≡◌, ◌≢◌, ◌⊎◌, ℕ, zero, suc, ◌+◌, ◌*◌, ◌%◌, ◌^◌, ◌<◌, ◌≤◌, ◌==◌, eq-eqb, ne_eqb, Bool, true, false, not, cond, [], ◌∷◌, ◌++◌, length, drop, refl, sym, ap, ◌∙◌, inl, inr, arith}
 use Rattle.std.specs.Prelude.{if◌then◌else◌}
 use Rattle.std.proofs.lemmas.List.Elements.{filter-append}
 use Rattle.std.proofs.lemmas.List.Sums.{fold-append}
@@ -8,16 +8,15 @@ use native.Mathlib.Decide.{ℕ_discrete, dec_le}
 use Rattle.node_set.specs.Ascending.{sift}
 use Rattle.entry_word.specs.Marks.{mark_in, says_here}
 use Rattle.entry_word.specs.declared.visit.Key.{Key}
-use Rattle.entry_word.specs.declared.visit.Key.TheVariants.{Presence, Entry}
+use Rattle.entry_word.specs.declared.visit.Key.TheVariants.{Presence}
 use Rattle.entry_word.specs.declared.visit.Act.{Act}
-use Rattle.entry_word.specs.declared.visit.Act.TheVariants.{Look, Put, Census}
+use Rattle.entry_word.specs.declared.visit.Act.TheVariants.{Put, Census}
 use Rattle.entry_word.specs.declared.visit.Visit.{Visit}
 use Rattle.directory.specs.Settings.{Setting, subs}
 use Rattle.directory.specs.Keys.{act_node, same_key, opening}
 use Rattle.directory.specs.Histories.{History, cell, changes_here, own, word_after}
 use Rattle.directory.specs.Census.{census}
 use Rattle.station.specs.Views.{visits_at}
-use Rattle.station.specs.Plays.{key_put}
 use Rattle.station.proofs.Staying.{word-elsewhere}
 use Rattle.station.specs.TicketLaws.{own-nil}
 use Rattle.directory.specs.Statements.{SameKey}
@@ -27,16 +26,6 @@ pub cell-push : (setting : Setting) (key : Key) (history : History) (visit : Vis
 cell-push setting key history visit = fold-append (λ w (v : Visit). word_after key w v.act)
     (opening setting key) history (visit ∷ [])
 
--- an act leaves the cells that it doesn't put into
-pub word-unput : SameKey → (key : Key) (word : ℕ) (act : Act) → key_put act ≢ Some key → word_after key word act ≡ word
-word-unput law key word (Look other) ne = refl
-word-unput law key word (Put other new) ne = go (same_key key other) refl
-  where
-    go : (b : Bool) → same_key key other ≡ b → (if b then new else word) ≡ word
-    go true e = absurd (ne (ap (λ (k : Key). Some k) (sym ((law key other).0 e))))
-    go false e = refl
-word-unput law key word (Census node) ne = refl
-
 -- the census stays where an act is elsewhere, or changes nobody's being here
 here-same : SameKey → (setting : Setting) (history : History) (node sub : ℕ) (act : Act)
     → (act_node setting act ≢ node) ⊎ (changes_here setting history act ≡ false)
@@ -45,9 +34,6 @@ here-same : SameKey → (setting : Setting) (history : History) (node sub : ℕ)
 here-same law setting history node sub act (inl away) =
     ap (λ w. says_here (mark_in w)) (word-elsewhere law setting (Presence node sub) (cell setting history
     (Presence node sub)) act away)
-here-same law setting history node sub (Look key) (inr calm) = refl
-here-same law setting history node sub (Census at) (inr calm) = refl
-here-same law setting history node sub (Put (Entry level cluster other) word) (inr calm) = refl
 here-same law setting history node sub (Put (Presence at other) word) (inr calm) = go (same_key
     (Presence node sub) (Presence at other)) refl
   where
@@ -66,6 +52,7 @@ here-same law setting history node sub (Put (Presence at other) word) (inr calm)
         ∙ ap (λ (k : Key). says_here (mark_in (cell setting history k))) (sym ((law (Presence node sub)
         (Presence at other)).0 e))
     go false e = refl
+here-same law setting history node sub act (inr calm) = refl
 
 pub census-push : SameKey → (setting : Setting) (history : History) (node : ℕ) (visit : Visit)
     → (act_node setting visit.act ≢ node) ⊎ (changes_here setting history visit.act ≡ false)

@@ -1,10 +1,10 @@
 -- The words of the opening, laid one after another.
-use Rattle.std.proofs.Common.{◌≡◌, ◌≢◌, ◌⊎◌, ℕ, zero, suc, ◌+◌, ◌*◌, ◌<◌, ◌≤◌, ◌==◌, eqb, eq-eqb, ne_eqb, Bool, true, false, cond, List, [], ◌∷◌, ◌++◌, length, take, get_or, refl, sym, ap, ◌∙◌, subst, inl, inr, ⊎_elim, arith, length-append, add-one}
+use Rattle.std.proofs.Common.{◌≡◌, ◌≢◌, ◌⊎◌, ℕ, zero, suc, ◌+◌, ◌*◌, ◌<◌, ◌≤◌, ◌==◌, eqb, eq-eqb, ne_eqb, Bool, true, false, cond, List, [], ◌∷◌, ◌++◌, length, take, get_or, refl, sym, ap, ◌∙◌, subst, inl, inr, ⊎_elim, arith, length-append, add-one, lt-ltb}
 use Rattle.std.specs.Prelude.{slice_index, nat_lt, ◌&&◌, if◌then◌else◌}
 use Rattle.std.specs.List.{sum_by}
-use Rattle.std.proofs.Common.{lt-ltb}
 use Rattle.std.proofs.Math.Seq.{take-length}
 use Rattle.node_set.specs.Ascending.{sift}
+use Rattle.node_set.specs.SetLaws.{passing_grows}
 use Rattle.entry_word.specs.declared.visit.Key.{Key}
 use Rattle.entry_word.specs.declared.visit.Key.TheVariants.{Presence}
 use Rattle.entry_word.specs.Marks.{mark_in, says_here, mark_word}
@@ -27,21 +27,24 @@ at_push (w ∷ ws) x zero h = inl (omega arith, refl)
 at_push (w ∷ ws) x (suc i) h = ⊎_elim (λ t. inl (omega arith, t.1)) (λ t. inr (ap suc t.0, t.1)) (at_push ws x i
     (omega arith))
 
-laid_push : {setup : Setup} {ws : List ℕ} {x : ℕ} → AreLaid setup ws → (length ws ≡ 0 → x ≡ 0)
+laid_push : {setup : Setup} {ws new : List ℕ} {x : ℕ} → new ≡ ws ++ x ∷ [] → AreLaid setup ws → (length ws ≡ 0 → x ≡ 0)
     → ((node : ℕ) → node < nodes_in setup → length ws ≡ lock_word node → x ≡ 0)
     → ((node : ℕ) → node < nodes_in setup → length ws ≡ tally_word setup node
     → x ≡ length (census (setting_in setup) [] node)) → ((key : Key) → IsCellOf setup key
-    → length ws ≡ cell_word setup key → x ≡ cell (setting_in setup) [] key) → AreLaid setup (ws ++ x ∷ [])
-laid_push {setup} {ws} {x} o first lock tally cell_is =
-    record {
-      ticket = λ h. ⊎_elim (λ t. t.1 ∙ o.ticket t.0) (λ t. t.1 ∙ first t.0) (at_push ws x 0 h);
-      locks = λ node known h. ⊎_elim (λ t. t.1 ∙ o.locks node known t.0) (λ t. t.1
-          ∙ lock node known t.0) (at_push ws x (lock_word node) h);
-      tallies = λ node known h. ⊎_elim (λ t. t.1 ∙ o.tallies node known t.0) (λ t. t.1
-          ∙ tally node known t.0) (at_push ws x (tally_word setup node) h);
-      cells = λ key known h. ⊎_elim (λ t. t.1 ∙ o.cells key known t.0) (λ t. t.1
-          ∙ cell_is key known t.0) (at_push ws x (cell_word setup key) h);
-    }
+    → length ws ≡ cell_word setup key → x ≡ cell (setting_in setup) [] key)
+    → AreLaid setup new × (length new ≡ suc (length ws))
+laid_push {setup} {ws} {x = x} grown o first lock tally cell_is = (
+  rw grown record {
+    ticket = λ h. ⊎_elim (λ t. t.1 ∙ o.ticket t.0) (λ t. t.1 ∙ first t.0) (at_push ws x 0 h);
+    locks = λ node known h. ⊎_elim (λ t. t.1 ∙ o.locks node known t.0) (λ t. t.1
+        ∙ lock node known t.0) (at_push ws x (lock_word node) h);
+    tallies = λ node known h. ⊎_elim (λ t. t.1 ∙ o.tallies node known t.0) (λ t. t.1
+        ∙ tally node known t.0) (at_push ws x (tally_word setup node) h);
+    cells = λ key known h. ⊎_elim (λ t. t.1 ∙ o.cells key known t.0) (λ t. t.1
+        ∙ cell_is key known t.0) (at_push ws x (cell_word setup key) h);
+  },
+  omega (arith, ap length grown, length-append ws (x ∷ [])),
+)
 
 before_tally : (n : ℕ) {k : ℕ} (node : ℕ) → k < n → suc k ≡ suc (n + node) → ⊥
 before_tally n node h e = omega arith
@@ -49,35 +52,33 @@ before_tally n node h e = omega arith
 before_cell : (n : ℕ) {k : ℕ} (c : ℕ) → k < n → suc k ≡ suc (2 * n + c) → ⊥
 before_cell n c h e = omega arith
 
-pub laid_lock : {setup : Setup} {ws : List ℕ} (k : ℕ) → k < nodes_in setup → length ws ≡ suc k → AreLaid setup ws
-    → AreLaid setup (ws ++ 0 ∷ [])
-laid_lock {setup} k known at o = laid_push o (λ e. refl) (λ node inside e. refl)
+pub laid_lock : {setup : Setup} {ws new : List ℕ} (k : ℕ) → k < nodes_in setup → length ws ≡ suc k
+    → new ≡ ws ++ 0 ∷ [] → AreLaid setup ws → AreLaid setup new × (length new ≡ suc (length ws))
+laid_lock {setup} k known at grown o = laid_push grown o (λ e. refl) (λ node inside e. refl)
     (λ node inside e. absurd (before_tally (nodes_in setup) node known (sym at ∙ e)))
     (λ key _ e. absurd (before_cell (nodes_in setup) (cell_number setup.plan (subs_in setup) key) known (sym at ∙ e)))
 
 zero_cell : (n c : ℕ) → 0 ≡ suc (2 * n + c) → ⊥
 zero_cell n c e = omega arith
 
-pub laid_tally : {setup : Setup} {ws : List ℕ} (k : ℕ) {x : ℕ} → k < nodes_in setup
-    → length ws ≡ suc (nodes_in setup + k) → x ≡ length (census (setting_in setup) [] k) → AreLaid setup ws
-    → AreLaid setup (ws ++ x ∷ [])
-laid_tally {setup} k {x} known at is o = laid_push o (λ e. absurd (omega arith)) (λ node inside e. absurd (omega arith))
-    (λ node inside e. let same : k ≡ node = omega arith in
-    subst (λ (y : ℕ). x ≡ length (census (setting_in setup) [] y)) same is)
+pub laid_tally : {setup : Setup} {ws new : List ℕ} (k : ℕ) {x : ℕ} → k < nodes_in setup
+    → length ws ≡ suc (nodes_in setup + k) → x ≡ length (census (setting_in setup) [] k) → new ≡ ws ++ x ∷ []
+    → AreLaid setup ws → AreLaid setup new × (length new ≡ suc (length ws))
+laid_tally {setup} k known at is grown o = laid_push grown o (λ e. absurd (omega arith))
+    (λ node inside e. absurd (omega arith)) (λ node inside e. let same : k ≡ node = omega arith in rw (← same) is)
     (λ key _ e. absurd (behind_tally (nodes_in setup) k (cell_number setup.plan (subs_in setup) key) known
     (sym e ∙ at)))
 
-pub laid_cell : NumbersApart → {setup : Setup} {ws : List ℕ} {x : ℕ} {key : Key} → IsCellOf setup key
-    → length ws ≡ cell_word setup key → x ≡ cell (setting_in setup) [] key → AreLaid setup ws
-    → AreLaid setup (ws ++ x ∷ [])
-laid_cell law {setup} {x} {key} known at is o = laid_push o
+pub laid_cell : NumbersApart → {setup : Setup} {ws new : List ℕ} {x : ℕ} {key : Key} → IsCellOf setup key
+    → length ws ≡ cell_word setup key → x ≡ cell (setting_in setup) [] key → new ≡ ws ++ x ∷ [] → AreLaid setup ws
+    → AreLaid setup new × (length new ≡ suc (length ws))
+laid_cell law {setup} {key = key} known at is grown o = laid_push grown o
     (λ e. absurd (zero_cell (nodes_in setup) (cell_number setup.plan (subs_in setup) key) (sym e ∙ at)))
     (λ node inside e. absurd (behind (nodes_in setup) node (cell_number setup.plan (subs_in setup) key) inside
     (sym at ∙ e))) (λ node inside e. absurd (behind_tally (nodes_in setup) node
     (cell_number setup.plan (subs_in setup) key) inside (sym at ∙ e)))
-    (λ other inside e. let same : key ≡ other = law setup.plan (subs_in setup) key other known inside
-    (same_number (nodes_in setup) _ _ (sym at ∙ e)) in
-    subst (λ (k : Key). x ≡ cell (setting_in setup) [] k) same is)
+    (λ other inside e. rw (← law setup.plan (subs_in setup) key other known inside
+    (same_number (nodes_in setup) _ _ (sym at ∙ e))) is)
 
 none_below : (n : ℕ) → suc n < 1 → ⊥
 none_below n h = omega arith
@@ -107,19 +108,12 @@ opening_of plan homes o at actors =
 
 pub passing-more : (f : ℕ → Bool) (v k : ℕ)
     → length (sift f v (suc k)) ≡ length (sift f v k) + cond (f (v + k)) 1 0
-passing-more f v zero = first (f v) (f (v + 0)) (ap f (omega arith))
+passing-more f v k = ap length (passing_grows f v k)
+    ∙ (length-append (sift f v k) (cond (f (v + k)) ((v + k) ∷ []) []) ∙ one (f (v + k)))
   where
-    first : (a b : Bool) → a ≡ b → length (cond a (v ∷ []) []) ≡ 0 + cond b 1 0
-    first true b e = subst (λ x. 1 ≡ 0 + cond x 1 0) e refl
-    first false b e = subst (λ x. 0 ≡ 0 + cond x 1 0) e refl
-passing-more f v (suc k) = go (f v) (passing-more f (suc v) k) (ap f (omega arith))
-  where
-    go : (b : Bool) → length (sift f (suc v) (suc k)) ≡ length (sift f (suc v) k) + cond (f (suc v + k)) 1 0
-        → f (suc v + k) ≡ f (v + suc k)
-        → length (cond b (v ∷ sift f (suc v) (suc k)) (sift f (suc v) (suc k)))
-        ≡ length (cond b (v ∷ sift f (suc v) k) (sift f (suc v) k)) + cond (f (v + suc k)) 1 0
-    go true ih e = omega (arith, ih, ap {B = ℕ} (λ b. cond b 1 0) e)
-    go false ih e = omega (arith, ih, ap {B = ℕ} (λ b. cond b 1 0) e)
+    one : (b : Bool) → length (sift f v k) + length (cond b ((v + k) ∷ []) []) ≡ length (sift f v k) + cond b 1 0
+    one true = refl
+    one false = refl
 
 pub starts-at : (setting : Setting) (node sub : ℕ) → sub < subs setting
     → says_here (mark_in (cell setting [] (Presence node sub))) ≡ (node == start setting sub)

@@ -5,7 +5,6 @@ mod Staying
 mod Turning
 mod Reading
 mod Writing
-mod Wholes
 mod Forking
 mod Laying
 mod Fresh

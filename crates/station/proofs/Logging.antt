@@ -40,8 +40,7 @@ log-nil earlier event later e = absurd (omega (arith, ap length e, length-append
 
 pub log-more : {log : List TurnEvent} (event : TurnEvent) → IsLog log → IsInTurn log event → IsLog (log ++ event ∷ [])
 log-more {log} event old new earlier other later e = ⊎_elim
-    (λ (t : (earlier ≡ log) × (other ≡ event)). subst (λ (l : List TurnEvent). IsInTurn l other) (sym t.0)
-    (subst (λ (x : TurnEvent). IsInTurn log x) (sym t.1) new))
+    (λ (t : (earlier ≡ log) × (other ≡ event)). rw (t.0, t.1) new)
     (λ (t : (rest : List TurnEvent) × (log ≡ earlier ++ other ∷ rest)). old earlier other t.0 t.1)
     (last_or_there log event earlier other later e)
 

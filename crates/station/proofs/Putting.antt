@@ -1,6 +1,6 @@
 -- What a handset puts next, and how it moves the tally of its node.
-use Rattle.std.proofs.Common.{◌≡◌, ◌≢◌, ℕ, zero, suc, ◌+◌, ◌^◌, ◌<◌, ◌≤◌, ◌==◌, eq-eqb, ne_eqb, Bool, true, false, true≢false, not, cond, List, [], ◌∷◌, ◌++◌, length, take, refl, sym, ap, ◌∙◌, subst, arith, Option, Some, None, length-append}
-use Rattle.std.specs.Prelude.{slice_get, IfSome, option_map, ◌&&◌, if◌then◌else◌, unwrap_or}
+use Rattle.std.proofs.Common.{◌≡◌, ◌≢◌, ℕ, zero, suc, ◌+◌, ◌^◌, ◌<◌, ◌≤◌, eq-eqb, ne_eqb, Bool, true, false, true≢false, not, cond, List, [], ◌∷◌, ◌++◌, length, take, refl, sym, ap, ◌∙◌, subst, arith, Option, Some, None, length-append}
+use Rattle.std.specs.Prelude.{slice_get, IfSome, option_map, if◌then◌else◌, unwrap_or}
 use mathlib.Core.Logic.{dite}
 use native.Mathlib.Decide.{ℕ_discrete}
 use Rattle.node_set.specs.Ascending.{sift}
@@ -14,15 +14,15 @@ use Rattle.directory.specs.Settings.{Setting, subs}
 use Rattle.directory.specs.Keys.{key_sub, key_node}
 use Rattle.directory.specs.Histories.{History, cell, changes_here, own, puts_to}
 use Rattle.directory.specs.Census.{census}
-use Rattle.directory.specs.Legal.{ArePuts, IsLegal, IsScript}
+use Rattle.directory.specs.Legal.{IsLegal, IsScript}
 use Rattle.directory.specs.Statements.{ScriptsAreLegal}
-use Rattle.directory.specs.Writes.{Write, mark_at, entry_at, visit_of, visits, write_key, write_word, new_address}
+use Rattle.directory.specs.Writes.{Write, mark_at, visit_of, visits, write_key, write_word, new_address}
 use Rattle.region_plan.specs.Plan.{PlanData, nodes_of, levels_of}
 use Rattle.region_plan.specs.Settings.{setting_of}
 use Rattle.region_plan.specs.Cells.{IsPlace}
 use Rattle.visit_log.specs.Cells.{HasHomes}
 use Rattle.handset.specs.Condition.{GoesWith, HandsetData, IsMoveStage}
-use Rattle.handset.specs.StepWrites.{after_write, due, due_at, erasing_from, erasure, go_on, purging_from, switch_mark}
+use Rattle.handset.specs.StepWrites.{due, due_at, erasure, switch_mark}
 use Rattle.handset.specs.Stands.{StandsForSteps}
 use Rattle.handset.specs.declared.stage.Stage.{Stage}
 use Rattle.handset.specs.declared.stage.Stage.TheVariants.{Resting, Coming, Renewing, Committing, Confirming, Erasing, Purging, Switching}
@@ -34,9 +34,10 @@ use Rattle.station.specs.declared.view.TurnEvent.{TurnEvent}
 use Rattle.station.specs.declared.view.View.{View}
 use Rattle.station.proofs.Growing.{cell-push}
 use Rattle.station.specs.PutLaws.{puts-append}
-use Rattle.node_set.specs.SetLaws.{length-passing-le}
-use Rattle.directory.specs.StepLaws.{take-more}
-use Rattle.station.proofs.Turning.{same_some}
+use Rattle.node_set.specs.SetLaws.{length-passing-le, passing_same}
+use Rattle.station.proofs.Laying.{passing-more}
+use Rattle.directory.specs.StepLaws.{take-more, key_sub-of_write}
+use Rattle.directory.specs.ListLaws.{same_some}
 
 -- a put that is due: into a cell of its subscriber
 pub record IsDue (plan : PlanData) (sub : ℕ) (visit : Visit) : Type 0 where
@@ -46,10 +47,6 @@ pub record IsDue (plan : PlanData) (sub : ℕ) (visit : Visit) : Type 0 where
   pub actor : visit.actor ≡ sub
   pub key_of : key_sub key ≡ sub
   pub place : IsPlace plan key
-
-key-of_write : (sub : ℕ) (w : Write) → key_sub (write_key sub w) ≡ sub
-key-of_write sub (mark_at node mark) = refl
-key-of_write sub (entry_at level cluster address) = refl
 
 from_write : {plan : PlanData} (sub : ℕ) (w : Write) {visit : Visit} → Some (visit_of sub w) ≡ Some visit
     → IsPlace plan (write_key sub w) → IsDue plan sub visit
@@ -61,7 +58,7 @@ from_write {plan} sub w {visit} e place =
       word = write_word w;
       act = refl;
       actor = refl;
-      key_of = key-of_write sub w;
+      key_of = key_sub-of_write sub w;
       place = place;
     }
 
@@ -114,13 +111,11 @@ due_legal law {setup} {view} key word low h next mine =
     let visit : Visit = put_of view.low key word in
     let made = length (puts_to view.low view.seen) in
     let vs = visits setting view.low h.steps in
-    let next' : slice_get vs made ≡ Some visit =
-    subst (λ (s : ℕ). slice_get (visits setting s h.steps) made ≡ Some visit) h.sub next in
+    let next' = rw h.sub at next in
     let puts : puts_to view.low (view.seen ++ visit ∷ []) ≡ take (suc made) vs =
     put-alone view.seen key word view.low mine ∙ (ap (λ l. l ++ visit ∷ []) h.made
     ∙ sym (take-more vs made visit next')) in
-    subst (λ (l : List Visit). ArePuts setting view.low l) (sym puts) (law setting view.low h.steps
-    (suc made) low h.script)
+    rw puts (law setting view.low h.steps (suc made) low h.script)
 
 -- the handset after its put is the handset of the pass after its visit
 pub handset_after : {setup : Setup} {view : View} (after : View) {handset new : HandsetData} (key : Key) (word : ℕ)
@@ -135,8 +130,7 @@ handset_after {setup} {view} after {new} key word earlier h next mine low seen p
     let visit : Visit = put_of view.low key word in
     let made = length (puts_to view.low view.seen) in
     let vs = visits setting view.low h.steps in
-    let next' : slice_get vs made ≡ Some visit =
-    subst (λ (s : ℕ). slice_get (visits setting s h.steps) made ≡ Some visit) h.sub next in
+    let next' = rw h.sub at next in
     let now : puts_to after.low after.seen ≡ puts_to view.low view.seen ++ visit ∷ [] =
     (λ i. puts_to (low i) (seen i)) ∙ (put-alone earlier key word view.low mine
     ∙ ap (λ l. l ++ visit ∷ []) puts) in
@@ -151,50 +145,36 @@ handset_after {setup} {view} after {new} key word earlier h next mine low seen p
         steps = h.steps;
         script = subst (λ (s : ℕ). IsScript setting s h.steps) (sym low) h.script;
         stands = subst (λ (k : ℕ). StandsForSteps setting new h.steps k) (sym count) stands;
-        made = whole ∙ (λ i. take (back count i) (visits setting (back low i) h.steps));
+        made = whole ∙ (λ i. take (sym count i) (visits setting (sym low i) h.steps));
       };
       steps_are = refl;
       puts = now;
     }
-  where
-    back : {a b : ℕ} → a ≡ b → b ≡ a
-    back e = sym e
 
 -- a census gains one, or loses one
-
 pub passing-gains : (f g : ℕ → Bool) (v n k : ℕ) → v ≤ k → k < v + n → ((s : ℕ) → s ≢ k → f s ≡ g s)
     → f k ≡ false → g k ≡ true
     → length (sift g v n) ≡ length (sift f v n) + 1
 passing-gains f g v zero k low high same off on = absurd (omega arith)
 passing-gains f g v (suc n) k low high same off on =
-    dite (ℕ_discrete v k)
-    (λ e. here (f v) (g v) (ap f e ∙ off) (ap g e ∙ on) (alike (suc v) n (λ s h. same s (λ q. omega (arith, e, q, h)))))
-    (λ ne. subst (λ b. length (cond b (v ∷ sift g (suc v) n) (sift g (suc v) n)) ≡ length (sift f v (suc n)) + 1)
-    (same v ne) (later (f v) (passing-gains f g (suc v) n k (omega arith) (omega arith) same off on)))
-  where
-    alike : (w m : ℕ) → ((s : ℕ) → w ≤ s → f s ≡ g s) → length (sift f w m) ≡ length (sift g w m)
-    alike w zero all = refl
-    alike w (suc m) all = subst (λ b. length (sift f w (suc m)) ≡ length (cond b (w ∷ sift g (suc w) m)
-        (sift g (suc w) m))) (all w (omega arith)) (one (f w) (alike (suc w) m (λ s h. all s (omega arith))))
-      where
-        one : (b : Bool) → length (sift f (suc w) m) ≡ length (sift g (suc w) m)
-            → length (cond b (w ∷ sift f (suc w) m) (sift f (suc w) m))
-            ≡ length (cond b (w ∷ sift g (suc w) m) (sift g (suc w) m))
-        one true h = ap suc h
-        one false h = h
-
-    here : (a b : Bool) → a ≡ false → b ≡ true → length (sift f (suc v) n) ≡ length (sift g (suc v) n)
-        → length (cond b (v ∷ sift g (suc v) n) (sift g (suc v) n))
-        ≡ length (cond a (v ∷ sift f (suc v) n) (sift f (suc v) n)) + 1
-    here false true x y h = omega (arith, h)
-    here true b x y h = absurd (true≢false x)
-    here false false x y h = absurd (true≢false (sym y))
-
-    later : (b : Bool) → length (sift g (suc v) n) ≡ length (sift f (suc v) n) + 1
-        → length (cond b (v ∷ sift g (suc v) n) (sift g (suc v) n))
-        ≡ length (cond b (v ∷ sift f (suc v) n) (sift f (suc v) n)) + 1
-    later true h = omega (arith, h)
-    later false h = h
+    let more = passing-more f v n in
+    let more' = passing-more g v n in
+    dite (ℕ_discrete (v + n) k)
+    (λ e. omega (
+      arith,
+      more,
+      more',
+      ap length (passing_same f g v n (λ s _ below. same s (λ is. omega (arith, e, is, below)))),
+      ap {B = ℕ} (λ b. cond b 1 0) (ap f e ∙ off),
+      ap {B = ℕ} (λ b. cond b 1 0) (ap g e ∙ on),
+    ))
+    (λ ne. omega (
+      arith,
+      more,
+      more',
+      ap {B = ℕ} (λ b. cond b 1 0) (same (v + n) ne),
+      passing-gains f g v n k low (omega (arith, high, ne)) same off on,
+    ))
 
 -- whether a subscriber is at a node
 abbrev was_here : Setting → History → ℕ → ℕ → Bool
@@ -202,28 +182,19 @@ was_here setting history node sub = says_here (mark_in (cell setting history (Pr
 
 put-here : (setting : Setting) (earlier : History) (node sub word actor : ℕ)
     → was_here setting (earlier ++ put_of actor (Presence node sub) word ∷ []) node sub ≡ says_here (mark_in word)
-put-here setting earlier node sub word actor =
-    ap (λ w. says_here (mark_in w)) (cell-push setting (Presence node sub) earlier
-    (put_of actor (Presence node sub) word)
-    ∙ hit (node == node) (sub == sub) (eq-eqb node node refl) (eq-eqb sub sub refl))
-  where
-    hit : (a b : Bool) → a ≡ true → b ≡ true
-        → (if a && b then word else cell setting earlier (Presence node sub)) ≡ word
-    hit true true x y = refl
-    hit true false x y = absurd (true≢false (sym y))
-    hit false b x y = absurd (true≢false (sym x))
+put-here setting earlier node sub word actor = rw (
+  cell-push setting (Presence node sub) earlier (put_of actor (Presence node sub) word),
+  eq-eqb node node refl,
+  eq-eqb sub sub refl,
+) refl
 
 put-else : (setting : Setting) (earlier : History) (node sub word actor s : ℕ) → s ≢ sub
     → was_here setting (earlier ++ put_of actor (Presence node sub) word ∷ []) node s ≡ was_here setting earlier node s
-put-else setting earlier node sub word actor s ne =
-    ap (λ w. says_here (mark_in w)) (cell-push setting (Presence node s) earlier
-    (put_of actor (Presence node sub) word) ∙ miss (node == node) (s == sub) (ne_eqb s sub ne))
-  where
-    miss : (a b : Bool) → b ≡ false
-        → (if a && b then word else cell setting earlier (Presence node s)) ≡ cell setting earlier (Presence node s)
-    miss true false x = refl
-    miss true true x = absurd (true≢false x)
-    miss false b x = refl
+put-else setting earlier node sub word actor s ne = rw (
+  cell-push setting (Presence node s) earlier (put_of actor (Presence node sub) word),
+  eq-eqb node node refl,
+  ne_eqb s sub ne,
+) refl
 
 -- the tally that a put owes
 pub moves : (setup : Setup) (view : View) (earlier : History) {node old : ℕ} (new actor : ℕ) (key : Key)
@@ -292,31 +263,7 @@ may_put view word log undrawn unwritten clear at few cell mine legal = record {
   may = (mine, legal);
 }
 
--- a write leaves whose handset it is
-go_on-sub : (setting : Setting) (handset : HandsetData) (stage : Stage)
-    → (go_on setting handset stage).sub ≡ handset.sub
-go_on-sub setting handset Resting = refl
-go_on-sub setting handset Coming = refl
-go_on-sub setting handset (Renewing level) = refl
-go_on-sub setting handset Committing = refl
-go_on-sub setting handset Confirming = refl
-go_on-sub setting handset (Erasing level) = refl
-go_on-sub setting handset (Purging node) = refl
-go_on-sub setting handset (Switching off) = refl
-
-pub write-sub : (setting : Setting) (handset : HandsetData) (stage : Stage)
-    → (after_write setting handset stage).sub ≡ handset.sub
-write-sub setting handset Resting = refl
-write-sub setting handset Coming = refl
-write-sub setting handset (Renewing level) = refl
-write-sub setting handset Committing = refl
-write-sub setting handset Confirming = go_on-sub setting handset (erasing_from setting handset 0)
-write-sub setting handset (Erasing level) = go_on-sub setting handset (erasing_from setting handset (suc level))
-write-sub setting handset (Purging node) = go_on-sub setting handset (purging_from setting handset (suc node))
-write-sub setting handset (Switching off) = refl
-
 -- what holds of a put of the subscriber holds of the one that is due
 pub put_due : {o : Option Visit} {sub low : ℕ} (key : Key) (word : ℕ) (P : Visit → Type 0)
     → o ≡ Some (put_of sub key word) → sub ≡ low → P (put_of low key word) → IfSome o P
-put_due key word P e same h = subst (λ (p : Option Visit). IfSome p P)
-    (sym (e ∙ ap (λ (a : ℕ). Some (put_of a key word)) same)) h
+put_due key word P e same h = rw (e, same) h

@@ -1,5 +1,5 @@
 -- Loads: the rule is seen, and a cell or a tally is read.
-use Rattle.std.proofs.Common.{◌≡◌, ◌≢◌, ℕ, true≢false, List, [], length, drop, set, refl, sym, ap, ◌∙◌, subst, arith, Some}
+use Rattle.std.proofs.Common.{◌≡◌, ◌≢◌, ℕ, true≢false, [], length, drop, set, refl, sym, ap, ◌∙◌, subst, arith, Some}
 use Rattle.std.specs.Prelude.{slice_index}
 use Rattle.std.proofs.lemmas.List.{set-get_or}
 use mathlib.Core.Option.{none}
@@ -17,8 +17,8 @@ use Rattle.station.specs.Visits.{HasTurn}
 use Rattle.station.specs.declared.view.View.{View}
 use Rattle.station.proofs.Apart.{one_inside, same_number}
 use Rattle.station.proofs.Staying.{cell-stays, census-stays}
-use Rattle.station.proofs.Steps.{St, with}
-use Rattle.station.proofs.Turning.{written_here, tallied_here, no_key}
+use Rattle.station.proofs.Steps.{St, no_some, with}
+use Rattle.station.proofs.Turning.{written_here, tallied_here}
 use Rattle.directory.specs.Statements.{SameKey}
 use Rattle.visit_log.specs.Numbers.{NumbersApart}
 
@@ -26,9 +26,7 @@ use Rattle.visit_log.specs.Numbers.{NumbersApart}
 pub unmoved : {setup : Setup} {s : St} (i j : ℕ) (v : View) → KeepsRule setup s → IsViewOf s.views j v
     → KeepsRule setup (with (set s.words i (slice_index s.words i)) s j v)
 unmoved {setup} {s} i j v o me =
-    subst (λ (ws : List ℕ). KeepsRule setup (with ws s j v)) (sym (set-get_or s.words i 0))
-    (subst (λ (vs : List View). KeepsRule setup (record { words = s.words; homes = s.homes; views = vs })) (sym
-    (set_again s.views j v me)) o)
+    rw (set-get_or s.words i 0, set_again s.views j v me) o
 
 pub witnesses : (n id i : ℕ) (m : Seat)
     → Allows (KeepsRule m.0.setup) n id m i (λ y. y) (Witnesses (step n i 0 0 none) m)
@@ -38,7 +36,7 @@ witnesses n id i m s o wide me small =
 pub all_seen : {setup : Setup} {s : St} (o : KeepsRule setup s) (j : ℕ) {x : ℕ} {v : View} → IsViewOf s.views j v
     → HasTurn v x → visits_at (setting_in setup) x (drop (length v.seen) o.history) ≡ []
 all_seen {setup} o j {x} {v} me turn =
-    subst (λ (k : ℕ). visits_at (setting_in setup) x (drop k o.history) ≡ []) turn.count
+    rw (← turn.count)
     (((o.views j v me).inside x turn.inside).drawn turn.has_drawn).last
 
 -- what the history leaves in a cell there is what the view has seen of it
@@ -76,7 +74,7 @@ reads_cell law same n id {i} m {key} known at turn s o wide me small =
               (λ quiet. subst (λ (k : Key). slice_index s.words i ≡ cell (setting_in setup) m.0.seen k) e
                   (ap (slice_index s.words) at
                   ∙ (o.cells key known (written_here o id m.0 key me (alone o id m.0 me turn.inside) refl
-                  (λ is. no_key (sym quiet ∙ is)))
+                  (λ is. no_some (sym quiet ∙ is)))
                   ∙ cell_seen same o id key me turn))),
               λ is. ap (slice_index s.words) at' ∙ ((o.views id m.0 me).unwritten other is).word,
             ),

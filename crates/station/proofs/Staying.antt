@@ -1,5 +1,5 @@
 -- What stays while no visit is at a node: its cells and its census.
-use Rattle.std.proofs.Common.{◌≡◌, ◌≢◌, ℕ, ◌==◌, eq-eqb, Bool, true, false, cond, List, [], ◌∷◌, length, drop, refl, sym, ap, ◌∙◌, arith, true≢false}
+use Rattle.std.proofs.Common.{◌≡◌, ◌≢◌, ℕ, ◌==◌, eq-eqb, Bool, true, false, cond, List, [], ◌∷◌, length, drop, refl, sym, ap, ◌∙◌, arith, true≢false, Some}
 use Rattle.std.specs.Prelude.{fold, if◌then◌else◌}
 use Rattle.std.proofs.lemmas.List.Sums.{fold-append}
 use Rattle.node_set.specs.Ascending.{sift}
@@ -7,26 +7,41 @@ use Rattle.entry_word.specs.Marks.{mark_in, says_here}
 use Rattle.entry_word.specs.declared.visit.Key.{Key}
 use Rattle.entry_word.specs.declared.visit.Key.TheVariants.{Presence}
 use Rattle.entry_word.specs.declared.visit.Act.{Act}
-use Rattle.entry_word.specs.declared.visit.Act.TheVariants.{Look, Put, Census}
+use Rattle.entry_word.specs.declared.visit.Act.TheVariants.{Put}
 use Rattle.entry_word.specs.declared.visit.Visit.{Visit}
 use Rattle.directory.specs.Settings.{Setting, subs}
 use Rattle.directory.specs.Keys.{act_node, key_node, same_key, opening}
 use Rattle.directory.specs.Histories.{History, IsFront, cell, word_after}
 use Rattle.directory.specs.Census.{census}
+use Rattle.station.specs.Plays.{key_put}
 use Rattle.station.specs.Views.{visits_at}
+use Rattle.station.proofs.Steps.{no_some}
 use Rattle.station.specs.TicketLaws.{front-rest}
 use Rattle.directory.specs.Statements.{SameKey}
+use Rattle.directory.specs.ListLaws.{same_some}
+
+-- what an act puts
+pub put_word : (act : Act) (key : Key) → key_put act ≡ Some key → (word : ℕ) × (act ≡ Put key word)
+put_word (Put other word) key e = (word, ap (λ (k : Key). Put k word) (same_some e))
+put_word act key e = absurd (no_some e)
+
+pub put_node : (setting : Setting) (act : Act) {key : Key} → key_put act ≡ Some key
+    → key_node setting key ≡ act_node setting act
+put_node setting act {key} e = sym (ap (act_node setting) (put_word act key e).1)
+
+-- an act leaves the cells that it doesn't put into
+pub word-unput : SameKey → (key : Key) (word : ℕ) (act : Act) → key_put act ≢ Some key → word_after key word act ≡ word
+word-unput law key word (Put other new) ne = go (same_key key other) refl
+  where
+    go : (b : Bool) → same_key key other ≡ b → (if b then new else word) ≡ word
+    go true e = absurd (ne (ap (λ (k : Key). Some k) (sym ((law key other).0 e))))
+    go false e = refl
+word-unput law key word act ne = refl
 
 -- an act at another node leaves a cell
 pub word-elsewhere : SameKey → (setting : Setting) (key : Key) (word : ℕ) (act : Act)
     → act_node setting act ≢ key_node setting key → word_after key word act ≡ word
-word-elsewhere law setting key word (Look other) ne = refl
-word-elsewhere law setting key word (Put other new) ne = go (same_key key other) refl
-  where
-    go : (b : Bool) → same_key key other ≡ b → (if b then new else word) ≡ word
-    go true e = absurd (ne (ap (key_node setting) (sym ((law key other).0 e))))
-    go false e = refl
-word-elsewhere law setting key word (Census node) ne = refl
+word-elsewhere law setting key word act ne = word-unput law key word act (λ e. ne (sym (put_node setting act e)))
 
 cell-rest : SameKey → (setting : Setting) (key : Key) {node : ℕ} (word : ℕ) (rest : List Visit)
     → key_node setting key ≡ node → visits_at setting node rest ≡ [] → fold (λ w (v : Visit). word_after key w v.act)

@@ -1,5 +1,5 @@
 -- The steps that leave the history as it is keep the rule.
-use Rattle.std.proofs.Common.{◌≡◌, ◌≢◌, ◌⊎◌, ℕ, zero, suc, ◌<◌, true, List, [], ◌∷◌, length, set, refl, sym, ap, ◌∙◌, subst, inl, inr, ⊎_elim, arith, Option, Some, None}
+use Rattle.std.proofs.Common.{◌≡◌, ◌≢◌, ◌⊎◌, ℕ, zero, suc, ◌<◌, ◌≤◌, true, List, [], ◌∷◌, ◌++◌, length, set, refl, sym, ap, ◌∙◌, subst, inl, inr, ⊎_elim, arith, Some, None}
 use Rattle.std.specs.Prelude.{slice_index}
 use mathlib.Core.Option.{some, none, some-injective}
 use mathlib.Core.Logic.{dite}
@@ -17,9 +17,10 @@ use Rattle.station.specs.Views.{HasSeen, IsSoundView, StandsForActor}
 use Rattle.station.specs.Rule.{KeepsRule, IsViewOf, IsOwned, IsHeld}
 use Rattle.station.specs.declared.view.TurnEvent.{TurnEvent}
 use Rattle.station.specs.declared.view.View.{View}
-use Rattle.station.specs.Turns.{lock_in}
+use Rattle.station.specs.Turns.{HasLogged, IsLog, events_of, lock_in}
 use Rattle.station.proofs.Logging.{LogGoes, all-logged}
 use Rattle.station.proofs.Apart.{IsWordAt, is_lock, is_tally, is_cell, resound}
+use Rattle.directory.specs.ListLaws.{same_some}
 
 abbrev pub St : Type 0
 St = State Act View
@@ -27,11 +28,15 @@ St = State Act View
 abbrev pub with : List ℕ → St → ℕ → View → St
 with ws s j w = record { words = ws; homes = s.homes; views = set s.views j w }
 
+-- the views of one seat are one
+pub same_view : (views : List View) {j k : ℕ} {v u : View} → IsViewOf views j v → IsViewOf views k u → k ≡ j → u ≡ v
+same_view views {v} {u} me at e = some-injective u v (sym at ∙ (ap (get_elem? views) e ∙ me))
+
 -- each actor keeps its seat
 pub owned : (s : St) (owner : ℕ → ℕ) (j actor : ℕ) (v w : View) → IsViewOf s.views j v → w.low ≡ v.low → w.high ≡ v.high
     → j < length s.views → IsOwned s.views owner actor → IsOwned (set s.views j w) owner actor
 owned s owner j actor v w me low high near o = dite (ℕ_discrete (owner actor) j)
-    (λ e. let same : o.0 ≡ v = some-injective o.0 v (sym o.1 ∙ (ap (get_elem? s.views) e ∙ me)) in
+    (λ e. let same = same_view s.views me o.1 e in
     let l : o.0.low ≡ v.low = ap (λ (x : View). x.low) same in
     let h : o.0.high ≡ v.high = ap (λ (x : View). x.high) same in
     let st = o.2 in
@@ -44,12 +49,28 @@ seat_below [] j v e = absurd (mathlib.Core.Option.some-ne-none v (sym e))
 seat_below (x ∷ xs) zero v e = omega arith
 seat_below (x ∷ xs) (suc j) v e = omega (arith, seat_below xs j v e)
 
--- a view that has seen the same, and stands for the same actors
+-- what holds of a seat's new view, and of the views of others, holds of all
+pub each_set : (P : ℕ → View → Type 0) (views : List View) (j : ℕ) {w : View} → P j w
+    → ((k : ℕ) (u : View) → k ≢ j → IsViewOf views k u → P k u)
+    → (k : ℕ) (u : View) → IsViewOf (set views j w) k u → P k u
+each_set P views j {w} mine others k u at = ⊎_elim
+    (λ (t : (k ≡ j) × (w ≡ u)). subst (P k) t.1 (subst (λ (i : ℕ). P i w) (sym t.0) mine))
+    (λ (t : (k ≢ j) × IsViewOf views k u). others k u t.0 t.1)
+    (at_set views j k w u at)
+
+-- and where a seat is added
+pub each_push : (P : ℕ → View → Type 0) (views : List View) {w : View} → P (length views) w
+    → ((k : ℕ) (u : View) → IsViewOf views k u → P k u) → (k : ℕ) (u : View) → IsViewOf (views ++ w ∷ []) k u → P k u
+each_push P [] {w} new old zero u at = subst (P 0) (some-injective w u at) new
+each_push P [] new old (suc k) u at = old (suc k) u at
+each_push P (first ∷ later) new old zero u at = old 0 u at
+each_push P (first ∷ later) new old (suc k) u at =
+    each_push (λ i. P (suc i)) later new (λ i. old (suc i)) k u at
+
+-- a view that has seen the same, and stands for no others
 pub has-kept : {history : History} {v : View} (w : View) → w.seen ≡ v.seen → w.told ≡ v.told → w.had ≡ v.had
-    → w.low ≡ v.low → w.high ≡ v.high → HasSeen history v → HasSeen history w
-has-kept {history} {v} w seen told had low high has =
-    let stands : (actor : ℕ) → StandsForActor w actor → StandsForActor v actor =
-    λ actor its. (omega (arith, its.0, low), omega (arith, its.1, high)) in
+    → ((actor : ℕ) → StandsForActor w actor → StandsForActor v actor) → HasSeen history v → HasSeen history w
+has-kept {history} w seen told had stands has =
     record {
       seen = subst (λ l. IsFront l history) (sym seen) has.seen;
       told = subst (λ l. IsFront l history) (sym told) has.told;
@@ -83,13 +104,12 @@ pub record Changes (setup : Setup) (s : St) (o : KeepsRule setup s) (j x : ℕ) 
   pub tally : (w.owes ≡ true → w.inside ≢ Some x)
       → slice_index new (tally_word setup x) ≡ length (census (setting_in setup) o.history x)
 
-pub no_some : {x : ℕ} → None ≡ Some x → ⊥
+pub no_some : {A : Type 0} {x : A} → None ≡ Some x → ⊥
 no_some e = cc
 
 other_node : (v : View) {x : ℕ} (y : ℕ) → x ≢ y → (v.inside ≡ None) ⊎ (v.inside ≡ Some x) → v.inside ≢ Some y
 other_node v y ne (inl out) e = no_some (sym out ∙ e)
-other_node v {x} y ne (inr there) e = let same : Some x ≡ Some y = sym there ∙ e in
-    ne (ap (λ (o : Option ℕ). Rattle.std.specs.Prelude.unwrap_or o x) same)
+other_node v y ne (inr there) e = ne (same_some (sym there ∙ e))
 
 pub changed : {setup : Setup} {s : St} {o : KeepsRule setup s} {j x : ℕ} {v w : View} {new : List ℕ}
     → Changes setup s o j x v w new → KeepsRule setup (with new s j w)
@@ -102,13 +122,14 @@ changed {setup} {s} {o} {j} {x} {v} {w} {new} c =
       size = c.size ∙ o.size;
       few_actors = o.few_actors;
       tickets = c.first ∙ o.tickets;
-      views = λ k u at. ⊎_elim
-          (λ (t : (k ≡ j) × (w ≡ u)). subst (λ (y : View). IsSoundView setup new o.history o.owner k y) t.1
-          (subst (λ (i : ℕ). IsSoundView setup new o.history o.owner i w) (sym t.0) c.mine))
-          (λ (t : (k ≢ j) × (get_elem? s.views k ≡ some u)). let was = o.views k u t.1 in
-          resound new was (λ node i is word. c.elsewhere node i (was.inside node is).known
-          (λ e. c.alone k u t.0 t.1 (is ∙ ap (λ (n : ℕ). Some n) (sym e))) word))
-          (at_set s.views j k w u at);
+      views = each_set (IsSoundView setup new o.history o.owner) s.views j c.mine (λ k u ne at.
+          let was = o.views k u at in
+          let same : (node i : ℕ) → u.inside ≡ Some node → IsWordAt setup node i
+          → slice_index new i ≡ slice_index s.words i = λ node i is word. c.elsewhere node i (was.inside node is).known
+          (λ e. c.alone k u ne at (is ∙ ap (λ (n : ℕ). Some n) (sym e))) word in
+          resound new o.history was was.has (λ _ f. f) (λ _ _ none. none) (λ due. due) (λ _ put. put)
+          (λ node is. same node _ is (is_lock refl)) (λ node is _. same node _ is (is_tally refl))
+          (λ key _ is known. same (key_node (setting_in setup) key) _ is (is_cell key known refl refl)));
       actors = λ actor below. owned s o.owner j actor v w c.me c.low c.high near (o.actors actor below);
       known = o.known;
       few = o.few;
@@ -116,37 +137,83 @@ changed {setup} {s} {o} {j} {x} {v} {w} {new} c =
       in_turn = c.goes.in_turn;
       strangers = c.goes.strangers;
       lock_words = λ node known. dite (ℕ_discrete x node)
-          (λ e. subst (λ (n : ℕ). slice_index new (lock_word n) ≡ lock_in c.log n) e c.lock_here)
+          (λ e. rw (← e) c.lock_here)
           (λ ne. c.elsewhere node (lock_word node) known ne (is_lock refl)
           ∙ (o.lock_words node known ∙ sym (c.lock_else node ne)));
       logged = all-logged c.goes;
       locks = λ node actor inside is. dite (ℕ_discrete x node)
-          (λ e. subst (λ (n : ℕ). IsHeld (set s.views j w) o.owner n actor) e (c.lock actor (ap (λ
-          (n : ℕ). slice_index new (lock_word n)) e ∙ is)))
+          (λ e. rw (← e) (c.lock actor (rw e is)))
           (λ ne. let t = o.locks node actor inside (sym (c.elsewhere node (lock_word node) inside ne
           (is_lock refl)) ∙ is) in
           let away : o.owner actor ≢ j = λ e. other_node v node ne c.before
-          (ap (λ (y : View). y.inside) (some-injective v t.0 (sym c.me ∙ (ap (get_elem? s.views) (sym e) ∙ t.1)))
-          ∙ t.2) in
+          (ap (λ (y : View). y.inside) (sym (same_view s.views c.me t.1 e)) ∙ t.2) in
           (t.0, set_else s.views j (o.owner actor) w away ∙ t.1, t.2, t.3));
       cells = λ key known quiet. dite (ℕ_discrete x (key_node (setting_in setup) key))
           (λ e. c.cells key known (sym e) (quiet j w (set_here s.views j w near)))
           (λ ne. c.elsewhere (key_node (setting_in setup) key) (cell_word setup key) (o.lies key known) ne
           (is_cell key known refl refl) ∙ o.cells key known (λ k u at is.
           dite (ℕ_discrete k j)
-          (λ e. let same : u ≡ v = some-injective u v (sym at ∙ (ap (get_elem? s.views) e ∙ c.me)) in
+          (λ e. let same = same_view s.views c.me at e in
           other_node v (key_node (setting_in setup) key) ne c.before
           (ap (λ (y : View). y.inside) (sym same) ∙ ((o.views k u at).unwritten key is).inside))
           (λ away. quiet k u (set_else s.views j k w away ∙ at) is)));
       tallies = λ node known quiet. dite (ℕ_discrete x node)
-          (λ e. subst (λ (n : ℕ). slice_index new (tally_word setup n) ≡ length (census
-          (setting_in setup) o.history n)) e
+          (λ e. rw (← e)
           (c.tally (λ owes is. quiet j w (set_here s.views j w near) owes (is ∙ ap (λ (n : ℕ). Some n) e))))
           (λ ne. c.elsewhere node (tally_word setup node) known ne (is_tally refl)
           ∙ o.tallies node known (λ k u at owes is.
           dite (ℕ_discrete k j)
-          (λ e. let same : u ≡ v = some-injective u v (sym at ∙ (ap (get_elem? s.views) e ∙ c.me)) in
+          (λ e. let same = same_view s.views c.me at e in
           other_node v node ne c.before (ap (λ (y : View). y.inside) (sym same) ∙ is))
           (λ away. quiet k u (set_else s.views j k w away ∙ at) owes is)));
+      legal = o.legal;
+    }
+
+-- among these is a view that is inside the node, and has as much to write there
+abbrev pub Remains : List View → View → ℕ → Type 0
+Remains views old node = (seat : ℕ) × (view : View) × IsViewOf views seat view × (view.inside ≡ Some node)
+    × (view.low ≡ old.low) × (view.unwritten ≡ old.unwritten) × (view.owes ≡ old.owes)
+
+-- the seats are others, but the words stay
+pub record Reseats (setup : Setup) (s : St) (o : KeepsRule setup s) (views : List View) (owner : ℕ → ℕ)
+    (log : List TurnEvent) : Type 0 where
+  pub sound : (k : ℕ) (u : View) → IsViewOf views k u → IsSoundView setup s.words o.history owner k u
+  pub actors : (actor : ℕ) → actor < setup.actors → IsOwned views owner actor
+  pub remains : (k : ℕ) (u : View) (node : ℕ) → IsViewOf s.views k u → u.inside ≡ Some node → Remains views u node
+  pub in_turn : IsLog log
+  pub strangers : (actor : ℕ) → setup.actors ≤ actor → events_of actor log ≡ []
+  pub logged : (k : ℕ) (u : View) → IsViewOf views k u → HasLogged log u
+  pub locked : (node : ℕ) → lock_in log node ≡ lock_in o.turns node
+
+pub reseated : {setup : Setup} {s : St} {o : KeepsRule setup s} {views : List View} {owner : ℕ → ℕ}
+    {log : List TurnEvent} → Reseats setup s o views owner log
+    → KeepsRule setup (record { words = s.words; homes = s.homes; views = views })
+reseated {o} {views} {owner} {log} r =
+    record {
+      history = o.history;
+      owner = owner;
+      lies = o.lies;
+      size = o.size;
+      few_actors = o.few_actors;
+      tickets = o.tickets;
+      views = r.sound;
+      actors = r.actors;
+      known = o.known;
+      few = o.few;
+      turns = log;
+      in_turn = r.in_turn;
+      strangers = r.strangers;
+      lock_words = λ node known. o.lock_words node known ∙ sym (r.locked node);
+      logged = r.logged;
+      locks = λ node actor known is. let t = o.locks node actor known is in
+          let m = r.remains (o.owner actor) t.0 node t.1 t.2 in
+          let its = r.sound m.0 m.1 m.2 in
+          let low : m.1.low ≡ actor = m.4 ∙ t.3 in
+          let own = its.owner_is actor (omega (arith, low), omega (arith, low, (its.inside node m.3).alone)) in
+          (m.1, subst (λ k. IsViewOf views k m.1) (sym own.0) m.2, m.3, low);
+      cells = λ key known quiet. o.cells key known (λ k u at is.
+          let m = r.remains k u _ at ((o.views k u at).unwritten key is).inside in quiet m.0 m.1 m.2 (m.5 ∙ is));
+      tallies = λ node known quiet. o.tallies node known (λ k u at due is.
+          let m = r.remains k u node at is in quiet m.0 m.1 m.2 (m.6 ∙ due) m.3);
       legal = o.legal;
     }

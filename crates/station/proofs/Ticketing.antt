@@ -2,14 +2,15 @@
 use Rattle.std.specs.Prelude.{◌||◌, slice_get, unwrap_or}
 use Rattle.node_set.specs.Ascending.{has}
 use Rattle.std.proofs.Common.{get_or, add-one, Some, ne_eqb, ◌≡◌, ℕ, zero, suc, ◌+◌, ◌^◌, ◌<◌, ◌≤◌, ◌==◌, eq-eqb, Bool, true, false, cond, List, [], ◌∷◌, ◌++◌, length, take, refl, sym, ap, ◌∙◌, subst, arith, Option, None, length-append}
+use Rattle.std.proofs.Math.Bool.{or_assoc, or-false}
 use Rattle.std.proofs.Math.Seq.{take-append_seam}
+use Rattle.atomic_table.specs.Seated.{TableId}
 use Rattle.atomic_table.specs.Table.{Me}
 use Rattle.entry_word.specs.declared.visit.Act.{Act}
 use Rattle.entry_word.specs.declared.visit.Visit.{Visit}
-use Rattle.directory.specs.Histories.{History, IsFront, before, own, tickets, tickets_from}
-use Rattle.directory.specs.Legal.{IsLegal}
-use Rattle.station.specs.Setup.{setting_in, subs_in}
-use Rattle.station.specs.Plays.{Draws, view_after_put, view_after_tally, view_held, view_inside, view_outside, visit_by, key_put, MayDo}
+use Rattle.directory.specs.Histories.{History, IsFront, before, changes_here, own, tickets, tickets_from}
+use Rattle.station.specs.Setup.{setting_in}
+use Rattle.station.specs.Plays.{Draws, view_held, view_inside, view_outside, visit_by, key_put, MayDo}
 use Rattle.station.specs.Passes.{IsPass, PassData, actor_of}
 use Rattle.station.specs.Turns.{HasHadTurn, Logs}
 use Rattle.station.specs.declared.view.TurnEvent.TheVariants.{GivenBack, Won}
@@ -43,9 +44,7 @@ pub pass_after : {me : Me Act View} (new : Me Act View) {actor seen spare : ℕ}
 pass_after {me} new {actor} left {ticket} {kept} earlier act p less count front visits slots low high real
     undrawn unwritten clear seen_is =
     let visit : Visit = record { actor = me.0.low; act = act } in
-    let own_same : own actor earlier ≡ own actor me.0.seen = subst (λ
-    (a : ℕ). own a earlier ≡ own a me.0.seen) p.low visits in
-    let all = tickets-same actor me.0.seen earlier front own_same in
+    let all = tickets-same actor me.0.seen earlier front (rw (← p.low) visits) in
     let one = length-append kept (ticket ∷ []) in
     record {
       slots = slots;
@@ -64,8 +63,10 @@ pass_after {me} new {actor} left {ticket} {kept} earlier act p less count front 
       few = omega (arith, p.few, one, less);
     }
 
-pub left_by : (there : View) {new : View} → new ≡ view_outside there new.turns → there.unwritten ≡ None
-    → there.owes ≡ false → HasLeft there new
+-- a view that leaves its node has written all, where it did so before
+pub left_by : (there : View) {new : View} {unwritten : Option Key} {owes : Bool}
+    → new ≡ view_outside (record there { unwritten = unwritten; owes = owes }) new.turns → unwritten ≡ None
+    → owes ≡ false → HasLeft there new
 left_by there e unwritten clear = subst (λ (v : View). HasLeft there v) (sym e) record {
   low = refl;
   high = refl;
@@ -77,21 +78,6 @@ left_by there e unwritten clear = subst (λ (v : View). HasLeft there v) (sym e)
   undrawn = refl;
   unwritten = unwritten;
   clear = clear;
-}
-
-pub left_put : (there : View) {new : View} → new ≡ view_outside (view_after_tally (view_after_put there)) new.turns
-    → HasLeft there new
-left_put there e = subst (λ (v : View). HasLeft there v) (sym e) record {
-  low = refl;
-  high = refl;
-  real = refl;
-  setup = refl;
-  seen = refl;
-  lost = refl;
-  inside = refl;
-  undrawn = refl;
-  unwritten = refl;
-  clear = refl;
 }
 
 -- a lost turn leaves a pass a pass
@@ -141,23 +127,25 @@ may_draw act log p some at none may = record {
   may = may;
 }
 
+-- a view that has drawn the ticket of an act that puts nothing, and has looked, leaves its node
+look_left : {old two there new : View} {node ticket : ℕ} {act : Act} → Draws old node act ticket two
+    → key_put act ≡ None → ((history : History) → changes_here (setting_in old.setup) history act ≡ false) → there ≡ two
+    → new ≡ view_outside there new.turns → HasLeft two new
+look_left {two} {new} d none-put calm same gone =
+    left_by two (gone ∙ ap (λ (v : View). view_outside v new.turns) same)
+    (ap (λ (v : View). v.unwritten) d.view ∙ none-put) (ap (λ (v : View). v.owes) d.view ∙ calm d.earlier)
+
 -- a pass that has drawn the ticket of a look, and has looked, leaves the node with its visit made
 pub look_done : {me two there new : Me Act View} {actor seen spare : ℕ} (left : ℕ) {node ticket : ℕ} {kept : List ℕ}
     {room : ℕ} {act : Act} → IsPass me actor seen spare kept room → left + 1 ≡ spare
-    → Draws (view_inside me.0 node act two.0.turns) node act ticket two.0 → two.1 ≡ me.1 → there ≡ two
-    → new ≡ (view_outside there.0 new.0.turns, there.1) → two.0.unwritten ≡ None → two.0.owes ≡ false
+    → Draws (view_inside me.0 node act two.0.turns) node act ticket two.0 → key_put act ≡ None
+    → ((history : History) → changes_here (setting_in me.0.setup) history act ≡ false) → two.1 ≡ me.1 → there ≡ two
+    → new ≡ (view_outside there.0 new.0.turns, there.1)
     → IsPass new actor (suc ticket) left (kept ++ ticket ∷ []) room
-look_done {two} {new} left p less d slots same gone unwritten clear =
-    pass_done two new left p less d (left_by two.0 (ap (λ (m : Me Act View). m.0) gone
-    ∙ ap (λ (m : Me Act View). view_outside m.0 new.0.turns) same) unwritten clear)
+look_done {two} {new} left p less d none-put calm slots same gone =
+    pass_done two new left p less d
+    (look_left d none-put calm (ap (λ (m : Me Act View). m.0) same) (ap (λ (m : Me Act View). m.0) gone))
     (ap (λ (m : Me Act View). m.1) gone ∙ (ap (λ (m : Me Act View). m.1) same ∙ slots))
-
--- that a seat has won its turn, told of its pass
-pub pass_wins : {old pass : PassData} {actor node : ℕ} {log : List TurnEvent} → old ≡ pass → old.view.low ≡ actor
-    → Logs old.view.turns (Won actor node) log → Logs pass.view.turns (Won (actor_of pass) node) log
-pass_wins {old} {node} {log} told low wins =
-    subst (λ (q : PassData). Logs q.view.turns (Won (actor_of q) node) log) told
-    (subst (λ (a : ℕ). Logs old.view.turns (Won a node) log) (sym low) wins)
 
 pub visit_done : (old new : PassData) {two : View} {node ticket : ℕ} {act : Act}
     → Draws (view_inside old.view node act two.turns) node act ticket two → HasLeft two new.view
@@ -172,14 +160,12 @@ visit_done old new {two} {node} d gone_by at wins back table seat less =
       begins = d.seen;
       visits = d.visits;
       seen = gone_by.seen ∙ ap (λ (x : View). x.seen) d.view;
-      legal = subst (λ (l : History). (sub : ℕ) → sub < subs_in v.setup
-          → IsLegal (setting_in v.setup) sub l) (sym gone_by.seen) d.legal;
+      legal = rw gone_by.seen d.legal;
       outside = gone_by.inside;
       turn = subst (λ (n : ℕ). HasHadTurn v.low n v.turns new.view.turns) (sym at) record {
         inside = two.turns;
         won = wins;
-        given_back = subst (λ (a : ℕ). Logs two.turns (GivenBack a node) new.view.turns)
-            (ap (λ (x : View). x.low) d.view) back;
+        given_back = rw (← ap (λ (x : View). x.low) d.view) back;
       };
       lost = gone_by.lost ∙ ap (λ (x : View). x.lost) d.view;
       spare = less;
@@ -195,9 +181,7 @@ pub pass_is : {me : Me Act View} {actor seen seen' spare : ℕ} {kept kept' : Li
     → IsPass me actor seen spare kept room → seen' ≡ seen → kept' ≡ kept → room' ≡ room
     → IsPass me actor seen' spare kept' room'
 pass_is {me} {actor} {seen} {spare} {kept} {kept'} {room'} p a b c =
-    subst (λ (x : ℕ). IsPass me actor x spare kept' room') (sym a)
-    (subst (λ (x : List ℕ). IsPass me actor seen spare x room') (sym b) (subst (λ
-    (x : ℕ). IsPass me actor seen spare kept x) (sym c) p))
+    rw (a, b, c) p
 
 -- what comes before the last visit
 pub before_last : (earlier : History) {seen : History} (visit : Visit) {ticket : ℕ} → length earlier ≡ ticket
@@ -209,6 +193,31 @@ pub seen_done : (v : View) {two new : View} {node ticket : ℕ} {act : Act}
     → (d : Draws (view_inside v node act two.turns) node act ticket two) → HasLeft two new
     → new.seen ≡ d.earlier ++ visit_by v act ∷ []
 seen_done v d left = left.seen ∙ ap (λ (x : View). x.seen) d.view
+
+-- such a pass has made its visit, and has looked just after all earlier visits, and its own
+pub looked : {inside old : PassData} {two there : Me Act View} {new : View} {table : TableId}
+    {actor node ticket seat spare : ℕ} {act : Act} → inside ≡ old → inside.view.low ≡ actor
+    → Draws (view_inside inside.view node act two.0.turns) node act ticket two.0
+    → Logs inside.view.turns (Won actor node) two.0.turns → key_put act ≡ None
+    → ((history : History) → changes_here (setting_in inside.view.setup) history act ≡ false)
+    → act_node (setting_in inside.view.setup) act ≡ node → there ≡ two → new ≡ view_outside there.0 new.turns
+    → Logs there.0.turns (GivenBack there.0.low node) new.turns → table ≡ inside.table → seat ≡ inside.seat
+    → spare + 1 ≡ inside.spare
+    → HasVisited old act ticket (record { table = table; seat = seat; view = new; spare = spare })
+    × (two.0.seen ≡ before ticket new.seen ++ visit_by old.view act ∷ [])
+looked {inside} {two} {new} {table} {node} {ticket} {seat} {spare} {act} told low d wins none-put calm at same gone back
+    of_table of_seat less =
+    let v = inside.view in
+    let left = look_left d none-put calm (ap (λ (m : Me Act View). m.0) same) gone in
+    let visit = visit_by v act in
+    let after : PassData = record { table = table; seat = seat; view = new; spare = spare } in
+    rw (← told) (
+      visit_done inside after d left at (rw low wins)
+          (subst (λ (m : Me Act View). Logs m.0.turns (GivenBack m.0.low node) new.turns) same back) of_table of_seat
+          less,
+      ap (λ (x : View). x.seen) d.view
+          ∙ sym (ap (λ l. l ++ visit ∷ []) (before_last d.earlier visit d.count (seen_done v d left))),
+    )
 
 -- tickets are those of visits
 from-below : (actor t : ℕ) (xs : History) (k d : ℕ) → k < length (tickets_from actor t xs)
@@ -277,16 +286,8 @@ pub has-taken : (x k : ℕ) (xs : List ℕ) (d : ℕ) → k < length xs
     → has x (take (k + 1) xs) ≡ (has x (take k xs) || (x == get_or xs k d))
 has-taken x k xs d h = ap (λ (n : ℕ). has x (take n xs)) (add-one k) ∙ go x k xs h
   where
-    flat : (b : Bool) → (b || false) ≡ b
-    flat true = refl
-    flat false = refl
-
-    shift : (a b c : Bool) → (a || (b || c)) ≡ ((a || b) || c)
-    shift true b c = refl
-    shift false b c = refl
-
     go : (y j : ℕ) (ys : List ℕ) → j < length ys → has y (take (suc j) ys) ≡ (has y (take j ys) || (y == get_or ys j d))
     go y j [] g = absurd (omega arith)
-    go y zero (z ∷ zs) g = flat (y == z)
+    go y zero (z ∷ zs) g = or-false (y == z)
     go y (suc j) (z ∷ zs) g = ap (λ b. (y == z) || b) (go y j zs (omega arith))
-        ∙ shift (y == z) (has y (take j zs)) (y == get_or zs j d)
+        ∙ sym (or_assoc (y == z) (has y (take j zs)) (y == get_or zs j d))

@@ -2,13 +2,12 @@
 use Rattle.std.proofs.Common.{◌≡◌, ◌≢◌, ◌⊎◌, ℕ, suc, ◌<◌, ◌≤◌, ◌==◌, eq-eqb, ne_eqb, Bool, true, false, cond, List, [], ◌∷◌, ◌++◌, get_or, length, drop, set, refl, sym, ap, ◌∙◌, subst, inl, inr, ⊎_elim, arith, append_assoc, length-append, Some}
 use Rattle.std.proofs.lemmas.List.{append-nil}
 use mathlib.Core.Logic.{dite}
-use mathlib.Core.Option.{some-injective}
 use native.Mathlib.Decide.{ℕ_discrete, dec_le}
 use lib.ListN.{get_elem?}
 use Rattle.atomic_table.specs.Table.{State}
 use Rattle.atomic_table.proofs.Lists.{set_here, set_else}
 use Rattle.entry_word.specs.declared.visit.Act.{Act}
-use Rattle.station.specs.Moments.{EventsComeNow, HasLocks}
+use Rattle.station.specs.Moments.{EventsComeNow, HasLocks, IsStepOf}
 use Rattle.station.specs.Rule.{KeepsRule, IsViewOf}
 use Rattle.station.specs.Setup.{Setup}
 use Rattle.station.specs.Turns.{HasLogged, Logs, event_actor, events_of, lock_in}
@@ -17,7 +16,7 @@ use Rattle.station.specs.Views.{StandsForActor}
 use Rattle.station.specs.declared.view.TurnEvent.{TurnEvent}
 use Rattle.station.specs.declared.view.View.{View}
 use Rattle.station.proofs.Logging.{last_or_there}
-use Rattle.station.proofs.Steps.{seat_below}
+use Rattle.station.proofs.Steps.{same_view, seat_below}
 
 module _ {A : Type 0} where
   -- a list is empty, or has a last item
@@ -110,139 +109,126 @@ own-all : {log : List TurnEvent} {view : View} (actor : ℕ) → HasLogged log v
 own-all {view} actor has st = ap (events_of actor) has.goes_on ∙ (events-append actor view.turns has.later
     ∙ (ap (λ l. events_of actor view.turns ++ l) (has.by_others actor st) ∙ append-nil (events_of actor view.turns)))
 
--- a step that brings an event into the log
-record Brings (setup : Setup) (old new : State Act View) (seat : ℕ) (before after : View) (event : TurnEvent)
-    : Type 0 where
-  pub was : KeepsRule setup old
-  pub is : KeepsRule setup new
-  pub me : IsViewOf old.views seat before
-  pub views : new.views ≡ set old.views seat after
-  pub alone : before.high ≡ suc before.low
-  pub low : after.low ≡ before.low
-  pub high : after.high ≡ before.high
-  pub mine : event_actor event ≡ before.low
-  pub logs : Logs before.turns event after.turns
+module _ {old new : State Act View} {seat : ℕ} (s : IsStepOf seat old new) where
+  pub its_seat : IsViewOf new.views seat s.after
+  its_seat = subst (λ (vs : List View). IsViewOf vs seat s.after) (sym s.views)
+      (set_here old.views seat s.after (seat_below old.views seat s.before s.was))
 
-module _ (setup : Setup) (old new : State Act View) (seat : ℕ) (before after : View) (event : TurnEvent)
-    (s : Brings setup old new seat before after event) where
-  stands_first : StandsForActor before before.low
+  -- another seat has the view that it had
+  pub other_seat : (k : ℕ) → k ≢ seat → get_elem? new.views k ≡ get_elem? old.views k
+  other_seat k ne = ap (λ (vs : List View). get_elem? vs k) s.views ∙ set_else old.views seat k s.after ne
+
+-- a step that brings an event of its seat's own into the log
+module _ (setup : Setup) (old new : State Act View) (seat : ℕ) (was : KeepsRule setup old) (is : KeepsRule setup new)
+    (s : IsStepOf seat old new) (event : TurnEvent) (mine : event_actor event ≡ s.before.low)
+    (logs : Logs s.before.turns event s.after.turns) where
+  stands_first : StandsForActor s.before s.before.low
   stands_first = (omega arith, omega (arith, s.alone))
 
-  stands_then : StandsForActor after before.low
+  stands_then : StandsForActor s.after s.before.low
   stands_then = (omega (arith, s.low), omega (arith, s.alone, s.high))
 
-  its_seat : IsViewOf new.views seat after
-  its_seat = subst (λ (vs : List View). IsViewOf vs seat after) (sym s.views)
-      (set_here old.views seat after (seat_below old.views seat before s.me))
-
-  other_seat : (k : ℕ) (u : View) → k ≢ seat → IsViewOf old.views k u → IsViewOf new.views k u
-  other_seat k u ne at = subst (λ (vs : List View). IsViewOf vs k u) (sym s.views)
-      (set_else old.views seat k after ne ∙ at)
-
   -- the log afterwards goes on from what the view has logged
-  log_then : s.is.turns ≡ (before.turns ++ s.logs.later) ++ event ∷ (s.is.logged seat after its_seat).later
-  log_then = (s.is.logged seat after its_seat).goes_on
-      ∙ (ap (λ l. l ++ (s.is.logged seat after its_seat).later) s.logs.goes_on
-      ∙ append_assoc (before.turns ++ s.logs.later) (event ∷ []) (s.is.logged seat after its_seat).later)
+  log_then : is.turns ≡ (s.before.turns ++ logs.later) ++ event ∷ (is.logged seat s.after (its_seat s)).later
+  log_then = (is.logged seat s.after (its_seat s)).goes_on
+      ∙ (ap (λ l. l ++ (is.logged seat s.after (its_seat s)).later) logs.goes_on
+      ∙ append_assoc (s.before.turns ++ logs.later) (event ∷ []) (is.logged seat s.after (its_seat s)).later)
 
   -- the log before is a front of the log afterwards
-  log_first : (rest : List TurnEvent) × (s.is.turns ≡ s.was.turns ++ rest)
+  log_first : (rest : List TurnEvent) × (is.turns ≡ was.turns ++ rest)
   log_first = ⊎_elim
-      (λ (e : s.was.turns ≡ []). (s.is.turns, ap (λ l. l ++ s.is.turns) (sym e)))
-      (λ (t : (front : List TurnEvent) × (last : TurnEvent) × (s.was.turns ≡ front ++ last ∷ [])).
+      (λ (e : was.turns ≡ []). (is.turns, ap (λ l. l ++ is.turns) (sym e)))
+      (λ (t : (front : List TurnEvent) × (last : TurnEvent) × (was.turns ≡ front ++ last ∷ [])).
       let actor = event_actor t.1 in
       dite (dec_le setup.actors actor)
       (λ h. absurd (omega (
         arith,
         some-mine t.0 t.1 [] refl,
         ap (λ l. length (events_of actor l)) t.2,
-        ap length (s.was.strangers actor h),
+        ap length (was.strangers actor h),
       )))
-      (λ h. let its = s.was.actors actor (omega arith) in
-      let all : s.was.turns ≡ its.0.turns = whole t.0 t.1 (s.was.logged (s.was.owner actor) its.0 its.1) its.2 t.2 in
-      dite (ℕ_discrete (s.was.owner actor) seat)
-      (λ e. let same : its.0 ≡ before = some-injective its.0 before (sym its.1 ∙ (ap (get_elem? old.views) e
-      ∙ s.me)) in
-      let later = (s.is.logged seat after its_seat).later in (
-        s.logs.later ++ event ∷ later,
-        log_then ∙ (append_assoc before.turns s.logs.later (event ∷ later)
-            ∙ ap (λ l. l ++ (s.logs.later ++ event ∷ later)) (sym (all ∙ ap (λ (u : View). u.turns) same))),
+      (λ h. let its = was.actors actor (omega arith) in
+      let all : was.turns ≡ its.0.turns = whole t.0 t.1 (was.logged (was.owner actor) its.0 its.1) its.2 t.2 in
+      dite (ℕ_discrete (was.owner actor) seat)
+      (λ e. let same = same_view old.views s.was its.1 e in
+      let later = (is.logged seat s.after (its_seat s)).later in (
+        logs.later ++ event ∷ later,
+        log_then ∙ (append_assoc s.before.turns logs.later (event ∷ later)
+            ∙ ap (λ l. l ++ (logs.later ++ event ∷ later)) (sym (all ∙ ap (λ (u : View). u.turns) same))),
       ))
-      (λ ne. let has = s.is.logged (s.was.owner actor) its.0 (other_seat (s.was.owner actor) its.0 ne its.1) in
+      (λ ne. let has = is.logged (was.owner actor) its.0 (other_seat s (was.owner actor) ne ∙ its.1) in
       (has.later, has.goes_on ∙ ap (λ l. l ++ has.later) (sym all)))))
-      (ends s.was.turns)
+      (ends was.turns)
 
   -- nobody else has an event more
-  others_same : (actor : ℕ) → actor ≢ before.low → events_of actor s.is.turns ≡ events_of actor s.was.turns
+  others_same : (actor : ℕ) → actor ≢ s.before.low → events_of actor is.turns ≡ events_of actor was.turns
   others_same actor ne = dite (dec_le setup.actors actor)
-      (λ h. s.is.strangers actor h ∙ sym (s.was.strangers actor h))
-      (λ h. let its = s.was.actors actor (omega arith) in
-      let away : s.was.owner actor ≢ seat = λ e.
-      let same : its.0 ≡ before = some-injective its.0 before (sym its.1 ∙ (ap (get_elem? old.views) e ∙ s.me)) in
-      let st : StandsForActor before actor = subst (λ (u : View). StandsForActor u actor) same its.2 in
+      (λ h. is.strangers actor h ∙ sym (was.strangers actor h))
+      (λ h. let its = was.actors actor (omega arith) in
+      let away : was.owner actor ≢ seat = λ e.
+      let st : StandsForActor s.before actor = subst (λ (u : View). StandsForActor u actor)
+      (same_view old.views s.was its.1 e) its.2 in
       ne (omega (arith, st.0, st.1, s.alone)) in
-      own-all actor (s.is.logged (s.was.owner actor) its.0 (other_seat (s.was.owner actor) its.0 away its.1)) its.2
-      ∙ sym (own-all actor (s.was.logged (s.was.owner actor) its.0 its.1) its.2))
+      own-all actor (is.logged (was.owner actor) its.0 (other_seat s (was.owner actor) away ∙ its.1)) its.2
+      ∙ sym (own-all actor (was.logged (was.owner actor) its.0 its.1) its.2))
 
   -- what the event comes behind has all own events that there were
-  own_first : events_of before.low (before.turns ++ s.logs.later) ≡ events_of before.low s.was.turns
-  own_first = events-append before.low before.turns s.logs.later
-      ∙ (ap (λ l. events_of before.low before.turns ++ l)
-      (subst (λ (a : ℕ). events_of a s.logs.later ≡ []) s.mine s.logs.by_others)
-      ∙ (append-nil (events_of before.low before.turns)
-      ∙ sym (own-all before.low (s.was.logged seat before s.me) stands_first)))
+  own_first : events_of s.before.low (s.before.turns ++ logs.later) ≡ events_of s.before.low was.turns
+  own_first = events-append s.before.low s.before.turns logs.later
+      ∙ (ap (λ l. events_of s.before.low s.before.turns ++ l)
+      (subst (λ (a : ℕ). events_of a logs.later ≡ []) mine logs.by_others)
+      ∙ (append-nil (events_of s.before.low s.before.turns)
+      ∙ sym (own-all s.before.low (was.logged seat s.before s.was) stands_first)))
 
   -- and there is the one more
-  own_then : events_of before.low s.is.turns ≡ events_of before.low s.was.turns ++ event ∷ []
-  own_then = own-all before.low (s.is.logged seat after its_seat) stands_then
-      ∙ (ap (events_of before.low) s.logs.goes_on ∙ (events-append before.low (before.turns ++ s.logs.later)
+  own_then : events_of s.before.low is.turns ≡ events_of s.before.low was.turns ++ event ∷ []
+  own_then = own-all s.before.low (is.logged seat s.after (its_seat s)) stands_then
+      ∙ (ap (events_of s.before.low) logs.goes_on ∙ (events-append s.before.low (s.before.turns ++ logs.later)
       (event ∷ [])
-      ∙ (λ i. own_first i ++ events-mine before.low event [] s.mine i)))
+      ∙ (λ i. own_first i ++ events-mine s.before.low event [] mine i)))
 
   -- so the log has just the event more
-  one_more : s.is.turns ≡ s.was.turns ++ event ∷ []
+  one_more : is.turns ≡ was.turns ++ event ∷ []
   one_more =
-      let was = s.was.turns in
+      let had = was.turns in
       let rest = log_first.0 in
-      let split : (actor : ℕ) → events_of actor was ++ events_of actor rest ≡ events_of actor s.is.turns =
-      λ actor. sym (events-append actor was rest) ∙ ap (events_of actor) (sym log_first.1) in
-      log_first.1 ∙ ap (λ l. was ++ l) (just-one before.low rest
-      (λ actor ne. cancel (events_of actor was) (events_of actor rest) []
-      (split actor ∙ (others_same actor ne ∙ sym (append-nil (events_of actor was)))))
-      (cancel (events_of before.low was) (events_of before.low rest) (event ∷ []) (split before.low ∙ own_then)))
+      let split : (actor : ℕ) → events_of actor had ++ events_of actor rest ≡ events_of actor is.turns =
+      λ actor. sym (events-append actor had rest) ∙ ap (events_of actor) (sym log_first.1) in
+      log_first.1 ∙ ap (λ l. had ++ l) (just-one s.before.low rest
+      (λ actor ne. cancel (events_of actor had) (events_of actor rest) []
+      (split actor ∙ (others_same actor ne ∙ sym (append-nil (events_of actor had)))))
+      (cancel (events_of s.before.low had) (events_of s.before.low rest) (event ∷ []) (split s.before.low ∙ own_then)))
 
   -- and comes behind all that was there
-  moment : s.was.turns ≡ before.turns ++ s.logs.later
+  moment : was.turns ≡ s.before.turns ++ logs.later
   moment = ⊎_elim
-      (λ (t : (before.turns ++ s.logs.later ≡ s.was.turns) × (event ≡ event)). sym t.0)
-      (λ (t : (rest : List TurnEvent) × (s.was.turns ≡ (before.turns ++ s.logs.later) ++ event ∷ rest)).
+      (λ (t : (s.before.turns ++ logs.later ≡ was.turns) × (event ≡ event)). sym t.0)
+      (λ (t : (rest : List TurnEvent) × (was.turns ≡ (s.before.turns ++ logs.later) ++ event ∷ rest)).
       absurd (omega (
         arith,
-        some-mine (before.turns ++ s.logs.later) event t.0 s.mine,
-        ap (λ l. length (events_of before.low l)) t.1,
+        some-mine (s.before.turns ++ logs.later) event t.0 mine,
+        ap (λ l. length (events_of s.before.low l)) t.1,
         ap length own_first,
       )))
-      (last_or_there s.was.turns event (before.turns ++ s.logs.later) event
-      (s.is.logged seat after its_seat).later (sym one_more ∙ log_then))
+      (last_or_there was.turns event (s.before.turns ++ logs.later) event
+      (is.logged seat s.after (its_seat s)).later (sym one_more ∙ log_then))
 
-  locks_then : HasLocks setup old (before.turns ++ s.logs.later)
+  locks_then : HasLocks setup old (s.before.turns ++ logs.later)
   locks_then = record {
-    words = λ node known. s.was.lock_words node known ∙ ap (λ l. lock_in l node) moment;
+    words = λ node known. was.lock_words node known ∙ ap (λ l. lock_in l node) moment;
     inside = λ node actor known held.
-        let t = s.was.locks node actor known (s.was.lock_words node known ∙ (ap (λ l. lock_in l node) moment ∙ held)) in
-        (s.was.owner actor, t.0, t.1, t.2, t.3);
+        let t = was.locks node actor known (was.lock_words node known ∙ (ap (λ l. lock_in l node) moment ∙ held)) in
+        (was.owner actor, t.0, t.1, t.2, t.3);
   }
 
 pub come_now : EventsComeNow
 come_now setup old new seat before after event was is me views alone low high mine logs =
-    locks_then setup old new seat before after event record {
-      was = was;
-      is = is;
-      me = me;
+    locks_then setup old new seat was is record {
+      before = before;
+      after = after;
+      was = me;
       views = views;
       alone = alone;
       low = low;
       high = high;
-      mine = mine;
-      logs = logs;
-    }
+    } event mine logs

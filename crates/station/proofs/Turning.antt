@@ -1,37 +1,32 @@
 -- The turn at a node: it is won or lost, and given back.
 use Rattle.std.proofs.Common.{◌≡◌, ◌≢◌, ℕ, suc, ◌-◌, ◌<◌, ◌≤◌, ◌==◌, true, false, true≢false, List, [], ◌∷◌, ◌++◌, length, set, refl, sym, ap, ◌∙◌, subst, inl, inr, ⊎_elim, arith, Some, None, get_or-set_other, get_or-set_same, length-set}
 use Rattle.std.specs.Prelude.{slice_index}
-use Rattle.std.proofs.lemmas.List.{set-get_or}
+use Rattle.std.proofs.lemmas.List.{set-get_or, append-nil}
 use mathlib.Core.Option.{some, none, some-injective}
 use mathlib.Core.Logic.{dite}
 use native.Mathlib.Decide.{ℕ_discrete}
-use lib.ListN.{get_elem?}
 use prog.Atomic.{either}
 use Rattle.atomic_table.specs.Table.{State, Me, Step, step, keeps, Valid, carried_after, stepped, Allows}
-use Rattle.atomic_table.proofs.Lists.{at_set, set_here, set_else, exchanged}
+use Rattle.atomic_table.proofs.Lists.{set_here, set_else, exchanged}
 use Rattle.entry_word.specs.declared.visit.Key.{Key}
 use Rattle.entry_word.specs.declared.visit.Act.{Act}
 use Rattle.directory.specs.Keys.{key_node}
 use Rattle.station.specs.Setup.{Setup, setting_in, nodes_in, lock_word, tally_word, cell_word}
-use Rattle.station.specs.Views.{IsSoundView, IsInsideNode, turn_at}
+use Rattle.station.specs.Views.{IsSoundView, turn_at}
 use Rattle.station.specs.Rule.{KeepsRule, IsViewOf, IsHeld, IsCellWritten, IsTallied}
 use Rattle.station.specs.Plays.{Seat, view_inside, view_held, Turns, view_outside, Leaves}
 use Rattle.station.specs.declared.view.NodeTurn.{NodeTurn}
 use Rattle.station.specs.declared.view.View.{View}
 use Rattle.std.specs.List.{Contains}
 use Rattle.std.proofs.lemmas.List.Elements.{Contains-push_cases}
-use Rattle.station.specs.Turns.{IsInTurn, Logs, lock_in}
+use Rattle.station.specs.Turns.{IsInTurn, lock_in}
 use Rattle.station.specs.declared.view.TurnEvent.{TurnEvent}
 use Rattle.station.specs.declared.view.TurnEvent.TheVariants.{Won, GivenBack, Lost}
 use Rattle.station.proofs.Logging.{LogGoes, all-logged, lock-back, lock-back_else, lock-push, lock-won, lock-won_else, log-goes, logs}
-use Rattle.std.proofs.lemmas.List.{append-nil}
 use Rattle.station.proofs.Apart.{is_lock, else_where, one_inside, behind}
-use Rattle.station.proofs.Steps.{St, with, owned, seat_below, changed, has-kept, no_some}
+use Rattle.station.proofs.Steps.{Remains, St, with, owned, seat_below, changed, each_set, has-kept, no_some, reseated, same_view}
 use Rattle.visit_log.specs.Numbers.{NumbersApart}
-
--- what is given is the same
-pub same_some : {A : Type 0} {x y : A} → Some x ≡ Some y → x ≡ y
-same_some e = cc
+use Rattle.directory.specs.ListLaws.{same_some}
 
 -- a view is in no node and has no duty
 pub record IsIdle (view : View) : Type 0 where
@@ -43,7 +38,7 @@ pub written_here : {setup : Setup} {s : St} (o : KeepsRule setup s) (j : ℕ) {x
     → IsViewOf s.views j v → ((k : ℕ) (u : View) → k ≢ j → IsViewOf s.views k u → u.inside ≢ Some x)
     → key_node (setting_in setup) key ≡ x → v.unwritten ≢ Some key → IsCellWritten s.views key
 written_here {s} o j v key me alone at mine k u there is = dite (ℕ_discrete k j)
-    (λ e. let same : u ≡ v = some-injective u v (sym there ∙ (ap (get_elem? s.views) e ∙ me)) in
+    (λ e. let same = same_view s.views me there e in
     mine (ap (λ (y : View). y.unwritten) (sym same) ∙ is))
     (λ ne. alone k u ne there (((o.views k u there).unwritten key is).inside ∙ ap (λ (n : ℕ). Some n) at))
 
@@ -51,7 +46,7 @@ pub tallied_here : {setup : Setup} {s : St} (o : KeepsRule setup s) (j x : ℕ) 
     → ((k : ℕ) (u : View) → k ≢ j → IsViewOf s.views k u → u.inside ≢ Some x) → (v.owes ≡ true → v.inside ≢ Some x)
     → IsTallied s.views x
 tallied_here {s} o j x v me alone mine k u there owes is = dite (ℕ_discrete k j)
-    (λ e. let same : u ≡ v = some-injective u v (sym there ∙ (ap (get_elem? s.views) e ∙ me)) in
+    (λ e. let same = same_view s.views me there e in
     mine (ap (λ (y : View). y.owes) (sym same) ∙ owes) (ap (λ (y : View). y.inside) (sym same) ∙ is))
     (λ ne. alone k u ne there is)
 
@@ -61,54 +56,23 @@ pub restated : {setup : Setup} {s : St} {o : KeepsRule setup s} {j : ℕ} (v : V
     → {log : List TurnEvent} → LogGoes setup s o j w log → ((node : ℕ) → lock_in log node ≡ lock_in o.turns node)
     → IsSoundView setup s.words o.history o.owner j w → KeepsRule setup (with s.words s j w)
 restated {setup} {s} {o} {j} v {w} me low high inside unwritten owes {log} goes locked mine =
+    let Has : View → Type 0 = λ u. (node : ℕ) → u.inside ≡ Some node → Remains (set s.views j w) u node in
     let near = seat_below s.views j v me in
-    record {
-      history = o.history;
-      owner = o.owner;
-      lies = o.lies;
-      size = o.size;
-      few_actors = o.few_actors;
-      tickets = o.tickets;
-      views = λ k u at. ⊎_elim
-          (λ (t : (k ≡ j) × (w ≡ u)). subst (λ (y : View). IsSoundView setup s.words o.history o.owner k y) t.1
-          (subst (λ (i : ℕ). IsSoundView setup s.words o.history o.owner i w) (sym t.0) mine))
-          (λ (t : (k ≢ j) × (get_elem? s.views k ≡ some u)). o.views k u t.1)
-          (at_set s.views j k w u at);
+    reseated {o = o} record {
+      sound = each_set (IsSoundView setup s.words o.history o.owner) s.views j mine (λ k u _ at. o.views k u at);
       actors = λ actor below. owned s o.owner j actor v w me low high near (o.actors actor below);
-      known = o.known;
-      few = o.few;
-      turns = log;
+      remains = λ k u node at. dite (ℕ_discrete k j)
+          (λ e. subst Has (sym (same_view s.views me at e))
+          (λ at_node is. (j, w, set_here s.views j w near, inside ∙ is, low, unwritten, owes)) node)
+          (λ ne is. (k, u, set_else s.views j k w ne ∙ at, is, refl, refl, refl));
       in_turn = goes.in_turn;
       strangers = goes.strangers;
-      lock_words = λ node known. o.lock_words node known ∙ sym (locked node);
       logged = all-logged goes;
-      locks = λ node actor known is. let t = o.locks node actor known is in dite (ℕ_discrete (o.owner actor) j)
-          (λ e. let same : t.0 ≡ v = some-injective t.0 v (sym t.1 ∙ (ap (get_elem? s.views) e ∙ me)) in (
-            w,
-            subst (λ k. IsViewOf (set s.views j w) k w) (sym e) (set_here s.views j w near),
-            inside ∙ (ap (λ (y : View). y.inside) (sym same) ∙ t.2),
-            low ∙ (ap (λ (y : View). y.low) (sym same) ∙ t.3),
-          ))
-          (λ ne. (t.0, set_else s.views j (o.owner actor) w ne ∙ t.1, t.2, t.3));
-      cells = λ key known quiet. o.cells key known (λ k u at is. dite (ℕ_discrete k j)
-          (λ e. let same : u ≡ v = some-injective u v (sym at ∙ (ap (get_elem? s.views) e ∙ me)) in
-          quiet j w (set_here s.views j w near) (unwritten ∙ (ap (λ (y : View). y.unwritten) (sym same) ∙ is)))
-          (λ ne. quiet k u (set_else s.views j k w ne ∙ at) is));
-      tallies = λ node known quiet. o.tallies node known (λ k u at due is. dite (ℕ_discrete k j)
-          (λ e. let same : u ≡ v = some-injective u v (sym at ∙ (ap (get_elem? s.views) e ∙ me)) in
-          quiet j w (set_here s.views j w near) (owes ∙ (ap (λ (y : View). y.owes) (sym same) ∙ due))
-          (inside ∙ (ap (λ (y : View). y.inside) (sym same) ∙ is)))
-          (λ ne. quiet k u (set_else s.views j k w ne ∙ at) due is));
-      legal = o.legal;
+      locked = locked;
     }
-
--- the turn
 
 pub some_not_none : {x : ℕ} → Some x ≡ None → ⊥
 some_not_none e = cc
-
-pub no_key : {key : Key} → None ≡ Some key → ⊥
-no_key e = cc
 
 entering : NumbersApart → {setup : Setup} {s : St} (o : KeepsRule setup s) (j x : ℕ) {v : View} (act : Act)
     → IsViewOf s.views j v → x < nodes_in setup → v.high ≡ suc v.low → IsIdle v → slice_index s.words (lock_word x) ≡ 0
@@ -140,18 +104,17 @@ entering law {setup} {s} o j x {v} act me known alone idle free =
       elsewhere = λ y k iny ne word. else_where law s.words (suc v.low) known iny ne (is_lock refl) word;
       mine = record {
         setup_is = was.setup_is;
-        has = has-kept w refl refl refl refl refl was.has;
+        has = has-kept w refl refl refl (λ _ st. st) was.has;
         owner_is = was.owner_is;
-        inside = λ node is. let e : x ≡ node = same_some is in
-            subst (λ (n : ℕ). IsInsideNode setup new o.history w n) e record {
-              known = known;
-              alone = alone;
-              lock = get_or-set_same s.words (lock_word x) (suc v.low) 0 wide;
-              drawn = λ drawn. absurd (true≢false (sym drawn ∙ (was.outside idle.out).0));
-              owed = λ owes. absurd (true≢false (sym owes ∙ (was.outside idle.out).1));
-              tally = λ owes. absurd (true≢false (sym owes ∙ (was.outside idle.out).1));
-            };
-        unwritten = λ key is. absurd (no_key (sym idle.unwritten ∙ is));
+        inside = λ node is. rw (← same_some is) record {
+          known = known;
+          alone = alone;
+          lock = get_or-set_same s.words (lock_word x) (suc v.low) 0 wide;
+          drawn = λ drawn. absurd (true≢false (sym drawn ∙ (was.outside idle.out).0));
+          owed = λ owes. absurd (true≢false (sym owes ∙ (was.outside idle.out).1));
+          tally = λ owes. absurd (true≢false (sym owes ∙ (was.outside idle.out).1));
+        };
+        unwritten = λ key is. absurd (no_some (sym idle.unwritten ∙ is));
         outside = λ is. absurd (some_not_none is);
         others = was.others;
       };
@@ -188,8 +151,7 @@ turns law setup n id x m act known alone idle s o wide me small =
           let a : x ≡ node = omega arith in let b : act ≡ other = some-injective act other said in (
             (λ _. (
               (λ i. (view_inside m.0 (a i) (b i) log, m.1)),
-              subst (λ (n : ℕ). Logs m.0.turns (Won m.0.low n) log) a
-                  (logs o id m.0 (Won m.0.low x) me alone refl (sym (o.lock_words x known) ∙ free)),
+              rw (← a) (logs o id m.0 (Won m.0.low x) me alone refl (sym (o.lock_words x known) ∙ free)),
             )),
             (λ not. absurd (not free)),
           ),
@@ -206,7 +168,7 @@ turns law setup n id x m act known alone idle s o wide me small =
     let few : word ≤ 128 = omega (arith, below, o.few_actors) in
     let other : word ≢ suc m.0.low = λ e.
     let mine : o.owner b ≡ id = ap o.owner (omega arith) ∙ (was.owner_is m.0.low (omega arith, omega arith)).0 in
-    let same : held.0 ≡ m.0 = some-injective held.0 m.0 (sym held.1 ∙ (ap (get_elem? s.views) mine ∙ me)) in
+    let same = same_view s.views me held.1 mine in
     some_not_none (sym held.2 ∙ (ap (λ (y : View). y.inside) same ∙ idle.out)) in
     let may : IsInTurn o.turns (Lost m.0.low x word) = (sym (o.lock_words x known), taken, other) in (
       w,
@@ -216,10 +178,10 @@ turns law setup n id x m act known alone idle s o wide me small =
           (restated m.0 me refl refl refl refl refl (log-goes o id m.0 w (Lost m.0.low x word) me alone refl may refl
           refl refl refl) (λ node. lock-push o.turns (Lost m.0.low x word) node) record {
             setup_is = was.setup_is;
-            has = has-kept w refl refl refl refl refl was.has;
+            has = has-kept w refl refl refl (λ _ st. st) was.has;
             owner_is = was.owner_is;
             inside = λ node is. absurd (no_some (sym idle.out ∙ is));
-            unwritten = λ key is. absurd (no_key (sym idle.unwritten ∙ is));
+            unwritten = λ key is. absurd (no_some (sym idle.unwritten ∙ is));
             outside = was.outside;
             others = λ actor st turn had. ⊎_elim
                 (λ (old : Contains m.0.lost turn). was.others actor st turn old)
@@ -234,8 +196,7 @@ turns law setup n id x m act known alone idle s o wide me small =
           (λ i. (view_held m.0 (a i) word log, m.1)),
           other,
           few,
-          subst (λ (n : ℕ). Logs m.0.turns (Lost m.0.low n word) log) a
-              (logs o id m.0 (Lost m.0.low x word) me alone refl may),
+          rw (← a) (logs o id m.0 (Lost m.0.low x word) me alone refl may),
         ),
       ),
     ))
@@ -275,10 +236,10 @@ leaves law setup n id {x} m there unwritten owes s o wide me small =
         elsewhere = λ y k iny ne word. else_where law s.words 0 known iny ne (is_lock refl) word;
         mine = record {
           setup_is = was.setup_is;
-          has = has-kept w refl refl refl refl refl was.has;
+          has = has-kept w refl refl refl (λ _ st. st) was.has;
           owner_is = was.owner_is;
           inside = λ node is. absurd (no_some is);
-          unwritten = λ key is. absurd (no_key (sym unwritten ∙ is));
+          unwritten = λ key is. absurd (no_some (sym unwritten ∙ is));
           outside = λ is. (refl, owes);
           others = was.others;
         };
@@ -294,8 +255,7 @@ leaves law setup n id {x} m there unwritten owes s o wide me small =
       },
       (
         refl,
-        λ node at. let a : x ≡ node = same_some (sym there ∙ at) in
-            subst (λ (n : ℕ). Logs v.turns (GivenBack v.low n) log) a
+        λ node at. rw (← same_some (sym there ∙ at))
             (logs o id v (GivenBack v.low x) me here.alone refl may),
       ),
     )
@@ -304,14 +264,10 @@ pub turns_at : NumbersApart → (setup : Setup) (n id : ℕ) {x i new : ℕ} (m 
     → m.0.high ≡ suc m.0.low → IsIdle m.0 → i ≡ lock_word x → new ≡ suc m.0.low
     → Allows (KeepsRule setup) n id m i (λ y. either (y == 0) new y) (Turns (step n i 0 new (some act)) m)
 turns_at law setup n id {x} {new} m act known alone idle at is =
-    let P : ℕ → ℕ → Type 0 = λ k w. Allows (KeepsRule setup) n id m k (λ y. either (y == 0) w y) (Turns (step n k 0 w
-    (some act)) m) in
-    subst (λ (k : ℕ). P k new) (sym at) (subst (λ (w : ℕ). P (lock_word x) w) (sym is)
-    (turns law setup n id x m act known alone idle))
+    rw (at, is) (turns law setup n id x m act known alone idle)
 
 pub leaves_at : NumbersApart → (setup : Setup) (n id : ℕ) {x i : ℕ} (m : Seat) → m.0.inside ≡ Some x
     → m.0.unwritten ≡ None → m.0.owes ≡ false → i ≡ lock_word x → Allows (KeepsRule setup) n id m i (λ _. 0)
     (λ _. Leaves (step n i 0 0 none) m 0)
 leaves_at law setup n id m there unwritten owes at =
-    subst (λ (k : ℕ). Allows (KeepsRule setup) n id m k (λ _. 0) (λ _. Leaves (step n k 0 0 none) m 0)) (sym at)
-    (leaves law setup n id m there unwritten owes)
+    rw at (leaves law setup n id m there unwritten owes)

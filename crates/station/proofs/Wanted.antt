@@ -1,8 +1,8 @@
 -- The next look of a walk: which nodes its word names.
-use Rattle.std.proofs.Common.{◌≡◌, ℕ, ◌^◌, ◌<◌, ◌≤◌, sym, subst, arith}
+use Rattle.std.proofs.Common.{◌≡◌, ℕ, ◌^◌, ◌<◌, ◌≤◌, subst, arith}
 use Rattle.std.specs.Prelude.{Some}
 use Rattle.entry_word.specs.declared.visit.Key.{Key}
-use Rattle.directory.specs.Histories.{cell}
+use Rattle.directory.specs.Histories.{cell, before}
 use Rattle.directory.specs.Legal.{IsLegal}
 use Rattle.directory.specs.Finds.{key_of}
 use Rattle.trail_laws.specs.Trail.{EntriesTell, MarksTell}
@@ -13,7 +13,6 @@ use Rattle.station.specs.Passes.{PassData}
 use Rattle.station.specs.Setup.{Setup, setting_in, subs_in}
 use Rattle.station.specs.Visits.{HasVisited}
 use Rattle.entry_word.specs.declared.visit.Act.{Act}
-use Rattle.directory.specs.Histories.{before}
 use Rattle.trail_laws.specs.Within.{HistoryFrontsAreLegal}
 use Rattle.walk.specs.LookLaws.{word-wanted}
 use Rattle.station.specs.TicketLaws.{legal-seen}
@@ -33,8 +32,6 @@ word-seen marks entries fronts {setup} {plan} {old} {new} {act} {ticket} {walk} 
     let legal : IsLegal (setting_in setup) walk.sub (before ticket new.view.seen) =
     fronts (setting_in setup) walk.sub new.view.seen ticket small
     (legal-seen setup old new act ticket told visited walk.sub known) in
-    subst (λ w. IsWordBelow (nodes_of plan) walk.progress w) (sym reads)
-    (subst (λ p. IsWordBelow (nodes_of p) walk.progress (cell (setting_in setup) (before ticket new.view.seen) key))
-    (sym same)
+    rw (reads, same)
     (word-wanted marks entries setup.plan setup.homes (before ticket new.view.seen) walk key matched_there small legal
-    goes wanted))
+    goes wanted)

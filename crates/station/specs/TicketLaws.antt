@@ -8,9 +8,11 @@ use Rattle.entry_word.specs.declared.visit.Visit.{Visit}
 use Rattle.entry_word.specs.declared.visit.Act.{Act}
 use Rattle.directory.specs.Histories.{History, IsFront, own, tickets, tickets_from}
 use Rattle.directory.specs.Legal.{IsLegal}
-use Rattle.station.specs.Passes.{PassData}
+use Rattle.station.specs.Passes.{PassData, actor_of}
 use Rattle.station.specs.Setup.{Setup, setting_in, subs_in}
 use Rattle.station.specs.Visits.{HasVisited}
+use Rattle.station.specs.Plays.{visit_by}
+use Rattle.directory.specs.StepLaws.{own-push}
 
 -- what a history has beyond a front
 pub front-rest : (xs zs : History) → IsFront xs zs → zs ≡ xs ++ drop (length xs) zs
@@ -105,3 +107,14 @@ pub legal-seen : (setup : Setup) (old new : PassData) (act : Act) (ticket : ℕ)
 legal-seen setup old new act ticket told visited sub low =
     subst (λ (s : Setup). IsLegal (setting_in s) sub new.view.seen) told
     (visited.legal sub (subst (λ (s : Setup). sub < subs_in s) (sym told) low))
+
+-- a pass that makes a visit has one visit more of its own
+pub own-visited : {old new : PassData} {act : Act} {ticket : ℕ} → HasVisited old act ticket new
+    → own (actor_of old) new.view.seen
+    ≡ own (actor_of old) old.view.seen ++ visit_by old.view act ∷ []
+own-visited {old} {act} visited =
+    ap (own (actor_of old)) visited.seen
+    ∙ (own-push (actor_of old) visited.earlier (visit_by old.view act)
+    ∙ (ap (λ b. own (actor_of old) visited.earlier ++ cond b (visit_by old.view act ∷ []) [])
+    (eq-eqb old.view.low old.view.low refl)
+    ∙ ap (λ l. l ++ visit_by old.view act ∷ []) visited.visits))

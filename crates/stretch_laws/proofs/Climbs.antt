@@ -1,8 +1,8 @@
 -- A climb ends at or below a level where a reader has an address, and its reading is bounded by the number of readers.
-use Rattle.std.proofs.Common.{◌≡◌, ◌⊎◌, inl, inr, ℕ, zero, suc, ◌+◌, ◌*◌, ◌<◌, ◌≤◌, ◌^◌, Bool, true, false, ◌==◌, ◌||◌, List, [], ◌∷◌, ◌++◌, Option, Some, None, length, map, refl, sym, ap, ◌∙◌, subst, arith}
+use Rattle.std.proofs.Common.{◌≡◌, ◌⊎◌, inl, inr, ℕ, zero, suc, ◌+◌, ◌*◌, ◌<◌, ◌≤◌, ◌^◌, true, false, ◌==◌, List, [], ◌∷◌, ◌++◌, Option, Some, None, length, map, refl, sym, ap, ◌∙◌, subst, arith}
 use Rattle.std.specs.Prelude.{flat_map}
 use Rattle.std.proofs.Math.Nat.{mul-le-mul_left, mul-le-mul_right}
-use Rattle.std.proofs.lemmas.Bool.{eqb-true}
+use Rattle.std.proofs.lemmas.Bool.{eqb-true, or_cases, or_right}
 use Rattle.node_set.specs.Ascending.{has}
 use Rattle.entry_word.specs.declared.address.Address.{Address}
 use Rattle.directory.specs.Settings.{Setting}
@@ -30,11 +30,7 @@ HasAddress setting sub seen level cs =
     (c : ℕ) × (address : Address) × (has c cs ≡ true) × (entry_seen setting sub seen level c ≡ Some address)
 
 pub tail-has : (x c : ℕ) (cs : List ℕ) → has x cs ≡ true → has x (c ∷ cs) ≡ true
-tail-has x c cs h = at_test (x == c)
-  where
-    at_test : (b : Bool) → (b || has x cs) ≡ true
-    at_test true = refl
-    at_test false = h
+tail-has x c cs h = or_right (x == c) (has x cs) h
 
 pub one-more : (n r : ℕ) → suc n * r ≡ r + n * r
 one-more n r = grind arith
@@ -42,11 +38,13 @@ one-more n r = grind arith
 module _ (setting : Setting) (seen : History) (call : FindCall) (most reads chase : ℕ)
     (room : reads + chase ≤ most) where
   -- the readers of a level: one of them has an address, or the climb goes on
+  abbrev Goes : ℕ → List Reader → Type 0
+  Goes far rest = (w : ℕ) → w ≤ far → Affords setting call.sub seen call (WeighsAtMost most) w rest
+
   row-affords : (level r : ℕ) (cs : List ℕ) (rest : List Reader) (weight : ℕ)
       → ((c : ℕ) → has c cs ≡ true → setting.inside level c call.from ≤ r)
       → Pays setting call.sub seen chase level cs → weight + 2 * (length cs * r) ≤ reads
-      → ((w : ℕ) → w ≤ weight + 2 * (length cs * r) → Affords setting call.sub seen call (WeighsAtMost most) w rest)
-      ⊎ HasAddress setting call.sub seen level cs
+      → Goes (weight + 2 * (length cs * r)) rest ⊎ HasAddress setting call.sub seen level cs
       → Affords setting call.sub seen call (WeighsAtMost most) weight
       (map (λ c. record { level = level; cluster = c }) cs ++ rest)
   unfolding Affords
@@ -57,23 +55,17 @@ module _ (setting : Setting) (seen : History) (call : FindCall) (most reads chas
       (λ x h. near x (tail-has x c cs h)) (λ x a k h. pays x a k (tail-has x c cs h))
       (omega (arith, few, one-more (length cs) r, near c (has_head c cs))) (later ends e))
     where
-      later : ((w : ℕ) → w ≤ weight + 2 * (suc (length cs) * r)
-          → Affords setting call.sub seen call (WeighsAtMost most) w rest)
-          ⊎ HasAddress setting call.sub seen level (c ∷ cs) → entry_seen setting call.sub seen level c ≡ None
-          → ((w : ℕ) → w ≤ weight + 2 * setting.inside level c call.from + 2 * (length cs * r)
-          → Affords setting call.sub seen call (WeighsAtMost most) w rest)
+      later : Goes (weight + 2 * (suc (length cs) * r)) rest ⊎ HasAddress setting call.sub seen level (c ∷ cs)
+          → entry_seen setting call.sub seen level c ≡ None
+          → Goes (weight + 2 * setting.inside level c call.from + 2 * (length cs * r)) rest
           ⊎ HasAddress setting call.sub seen level cs
       later (inl on) e = inl (λ w h. on w (omega (arith, h, one-more (length cs) r, near c (has_head c cs))))
-      later (inr found) e = at_test (found.0 == c) refl found.2
-        where
-          at_test : (b : Bool) → (found.0 == c) ≡ b → (b || has found.0 cs) ≡ true
-              → ((w : ℕ) → w ≤ weight + 2 * setting.inside level c call.from + 2 * (length cs * r)
-              → Affords setting call.sub seen call (WeighsAtMost most) w rest)
-              ⊎ HasAddress setting call.sub seen level cs
-          at_test false g h = inr (found.0, found.1, h, found.3)
-          at_test true g h =
-              let clash : None ≡ Some found.1 = sym e
-              ∙ (ap (entry_seen setting call.sub seen level) (sym (eqb-true found.0 c g)) ∙ found.3) in cc
+      later (inr found) e = elim (or_cases (found.0 == c) (has found.0 cs) found.2) [
+        | inr h ↦ inr (found.0, found.1, h, found.3)
+        | inl g ↦
+            let clash : None ≡ Some found.1 = sym e
+            ∙ (ap (entry_seen setting call.sub seen level) (sym (eqb-true found.0 c g)) ∙ found.3) in cc
+      ]
 
       at_entry : (entry : Option Address) → entry_seen setting call.sub seen level c ≡ entry
           → (entry_seen setting call.sub seen level c ≡ None

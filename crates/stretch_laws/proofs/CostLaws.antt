@@ -7,6 +7,7 @@ use Rattle.node_set.specs.Ascending.{has}
 use Rattle.entry_word.specs.declared.address.Address.{Address}
 use Rattle.directory.specs.Settings.{Setting}
 use Rattle.directory.specs.Histories.{History}
+use Rattle.directory.specs.Legal.{IsLegal}
 use Rattle.directory.specs.Finds.{FindCall, Reader, way_in}
 use Rattle.directory.specs.Standing.{number, standing}
 use Rattle.directory.specs.Writes.{numbers_from}
@@ -32,10 +33,11 @@ pub record IsReached (setting : Setting) (width : ℕ) (sub : ℕ) (history : Hi
   pub to_standing : setting.distance address.node (standing setting sub history)
       ≤ 2 * (width * radius level) + setting.distance from (standing setting sub history)
 
-reached : CostUsed → (setting : Setting) (width most_readers sub : ℕ) (history : History) (from level cluster : ℕ)
-    (address : Address) → IsMet setting width most_readers sub history from level cluster address
+pub reached : EntriesTell → StandsInside → {setting : Setting} {width most_readers sub : ℕ} {history : History}
+    {from level cluster : ℕ} {address : Address}
+    → IsMet setting width most_readers sub history from level cluster address
     → IsReached setting width sub history from level cluster address
-reached used setting width most_readers sub history from level cluster address met = record {
+reached entries stands {setting} {width} {sub = sub} {history} {from} {level} {cluster} {address} met = record {
   from_leader = omega (arith, far, wide);
   to_standing = omega (
     arith,
@@ -44,7 +46,7 @@ reached used setting width most_readers sub history from level cluster address m
     met.tracking.far level cluster from met.low met.inside met.read,
     met.tracking.wide level cluster from met.low met.inside met.read,
     met.tracking.metric.detour address.node from (standing setting sub history) tells.0 met.inside
-        (used.inside setting sub history met.few met.legal),
+        (stands setting sub history met.few met.legal),
     met.tracking.metric.detour address.node (setting.leader level cluster) from tells.0 leads met.inside,
     met.tracking.metric.both_ways address.node (setting.leader level cluster) tells.0 leads,
   );
@@ -52,7 +54,7 @@ reached used setting width most_readers sub history from level cluster address m
   where
     tells : EntryTells setting sub history level cluster (Some address)
     tells = subst (EntryTells setting sub history level cluster) met.held
-        (used.entries setting sub history met.few met.legal level cluster met.low)
+        (entries setting sub history met.few met.legal level cluster met.low)
 
     its_reads : has cluster (setting.readers level address.node) ≡ true
     its_reads = ap (λ n. has n (setting.readers level address.node)) tells.1
@@ -69,41 +71,36 @@ reached used setting width most_readers sub history from level cluster address m
     wide = met.tracking.wide level cluster address.node met.low tells.0 its_reads
 
 -- where the way is short enough in its phase, the cost is within a bound
-costs : CostUsed → (setting : Setting) (width most_readers sub : ℕ) (history : History) (from level cluster : ℕ)
-    (address : Address) (most : ℕ) → IsMet setting width most_readers sub history from level cluster address
-    → ((way : ℕ) → IsShortByPhase setting sub history level address way
+costs : CostUsed → {setting : Setting} {width most_readers sub : ℕ} {history : History} {from level cluster : ℕ}
+    {address : Address} (most : ℕ) → IsMet setting width most_readers sub history from level cluster address
+    → ((way : ℕ) → IsReached setting width sub history from level cluster address
+    → IsShortByPhase setting sub history level address way
     → setting.distance (setting.leader level cluster) address.node + way ≤ most)
     → Costs setting sub history level cluster address most
-costs used setting width most_readers sub history from level cluster address most met short known knows =
+costs used {setting} {sub = sub} {history} {level = level} {cluster} {address} most met short known knows =
     let led = used.ways setting sub history met.few met.tracking.metric met.tracking.gathers met.legal level cluster
-    address
-    known met.low met.held knows in
-    (led.0, led.1, led.2, led.3, short led.1 led.4)
+    address known met.low met.held knows in
+    (led.0, led.1, led.2, led.3, short led.1 (reached used.entries used.inside met) led.4)
 
 pub old-before : CostUsed → OldBeforeCommit
 old-before used setting width most_readers sub history from level cluster address met before old =
-    costs used setting width most_readers sub history from level cluster address _ met (λ way is. omega (
+    costs used _ met (λ way far is. omega (
       arith,
       is.before_old before old,
-      (reached used setting width most_readers sub history from level cluster address met).from_leader,
+      far.from_leader,
       met.tracking.halves level met.low,
     ))
 
 pub new-before : CostUsed → NewBeforeCommit
 new-before used setting width most_readers sub history from level cluster address met before new =
-    costs used setting width most_readers sub history from level cluster address _ met (λ way is. omega (
-      arith,
-      is.before_new before new,
-      (reached used setting width most_readers sub history from level cluster address met).from_leader,
-      (reached used setting width most_readers sub history from level cluster address met).to_standing,
-    ))
+    costs used _ met (λ way far is. omega (arith, is.before_new before new, far.from_leader, far.to_standing))
 
 pub in-passage : CostUsed → PassagesAreOpen → InPassage
 in-passage used opens setting width most_readers sub history from level cluster address left met passing =
-    costs used setting width most_readers sub history from level cluster address _ met (λ way is. omega (
+    costs used _ met (λ way far is. omega (
       arith,
       is.passing left passing,
-      (reached used setting width most_readers sub history from level cluster address met).from_leader,
+      far.from_leader,
       met.tracking.halves level met.low,
       opens setting sub history met.few met.legal (standing setting sub history) (number sub history) left
           (used.inside setting sub history met.few met.legal) passing refl,
@@ -111,20 +108,20 @@ in-passage used opens setting width most_readers sub history from level cluster 
 
 pub after-confirm : CostUsed → AfterConfirm
 after-confirm used setting width most_readers sub history from level cluster address met settled =
-    costs used setting width most_readers sub history from level cluster address _ met (λ way is. omega (
+    costs used _ met (λ way far is. omega (
       arith,
       is.settled settled,
-      (reached used setting width most_readers sub history from level cluster address met).from_leader,
-      (reached used setting width most_readers sub history from level cluster address met).to_standing,
+      far.from_leader,
+      far.to_standing,
       met.tracking.halves level met.low,
     ))
 
 pub current-after : CostUsed → CurrentAfterConfirm
 current-after used setting width most_readers sub history from level cluster address met settled current =
-    costs used setting width most_readers sub history from level cluster address _ met (λ way is. omega (
+    costs used _ met (λ way far is. omega (
       arith,
       is.current settled current,
-      (reached used setting width most_readers sub history from level cluster address met).from_leader,
+      far.from_leader,
       met.tracking.halves level met.low,
     ))
 
@@ -135,50 +132,52 @@ at-rest used rests setting width most_readers sub history from level cluster add
     (its.1 level cluster address met.low met.held)
 
 -- ---- the climb
-pub ends-early : LevelsStayNear → StandsInside → ClimbsEndEarly
-ends-early levels inside setting width most_readers sub history from few tracking from_inside legal other =
-    at_end (ends setting (setting.distance from (standing setting sub history)) tracking.halves
-    (tracking.apart from (standing setting sub history) from_inside (inside setting sub history few legal) other))
+-- where it ends a reader has an address
+pub met-at : LevelsStayNear → StandsInside → {setting : Setting} {width most_readers : ℕ} (sub : ℕ) (history : History)
+    (from : ℕ) → setting.nodes ≤ 2 ^ 16 → IsTracking setting width most_readers → from < setting.nodes
+    → IsLegal setting sub history → (end : Ends setting (setting.distance from (standing setting sub history)))
+    → (cluster : ℕ) × (address : Address)
+    × IsMet setting width most_readers sub history from end.level cluster address
+met-at levels stands {setting} sub history from few tracking inside legal end =
+    let its = levels setting sub history few tracking.metric tracking.gathers legal end.level end.low in (
+      setting.home end.level its.0,
+      its.1,
+      record {
+        few = few;
+        tracking = tracking;
+        legal = legal;
+        inside = inside;
+        low = end.low;
+        read = at_reach its.0 its.2 its.3 end.reaches;
+        held = its.4;
+      },
+    )
   where
-    at_reach : (level node : ℕ) → level ≤ setting.top → node < setting.nodes
-        → setting.distance node (standing setting sub history) < setting.threshold level
-        → (level ≡ setting.top)
-        ⊎ (setting.distance from (standing setting sub history) + setting.threshold level ≤ radius level + 1)
-        → has (setting.home level node) (setting.readers level from) ≡ true
-    at_reach level node low at_node near (inl is_top) =
-        ap (λ n. has (setting.home n node) (setting.readers n from)) is_top
-        ∙ tracking.whole node from at_node from_inside
-    at_reach level node low at_node near (inr reaches) = tracking.read level node from low at_node from_inside
+    there : standing setting sub history < setting.nodes
+    there = stands setting sub history few legal
+
+    at_reach : (node : ℕ) → node < setting.nodes
+        → setting.distance node (standing setting sub history) < setting.threshold end.level
+        → (end.level ≡ setting.top)
+        ⊎ (setting.distance from (standing setting sub history) + setting.threshold end.level ≤ radius end.level + 1)
+        → has (setting.home end.level node) (setting.readers end.level from) ≡ true
+    at_reach node at_node near (inl is_top) =
+        ap (λ n. has (setting.home n node) (setting.readers n from)) is_top ∙ tracking.whole node from at_node inside
+    at_reach node at_node near (inr reaches) = tracking.read end.level node from end.low at_node inside
         (omega (
           arith,
           near,
           reaches,
-          tracking.metric.detour node (standing setting sub history) from at_node (inside setting sub history few legal)
-              from_inside,
-          tracking.metric.both_ways (standing setting sub history) from
-              (inside setting sub history few legal) from_inside,
+          tracking.metric.detour node (standing setting sub history) from at_node there inside,
+          tracking.metric.both_ways (standing setting sub history) from there inside,
         ))
 
-    at_end : Ends setting (setting.distance from (standing setting sub history))
-        → (level : ℕ) × (cluster : ℕ) × (address : Address)
-        × (radius level < 4 * setting.distance from (standing setting sub history))
-        × IsMet setting width most_readers sub history from level cluster address
-    at_end end =
-        let its = levels setting sub history few tracking.metric tracking.gathers legal end.level end.low in (
-          end.level,
-          setting.home end.level its.0,
-          its.1,
-          end.small,
-          record {
-            few = few;
-            tracking = tracking;
-            legal = legal;
-            inside = from_inside;
-            low = end.low;
-            read = at_reach end.level its.0 end.low its.2 its.3 end.reaches;
-            held = its.4;
-          },
-        )
+pub ends-early : LevelsStayNear → StandsInside → ClimbsEndEarly
+ends-early levels stands setting width most_readers sub history from few tracking inside legal other =
+    let end = ends setting (setting.distance from (standing setting sub history)) tracking.halves
+    (tracking.apart from (standing setting sub history) inside (stands setting sub history few legal) other) in
+    let met = met-at levels stands sub history from few tracking inside legal end in
+    (end.level, met.0, met.1, end.small, met.2)
 
 -- the reading of a level
 row-weight : (setting : Setting) (call : FindCall) (level r : ℕ) (cs : List ℕ)

@@ -59,18 +59,15 @@ scaled-more w i j h = let e : (j - i) + i ≡ j = omega arith in
 spread : (m w d : ℕ) → (16 * m * w + 12 * w + 5) * d ≡ 16 * (m * (w * d)) + 12 * (w * d) + 5 * d
 spread m w d = grind arith
 
+pub by_width : (w d r : ℕ) → r < 4 * d → w * r ≤ 4 * (w * d)
+by_width w d r small =
+    let low : r ≤ 4 * d = omega (arith, small) in omega (arith, mul-le-mul_left w low, mul_left_comm w 4 d)
+
 pub within-stretch : (m w d r : ℕ) → r < 4 * d
     → 4 * (m * (w * r)) + (3 * (w * r) + r + d) ≤ stretch w m * d
-within-stretch m w d r small = omega (
-  arith,
-  spread m w d,
-  by_width,
-  mul-le-mul_left m by_width,
-  mul_left_comm m 4 (w * d),
-)
-  where
-    by_width : w * r ≤ 4 * (w * d)
-    by_width = omega (arith, mul-le-mul_left w (let h : r ≤ 4 * d = omega (arith, small) in h), mul_left_comm w 4 d)
+within-stretch m w d r small =
+    let wide = by_width w d r small in
+    omega (arith, spread m w d, wide, mul-le-mul_left m wide, mul_left_comm m 4 (w * d))
 
 pub within-one : (m w d : ℕ) → d ≤ stretch w m * d
 within-one m w d = omega (arith, spread m w d)

@@ -1,6 +1,5 @@
 -- A quiet find travels at most the stretch times its distance, and twice the open passage.
-use Rattle.std.proofs.Common.{◌≡◌, ◌≢◌, ◌⊎◌, inl, inr, ℕ, zero, suc, ◌+◌, ◌*◌, ◌<◌, ◌≤◌, ◌^◌, true, Option, Some, None, refl, sym, ap, ◌∙◌, subst, arith}
-use Rattle.node_set.specs.Ascending.{has}
+use Rattle.std.proofs.Common.{◌≡◌, ◌≢◌, ℕ, zero, suc, ◌+◌, ◌*◌, ◌<◌, ◌≤◌, ◌^◌, true, Option, None, refl, sym, ap, ◌∙◌, subst, arith}
 use Rattle.entry_word.specs.declared.mark.PresenceMark.{PresenceMark}
 use Rattle.entry_word.specs.declared.mark.PresenceMark.TheVariants.{Empty, Here, Gone, Coming, Off}
 use Rattle.directory.specs.Settings.{levels, Setting}
@@ -10,13 +9,14 @@ use Rattle.directory.specs.Finds.{all_readers, FindCall, found_weight}
 use Rattle.directory.specs.Looks.{first_of, last_of}
 use Rattle.directory.specs.Standing.{passage, standing}
 use Rattle.directory.specs.Parts.{known_after}
-use Rattle.trail_laws.specs.Trail.{answers, EntriesTell, EntryTells, IsLed, mark_seen}
+use Rattle.trail_laws.specs.Trail.{answers, EntriesTell, IsLed, mark_seen}
 use Rattle.trail_laws.specs.Rightness.{IsAnswered}
 use Rattle.trail_laws.specs.Ways.{AddressesLeadShortly, ComingsLeadShortly, IsOpenAtMost, LevelsStayNear, PassagesAreOpen, StandsInside}
 use Rattle.trail_laws.specs.Within.{Affords, Begins, HistoryFrontsAreLegal, WeighsAtMost, QuietFindsStandStill, QuietFindsStayWithin}
-use Rattle.stretch_laws.specs.Tracking.{IsTracking, QuietFindsAreNear, radius, stretch}
+use Rattle.stretch_laws.specs.Tracking.{IsTracking, QuietFindsAreNear, stretch}
 use Rattle.stretch_laws.proofs.Heights.{Ends, ends, scaled-more, within-one, within-stretch}
 use Rattle.stretch_laws.proofs.Climbs.{climb-affords, HasAddress, Pays}
+use Rattle.stretch_laws.proofs.CostLaws.{IsReached, met-at, reached}
 
 -- what is used of the laws
 pub record Used : Type 0 where
@@ -90,14 +90,9 @@ module _ (used : Used) (setting : Setting) (width readers : ℕ) (seen : History
         omega (
           arith,
           led.4,
+          far.from_leader,
+          far.to_standing,
           tracking.halves level below,
-          tracking.far level c address.node below tells.0 its_reads,
-          tracking.wide level c address.node below tells.0 its_reads,
-          tracking.far level c call.from below inside reads,
-          tracking.wide level c call.from below inside reads,
-          tracking.metric.detour address.node call.from (standing setting call.sub seen) tells.0 inside there_inside,
-          tracking.metric.detour address.node (setting.leader level c) call.from tells.0 leads inside,
-          tracking.metric.both_ways address.node (setting.leader level c) tells.0 leads,
           scaled-more width level last under,
           scaled-more 1 level last under,
         ),
@@ -106,46 +101,23 @@ module _ (used : Used) (setting : Setting) (width readers : ℕ) (seen : History
       below : level ≤ setting.top
       below = omega (arith, under, high)
 
-      tells : EntryTells setting call.sub seen level c (Some address)
-      tells = subst (EntryTells setting call.sub seen level c) is_some
-          (used.entries setting call.sub seen low legal level c below)
-
-      its_reads : has c (setting.readers level address.node) ≡ true
-      its_reads = ap (λ n. has n (setting.readers level address.node)) tells.1
-          ∙ tracking.read level address.node address.node below tells.0 tells.0
-          (omega (arith, tracking.metric.none address.node tells.0))
-
-      leads : setting.leader level c < setting.nodes
-      leads = tracking.led level c call.from below inside reads
+      far : IsReached setting width call.sub seen call.from level c address
+      far = reached used.entries used.inside (record {
+        few = low;
+        tracking = tracking;
+        legal = legal;
+        inside = inside;
+        low = below;
+        read = reads;
+        held = is_some;
+      })
 
   -- where the climb ends a reader has an address
   pub found-at : (end : Ends setting (setting.distance call.from (standing setting call.sub seen)))
       → HasAddress setting call.sub seen end.level (setting.readers end.level call.from)
   found-at end =
-      let its = used.levels setting call.sub seen low tracking.metric tracking.gathers legal end.level end.low in (
-        setting.home end.level its.0,
-        its.1,
-        at_reach its.0 its.2 its.3 end.reaches,
-        its.4,
-      )
-    where
-      at_reach : (node : ℕ) → node < setting.nodes
-          → setting.distance node (standing setting call.sub seen) < setting.threshold end.level
-          → (end.level ≡ setting.top)
-          ⊎ (setting.distance call.from (standing setting call.sub seen) + setting.threshold end.level
-          ≤ radius end.level + 1)
-          → has (setting.home end.level node) (setting.readers end.level call.from) ≡ true
-      at_reach node at_node near (inl is_top) =
-          ap (λ n. has (setting.home n node) (setting.readers n call.from)) is_top
-          ∙ tracking.whole node call.from at_node inside
-      at_reach node at_node near (inr reaches) = tracking.read end.level node call.from end.low at_node inside
-          (omega (
-            arith,
-            near,
-            reaches,
-            tracking.metric.detour node (standing setting call.sub seen) call.from at_node there_inside inside,
-            tracking.metric.both_ways (standing setting call.sub seen) call.from there_inside inside,
-          ))
+      let met = met-at used.levels used.inside call.sub seen call.from low tracking inside legal end in
+      (met.0, met.1, met.2.read, met.2.held)
 
   climbs-near : 1 ≤ setting.distance call.from (standing setting call.sub seen)
       → Affords setting call.sub seen call (WeighsAtMost (most setting width readers seen call pass)) 0
@@ -189,42 +161,39 @@ module _ (used : Used) (setting : Setting) (width readers : ℕ) (seen : History
 
 pub near : Used → QuietFindsAreNear
 near used setting width readers history actor call found tickets low tracking inside legal find quiet =
-    (sure (passage setting call.sub (before (first_of tickets) history)) open_first, (at_last.0, ended_near))
+    (sure (passage setting call.sub seen) open_first, (at_last.0, ended_near))
   where
-    legal_seen : IsLegal setting call.sub (before (first_of tickets) history)
+    seen : History
+    seen = before (first_of tickets) history
+
+    later : History
+    later = through (last_of tickets) history
+
+    legal_seen : IsLegal setting call.sub seen
     legal_seen = used.fronts setting call.sub history (first_of tickets) low legal
 
-    open_first : IsOpenAtMost setting call.sub (before (first_of tickets) history)
-        (passage setting call.sub (before (first_of tickets) history))
+    open_first : IsOpenAtMost setting call.sub seen (passage setting call.sub seen)
     open_first p u comes same = omega (
       arith,
-      used.opens setting call.sub (before (first_of tickets) history) low legal_seen
-          (standing setting call.sub (before (first_of tickets) history)) p u
-          (used.inside setting call.sub (before (first_of tickets) history) low legal_seen) comes same,
+      used.opens setting call.sub seen low legal_seen (standing setting call.sub seen) p u
+          (used.inside setting call.sub seen low legal_seen) comes same,
     )
 
-    sure : (pass : ℕ) → IsOpenAtMost setting call.sub (before (first_of tickets) history) pass
-        → IsAnswered found × (found_weight found ≤ most setting width readers (before (first_of tickets) history) call
-        pass)
-    sure pass opens = used.stays setting history actor call found tickets
-        (most setting width readers (before (first_of tickets) history) call pass) low inside legal
-        (begins-near used setting width readers (before (first_of tickets) history) call low tracking inside legal_seen
-        pass
-        opens) find quiet
+    sure : (pass : ℕ) → IsOpenAtMost setting call.sub seen pass
+        → IsAnswered found × (found_weight found ≤ most setting width readers seen call pass)
+    sure pass opens = used.stays setting history actor call found tickets (most setting width readers seen call pass)
+        low inside legal (begins-near used setting width readers seen call low tracking inside legal_seen pass opens)
+        find quiet
 
-    still : (standing setting call.sub (through (last_of tickets) history)
-        ≡ standing setting call.sub (before (first_of tickets) history))
-        × IsOpenAtMost setting call.sub (before (first_of tickets) history)
-        (passage setting call.sub (through (last_of tickets) history))
+    still : (standing setting call.sub later ≡ standing setting call.sub seen)
+        × IsOpenAtMost setting call.sub seen (passage setting call.sub later)
     still = used.still setting history actor call found tickets low legal find quiet
 
     at_last : IsAnswered found
-        × (found_weight found ≤ most setting width readers (before (first_of tickets) history) call
-        (passage setting call.sub (through (last_of tickets) history)))
-    at_last = sure (passage setting call.sub (through (last_of tickets) history)) still.1
+        × (found_weight found ≤ most setting width readers seen call (passage setting call.sub later))
+    at_last = sure (passage setting call.sub later) still.1
 
     ended_near : found_weight found ≤ stretch width readers * setting.distance call.from
-        (standing setting call.sub (through (last_of tickets) history))
-        + 2 * passage setting call.sub (through (last_of tickets) history)
+        (standing setting call.sub later) + 2 * passage setting call.sub later
     ended_near = subst (λ n. found_weight found ≤ stretch width readers * setting.distance call.from n
-        + 2 * passage setting call.sub (through (last_of tickets) history)) (sym still.0) at_last.1
+        + 2 * passage setting call.sub later) (sym still.0) at_last.1

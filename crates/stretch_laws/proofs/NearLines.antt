@@ -9,7 +9,7 @@ use Rattle.directory.specs.Finds.{FindCall, found_weight}
 use Rattle.directory.specs.ScriptLaws.{call_of_valid}
 use Rattle.directory.specs.Looks.{first_of, IsFind, IsQuiet, last_of}
 use Rattle.directory.specs.Orders.{AreValid, history_of, IsFindCall, Scripts}
-use Rattle.directory.specs.Outcomes.{found_line, IsMade, outcome_of}
+use Rattle.directory.specs.Outcomes.{found_line, IsFindLine, IsMade, outcome_of}
 use Rattle.directory.specs.Statements.{LinesAreMade, OrdersAreDone, OrdersArePlayed, PlayedIsLegal}
 use Rattle.directory.specs.declared.answers.Done.{Done}
 use Rattle.directory.specs.declared.answers.Done.TheVariants.{Moved, Switched, Found as FoundBy, Off as OffBy, Again as AgainBy}
@@ -45,6 +45,14 @@ near_line limit setting history within actor call (Again why weight) seen line i
     subst (IsLineWithin limit setting history) (sym tells)
     (λ quiet. (within actor call (Again why weight) seen is.inside legal find quiet).0)
 
+find_near : (limit : ℕ → ℕ → ℕ) (setting : Setting) (scripts : Scripts) (history : History)
+    → FindsAreWithin limit setting history → AreValid setting scripts
+    → ((sub : ℕ) → sub < subs setting → IsLegal setting sub history) → (actor : ℕ) (call : FindCall) (line : Done)
+    → IsFindLine setting scripts history actor call line → IsLineWithin limit setting history line
+find_near limit setting scripts history within valid legal actor call line h =
+    let is = call_of_valid setting scripts actor h.before call h.later valid h.script in
+    near_line limit setting history within actor call h.found h.seen line is (legal call.sub is.known) h.find h.tells
+
 -- so each line of an outcome is
 made_near : (limit : ℕ → ℕ → ℕ) (setting : Setting) (scripts : Scripts) (history : History)
     → FindsAreWithin limit setting history → AreValid setting scripts
@@ -53,20 +61,11 @@ made_near : (limit : ℕ → ℕ → ℕ) (setting : Setting) (scripts : Scripts
 made_near limit setting scripts history within valid legal (Moved actor n from to weight first commit last) h = tt
 made_near limit setting scripts history within valid legal (Switched actor is_off node n ticket) h = tt
 made_near limit setting scripts history within valid legal (FoundBy actor from sub node n level weight first last) h =
-    let is : IsFindCall setting (record { from = from; sub = sub }) =
-    call_of_valid setting scripts actor h.before _ h.later valid h.script in
-    near_line limit setting history within actor (record { from = from; sub = sub }) h.found h.seen _ is
-    (legal sub is.known) h.find h.tells
+    find_near limit setting scripts history within valid legal actor _ _ h
 made_near limit setting scripts history within valid legal (OffBy actor from sub node n level weight first last) h =
-    let is : IsFindCall setting (record { from = from; sub = sub }) =
-    call_of_valid setting scripts actor h.before _ h.later valid h.script in
-    near_line limit setting history within actor (record { from = from; sub = sub }) h.found h.seen _ is
-    (legal sub is.known) h.find h.tells
+    find_near limit setting scripts history within valid legal actor _ _ h
 made_near limit setting scripts history within valid legal (AgainBy actor from sub why weight first last) h =
-    let is : IsFindCall setting (record { from = from; sub = sub }) =
-    call_of_valid setting scripts actor h.before _ h.later valid h.script in
-    near_line limit setting history within actor (record { from = from; sub = sub }) h.found h.seen _ is
-    (legal sub is.known) h.find h.tells
+    find_near limit setting scripts history within valid legal actor _ _ h
 
 -- what is used of the laws of orders
 pub record OrderLaws : Type 0 where

@@ -13,7 +13,7 @@ use Rattle.trail_laws.specs.Trail.{mark_seen, MarksTell, MarkTells}
 use Rattle.trail_laws.specs.Ways.{IsOpenAtMost}
 use Rattle.trail_laws.specs.Within.{Affords, Begins, WeighsAtMost}
 use Rattle.stretch_laws.specs.Tracking.{IsTracking, resting_stretch, RestingFindsAreNearer}
-use Rattle.stretch_laws.proofs.Heights.{ends, scaled-more}
+use Rattle.stretch_laws.proofs.Heights.{by_width, ends, scaled-more}
 use Rattle.stretch_laws.proofs.Climbs.{climb-affords, Pays}
 use Rattle.stretch_laws.proofs.CostLaws.{at-rest, CostUsed}
 use Rattle.stretch_laws.proofs.Near.{elsewhere, found-at, Used}
@@ -22,17 +22,9 @@ rest-spread : (m w d : ℕ) → (16 * m * w + 4 * w + 4) * d ≡ 16 * (m * (w * 
 rest-spread m w d = grind arith
 
 within-resting : (m w d r : ℕ) → r < 4 * d → 4 * (m * (w * r)) + (w * r + r) ≤ resting_stretch w m * d
-within-resting m w d r small = omega (
-  arith,
-  rest-spread m w d,
-  by_width,
-  mul-le-mul_left m by_width,
-  mul_left_comm m 4 (w * d),
-  small,
-)
-  where
-    by_width : w * r ≤ 4 * (w * d)
-    by_width = omega (arith, mul-le-mul_left w (let h : r ≤ 4 * d = omega (arith, small) in h), mul_left_comm w 4 d)
+within-resting m w d r small =
+    let wide = by_width w d r small in
+    omega (arith, rest-spread m w d, wide, mul-le-mul_left m wide, mul_left_comm m 4 (w * d), small)
 
 -- what is used beside
 pub record RestUsed : Type 0 where

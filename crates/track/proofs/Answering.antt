@@ -1,13 +1,10 @@
 -- A graph's plan is the plan of the edges that it was made of.
-use Rattle.std.proofs.Common.{◌≡◌, ℕ, ◌<◌, ◌≤◌, Bool, true, false, List, Err, subst, arith}
-use Rattle.std.specs.Prelude.{◌==◌, if◌then◌else◌}
+use Rattle.std.proofs.Common.{◌≡◌, ℕ, ◌<◌, ◌≤◌, List, Err, subst, arith}
 use Rattle.net_graph.specs.declared.edge.Edge.{Edge}
-use Rattle.net_graph.specs.declared.edge.TheConstants.{MAX_NODES}
 use Rattle.net_graph.specs.Network.{Network, IsFirstApart, IsGraphOf, IsNetwork}
 use Rattle.net_graph.specs.Walks.{IsReached, everywhere}
 use Rattle.net_reader.specs.Input.{Contents}
 use Rattle.net_reader.specs.Reading.{IsReadWithGraph}
-use Rattle.net_reader.specs.Table.{most_nodes}
 use Rattle.net_reader.specs.Valid.{IsValid}
 use Rattle.net_reader.specs.declared.fault.ReadRefusal.{ReadRefusal}
 use Rattle.net_reader.specs.declared.fault.ReadRefusal.TheVariants as refusals
@@ -20,23 +17,16 @@ use Rattle.region_plan.specs.Regions.{covered_plan, plan_of}
 use Rattle.region_plan.specs.declared.covering.Covering.{Covering}
 use Rattle.track.specs.Results.{IsInputText, IsJudged, IsRefused, network_of, plan_for}
 use Rattle.track.specs.declared.status.Status.{Status}
+use Rattle.net_reader.specs.LineLaws.{most_nodes-within}
 
 -- ---- the plan of the input's network
-
--- no format has more nodes than a network may have
-most-within : (format : ℕ) → most_nodes format ≤ MAX_NODES
-most-within format = at (format == 2)
-  where
-    at : (second : Bool) → (if second then 1024 else 256) ≤ MAX_NODES
-    at true = omega arith
-    at false = omega arith
 
 -- the network of a valid input is one within the limits
 pub network-valid : {contents : Contents} → IsValid contents → IsNetwork (network_of contents)
 network-valid {contents} valid = record {
   limits = record {
     positive = valid.some;
-    few = omega (arith, valid.few, most-within contents.format);
+    few = omega (arith, valid.few, most_nodes-within contents.format);
     edges = valid.edges;
   };
   connected = valid.connected;

@@ -1,5 +1,5 @@
 -- How a call ends, by what its parts answered.
-use Rattle.std.proofs.Common.{◌≡◌, ◌⊎◌, inl, inr, ℕ, ◌≤◌, true, List, ◌++◌, length, Option, Some, None, Result, Ok, Err, sym, ap, subst, ◌∙◌, append-nil}
+use Rattle.std.proofs.Common.{◌≡◌, ◌⊎◌, inl, inr, ℕ, ◌≤◌, true, List, length, Option, Some, None, Result, Ok, Err, subst, append-nil}
 use Rattle.std.proofs.lemmas.Result.{IfOk-weaker}
 use Rattle.std.specs.Prelude.{IfOk, IfSome}
 use Rattle.std.specs.declared.alloc.AllocError.{AllocError}
@@ -27,10 +27,8 @@ use Rattle.track.specs.declared.stop.WriteStop.TheVariants as writing
 -- what holds of all bytes that were read holds of what was left
 of_left : (P : List ℕ → Type 0) {before : Option (List ℕ)} (now : Option (List ℕ)) {bytes : List ℕ}
     → before ≡ prepend_known bytes now → IsAtEnd now → P bytes → IfSome before P
-of_left P None e end p = subst (λ (o : Option (List ℕ)). IfSome o P) (sym e) tt
-of_left P (Some rest) {bytes} e end p =
-    let whole : bytes ≡ bytes ++ rest = sym (ap (λ (xs : List ℕ). bytes ++ xs) end ∙ append-nil bytes) in
-    subst (λ (o : Option (List ℕ)). IfSome o P) (sym e) (subst P whole p)
+of_left P None e end p = rw e tt
+of_left P (Some rest) e end p = rw (e, end, append-nil) p
 
 -- a status that comes with a whole text
 abbrev IsTold : Status → Type 0
@@ -86,15 +84,9 @@ is_plain_run = record { short = λ bytes is. is; text = λ bytes status text is.
 
 told : (command : Command) {status : Status} (before now : Streams) → IsTold status → EndsDone command status before now
     → EndsAs command status before now
-told command before now (inl e) h =
-    subst (λ (s : Status). EndsAs command s before now) (sym e)
-    (subst (λ (s : Status). EndsDone command s before now) e h)
-told command before now (inr (inl e)) h =
-    subst (λ (s : Status). EndsAs command s before now) (sym e)
-    (subst (λ (s : Status). EndsDone command s before now) e h)
-told command before now (inr (inr e)) h =
-    subst (λ (s : Status). EndsAs command s before now) (sym e)
-    (subst (λ (s : Status). EndsDone command s before now) e h)
+told command before now (inl e) h = rw e (rw e at h)
+told command before now (inr (inl e)) h = rw e (rw e at h)
+told command before now (inr (inr e)) h = rw e (rw e at h)
 
 -- the text of all bytes that were left was written
 done-bytes : (command : Command) (status : Status) (text bytes : List ℕ) {left : Option (List ℕ)}
@@ -141,20 +133,14 @@ ended-bytes : (command : Command) (answer : Result Answer AllocError) (status : 
     (streams left' rf' written' wf')
 ended-bytes command (Ok answer) status bytes {left} left' {rf} {rf'} written written' wf wf' parts end calm short right
     (inl whole) =
-    subst (λ (s : Status). EndsAs command s (streams left rf written wf) (streams left' rf' written' wf'))
-    (sym whole.0)
-    (done-bytes command answer.status (text_of answer.body) bytes left' written parts end calm short right whole.1
-    whole.2)
+    rw whole.0 (done-bytes command answer.status (text_of answer.body) bytes left' written parts end calm short right
+    whole.1 whole.2)
 ended-bytes command (Ok answer) status bytes {left} left' {rf} {rf'} written written' wf wf' parts end calm short right
     (inr begun) =
-    subst (λ (s : Status). EndsAs command s (streams left rf written wf) (streams left' rf' written' wf'))
-    (sym begun.1)
-    (begun-bytes command answer.status begun.0 (text_of answer.body) bytes left' written written' wf wf' parts end calm
-    short right begun.2)
+    rw begun.1 (begun-bytes command answer.status begun.0 (text_of answer.body) bytes left' written written' wf wf'
+    parts end calm short right begun.2)
 ended-bytes command (Err fault) status bytes {left} left' {rf} {rf'} written written' wf wf' parts end calm short right
-    h =
-    subst (λ (s : Status). EndsAs command s (streams left rf written wf) (streams left' rf' written' wf'))
-    (sym h.0) ((h.1, h.2), calm)
+    h = rw h.0 ((h.1, h.2), calm)
 
 -- an answer to the bytes that a reader stands for
 pub ended : {command : Command} → IsPlain command → (answer : Result Answer AllocError) (status : Status)
@@ -164,10 +150,7 @@ pub ended : {command : Command} → IsPlain command → (answer : Result Answer 
     → EndsAs command status (streams left rf written wf) (streams left' rf' written' wf')
 ended {command} plain answer status {reader} {left'} written written' wf wf' all right is =
     ended-bytes command answer status all.bytes left' written written' wf wf' all.parts all.end all.no_fault
-    (plain.short all.bytes all.short) (IfOk-weaker answer
-    (λ answer. (bytes : List ℕ) → StandsFor reader bytes
-    → IsInputText command bytes answer.status (text_of answer.body))
-    (λ answer. IsText command all.bytes answer.status (text_of answer.body))
+    (plain.short all.bytes all.short) (IfOk-weaker answer _ _
     (λ answer right. plain.text all.bytes answer.status (text_of answer.body) (right all.bytes all.stands)) right) is
 
 -- ---- a text that has a report
@@ -179,9 +162,7 @@ part-short bytes same short all = (all, subst (λ (t : List ℕ). length t ≤ m
 
 judged-text : (bytes : List ℕ) {part report : List ℕ} {status : Status} {text : List ℕ} → part ≡ input_part bytes
     → report ≡ report_part bytes → IsJudged part report status text → IsText commands.Check bytes status text
-judged-text bytes {report} {status} {text} p r h =
-    subst (λ (t : List ℕ). IsJudged (input_part bytes) t status text) r
-    (subst (λ (t : List ℕ). IsJudged t report status text) p h)
+judged-text bytes p r h = rw (p, r) at h
 
 pub ended-check : (answer : Result Answer AllocError) (status : Status) {bytes part report : List ℕ}
     {left left' : Option (List ℕ)} {rf rf' : ℕ} (written written' : Option (List ℕ)) (wf wf' : ℕ)
@@ -191,10 +172,7 @@ pub ended-check : (answer : Result Answer AllocError) (status : Status) {bytes p
     (streams left' rf' written' wf')
 ended-check answer status {bytes} {part} {report} {left'} written written' wf wf' all p r short right is =
     ended-bytes commands.Check answer status bytes left' written written' wf wf' all.parts all.end all.no_fault
-    (part-short bytes p short all.short) (IfOk-weaker answer
-    (λ answer. IsJudged part report answer.status (text_of answer.body))
-    (λ answer. IsText commands.Check bytes answer.status (text_of answer.body)) (λ answer. judged-text bytes p r) right)
-    is
+    (part-short bytes p short all.short) (IfOk-weaker answer _ _ (λ answer. judged-text bytes p r) right) is
 
 -- ---- JSON
 

@@ -1,5 +1,5 @@
 -- Bytes have one text, and what ends without a fault is whole.
-use Rattle.std.proofs.Common.{◌≡◌, ◌⊎◌, inl, inr, ℕ, true, false, List, Option, Some, Result, Ok, Err, refl, ap, sym, subst, ◌∙◌, arith}
+use Rattle.std.proofs.Common.{◌≡◌, ◌⊎◌, inl, inr, ℕ, true, false, List, Option, Some, Result, Ok, Err, refl, sym, subst, ◌∙◌, arith}
 use Rattle.std.specs.Prelude.{IfSome}
 use Rattle.outside.specs.Calls.{HasFaulted}
 use Rattle.net_reader.specs.declared.fault.InputFault.{InputFault}
@@ -21,17 +21,13 @@ same_result : (command : Command) (contents : Contents) (one other : List ℕ) �
     → IsResult command contents one → IsResult command contents other → one ≡ other
 same_result commands.Cover contents one other served p q = p ∙ sym q
 same_result commands.Replay contents one other served p q = p.over.text_is ∙ sym q.over.text_is
-same_result commands.Census contents one other served p q = p.text_is ∙ sym q.text_is
-same_result commands.Costs contents one other served p q = p.text_is ∙ sym q.text_is
 same_result commands.Check contents one other served p q = absurd p
 same_result commands.ToJson contents one other served p q = p ∙ sym q
 same_result commands.FromJson contents one other served p q = absurd p
-same_result commands.ReplayJson contents one other served p q = p.text_is ∙ sym q.text_is
-same_result commands.MeanCover contents one other served p q = p.text_is ∙ sym q.text_is
-same_result commands.MeanReplay contents one other served p q = p.text_is ∙ sym q.text_is
 same_result commands.Run contents one other served p q = cc
 same_result (commands.Make load) contents one other served p q = absurd p
 same_result (commands.Trial load) contents one other served p q = absurd p
+same_result command contents one other served p q = p.text_is ∙ sym q.text_is
 
 same_answer : (command : Command) (input : Result Contents InputFault) (s t : Status) (one other : List ℕ)
     → is_served false command ≡ true → IsRightAnswer command input s one → IsRightAnswer command input t other
@@ -47,9 +43,7 @@ one_input_text : TextSaysOne → {command : Command} {bytes : List ℕ} {s t : S
     → (s ≡ t) × (one ≡ other)
 one_input_text says {command} {bytes} {s} {t} {one} {other} served p q =
     let same = says bytes p.input q.input p.says q.says in
-    same_answer command q.input s t one other served
-    (subst (λ (input : Result Contents InputFault). IsRightAnswer command
-    input s one) same p.answer) q.answer
+    same_answer command q.input s t one other served (rw same at p.answer) q.answer
 
 -- an input part and a report have one verdict
 same_verdict : (report : List ℕ) (input : Result Contents InputFault) (s t : Status) (one other : List ℕ)
@@ -60,9 +54,7 @@ same_verdict report (Err fault) s t one other p q = (p.0 ∙ sym q.0, p.1 ∙ sy
 one_verdict : TextSaysOne → {part report : List ℕ} {s t : Status} {one other : List ℕ} → IsJudged part report s one
     → IsJudged part report t other → (s ≡ t) × (one ≡ other)
 one_verdict says {part} {report} {s} {t} {one} {other} p q =
-    same_verdict report q.input s t one other
-    (subst (λ (input : Result Contents InputFault). IsRightVerdict report input s one)
-    (says part p.input q.input p.says q.says) p.answer) q.answer
+    same_verdict report q.input s t one other (rw (says part p.input q.input p.says q.says) at p.answer) q.answer
 
 -- JSON is of one listing, and is refused for one cause, or for none
 pub record JsonIsOne : Type 0 where
@@ -78,15 +70,12 @@ same_made made (Err fault) s t one other p q = (p.0 ∙ sym q.0, p.1 ∙ sym q.1
 one_made : TextSaysOne → {made : List ℕ} {s t : Status} {one other : List ℕ} → IsMadeBy made s one
     → IsMadeBy made t other → (s ≡ t) × (one ≡ other)
 one_made says {made} {s} {t} {one} {other} p q =
-    same_made made q.input s t one other
-    (subst (λ (input : Result Contents InputFault). IsMade made input s one)
-    (says made p.input q.input p.says q.says) p.answer) q.answer
+    same_made made q.input s t one other (rw (says made p.input q.input p.says q.says) at p.answer) q.answer
 
 one_json : TextSaysOne → JsonIsOne → (bytes : List ℕ) (s t : Status) (one other : List ℕ)
     → IsJsonAnswer bytes s one → IsJsonAnswer bytes t other → (s ≡ t) × (one ≡ other)
 one_json says json bytes s t one other (inl p) (inl q) =
-    one_made says (subst (λ (l : ListingValue). IsMadeBy (listing_text l) s one)
-    (json.listing bytes p.listing q.listing p.listed q.listed) p.made) q.made
+    one_made says (rw (json.listing bytes p.listing q.listing p.listed q.listed) at p.made) q.made
 one_json says json bytes s t one other (inl p) (inr (inl q)) = absurd ((json.right bytes p.listing p.listed).1 q.0)
 one_json says json bytes s t one other (inl p) (inr (inr q)) = absurd ((json.right bytes p.listing p.listed).0 q.0)
 one_json says json bytes s t one other (inr (inl p)) (inl q) = absurd ((json.right bytes q.listing q.listed).1 p.0)
@@ -115,8 +104,7 @@ judged_input : (report : List ℕ) (input : Result Contents InputFault) {content
     (text : List ℕ) → input ≡ Ok contents → IsRightVerdict report input status text
     → status ≡ verdict_status (verdict_for contents report)
 judged_input report (Ok other) {contents} status text e h =
-    let same : other ≡ contents = cc in
-    h.0 ∙ ap (λ (c : Contents). verdict_status (verdict_for c report)) same
+    let same : other ≡ contents = cc in rw same at h.0
 judged_input report (Err fault) status text e h = cc
 
 made_input : (made : List ℕ) (input : Result Contents InputFault) {contents : Contents} (status : Status)
@@ -159,8 +147,7 @@ whole_is says json command status before now {bytes} contents h left input =
 
 -- the bytes of a command aren't both too many and not too many
 short_or_long : (command : Command) (bytes : List ℕ) → IsShort command bytes → IsLong command bytes → ⊥
-short_or_long commands.Check bytes short (inl long) = omega (arith, short.0, long)
-short_or_long commands.Check bytes short (inr long) = omega (arith, short.1, long)
+short_or_long commands.Check bytes short long = omega (arith, short.0, short.1, long)
 short_or_long command bytes short long = omega (arith, short, long)
 
 pub is_complete : TextSaysOne → JsonIsOne → (command : Command) (status : Status) (before now : Streams)
@@ -170,35 +157,26 @@ pub is_complete : TextSaysOne → JsonIsOne → (command : Command) (status : St
     → SaysInput command bytes contents
     → (HasFaulted before.read_faults now.read_faults → ⊥) → (HasFaulted before.write_faults now.write_faults → ⊥)
     → (status ≡ whole_status command bytes contents) ⊎ (status ≡ statuses.OutOfMemory)
-is_complete says json command statuses.Done before now bytes contents h left short input r w =
-    inl (whole_is says json command statuses.Done before now contents h left input)
-is_complete says json command statuses.Refused before now bytes contents h left short input r w =
-    inl (whole_is says json command statuses.Refused before now contents h left input)
-is_complete says json command statuses.Unsound before now bytes contents h left short input r w =
-    inl (whole_is says json command statuses.Unsound before now contents h left input)
 is_complete says json command statuses.BadWords before now bytes contents h left short input r w = absurd h
 is_complete says json command statuses.OutOfMemory before now bytes contents h left short input r w = inr refl
 is_complete says json command statuses.ReadFailed before now bytes contents h left short input r w = absurd (r h.1.0)
 is_complete says json command statuses.WriteFailed before now bytes contents h left short input r w = absurd (w h.0.0)
 is_complete says json command statuses.TooLong before now bytes contents h left short input r w =
     absurd (short_or_long command bytes short (of_some (λ bytes. IsLong command bytes) left h.2))
+is_complete says json command status before now bytes contents h left short input r w =
+    inl (whole_is says json command status before now contents h left input)
 
 pub is_complete_alone : IsCompleteAlone
 is_complete_alone text statuses.Done before now h w = inl refl
-is_complete_alone text statuses.Refused before now h w = absurd h
-is_complete_alone text statuses.Unsound before now h w = absurd h
-is_complete_alone text statuses.BadWords before now h w = absurd h
 is_complete_alone text statuses.OutOfMemory before now h w = inr refl
-is_complete_alone text statuses.ReadFailed before now h w = absurd h
 is_complete_alone text statuses.WriteFailed before now h w = absurd (w h.0.0)
-is_complete_alone text statuses.TooLong before now h w = absurd h
+is_complete_alone text status before now h w = absurd h
 
 -- the right answer to a run of an input is a report of one order
 run_report : (input : Result Contents InputFault) {contents : Contents} (status : Status) (text : List ℕ)
     → input ≡ Ok contents → IsRightAnswer commands.Run input status text → IsRunReport contents text
 run_report (Ok other) {contents} status text e h =
-    let same : other ≡ contents = cc in
-    subst (λ (c : Contents). IsRunReport c text) same h.1
+    let same : other ≡ contents = cc in rw same at h.1
 run_report (Err fault) status text e h = cc
 
 -- and to a replay of it that of its own order

@@ -1,5 +1,5 @@
 -- A text that is passed on piece by piece: what was written, and what waits.
-use Rattle.std.proofs.Common.{◌≡◌, ℕ, List, [], ◌++◌, Option, Some, None, Result, Ok, Err, refl, sym, ap, subst, ◌∙◌, append_assoc, append-nil}
+use Rattle.std.proofs.Common.{◌≡◌, ℕ, List, [], ◌++◌, Option, Some, None, Result, Ok, Err, refl, sym, ap, ◌∙◌, append_assoc, append-nil}
 use Rattle.std.specs.Prelude.{IfErr}
 use Rattle.std.specs.Result.{IsErrAnd, OnOk}
 use Rattle.outside.specs.Bytes.{append_known, append_known-append}
@@ -64,11 +64,8 @@ pub stopped-writing : {stop : WriteStop} {before mid now : Option (List ℕ)} {t
     (piece rest : List ℕ) {f g : ℕ} (h : ℕ) → (stop ≡ Failed) × HasFaultedOnce g h → g ≡ f
     → IsOnItsWay before mid text waiting → IsWrittenPart (waiting ++ piece) mid now → total ≡ text ++ (piece ++ rest)
     → StopsWriting stop total before now f h
-stopped-writing {before} {now} {total} piece rest {f} h failed same one part whole =
-    subst (λ (s : WriteStop). StopsWriting s total before now f h) (sym failed.0) (
-      subst (λ (x : ℕ). HasFaultedOnce x h) same failed.1,
-      begins piece rest one part whole,
-    )
+stopped-writing piece rest h failed same one part whole =
+    rw failed.0 (rw same at failed.1, begins piece rest one part whole)
 
 pub err-then : (result : Result (Unit {0}) WriteStop) {P : WriteStop → Type 0} (Q : WriteStop → Type 0)
     → IsErrAnd result P → ((stop : WriteStop) → P stop → Q stop) → IfErr result Q
@@ -80,9 +77,8 @@ pub ends-stopped : (result : Result (Unit {0}) WriteStop) {before mid now : Opti
     → g ≡ f → IsOnItsWay before mid text waiting → IsWrittenPart waiting mid now → total ≡ text
     → IfErr result (λ stop. StopsWriting stop total before now f h)
 ends-stopped (Ok done) h failed same one part whole = tt
-ends-stopped (Err stop) {mid} {now} {text} {waiting} h failed same one part whole =
-    stopped-writing [] [] h failed same one (subst (λ t. IsWrittenPart t mid now) (sym (append-nil waiting)) part)
-    (whole ∙ sym (append-nil text))
+ends-stopped (Err stop) {text = text} h failed same one part whole =
+    stopped-writing [] [] h failed same one (rw append-nil part) (whole ∙ sym (append-nil text))
 
 -- a part more of what is left
 pub part-more : {total : List ℕ} (text part : List ℕ) {left : List ℕ} (rest : List ℕ) → total ≡ text ++ left

@@ -1,6 +1,6 @@
 -- The report of a valid input over a plan, under any order, says what is right, and within the
 -- bound.
-use Rattle.std.proofs.Common.{◌≡◌, ℕ, ◌≤◌, ◌+◌, ◌^◌, ◌++◌, ◌∷◌, [], Bool, true, false, ◌<◌, List, length, Option, Some, None, refl, sym, ap, subst, ◌∙◌, arith}
+use Rattle.std.proofs.Common.{◌≡◌, ℕ, ◌≤◌, ◌+◌, ◌^◌, ◌++◌, ◌∷◌, [], true, false, ◌<◌, List, length, Option, Some, None, refl, sym, ap, subst, ◌∙◌, arith}
 use Rattle.std.proofs.Math.ListN.{get_or-append}
 use Rattle.std.proofs.Math.Seq.{get_or-append_seam}
 use borrow.Author.Count.{below_more}
@@ -17,17 +17,15 @@ use Rattle.region_plan.specs.Plan.{PlanData, nodes_of}
 use Rattle.directory.specs.Orders.{AreValid, steps_of}
 use Rattle.directory.specs.Places.{Place, place_at_end}
 use Rattle.trail_laws.specs.Censuses.{CensusesEndByScripts, CensusesEndRight, is_on_at, who_ends_at}
-use Rattle.trail_laws.specs.RightOutcomes.{NumbersRise, OutcomesAreRight}
+use Rattle.trail_laws.specs.RightOutcomes.{NumbersRise, OutcomesAreRight, TellInTurn}
 use Rattle.stretch_laws.specs.NearOutcomes.{PlanOutcomesAreNear}
-use Rattle.trail_laws.specs.RightOutcomes.{TellInTurn}
 use Rattle.scripts.specs.Scripts.{scripts_of}
 use Rattle.census_text.specs.CensusText.{census_text_of, is_place, who_at}
 use Rattle.census_text.specs.TextLaws.{texts-same}
 use Rattle.report_text.specs.ReportText.{report_of}
 use Rattle.own_reports.specs.Reports.{OwnReportsAreSound}
 use Rattle.report_check.specs.declared.verdict.Verdict.TheVariants.{Sound}
-use Rattle.track.specs.Results.{IsCensusText, IsReportOver, history_for, in_order, outcome_for, outcome_over, plan_for, setting_for, verdict_for}
-use Rattle.track.specs.Results.{plan_setting}
+use Rattle.track.specs.Results.{IsCensusText, IsReportOver, history_for, in_order, outcome_for, outcome_over, plan_for, setting_for, verdict_for, plan_setting}
 use Rattle.track.proofs.Answering.{plan-nodes}
 use Rattle.scripts.specs.Laws.{ScriptsAreValid}
 use Rattle.scripts.specs.ScriptLaws.{few-nodes}
@@ -60,6 +58,14 @@ pub census-says : CensusesEndByScripts → CensusesEndRight → ScriptsAreValid 
     → {text : List ℕ} → IsValid contents → text ≡ census_text_of (who_ends_at contents.homes (scripts_of contents))
     contents.nodes → IsCensusText contents text
 census-says listed right scripts means {contents} valid text_is =
+    let nodes : nodes_of (plan_for contents) ≡ contents.nodes = plan-nodes means valid in
+    let few : nodes_of (plan_for contents) ≤ 2 ^ 16 = omega (arith, nodes, few-nodes contents valid) in
+    let valid_scripts : AreValid (setting_for contents) (scripts_of contents) =
+    scripts contents (setting_for contents) valid (record { nodes = nodes; starts = refl }) in
+    let lists : (node : ℕ) → node < contents.nodes → census (setting_for contents) (history_for contents) node
+    ≡ who_ends_at contents.homes (scripts_of contents) node =
+    λ node below. listed (setting_for contents) (scripts_of contents) contents.order node few valid_scripts
+    (omega (arith, below, nodes)) in
     record {
       text_is = text_is ∙ sym (texts-same (census (setting_for contents) (history_for contents))
           (who_ends_at contents.homes (scripts_of contents)) contents.nodes lists);
@@ -67,29 +73,13 @@ census-says listed right scripts means {contents} valid text_is =
       right = λ sub node known below. right (setting_for contents) (scripts_of contents) contents.order sub node few
           valid_scripts known (omega (arith, below, nodes));
     }
-  where
-    nodes : nodes_of (plan_for contents) ≡ contents.nodes
-    nodes = plan-nodes means valid
-
-    few : nodes_of (plan_for contents) ≤ 2 ^ 16
-    few = omega (arith, nodes, few-nodes contents valid)
-
-    valid_scripts : AreValid (setting_for contents) (scripts_of contents)
-    valid_scripts = scripts contents (setting_for contents) valid (record { nodes = nodes; starts = refl })
-
-    lists : (node : ℕ) → node < contents.nodes → census (setting_for contents) (history_for contents) node
-        ≡ who_ends_at contents.homes (scripts_of contents) node
-    lists node below = listed (setting_for contents) (scripts_of contents) contents.order node few valid_scripts
-        (omega (arith, below, nodes))
 
 -- where each subscriber is after its script tells who is at each node
 place-on : (node : ℕ) (place : Place) → is_place node (node_if_on place) ≡ is_on_at node place
-place-on node place = at_state place.is_off
-  where
-    at_state : (off : Bool) → is_place node (if off then None else Some place.node)
-        ≡ (not off && place.node == node)
-    at_state true = refl
-    at_state false = refl
+place-on node place =
+    elim place.is_off
+    as (λ off. is_place node (if off then None else Some place.node) ≡ (not off && place.node == node))
+    [ true ↦ refl | false ↦ refl ]
 
 who-same : {contents : Contents} {places : List (Option ℕ)} → AreLastPlaces contents places → (node : ℕ)
     → who_at places node ≡ who_ends_at contents.homes (scripts_of contents) node

@@ -17,12 +17,11 @@ use Rattle.directory.specs.Orders.{history_of}
 use Rattle.directory.specs.Outcomes.{Outcome, outcome_of}
 use Rattle.directory.specs.Settings.{Setting}
 use Rattle.trail_laws.specs.Censuses.{IsCounted, who_ends_at}
-use Rattle.trail_laws.specs.RightOutcomes.{IsRightLine}
+use Rattle.trail_laws.specs.RightOutcomes.{IsRightLine, TellInTurn, TellRisingNumbers}
 use Rattle.region_plan.specs.Plan.{PlanData, levels_of}
 use Rattle.region_plan.specs.Settings.{setting_of}
 use Rattle.stretch_laws.specs.Plans.{bound_of}
 use Rattle.stretch_laws.specs.NearOutcomes.{IsLineWithin}
-use Rattle.trail_laws.specs.RightOutcomes.{TellInTurn, TellRisingNumbers}
 use Rattle.scripts.specs.Scripts.{scripts_of}
 use Rattle.region_plan.specs.Matched.{BoundsFinds, HasSmallSum}
 use Rattle.region_plan.specs.Regions.{mean_plan, plan_of}
@@ -45,8 +44,7 @@ use Rattle.report_check.specs.Cuts.{input_part, report_part}
 use Rattle.report_check.specs.Verdicts.{verdict_of}
 use Rattle.report_check.specs.VerdictText.{verdict_line_of}
 use Rattle.word_line.specs.declared.command.Command.{Command}
-use Rattle.word_line.specs.declared.command.Command.TheVariants.{Cover, Replay, Census, Costs, Check, Run, Make, Trial}
-use Rattle.word_line.specs.declared.command.Command.TheVariants.{ToJson, FromJson, ReplayJson, MeanCover, MeanReplay}
+use Rattle.word_line.specs.declared.command.Command.TheVariants.{Cover, Replay, Census, Costs, Check, Run, Make, Trial, ToJson, FromJson, ReplayJson, MeanCover, MeanReplay}
 use Rattle.track.specs.declared.status.Status.{Status}
 use Rattle.track.specs.declared.status.Status.TheVariants.{Done, Refused, Unsound}
 

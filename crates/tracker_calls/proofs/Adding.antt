@@ -1,5 +1,5 @@
 -- What a pass has added, with one visit more, before which it lost turns at the node.
-use Rattle.std.proofs.Common.{◌≡◌, ℕ, suc, ◌-◌, List, [], ◌∷◌, ◌++◌, None, cond, eq-eqb, length, map, refl, sym, ap, ◌∙◌, subst, arith, append_assoc, length-append}
+use Rattle.std.proofs.Common.{◌≡◌, ℕ, suc, ◌-◌, List, [], ◌∷◌, ◌++◌, None, length, map, refl, sym, ap, ◌∙◌, subst, arith, append_assoc, length-append}
 use Rattle.std.specs.Prelude.{flat_map}
 use Rattle.std.proofs.lemmas.List.{append-nil, get_or_push, map-append}
 use Rattle.std.proofs.lemmas.List.Concat.{flat_map-append}
@@ -9,7 +9,6 @@ use Rattle.directory.specs.Histories.{History, IsFront, own, tickets}
 use Rattle.directory.specs.Keys.{act_node}
 use Rattle.directory.specs.Looks.{last_of}
 use Rattle.directory.specs.Settings.{Setting}
-use Rattle.directory.specs.StepLaws.{own-push}
 use Rattle.station.specs.Passes.{PassData, actor_of}
 use Rattle.station.specs.Plays.{view_held, visit_by}
 use Rattle.station.specs.Setup.{Setup, setting_in}
@@ -21,7 +20,7 @@ use Rattle.station.specs.declared.turns.Held.{Held}
 use Rattle.station.specs.declared.view.NodeTurn.{NodeTurn}
 use Rattle.station.specs.declared.view.TurnEvent.{TurnEvent}
 use Rattle.station.specs.declared.view.TurnEvent.TheVariants.{Won, GivenBack, Lost}
-use Rattle.station.specs.TicketLaws.{legal-seen, tickets-more}
+use Rattle.station.specs.TicketLaws.{legal-seen, tickets-more, own-visited}
 use Rattle.tracker_calls.specs.Added.{HasAdded, HasTried, VisitTurns, turns_taken}
 use Rattle.directory.specs.Statements.{BeginsWithItself, BeginsWithFront, BeginsThrough}
 
@@ -47,8 +46,7 @@ logged-visit {setup} {pass} {tried} {new} {act} {ticket} told lost visited =
     let setups : tried.view.setup ≡ setup = ap (λ (q : PassData). q.view.setup) lost.is ∙ told in
     logged-more pass tried new (losses (actor_of pass) (map (turn_at node) lost.words))
     (Won (actor_of pass) node ∷ GivenBack (actor_of pass) node ∷ []) (logged-tried lost)
-    (subst (λ (a : ℕ). HasLoggedMore tried (Won a node ∷ GivenBack a node ∷ []) new) (ap actor_of lost.is)
-    (logged-turn setup tried new act ticket setups visited))
+    (rw (← ap actor_of lost.is) (logged-turn setup tried new act ticket setups visited))
 
 -- nothing is added
 pub added-none : BeginsWithItself → (setup : Setup) (pass : PassData) → pass.view.inside ≡ None
@@ -73,16 +71,6 @@ pub visited-front : BeginsWithFront → BeginsThrough → {old new : PassData} {
 visited-front longer through {old} {new} {act} visited =
     through old.view.seen visited.earlier new.view.seen visited.begins
     (subst (IsFront visited.earlier) (sym visited.seen) (longer visited.earlier (visit_by old.view act ∷ [])))
-
--- the visit is its pass's own
-pub own-visited : {old new : PassData} {act : Act} {ticket : ℕ} → HasVisited old act ticket new
-    → own (actor_of old) new.view.seen ≡ own (actor_of old) old.view.seen ++ visit_by old.view act ∷ []
-own-visited {old} {act} visited =
-    ap (own (actor_of old)) visited.seen
-    ∙ (own-push (actor_of old) visited.earlier (visit_by old.view act)
-    ∙ (ap (λ b. own (actor_of old) visited.earlier ++ cond b (visit_by old.view act ∷ []) [])
-    (eq-eqb old.view.low old.view.low refl)
-    ∙ ap (λ l. l ++ visit_by old.view act ∷ []) visited.visits))
 
 -- the node of a visit comes behind those of its actor's earlier ones
 nodes-more : (setting : Setting) (actor : ℕ) (begun pass new : History) (turns : List VisitTurns) (one : VisitTurns)
@@ -113,19 +101,16 @@ added-more longer through {setup} {begun} {pass} {tried} {new} {made} {act} {tic
     let turns : VisitTurns = record { node = act_node (setting_in setup) act; words = lost.words } in
     let taken : List TurnEvent = flat_map (turns_taken actor) added.turns in
     let more : own actor new.view.seen ≡ own actor pass.view.seen ++ visit_by tried.view act ∷ [] =
-    subst (λ (h : History). own actor new.view.seen ≡ own actor h ++ visit_by tried.view act ∷ []) seen
-    (subst (λ (a : ℕ). own a new.view.seen ≡ own a tried.view.seen ++ visit_by tried.view act ∷ []) mine
-    (own-visited visited)) in
+    rw (← seen, ← mine) (own-visited visited) in
     let next : tickets actor new.view.seen ≡ tickets actor tried.view.seen ++ ticket ∷ [] =
-    subst (λ (a : ℕ). tickets a new.view.seen ≡ tickets a tried.view.seen ++ ticket ∷ []) mine
+    rw (← mine)
     (ap (tickets (actor_of tried)) visited.seen
     ∙ (tickets-more (actor_of tried) tried.view.seen visited.earlier (visit_by tried.view act) visited.begins
     visited.visits refl
     ∙ ap (λ t. tickets (actor_of tried) tried.view.seen ++ t ∷ []) visited.count)) in
     record {
       begins = through begun.view.seen pass.view.seen new.view.seen added.begins
-          (subst (λ (h : History). IsFront h new.view.seen) seen
-          (visited-front longer through visited));
+          (rw (← seen) (visited-front longer through visited));
       visits = next
           ∙ (ap (λ (h : History). tickets actor h ++ ticket ∷ []) seen
           ∙ (ap (λ l. l ++ ticket ∷ []) added.visits ∙ append_assoc _ made (ticket ∷ [])));
@@ -136,12 +121,11 @@ added-more longer through {setup} {begun} {pass} {tried} {new} {made} {act} {tic
       count = omega (arith, length-append added.turns (turns ∷ []), added.count, one);
       nodes = nodes-more (setting_in setup) actor begun.view.seen pass.view.seen new.view.seen added.turns turns
           (visit_by tried.view act) more added.nodes refl;
-      logged = subst (λ (l : List TurnEvent). HasLoggedMore begun l new)
-          (ap (λ l. taken ++ l) (sym (append-nil (turns_taken actor turns)))
-          ∙ sym (flat_map-append (turns_taken actor) added.turns (turns ∷ [])))
-          (logged-more begun pass new taken (turns_taken actor turns) added.logged
-          (subst (λ (a : ℕ). HasLoggedMore pass (turns_taken a turns) new) added.same.actor
-          (logged-visit told lost visited)));
+      logged = rw (
+        flat_map-append (turns_taken actor) added.turns (turns ∷ []),
+        append-nil (turns_taken actor turns),
+      ) (logged-more begun pass new taken (turns_taken actor turns) added.logged
+          (rw (← added.same.actor) (logged-visit told lost visited)));
       same = record {
         table = visited.same.table ∙ (ap (λ (q : PassData). q.table) lost.is ∙ added.same.table);
         seat = visited.same.seat ∙ (ap (λ (q : PassData). q.seat) lost.is ∙ added.same.seat);

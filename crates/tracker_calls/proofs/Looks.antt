@@ -39,8 +39,7 @@ looks-more setting seen more actor call {key} ticket front late is_look (u ∷ m
           k,
           is_wanted,
           there,
-          subst (λ h. AreLooks setting more actor call (suc u) (after_word setting call pursuit (cell setting h k))
-              (made ++ ticket ∷ [])) same deep.0,
+          rw (← same) deep.0,
         ),
       ),
       pursuit-step setting more actor call pursuit u k (made ++ ticket ∷ []) there

@@ -16,7 +16,7 @@ use Rattle.handset.specs.StepWrites.{after_write, due, due_at}
 use Rattle.directory.specs.Amid.{course_of}
 use Rattle.handset.specs.Stands.{StandsForSteps}
 use Rattle.handset.specs.declared.stage.Stage.{Stage}
-use Rattle.handset.specs.declared.stage.Stage.TheVariants.{Resting, Coming, Renewing, Committing, Confirming, Erasing, Purging, Switching}
+use Rattle.handset.specs.declared.stage.Stage.TheVariants.{Resting}
 use Rattle.region_plan.specs.Plan.{PlanData}
 use Rattle.region_plan.specs.Settings.{setting_of}
 use Rattle.station.specs.Handsets.{IsHandsetOf}
@@ -28,20 +28,14 @@ use Rattle.station.specs.Visits.{IsSamePass}
 use Rattle.tracker_calls.specs.Added.{HasTried}
 use Rattle.tracker_calls.specs.Moves.{HasStepped}
 use Rattle.tracker_calls.specs.WholeMoves.{MayMoveTo, after_writes, puts_of_move}
-use Rattle.tracker_calls.proofs.Adding.{own-visited}
 use Rattle.directory.specs.Statements.{MovesAreShort}
+use Rattle.station.specs.TicketLaws.{own-visited}
 
 -- a handset rests just where nothing is left
 pub due-rests : (setting : Setting) (handset : HandsetData) (stage : Stage)
     → is_some (due_at setting handset stage) ≡ not (is_rest stage)
 due-rests setting handset Resting = refl
-due-rests setting handset Coming = refl
-due-rests setting handset (Renewing level) = refl
-due-rests setting handset Committing = refl
-due-rests setting handset Confirming = refl
-due-rests setting handset (Erasing level) = refl
-due-rests setting handset (Purging node) = refl
-due-rests setting handset (Switching off) = refl
+due-rests setting handset stage = refl
 
 mapped : {A B : Type 0} (f : A → B) (o : Option A) → is_some (option_map f o) ≡ is_some o
 mapped f None = refl
@@ -157,19 +151,14 @@ pub put-begun : MovesAreShort → {setup : Setup} {plan : PlanData} {pass : Pass
     → StandsForSteps (setting_of plan starts) begun (steps ++ move_to to ∷ []) made)
     → HasPut setup pass handset to [] pass begun
 put-begun short {setup} {pass} {handset} {begun} {to} same its may is goes stands =
-    subst (λ p. MayMoveTo p pass handset to → begun ≡ begin_move (setting_of p []) handset to → GoesWith p begun
-    → ((starts : List ℕ) (steps : List Step) (made : ℕ) → StandsForSteps (setting_of p starts) handset steps made
-    → StandsForSteps (setting_of p starts) begun (steps ++ move_to to ∷ []) made)
-    → HasPut setup pass handset to [] pass begun) (sym same)
-    (λ may_there is_there goes_there stands_there. put-none short its may_there is_there goes_there
-    (stands_there setup.homes)) may is goes stands
+    put-none short its (rw (← same) may) (rw (← same) is) (rw (← same) goes) (rw (← same) (stands setup.homes))
 
 -- turns that are lost change nothing of it
 pub put-tried : {setup : Setup} {begun : PassData} {from : HandsetData} {to : ℕ} {made : List ℕ} {node : ℕ}
     {pass tried : PassData} {handset : HandsetData} → HasTried node pass tried
     → HasPut setup begun from to made pass handset → HasPut setup begun from to made tried handset
 put-tried {setup} {begun} {from} {to} {made} {handset} lost at =
-    subst (λ (q : PassData). HasPut setup begun from to made q handset) (sym lost.is) (record {
+    rw lost.is (record {
       steps = at.steps;
       stood = at.stood;
       all = at.all;
@@ -256,11 +245,7 @@ stands-for : {setup : Setup} {begun : PassData} {from : HandsetData} {to : ℕ} 
     (length (puts_to (actor_of begun) pass.view.seen))
 stands-for {setup} {to} {pass} {handset} at = (
   at.its.sub ∙ at.same.actor,
-  subst (λ a. StandsForSteps (setting_in setup) handset (at.steps ++ move_to to ∷ [])
-      (length (puts_to a pass.view.seen)))
-      at.same.actor
-      (subst (λ ss. StandsForSteps (setting_in setup) handset ss (length (puts_to pass.view.low pass.view.seen)))
-      at.steps_are at.its.stands),
+  rw (← at.same.actor, ← at.steps_are) at.its.stands,
 )
 
 -- once nothing is left, these are all puts of the move
@@ -275,11 +260,7 @@ put-all {setup} {begun} {to} {pass} {handset} at rests =
     let puts = puts_to sub pass.view.seen in
     let rest = at-rest setting sub handset steps (length puts) stands.0 stands.1 rests in
     let made_are : puts ≡ take (length puts) (visits setting sub steps) =
-    subst (λ a. puts_to a pass.view.seen ≡ take (length (puts_to a pass.view.seen)) (visits setting a steps))
-    at.same.actor
-    (subst (λ ss. puts_to pass.view.low pass.view.seen
-    ≡ take (length (puts_to pass.view.low pass.view.seen)) (visits setting pass.view.low ss)) at.steps_are
-    at.its.made) in
+    rw (← at.same.actor, ← at.steps_are) at.its.made in
     let whole : puts ≡ visits setting sub steps =
     made_are ∙ take_all (length puts) (visits setting sub steps) (omega (arith, rest.all)) in
     append_cancel_left (visits setting sub at.steps) at.put (puts_of_move setting sub at.steps to)

@@ -36,7 +36,7 @@ on-due : (setup : Setup) {plan : PlanData} (handset : HandsetData) {visit : Visi
     → plan ≡ setup.plan → due (setting_in setup) handset ≡ Some visit → IfSome (due (setting_of plan []) handset) P
     → P visit
 on-due setup handset P same next holds =
-    subst (λ (o : Option Visit). IfSome o P) next (subst (λ p. IfSome (due (setting_of p []) handset) P) same holds)
+    subst (λ (o : Option Visit). IfSome o P) next (rw (← same) holds)
 
 pub stepped : (setup : Setup) (plan : PlanData) (old new : PassData) (handset moved : HandsetData) (ticket : ℕ)
     → plan ≡ setup.plan → ((visit : Visit) × (due (setting_in setup) handset ≡ Some visit)) → 1 ≤ old.spare
@@ -86,7 +86,7 @@ tried-put setup {pass} new handset held {visit} same next tried lost =
 pub own-tried : {setup : Setup} {node : ℕ} {begun tried : PassData} {handset : HandsetData} → HasTried node begun tried
     → IsHandsetOf setup begun.view handset → IsHandsetOf setup tried.view handset
 own-tried {setup} {handset} lost its =
-    subst (λ (q : PassData). IsHandsetOf setup q.view handset) (sym lost.is) (record {
+    rw lost.is (record {
       goes = its.goes;
       sub = its.sub;
       steps = its.steps;

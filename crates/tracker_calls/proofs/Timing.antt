@@ -1,5 +1,5 @@
 -- Where a handset is in its move: until the commit its stage tells how many puts are made.
-use Rattle.std.proofs.Common.{◌≡◌, ℕ, suc, ◌-◌, ◌<◌, ◌≤◌, ◌==◌, Bool, true, false, true≢false, List, [], ◌∷◌, ◌++◌, Option, Some, None, length, refl, sym, ap, ◌∙◌, subst, arith, length-append}
+use Rattle.std.proofs.Common.{◌≡◌, ℕ, suc, ◌-◌, ◌<◌, ◌≤◌, ◌==◌, Bool, true, false, true≢false, List, [], ◌∷◌, ◌++◌, Option, Some, None, length, refl, sym, ap, ◌∙◌, arith, length-append}
 use Rattle.std.specs.Prelude.{nat_lt, slice_index, if◌then◌else◌}
 use Rattle.std.proofs.lemmas.List.{get_or_append_left, get_or_push}
 use Rattle.std.proofs.lemmas.Bool.{ltb-false}
@@ -14,24 +14,15 @@ use Rattle.tracker_calls.specs.WholeMoves.{commit_place}
 
 -- whether a move is under way that isn't committed, and how many puts of it are then made
 abbrev pub is_early : Stage → Bool
-is_early Resting = false
 is_early Coming = true
 is_early (Renewing level) = true
 is_early Committing = true
-is_early Confirming = false
-is_early (Erasing level) = false
-is_early (Purging node) = false
-is_early (Switching off) = false
+is_early stage = false
 
 abbrev pub place_of : Move → Stage → ℕ
-place_of move Resting = 0
-place_of move Coming = 0
 place_of move (Renewing level) = suc level
 place_of move Committing = commit_place move
-place_of move Confirming = 0
-place_of move (Erasing level) = 0
-place_of move (Purging node) = 0
-place_of move (Switching off) = 0
+place_of move stage = 0
 
 -- the number of a handset and the ticket of its commit, when puts of a move are made
 abbrev pub IsEarly : Move → ℕ → HandsetData → Stage → List ℕ → Type 0
@@ -70,14 +61,10 @@ Stays old new = (new.last ≡ old.last) × (new.number ≡ old.number) × (is_ea
 
 stays-on : (setting : Setting) (handset : HandsetData) (stage : Stage) → is_early stage ≡ false
     → Stays handset (go_on setting handset stage)
-stays-on setting handset Resting late = (refl, refl, refl)
 stays-on setting handset Coming late = cc
 stays-on setting handset (Renewing level) late = cc
 stays-on setting handset Committing late = cc
-stays-on setting handset Confirming late = (refl, refl, refl)
-stays-on setting handset (Erasing level) late = (refl, refl, refl)
-stays-on setting handset (Purging node) late = (refl, refl, refl)
-stays-on setting handset (Switching off) late = (refl, refl, refl)
+stays-on setting handset stage late = (refl, refl, refl)
 
 late-timed : {move : Move} (number : ℕ) (handset after : HandsetData) (made : List ℕ) (commit ticket : ℕ)
     → handset.last ≡ move → IsLate move number handset made commit → Stays handset after
@@ -163,14 +150,14 @@ timed-by setting nodes {number} handset made commit ticket next last (Purging no
 timed-by setting nodes {number} handset made commit ticket next last (Switching off) within busy early late =
     late-timed number handset _ made commit ticket last (late refl) (refl, refl, refl)
 
-timed-as : (setting : Setting) (nodes : ℕ) {move : Move} {number : ℕ} {handset : HandsetData} {made : List ℕ}
+-- the same, by what is told of the stage
+pub timed-as : (setting : Setting) (nodes : ℕ) {move : Move} {number : ℕ} {handset : HandsetData} {made : List ℕ}
     {commit : ℕ} (ticket : ℕ) → move.number ≡ suc number → IsMoveStage nodes handset.last handset.stage
     → is_rest handset.stage ≡ false → IsTimed move number handset made commit → {b : Bool} → is_early handset.stage ≡ b
     → IsTimed move number (after_write setting handset handset.stage) (made ++ ticket ∷ [])
     (if b then ticket else commit)
 timed-as setting nodes {move} {number} {handset} {made} {commit} ticket next within busy timed is =
-    subst (λ c. IsTimed move number (after_write setting handset handset.stage) (made ++ ticket ∷ [])
-    (if c then ticket else commit)) is
+    rw (← is)
     (timed-by setting nodes handset made commit ticket next timed.last handset.stage within busy timed.early timed.late)
 
 -- the put whose number is one more is the commit
@@ -213,11 +200,3 @@ timed-next setting nodes {move} {number} {handset} {made} {commit} ticket next w
       (timed.late is).2,
       low commit (by false is) (is_early after.stage) refl,
     ))
-
--- the first put
-pub timed-begun : (setting : Setting) (nodes : ℕ) {move : Move} {number : ℕ} {handset : HandsetData} {made : List ℕ}
-    {commit : ℕ} (ticket : ℕ) → move.number ≡ suc number → IsMoveStage nodes handset.last handset.stage
-    → is_rest handset.stage ≡ false → IsTimed move number handset made commit → is_early handset.stage ≡ true
-    → IsTimed move number (after_write setting handset handset.stage) (made ++ ticket ∷ []) ticket
-timed-begun setting nodes ticket next within busy timed early =
-    timed-as setting nodes ticket next within busy timed early

@@ -1,5 +1,5 @@
 -- How far a walk over the tracker has come.
-use Rattle.std.proofs.Common.{◌≡◌, ℕ, ◌<◌, ◌≤◌, List, [], ◌∷◌, ◌++◌, Option, Some, None, length, map, refl, sym, ap, ◌∙◌, subst, arith}
+use Rattle.std.proofs.Common.{◌≡◌, ℕ, ◌<◌, ◌≤◌, List, [], ◌∷◌, ◌++◌, Option, Some, None, length, refl, sym, ap, ◌∙◌, subst, arith}
 use Rattle.std.specs.Prelude.{flat_map, slice_get}
 use Rattle.std.proofs.lemmas.List.{length-take}
 use Rattle.entry_word.specs.declared.visit.Key.{Key}
@@ -20,9 +20,8 @@ use Rattle.trail_laws.specs.Rightness.{AnswersAreRight, QuietFindsAnswer}
 use Rattle.walk.specs.Walks.{IsWalkOver, WalkData, call_of, pursuit_of}
 use Rattle.handset.specs.Condition.{HandsetData}
 use Rattle.station.specs.Handsets.{IsHandsetOf}
-use Rattle.station.specs.StayLaws.{handset-stays, handset-visited}
-use Rattle.station.specs.Views.{turn_at}
-use Rattle.station.specs.Visits.{HasLost, HasVisited}
+use Rattle.station.specs.StayLaws.{handset-visited}
+use Rattle.station.specs.Visits.{HasVisited}
 use Rattle.station.specs.declared.turns.Held.{Held}
 use Rattle.station.specs.Walking.{HasLookedOn, HasLostLook, MayWalkOn}
 use Rattle.tracker_calls.specs.Added.{HasAdded, HasTried, KeepsHandsets}
@@ -30,6 +29,7 @@ use Rattle.tracker_calls.specs.Finds.{HasFound}
 use Rattle.tracker_calls.proofs.Adding.{added-more, added-none, last-push, tried-again, visited-front}
 use Rattle.tracker_calls.proofs.Longer.{get-last}
 use Rattle.tracker_calls.proofs.Looks.{looks-more}
+use Rattle.tracker_calls.proofs.Stepping.{own-tried}
 use Rattle.tracker_calls.proofs.Rightly.{looked-once, tells-rightly}
 use Rattle.directory.specs.Statements.{LooksFall, BeginsWithItself, BeginsWithFront, BeginsThrough}
 
@@ -52,17 +52,7 @@ seen-on : {setup : Setup} {pass new : PassData} {key : Key} {ticket : ℕ} → p
     → HasVisited pass (Look key) ticket new → {handset : HandsetData} → IsHandsetOf setup pass.view handset
     → IsHandsetOf setup new.view handset
 seen-on {pass} {new} {key} {ticket} told visited {handset} its =
-    subst (λ (s : Setup). IsHandsetOf s new.view handset) told
-    (handset-visited pass (Look key) ticket new handset refl visited
-    (subst (λ (s : Setup). IsHandsetOf s pass.view handset) (sym told) its))
-
-tried-on : {setup : Setup} {node : ℕ} {pass tried : PassData} → HasTried node pass tried → {handset : HandsetData}
-    → IsHandsetOf setup pass.view handset → IsHandsetOf setup tried.view handset
-tried-on {setup} {node} {pass} {tried} lost {handset} its =
-    subst (λ (q : PassData). IsHandsetOf setup q.view handset) (sym lost.is)
-    (handset-stays setup pass.view
-    (record pass.view { turns = tried.view.turns; lost = pass.view.lost ++ map (turn_at node) lost.words }) handset
-    refl refl its)
+    rw (← told) (handset-visited pass (Look key) ticket new handset refl visited (rw (← told) at its))
 
 -- turns that are lost before a look are lost at its node
 pub tried-look : {setup : Setup} {begun pass new : PassData} {first walk moved : WalkData} {held : Held} {key : Key}
@@ -71,9 +61,8 @@ pub tried-look : {setup : Setup} {begun pass new : PassData} {first walk moved :
     → HasTried (key_node (setting_in setup) key) begun new
 tried-look {setup} {pass} {new} {first} {held} {key} wanted same tried on =
     let its : key_of (call_of first) (pursuit_of setup.plan first) ≡ Some on.key =
-    subst (λ (w : WalkData). key_of (call_of w) (pursuit_of setup.plan w) ≡ Some on.key) same on.wanted in
-    tried-again tried (subst (λ (k : Key). HasLost pass (key_node (setting_in setup) k) held new)
-    (one-key on.key key (sym its ∙ wanted)) on.lost)
+    rw (← same) on.wanted in
+    tried-again tried (rw (one-key on.key key (sym its ∙ wanted)) at on.lost)
   where
     one-key : (one two : Key) → ◌≡◌ {A = Option Key} (Some one) (Some two) → one ≡ two
     one-key one two e = cc
@@ -83,16 +72,14 @@ pub walk-held : {tracker : TrackerData} {plan : PlanData} {distances : DistanceT
     {walk moved : WalkData} {held : Held} → MayWalkOn tracker plan distances pass walk
     → HasLostLook tracker.setup pass walk held new moved → MayWalkOn tracker plan distances new moved
 walk-held {tracker} {plan} {distances} {new} {walk} way on =
-    subst (MayWalkOn tracker plan distances new) (sym on.same)
-    (subst (λ (p : PassData). MayWalkOn tracker plan distances p walk) (sym on.lost.turn)
-    (record {
+    rw (on.same, on.lost.turn) (record {
       of = record { table = way.of.table; setup = way.of.setup };
       plan_is = way.plan_is;
       belongs = way.belongs;
       outside = way.outside;
       goes = way.goes;
       known = way.known;
-    }))
+    })
 
 no-looks : (setting : Setting) (history : History) (actor : ℕ) (call : FindCall)
     → AreLooks setting history actor call 0 at_origin []
@@ -112,7 +99,7 @@ walked-first itself setup pass {walk} goes origin outside room =
       late = λ h. absurd (omega (arith, h));
       goes = goes;
       its = refl;
-      room = subst (λ s. looks_left (setting_in setup) (call_of walk) s ≤ pass.spare) (sym origin) room;
+      room = rw origin room;
     }
 
 front-short : (xs zs : History) → IsFront xs zs → length xs ≤ length zs
@@ -131,16 +118,13 @@ walked-on longer through fall {setup} {begun} {call} {pass} {tried} {new} {walk}
     let seen : tried.view.seen ≡ pass.view.seen = ap (λ (q : PassData). q.view.seen) lost.is in
     let mine : actor_of tried ≡ actor_of begun = ap actor_of lost.is ∙ at.added.same.actor in
     let visit = look_by (actor_of tried) key in
-    let front : IsFront pass.view.seen new.view.seen =
-    subst (λ (h : History). IsFront h new.view.seen) seen
-    (visited-front longer through visited) in
+    let front : IsFront pass.view.seen new.view.seen = rw (← seen) (visited-front longer through visited) in
     let late : length pass.view.seen ≤ ticket =
     omega (arith, visited.count, front-short tried.view.seen visited.earlier visited.begins, ap length seen) in
     let last : slice_get new.view.seen ticket ≡ Some visit =
     ap (slice_get new.view.seen) (sym visited.count)
     ∙ (ap (λ (l : History). slice_get l (length visited.earlier)) visited.seen ∙ get-last visited.earlier visit) in
-    let wants : key_of call (pursuit_of setup.plan walk) ≡ Some key =
-    subst (λ c. key_of c (pursuit_of setup.plan walk) ≡ Some key) at.its looked.wanted in
+    let wants : key_of call (pursuit_of setup.plan walk) ≡ Some key = rw (← at.its) looked.wanted in
     let more = looks-more setting pass.view.seen new.view.seen (actor_of begun) call ticket front late
     (subst (λ a. slice_get new.view.seen ticket ≡ Some (look_by a key)) mine last) at.made 0 at_origin (omega arith)
     at.looks (subst (λ s. key_of call s ≡ Some key) at.pursuit wants) in
@@ -150,7 +134,7 @@ walked-on longer through fall {setup} {begun} {call} {pass} {tried} {new} {walk}
     record {
       made = at.made ++ ticket ∷ [];
       added = added-more longer through told at.added lost visited;
-      keeps = λ handset its. seen-on setups visited (tried-on lost (at.keeps handset its));
+      keeps = λ handset its. seen-on setups visited (own-tried lost (at.keeps handset its));
       looks = more.0;
       pursuit = pursuit ∙ (ap (λ s. after_word setting call s word) at.pursuit ∙ sym more.1);
       late = λ some. omega (

@@ -28,7 +28,7 @@ use Rattle.tracker_calls.specs.WholeMoves.{HasMoved}
 use Rattle.tracker_calls.specs.declared.whole_moves.Moved.{Moved}
 use Rattle.tracker_calls.proofs.Adding.{added-more, last-push}
 use Rattle.tracker_calls.proofs.Moving.{HasPut, none-rests, put-all, put-more, put-tried, some-busy}
-use Rattle.tracker_calls.proofs.Timing.{IsTimed, is_early, timed-begun, timed-first, timed-next}
+use Rattle.tracker_calls.proofs.Timing.{IsTimed, is_early, timed-as, timed-first, timed-next}
 use Rattle.directory.specs.Statements.{BeginsWithFront, BeginsThrough}
 use Rattle.handset.specs.StageLaws.{rest-means}
 
@@ -80,10 +80,9 @@ timed-step : {setup : Setup} {begun : PassData} {from : HandsetData} {to commit 
 timed-step {setup} {from} {to} {commit} {made} {handset} {ticket} at stepped timed =
     let move = journey_to (setting_in setup) from to in
     let busy : is_rest handset.stage ≡ false = some-busy (setting_in setup) handset (ap is_some stepped.next) in
-    let commits = is_commit stepped.visit.act in
-    subst (λ h. IsTimed move from.number h (made ++ ticket ∷ []) (if commits then ticket else commit))
-    (sym stepped.made)
-    (timed-next (setting_in setup) (nodes_in setup) ticket refl at.its.goes.stage busy timed commits
+    rw stepped.made
+    (timed-next (setting_in setup) (nodes_in setup) ticket refl at.its.goes.stage busy timed
+    (is_commit stepped.visit.act)
     (sym (ap (λ h. h.number) stepped.made) ∙ number-next stepped at.its))
 
 -- the first put of a move
@@ -94,17 +93,14 @@ pub moving-first : BeginsWithFront → BeginsThrough → {setup : Setup} {begun 
     → HasTried (act_node (setting_in setup) stepped.visit.act) begun tried → IsMoving setup begun from to
     (record { number = suc from.number; first = ticket; commit = ticket; last = ticket }) new moved
 moving-first longer through {setup} {from} {to} {handset} {ticket} told added none is stepped lost =
-    let node : ℕ = act_node (setting_in setup) stepped.visit.act in
     let at = put-tried lost none in
-    let move = journey_to (setting_in setup) from to in
     record {
       made = ticket ∷ [];
       put = put-more at stepped;
       added = added-more longer through told added lost stepped.visited;
-      timed = subst (λ h. IsTimed move from.number h (ticket ∷ []) ticket) (sym stepped.made)
-          (timed-begun (setting_in setup) (nodes_in setup) ticket refl at.its.goes.stage
-          (some-busy (setting_in setup) handset (ap is_some stepped.next))
-          (subst (λ h. IsTimed move from.number h [] 0) (sym is) (timed-first (setting_in setup) from to))
+      timed = rw stepped.made (timed-as (setting_in setup) (nodes_in setup) {made = []} {commit = 0} ticket refl
+          at.its.goes.stage (some-busy (setting_in setup) handset (ap is_some stepped.next))
+          (rw is (timed-first (setting_in setup) from to))
           (ap (λ h. is_early h.stage) is));
       number = refl;
       first = refl;
@@ -112,47 +108,30 @@ moving-first longer through {setup} {from} {to} {handset} {ticket} told added no
       some = omega arith;
     }
 
--- and one put more
-pub moving-on : BeginsWithFront → BeginsThrough → {setup : Setup} {begun : PassData} {from : HandsetData} {to : ℕ}
-    {times : Moved} {pass tried new : PassData} {handset moved : HandsetData} {ticket : ℕ} → begun.view.setup ≡ setup
-    → IsMoving setup begun from to times pass handset → (stepped : HasStepped setup tried handset ticket new moved)
-    → HasTried (act_node (setting_in setup) stepped.visit.act) pass tried → IsMoving setup begun from to
-    (record times { commit = if is_commit stepped.visit.act then ticket else times.commit; last = ticket }) new moved
-moving-on longer through {setup} {ticket} told moving stepped lost =
-    let made = moving.made in
-    let node : ℕ = act_node (setting_in setup) stepped.visit.act in
-    let at = put-tried lost moving.put in
-    let put = put-more at stepped in
-    let timed = timed-step at stepped moving.timed in
-    let first = moving.first ∙ sym (get_or_append_left made (ticket ∷ []) 0 0 moving.some) in
-    let some : 1 ≤ length (made ++ ticket ∷ []) = omega (arith, length-append made (ticket ∷ [])) in
-    record {
-      made = made ++ ticket ∷ [];
-      put = put;
-      added = added-more longer through (moving.put.same.setup ∙ told) moving.added lost stepped.visited;
-      timed = timed;
-      number = moving.number;
-      first = first;
-      last = sym (last-push made ticket);
-      some = some;
-    }
-
--- the same, by whether the code tells that the put commits
+-- and one put more, by whether the code tells that it commits
 pub moving-by : BeginsWithFront → BeginsThrough → {setup : Setup} {begun : PassData} {from : HandsetData} {to : ℕ}
     {times : Moved} {pass tried new : PassData} {handset moved : HandsetData} {ticket : ℕ} → begun.view.setup ≡ setup
     → (moving : IsMoving setup begun from to times pass handset)
     → (stepped : HasStepped setup tried handset ticket new moved)
-    → HasTried (act_node (setting_in setup) stepped.visit.act) pass tried → {commits : Bool} → nodes_in setup ≤ 2 ^ 16
-    → ((plan : PlanData) (visit : Visit) → nodes_of plan ≤ 2 ^ 16 → GoesWith plan handset
-    → due (setting_of plan []) handset ≡ Some visit → commits ≡ is_commit visit.act) → IsMoving setup begun from to
-    (record times { commit = if commits then ticket else times.commit; last = ticket }) new moved
-moving-by longer through {setup} {begun} {from} {to} {times} {new} {moved} {ticket} told moving stepped lost
-    {commits} small tells =
-    let is : commits ≡ is_commit stepped.visit.act =
-    tells setup.plan stepped.visit small moving.put.its.goes stepped.next in
-    subst (λ (b : Bool). IsMoving setup begun from to
-    (record times { commit = if b then ticket else times.commit; last = ticket }) new moved) (sym is)
-    (moving-on longer through told moving stepped lost)
+    → HasTried (act_node (setting_in setup) stepped.visit.act) pass tried → {commits told : Bool}
+    → nodes_in setup ≤ 2 ^ 16 → ((plan : PlanData) (visit : Visit) → nodes_of plan ≤ 2 ^ 16 → GoesWith plan handset
+    → due (setting_of plan []) handset ≡ Some visit → commits ≡ is_commit visit.act) → commits ≡ told
+    → IsMoving setup begun from to
+    (record times { commit = if told then ticket else times.commit; last = ticket }) new moved
+moving-by longer through {setup} {ticket} told moving stepped lost small tells same =
+    let made = moving.made in
+    let at = put-tried lost moving.put in
+    let is = sym same ∙ tells setup.plan stepped.visit small moving.put.its.goes stepped.next in
+    record {
+      made = made ++ ticket ∷ [];
+      put = put-more at stepped;
+      added = added-more longer through (moving.put.same.setup ∙ told) moving.added lost stepped.visited;
+      timed = rw is (timed-step at stepped moving.timed);
+      number = moving.number;
+      first = moving.first ∙ sym (get_or_append_left made (ticket ∷ []) 0 0 moving.some);
+      last = sym (last-push made ticket);
+      some = omega (arith, length-append made (ticket ∷ []));
+    }
 
 -- a move that has nothing left is made
 pub moving-out : {setup : Setup} {begun : PassData} {from : HandsetData} {to : ℕ} {times : Moved} {pass : PassData}

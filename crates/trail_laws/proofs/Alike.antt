@@ -1,9 +1,10 @@
 -- What isn't a visit of a move changes nothing that leads a find: a switch turns a Here into an Off, or back, where the
 -- subscriber rests.
-use Rattle.std.proofs.Common.{◌≡◌, ℕ, zero, suc, ◌<◌, ◌≤◌, ◌^◌, Bool, true, false, cond, not, ◌==◌, ◌&&◌, ◌||◌, List, [], ◌∷◌, ◌++◌, Option, Some, None, length, map, take, fold, refl, sym, ap, ◌∙◌, subst, arith}
+use Rattle.std.proofs.Common.{inl, inr, ◌≡◌, ℕ, zero, suc, ◌<◌, ◌≤◌, ◌^◌, Bool, true, false, cond, not, ◌==◌, ◌&&◌, ◌||◌, List, [], ◌∷◌, ◌++◌, Option, Some, None, length, map, take, fold, refl, sym, ap, ◌∙◌, subst, arith}
+use Rattle.std.proofs.lemmas.Bool.{cases_Bool, cond_both, and_parts, eqb-true, eq-eqb}
+use Rattle.std.proofs.Math.Bool.{and-false}
 use Rattle.std.specs.Prelude.{filter_map, slice_get}
 use Rattle.std.specs.List.{cons_option}
-use Rattle.std.proofs.lemmas.Bool.{and_parts, eqb-true, eq-eqb}
 use Rattle.std.proofs.lemmas.List.{append-nil, length-map, take_all}
 use Rattle.std.proofs.lemmas.List.Sums.{fold-append}
 use Rattle.entry_word.specs.Marks.{mark_in, says_here, says_off}
@@ -78,10 +79,6 @@ pub record IsSwitching (sub : ℕ) (history : History) (visit : Visit) : Type 0 
       × (step_writes setting course step ≡ mark_at (last_stop course) mark ∷ [])
   pub no_commit : commit_of (node_put visit.act) (mark_put visit.act) ≡ None
 
-false-and : (b : Bool) → (b && false) ≡ false
-false-and true = refl
-false-and false = refl
-
 pub switching : (sub : ℕ) (history : History) (visit : Visit) → is_put_for sub visit.act ≡ true
     → is_of_move sub history visit.act ≡ false → IsSwitching sub history visit
 switching sub history visit put quiet = at_act visit.act refl put is_switching
@@ -99,7 +96,7 @@ switching sub history visit put quiet = at_act visit.act refl put is_switching
         → (says_off (mark_put act) || (ends_off (puts_to sub history) && says_here (mark_put act))) ≡ true
         → IsSwitching sub history visit
     at_act (Put (Entry level cluster s) word) e p x = let none : (ends_off (puts_to sub history) && false)
-        ≡ true = x in let clash : false ≡ true = sym (false-and (ends_off (puts_to sub history))) ∙ none in cc
+        ≡ true = x in let clash : false ≡ true = sym (and-false (ends_off (puts_to sub history))) ∙ none in cc
     at_act (Put (Presence node s) word) e p x = at_mark (mark_in word) refl x
       where
         its : visit.act ≡ Put (Presence node sub) word
@@ -135,7 +132,7 @@ switching sub history visit put quiet = at_act visit.act refl put is_switching
           where
             was_off : ends_off (puts_to sub history) ≡ true
             was_off = (and_parts (ends_off (puts_to sub history)) true y).0
-        at_mark mark m y = let clash : false ≡ true = sym (false-and (ends_off (puts_to sub history))) ∙ y in cc
+        at_mark mark m y = let clash : false ≡ true = sym (and-false (ends_off (puts_to sub history))) ∙ y in cc
     at_act act e p x = cc
 
 get-next : (xs ys zs : List Visit) (visit : Visit) → xs ++ visit ∷ [] ≡ take (length (xs ++ visit ∷ [])) (ys ++ zs)
@@ -152,12 +149,12 @@ get-next (x ∷ xs) (y ∷ ys) zs visit h same =
     (omega (arith, same))
 
 -- a switch is put where the subscriber rests
-pub alike-switch : MarksAreLeft → StepsBeginAtRest → (setting : Setting) (sub : ℕ) (history : History) (visit : Visit)
+pub alike-switch : MarksAreLeft → StepsBeginAtRest → {setting : Setting} {sub : ℕ} {history : History} {visit : Visit}
     → setting.nodes ≤ 2 ^ 16 → IsLegal setting sub history → IsLegal setting sub (history ++ visit ∷ [])
     → is_put_for sub visit.act ≡ true → IsSwitching sub history visit
     → IsAlike setting sub history (history ++ visit ∷ [])
 unfolding steps_from writes
-alike-switch marks_left rests setting sub history visit low legal legal_more put switch = record {
+alike-switch marks_left rests {setting} {sub} {history} {visit} low legal legal_more put switch = record {
   marks = λ v. at_node v (v == switch.node) refl;
   entries = λ level cluster. ap address_in (after (Entry level cluster sub));
   stands = ap (fold (λ n (c : Commit). c.to) (start setting sub)) same_commits;
@@ -206,7 +203,7 @@ alike-switch marks_left rests setting sub history visit low legal legal_more put
         ))
 
     inside : last_stop course < setting.nodes
-    inside = stop-inside setting course (sound-script setting sub (steps_in puts) legal.script)
+    inside = stop-inside (sound-script setting sub (steps_in puts) legal.script)
 
     there_now : mark_seen setting sub history (last_stop course) ≡ there course
     there_now = marks_left setting sub history low legal (last_stop course)
@@ -217,13 +214,9 @@ alike-switch marks_left rests setting sub history visit low legal legal_more put
 
     answered : (known : Option ℕ) → (lead known (there course) ≡ None) × (answers known (there course) ≡ true)
         × (known_after known (there course) ≡ known)
-    answered known = at_state course.is_off
-      where
-        at_state : (b : Bool) → (lead known (cond b (Off (length course.moves)) (Here (length course.moves))) ≡ None)
-            × (answers known (cond b (Off (length course.moves)) (Here (length course.moves))) ≡ true)
-            × (known_after known (cond b (Off (length course.moves)) (Here (length course.moves))) ≡ known)
-        at_state true = (refl, refl, refl)
-        at_state false = (refl, refl, refl)
+    answered known = cond_both course.is_off (Off (length course.moves)) (Here (length course.moves))
+        (λ mark. (lead known mark ≡ None) × (answers known mark ≡ true) × (known_after known mark ≡ known))
+        (λ e. (refl, refl, refl)) (λ e. (refl, refl, refl))
 
     after : (key : Key) → cell setting (history ++ visit ∷ []) key
         ≡ word_after key (cell setting history key) (Put (Presence switch.node sub) switch.word)
@@ -259,16 +252,14 @@ alike-switch marks_left rests setting sub history visit low legal legal_more put
 
 -- so it is for each visit that is none of a move
 pub alike-step : CellsOfPuts → MarksAreLeft → StepsBeginAtRest
-    → (setting : Setting) (sub : ℕ) (history : History) (visit : Visit) → setting.nodes ≤ 2 ^ 16
+    → {setting : Setting} {sub : ℕ} (history : History) (visit : Visit) → setting.nodes ≤ 2 ^ 16
     → IsLegal setting sub history → IsLegal setting sub (history ++ visit ∷ [])
     → is_of_move sub history visit.act ≡ false → IsAlike setting sub history (history ++ visit ∷ [])
-alike-step cells marks_left rests setting sub history visit low legal legal_more quiet = at_put
-    (is_put_for sub visit.act) refl
-  where
-    at_put : (b : Bool) → is_put_for sub visit.act ≡ b → IsAlike setting sub history (history ++ visit ∷ [])
-    at_put false e = alike-other cells setting sub history visit e
-    at_put true e = alike-switch marks_left rests setting sub history visit low legal legal_more e
-        (switching sub history visit e quiet)
+alike-step cells marks_left rests {setting} {sub} history visit low legal legal_more quiet =
+    elim (cases_Bool (is_put_for sub visit.act)) [
+      | inl put ↦ alike-switch marks_left rests low legal legal_more put (switching sub history visit put quiet)
+      | inr other ↦ alike-other cells setting sub history visit other
+    ]
 
 -- what is led alike arrives alike
 pub led-alike : (setting : Setting) (marks others : ℕ → PresenceMark) → ((v : ℕ) → AreAlike (marks v) (others v))
@@ -281,6 +272,6 @@ led-alike setting marks others alike known node last (suc hops) way led = (
   led.1,
   sym (alike node known).0 ∙ led.2,
   led.3,
-  subst (λ k. IsLed setting others k led.0 last hops led.1) (alike node known).2
+  rw (alike node known).2 at
       (led-alike setting marks others alike (known_after known (marks node)) led.0 last hops led.1 led.4),
 )

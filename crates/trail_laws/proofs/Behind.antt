@@ -1,6 +1,6 @@
 -- What the marks that a chase has read leave for the next one, and what follows for the whole list. Each is read where
 -- the subscriber was after so many of its commits, and that stays so.
-use Rattle.std.proofs.Common.{◌≡◌, ◌⊎◌, inl, inr, ℕ, ◌-◌, ◌≤◌, false, List, [], ◌∷◌, ◌++◌, Option, refl, sym, ap, ◌∙◌, subst, arith}
+use Rattle.std.proofs.Common.{◌≡◌, ◌⊎◌, inl, inr, ℕ, ◌-◌, ◌≤◌, false, List, [], ◌∷◌, ◌++◌, Option, refl, ap, ◌∙◌, arith}
 use Rattle.std.specs.Prelude.{filter_map}
 use Rattle.node_set.specs.Ascending.{IsAscending, IsBelowAll}
 use Rattle.entry_word.specs.declared.mark.PresenceMark.{PresenceMark}
@@ -44,10 +44,11 @@ behind-nothing setting sub seen known node = record {
 }
 
 -- it stays so
-pub behind-later : (setting : Setting) (sub t u : ℕ) (history : History) (behind : Behind) (known : Option ℕ) (node : ℕ)
+pub behind-later : {setting : Setting} {sub : ℕ} (t u : ℕ) (history : History) {behind : Behind} {known : Option ℕ}
+    {node : ℕ}
     → t ≤ u → IsBehind setting sub (before t history) behind known node
     → IsBehind setting sub (before u history) behind known node
-behind-later setting sub t u history behind known node h is = record {
+behind-later {setting} {sub} t u history {behind} {node} h is = record {
   few = omega (arith, is.few, number-grows sub t u history h);
   stop = at_stop is.stop;
   early = omega (arith, is.early, begun-grows setting sub t u history h);
@@ -148,7 +149,7 @@ one-more behind (Coming q from) later low up begun rest = record {
         → FollowOn (Coming q from ∷ marks)
     joined [] head on = tt
     joined (next ∷ more) head on = (goes-back q next head.0 head.1, on)
-one-more behind mark later low up begun none = subst (λ l. Rises behind (mark ∷ l)) (sym none)
+one-more behind mark later low up begun none = rw none
     (record { head = (up, begun); on = tt; above = tt; ascends = tt })
 
 -- no mark is read after the end

@@ -1,7 +1,7 @@
 -- Where the marks of a trail lead: the numbers rise from hop to hop, so that no node is met twice.
-use Rattle.std.proofs.Common.{◌≡◌, ◌≢◌, ◌⊎◌, inl, inr, ℕ, zero, suc, ◌+◌, ◌*◌, ◌<◌, ◌≤◌, max, Bool, true, false, cond, List, Option, Some, None, length, refl, sym, ap, ◌∙◌, subst, arith}
+use Rattle.std.proofs.lemmas.Bool.{cases_Bool, cases_eq}
+use Rattle.std.proofs.Common.{◌≡◌, ◌≢◌, ◌⊎◌, inl, inr, ℕ, zero, suc, ◌+◌, ◌*◌, ◌<◌, ◌≤◌, max, true, false, cond, List, Option, Some, None, length, refl, sym, ap, ◌∙◌, arith}
 use Rattle.std.specs.Prelude.{nat_le}
-use Rattle.std.proofs.lemmas.Bool.{cases_eq}
 use Rattle.std.proofs.lemmas.Bool.Decides.{nat_tests}
 use Rattle.entry_word.specs.declared.mark.PresenceMark.{PresenceMark}
 use Rattle.entry_word.specs.declared.mark.PresenceMark.TheVariants.{Empty, Gone, Coming}
@@ -43,11 +43,10 @@ knows-less most number (Some k) h low = grind (arith, nat_tests)
 -- a stop that isn't the last is left by a move
 before-end : (from end : ℕ) (moves : List Move) (i v : ℕ) → stop_at from moves (length moves) ≡ end
     → i ≤ length moves → stop_at from moves i ≡ v → v ≢ end → i < length moves
-before-end from end moves i v ends low is_stop other = at_last (cases_eq i (length moves))
-  where
-    at_last : (i ≡ length moves) ⊎ (i ≢ length moves) → i < length moves
-    at_last (inl e) = absurd (other (sym is_stop ∙ (ap (stop_at from moves) e ∙ ends)))
-    at_last (inr before) = omega (arith, low, before)
+before-end from end moves i v ends low is_stop other = elim (cases_eq i (length moves)) [
+  | inl e ↦ absurd (other (sym is_stop ∙ (ap (stop_at from moves) e ∙ ends)))
+  | inr before ↦ omega (arith, low, before)
+]
 
 module _ (setting : Setting) (marks : ℕ → PresenceMark) where
   pub arrived : (known : Option ℕ) (node last most_hops most_way : ℕ) → node ≡ last
@@ -135,12 +134,8 @@ module _ (setting : Setting) (marks : ℕ → PresenceMark) where
                 weight-step moves left.place left.move left.is_move,
                 left.its_weight,
                 weight-mono moves i left.place late,
-              ))
-              (hopped known v left.move.to last _ _ (ap (lead known) gone)
-              (subst (λ m. Arrival setting marks (known_after known m) left.move.to last
-              (more_hops + above setting marks (number + suc left.place))
-              (weight_from moves (suc left.place) + more_way)) (sym gone)
-              (more (suc left.place) left.move.to (known_with left.move.number known) (omega (arith, enough, late))
+              )) (hopped known v left.move.to last _ _ (ap (lead known) gone) (rw gone (more (suc left.place)
+              left.move.to (known_with left.move.number known) (omega (arith, enough, late))
               (omega (arith, left.within)) left.inside left.goes_on
               (knows-with most left.move.number known knows (omega (arith, left.its_number, left.within, all))))))
             where
@@ -164,8 +159,7 @@ module _ (setting : Setting) (marks : ℕ → PresenceMark) where
   unfolding Exits
   rest-exits from number last moves most ends answered others i v known low inside is_stop knows =
       elim (cases_eq v last) [
-        | inl same ↦ inl (arrived known v last _ _ same
-            (subst (λ x. answers known (marks x) ≡ true) (sym same) (answered known)))
+        | inl same ↦ inl (arrived known v last _ _ same (rw same (answered known)))
         | inr other ↦ inr (others v inside other, before-end from last moves i v ends low is_stop other)
       ]
 
@@ -192,18 +186,14 @@ module _ (setting : Setting) (marks : ℕ → PresenceMark) where
     where
       at_last : (v ≡ last) ⊎ (v ≢ last) → (v ≡ to) ⊎ (v ≢ to) → Arrives number last moves 1 0 i v known
           ⊎ ((marks v ≡ trail_mark moves v Empty) × (i < length moves))
-      at_last (inl same) t = inl (arrived known v last _ _ same
-          (subst (λ x. answers known (marks x) ≡ true) (sym same) (answered known)))
+      at_last (inl same) t = inl (arrived known v last _ _ same (rw same (answered known)))
       at_last (inr other) (inl at_to) =
           inl (longer known v last 1 (1 + above setting marks (number + i)) (setting.distance v last + 0)
-          (weight_from moves i + 0) (omega arith) (λ metric. omega (arith, way metric))
-          (subst (λ x. Arrival setting marks known x last 1 (setting.distance x last + 0)) (sym at_to)
+          (weight_from moves i + 0) (omega arith) (λ metric. omega (arith, way metric)) (rw at_to
           (back-leads last most p to known above_most knows comes answered)))
         where
           way : HasMetric setting → setting.distance v last ≤ weight_from moves i
-          way metric = subst (λ x. setting.distance x last ≤ weight_from moves i) is_stop
-              (subst (λ x. setting.distance (stop_at from moves i) x ≤ weight_from moves i) ends
-              (way-short setting from number moves i linked begins metric low))
+          way metric = rw (is_stop, ends) at (way-short from number moves i linked begins metric low)
       at_last (inr other) (inr off_to) =
           inr (others v inside other off_to, before-end from last moves i v ends low is_stop other)
 
@@ -212,21 +202,17 @@ module _ (setting : Setting) (marks : ℕ → PresenceMark) where
   pub left-leads : (left p to : ℕ) (known : Option ℕ) → marks left ≡ Gone p to → marks to ≡ Coming p left
       → Arrival setting marks known left to 1 (setting.distance left to + 0)
   left-leads left p to known gone comes =
-      hopped known left to to 0 0 (ap (lead known) gone)
-      (subst (λ m. Arrival setting marks (known_after known m) to to 0 0) (sym gone)
+      hopped known left to to 0 0 (ap (lead known) gone) (rw gone
       (arrived (known_with p known) to to 0 0 refl (ap (answers (known_with p known)) comes ∙ knows-it p known)))
 
   pub passing-leads : (left p to : ℕ) (known : Option ℕ) → marks left ≡ Gone p to → marks to ≡ Coming p left
       → Arrival setting marks known to to 2 (setting.distance to left + (setting.distance left to + 0))
-  passing-leads left p to known gone comes = at_known (is_known p known) refl
-    where
-      at_known : (b : Bool) → is_known p known ≡ b → Arrival setting marks known to to 2
-          (setting.distance to left + (setting.distance left to + 0))
-      at_known true e = arrived known to to 2 _ refl (ap (answers known) comes ∙ e)
-      at_known false e =
-          hopped known to left to 1 (setting.distance left to + 0)
-          (ap (lead known) comes ∙ ap (λ b. cond b None (Some left)) e)
-          (left-leads left p to (known_after known (marks to)) gone comes)
+  passing-leads left p to known gone comes = elim (cases_Bool (is_known p known)) [
+    | inl e ↦ arrived known to to 2 _ refl (ap (answers known) comes ∙ e)
+    | inr e ↦ hopped known to left to 1 (setting.distance left to + 0)
+        (ap (lead known) comes ∙ ap (λ b. cond b None (Some left)) e)
+        (left-leads left p to (known_after known (marks to)) gone comes)
+  ]
 
   pub passing-exits : (from number left : ℕ) (moves : List Move) (most p to : ℕ)
       → stop_at from moves (length moves) ≡ left → number + length moves < p → left < setting.nodes → to < setting.nodes
@@ -244,8 +230,7 @@ module _ (setting : Setting) (marks : ℕ → PresenceMark) where
           → (HasMetric setting → way ≤ weight_from moves i + 2 * setting.distance left to)
           → Arrival setting marks known x to few way
           → Arrives number to moves 1 (2 * setting.distance left to) i v known
-      at_exit x few way same less short there = subst (λ y. Arrives number to moves 1 (2 * setting.distance left to) i y
-          known) (sym same) (longer known x to few _ way _ less short there)
+      at_exit x few way same less short there = rw same (longer known x to few _ way _ less short there)
 
       at_last : (v ≡ to) ⊎ (v ≢ to) → (v ≡ left) ⊎ (v ≢ left)
           → Arrives number to moves 1 (2 * setting.distance left to) i v known

@@ -59,11 +59,12 @@ entered-levels at new level cluster entry (l ∷ levels) =
     at_test false e = refl
 
 -- the address of a level after a move
-pub address-with : (setting : Setting) (course : Course) (move : Move) (level : ℕ) → IsSound setting course
+pub address-with : {setting : Setting} {course : Course} {move : Move} (level : ℕ) → IsSound setting course
     → IsNext setting course move
     → address_node (with_move course move) level ≡ cond (nat_le level move.renewed) move.to
     (address_node course level)
-address-with setting course move level sound next = ap (stop (with_move course move)) (base-with level course move)
+address-with {setting} {course} {move} level sound next = ap (stop (with_move course move))
+    (base-with level course move)
     ∙ at_test (nat_le level move.renewed)
   where
     stops : List ℕ
@@ -83,19 +84,18 @@ address-with setting course move level sound next = ap (stop (with_move course m
         let same : slice_index (stops ++ move.to ∷ []) (base level course.moves)
         ≡ slice_index stops (base level course.moves) =
         get_or_append_left stops (move.to ∷ []) 0 (base level course.moves)
-        (omega (arith, count, base-low setting course level sound)) in
+        (omega (arith, count, base-low level sound)) in
         ap (λ xs. slice_index xs (base level course.moves)) longer ∙ same
 
 -- when a move has made all its writes its subscriber rests again
-pub entries-rest : (setting : Setting) (course : Course) (move : Move) (written erased : List ℕ) (level cluster : ℕ)
+pub entries-rest : {setting : Setting} {course : Course} {move : Move} (written erased : List ℕ) (level cluster : ℕ)
     → IsSound setting course → IsNext setting course move
     → has level written ≡ nat_le level move.renewed → has level erased
     ≡ (nat_le level move.renewed && not (old_home setting course level == setting.home level move.to))
     → entry_erased setting course move written erased level cluster
     ≡ rest_entry setting (with_move course move) level cluster
-entries-rest setting course move written erased level cluster sound next all gone =
-    rw (all, gone, address-with setting course move level sound next, base-with level course move)
-    (at_test (nat_le level move.renewed))
+entries-rest {setting} {course} {move} written erased level cluster sound next all gone =
+    rw (all, gone, address-with level sound next, base-with level course move) (at_test (nat_le level move.renewed))
   where
     old : ℕ
     old = old_home setting course level

@@ -1,7 +1,8 @@
 -- The marks of a subscriber in closed form: at rest after a course, and in each phase of the move that comes next.
+use Rattle.std.proofs.lemmas.Bool.{or_parts, eqb-true}
+use Rattle.trail_laws.proofs.Links.{stop-inside, IsSound, base-low, renewed-low}
 use Rattle.std.proofs.Common.{◌≡◌, ◌≢◌, ℕ, suc, ◌<◌, ◌≤◌, Bool, true, false, cond, not, ◌==◌, ◌&&◌, ◌||◌, List, [], ◌∷◌, ◌++◌, length, map, drop, fold, refl, sym, ap, ◌∙◌, arith, length-append}
 use Rattle.std.specs.Prelude.{if◌then◌else◌, nat_le}
-use Rattle.std.proofs.lemmas.Bool.{eqb-true}
 use Rattle.std.proofs.lemmas.Bool.Decides.{nat_tests}
 use Rattle.std.proofs.lemmas.List.{drop-append-le, map-append}
 use Rattle.std.proofs.Math.ListN.{drop_of_length-le}
@@ -13,7 +14,6 @@ use Rattle.directory.specs.Settings.{Setting}
 use Rattle.directory.specs.Courses.{Move, Course, last_stop, base, next_move, MayMove}
 use Rattle.directory.specs.Writes.{Write, mark_at, trail}
 use Rattle.directory.specs.States.{mark_after}
-use Rattle.trail_laws.proofs.Links.{IsSound, base-low, renewed-low}
 use Rattle.node_set.specs.SetLaws.{has-append}
 
 -- the marks that moves leave behind: at each node the last leaving
@@ -82,13 +82,9 @@ pub trail_mark-none : (moves : List Move) (v : ℕ) (mark : PresenceMark)
     → has v (map (λ (move : Move). move.from) moves) ≡ false → trail_mark moves v mark ≡ mark
 unfolding trail_mark
 trail_mark-none [] v mark h = refl
-trail_mark-none (move ∷ later) v mark h = at_test (v == move.from) h (λ m g. trail_mark-none later v m g)
-  where
-    at_test : (b : Bool) → (b || has v (map (λ (m : Move). m.from) later)) ≡ false
-        → ((m : PresenceMark) → has v (map (λ (x : Move). x.from) later) ≡ false → trail_mark later v m ≡ m)
-        → trail_mark later v (cond b (Gone move.number move.to) mark) ≡ mark
-    at_test true h more = cc
-    at_test false h more = more mark h
+trail_mark-none (move ∷ later) v mark h =
+    let parts = or_parts (v == move.from) (has v (map (λ (m : Move). m.from) later)) h in
+    rw parts.0 (trail_mark-none later v mark parts.1)
 
 -- a move that comes next
 pub record IsNext (setting : Setting) (course : Course) (move : Move) : Type 0 where
@@ -100,9 +96,14 @@ pub record IsNext (setting : Setting) (course : Course) (move : Move) : Type 0 w
   pub moving : move.to ≢ move.from
   pub is_on : course.is_off ≡ false
 
-pub is-next : (setting : Setting) (course : Course) (node : ℕ) → MayMove setting course node
+-- it begins at a node of the network
+pub from-inside : {setting : Setting} {course : Course} {move : Move} → IsSound setting course
+    → IsNext setting course move → move.from < setting.nodes
+from-inside sound next = rw next.from (stop-inside sound)
+
+pub is-next : {setting : Setting} {course : Course} {node : ℕ} → MayMove setting course node
     → IsNext setting course (next_move setting course node)
-is-next setting course node may = record {
+is-next {setting} {course} {node} may = record {
   number = refl;
   from = refl;
   weight = refl;
@@ -128,18 +129,18 @@ pub base-with : (level : ℕ) (course : Course) (move : Move)
 base-with level course move = fold-append (λ last (m : Move). if nat_le level m.renewed then m.number else last) 0
     course.moves (move ∷ [])
 
-there-with : (setting : Setting) (course : Course) (move : Move) → IsNext setting course move
+there-with : {setting : Setting} {course : Course} {move : Move} → IsNext setting course move
     → there (with_move course move) ≡ Here move.number
-there-with setting course move next =
+there-with {course} {move} next =
     ap (λ b. cond b (Off (length (with_move course move).moves)) (Here (length (with_move course move).moves)))
     next.is_on ∙ ap (λ n. Here n) (count-with course move ∙ sym next.number)
 
-pub trail-has : (setting : Setting) (course : Course) (move : Move) (v : ℕ) → IsSound setting course
+pub trail-has : {setting : Setting} {course : Course} (move : Move) (v : ℕ) → IsSound setting course
     → has v (trail setting course move) ≡ (has v (map (λ (m : Move). m.from) (since_top setting course)) ||
     (v == move.from || false))
-trail-has setting course move v sound =
+trail-has {setting} {course} move v sound =
     ap (λ ms. has v (map (λ (m : Move). m.from) ms)) (drop-append-le (base setting.top course.moves) course.moves
-    (move ∷ []) (base-low setting course setting.top sound))
+    (move ∷ []) (base-low setting.top sound))
     ∙ (ap (has v) (map-append (λ (m : Move). m.from) (since_top setting course) (move ∷ []))
     ∙ has-append v (map (λ (m : Move). m.from) (since_top setting course)) (move.from ∷ []))
 
@@ -167,16 +168,15 @@ added-rest false true here gone coming its mark = refl
 added-rest false false here gone coming its mark = refl
 
 -- when a move has made all its writes its subscriber rests again
-pub marks-rest : (setting : Setting) (course : Course) (move : Move) (purged : List ℕ) (v : ℕ)
+pub marks-rest : {setting : Setting} {course : Course} {move : Move} (purged : List ℕ) (v : ℕ)
     → IsSound setting course → IsNext setting course move
     → ((move.renewed == setting.top) ≡ true → has v purged
     ≡ (has v (trail setting course move) && not (v == move.to)))
     → ((move.renewed == setting.top) ≡ false → has v purged ≡ false)
     → mark_erasing setting course move purged v ≡ rest_mark setting (with_move course move) v
 unfolding trail_mark
-marks-rest setting course move purged v sound next whole none =
-    rw (stop-with course move, there-with setting course move next, sym next.from)
-    (at_top (move.renewed == setting.top) refl)
+marks-rest {setting} {course} {move} purged v sound next whole none =
+    rw (stop-with course move, there-with next, sym next.from) (at_top (move.renewed == setting.top) refl)
   where
     since : List Move
     since = since_top setting course
@@ -201,7 +201,7 @@ marks-rest setting course move purged v sound next whole none =
           count-with course move,
         ))
         in
-        rw (none_since, whole e, trail-has setting course move v sound)
+        rw (none_since, whole e, trail-has move v sound)
         (purged-rest (v == move.to) (v == move.from) (has v (map (λ (m : Move). m.from) since)) (Here move.number)
         (Gone move.number move.to) (Coming move.number move.from) (there course) (trail_mark since v Empty)
         (trail_mark-none since v Empty) ∙ ap (cond (v == move.to) (Here move.number)) refl)
@@ -210,8 +210,7 @@ marks-rest setting course move purged v sound next whole none =
         let one_since : since_top setting (with_move course move) ≡ since ++ move ∷ [] =
         ap (λ n. drop n (course.moves ++ move ∷ [])) (base-with setting.top course move
         ∙ ap (λ b. cond b move.number (base setting.top course.moves)) low)
-        ∙ drop-append-le (base setting.top course.moves) course.moves (move ∷ [])
-        (base-low setting course setting.top sound) in
+        ∙ drop-append-le (base setting.top course.moves) course.moves (move ∷ []) (base-low setting.top sound) in
         rw (one_since, none e, trail_mark-push since move v Empty)
         (added-rest (v == move.to) (v == move.from) (Here move.number) (Gone move.number move.to)
         (Coming move.number move.from) (there course) (trail_mark since v Empty))

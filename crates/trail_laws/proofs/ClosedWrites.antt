@@ -158,24 +158,23 @@ pub in-levels : (level : ℕ) (move : Move) → has level (renewed_levels move) 
 in-levels level move = in-passing (λ p. true) level move.renewed ∙ and-true (nat_le level move.renewed)
 
 -- when all is written the subscriber rests
-pub whole-marks : (setting : Setting) (course : Course) (move : Move) (v : ℕ) → v < setting.nodes
+pub whole-marks : {setting : Setting} {course : Course} {move : Move} (v : ℕ) → v < setting.nodes
     → IsSound setting course → IsNext setting course move
     → mark_erasing setting course move (purged_nodes setting course move) v
     ≡ rest_mark setting (with_move course move) v
-whole-marks setting course move v low sound next =
-    marks-rest setting course move (purged_nodes setting course move) v sound next
+whole-marks {setting} {course} {move} v low sound next =
+    marks-rest (purged_nodes setting course move) v sound next
     (λ e. ap (λ b. has v (cond b (purge_nodes setting course move) [])) e
     ∙ has-passing (λ node. has node (trail setting course move) && not (node == move.to)) v 0 setting.nodes
     (omega arith) (omega arith))
     (λ e. ap (λ b. has v (cond b (purge_nodes setting course move) [])) e)
 
-pub whole-entries : (setting : Setting) (course : Course) (move : Move) (level cluster : ℕ) → IsSound setting course
+pub whole-entries : {setting : Setting} {course : Course} {move : Move} (level cluster : ℕ) → IsSound setting course
     → IsNext setting course move
     → entry_erased setting course move (renewed_levels move) (old_levels setting course move) level cluster
     ≡ rest_entry setting (with_move course move) level cluster
-whole-entries setting course move level cluster sound next =
-    entries-rest setting course move (renewed_levels move) (old_levels setting course move) level cluster sound next
-    (in-levels level move)
+whole-entries {setting} {course} {move} level cluster sound next =
+    entries-rest (renewed_levels move) (old_levels setting course move) level cluster sound next (in-levels level move)
     (in-passing (λ l. not (old_home setting course l == setting.home l move.to)) level move.renewed)
 
 -- ---- whole steps
@@ -190,18 +189,18 @@ fold-steps f setting its one course [] sound may = refl
 fold-steps f setting its one course (step ∷ steps) sound may =
     fold-append f (its course) (step_writes setting course step) (writes setting (after_step setting course step) steps)
     ∙ (ap (λ a. fold f a (writes setting (after_step setting course step) steps)) (one course step sound may.0)
-    ∙ fold-steps f setting its one (after_step setting course step) steps
-    (sound-step setting course step sound may.0) may.1)
+    ∙ fold-steps f setting its one (after_step setting course step) steps (sound-step step sound may.0) may.1)
 
 over-again : (b : Bool) (new old mark : PresenceMark) → cond b new (cond b old mark) ≡ cond b new mark
 over-again true new old mark = refl
 over-again false new old mark = refl
 
-pub marks-steps : (setting : Setting) (course : Course) (steps : List Step) (v : ℕ) → v < setting.nodes
+pub marks-steps : {setting : Setting} {course : Course} (steps : List Step) (v : ℕ) → v < setting.nodes
     → IsSound setting course → MaySteps setting course steps
     → marked v (rest_mark setting course v) (writes setting course steps)
     ≡ rest_mark setting (after_steps setting course steps) v
-marks-steps setting course steps v low = fold-steps (mark_after v) setting (λ c. rest_mark setting c v) one course steps
+marks-steps {setting} {course} steps v low = fold-steps (mark_after v) setting
+    (λ c. rest_mark setting c v) one course steps
   where
     one : (course : Course) (step : Step) → IsSound setting course → MayStep setting course step
         → marked v (rest_mark setting course v) (step_writes setting course step)
@@ -210,15 +209,15 @@ marks-steps setting course steps v low = fold-steps (mark_after v) setting (λ c
         let move : Move = next_move setting course node in
         ap (marked v (rest_mark setting course v)) (whole-writes setting course move)
         ∙ ((leaves setting course move (whole_phase setting course move)).marks v
-        ∙ whole-marks setting course move v low sound (is-next setting course node may))
+        ∙ whole-marks v low sound (is-next may))
     one course switch_off sound may = over-again (v == last_stop course) (Off (length course.moves)) (there course) _
     one course switch_on sound may = over-again (v == last_stop course) (Here (length course.moves)) (there course) _
 
-pub entries-steps : (setting : Setting) (course : Course) (steps : List Step) (level cluster : ℕ)
+pub entries-steps : {setting : Setting} {course : Course} (steps : List Step) (level cluster : ℕ)
     → IsSound setting course → MaySteps setting course steps
     → entered level cluster (rest_entry setting course level cluster) (writes setting course steps)
     ≡ rest_entry setting (after_steps setting course steps) level cluster
-entries-steps setting course steps level cluster =
+entries-steps {setting} {course} steps level cluster =
     fold-steps (entry_after level cluster) setting (λ c. rest_entry setting c level cluster) one course steps
   where
     one : (course : Course) (step : Step) → IsSound setting course → MayStep setting course step
@@ -228,7 +227,7 @@ entries-steps setting course steps level cluster =
         let move : Move = next_move setting course node in
         ap (entered level cluster (rest_entry setting course level cluster)) (whole-writes setting course move)
         ∙ ((leaves setting course move (whole_phase setting course move)).entries level cluster
-        ∙ whole-entries setting course move level cluster sound (is-next setting course node may))
+        ∙ whole-entries level cluster sound (is-next may))
     one course switch_off sound may = refl
     one course switch_on sound may = refl
 

@@ -1,5 +1,5 @@
 -- The phases of a move cover all that a legal history leaves; in the first one its Coming stands where it goes.
-use Rattle.std.proofs.Common.{◌≡◌, ◌⊎◌, inl, inr, ℕ, suc, ◌<◌, cond, List, [], ◌∷◌, ◌++◌, Some, None, length, map, refl, sym, ap, ◌∙◌, subst, arith, eq-eqb}
+use Rattle.std.proofs.Common.{◌≡◌, ◌⊎◌, inl, inr, ℕ, suc, ◌<◌, cond, List, [], ◌∷◌, ◌++◌, Some, None, length, map, refl, sym, ap, ◌∙◌, arith, eq-eqb}
 use Rattle.std.specs.List.{last_or}
 use Rattle.std.proofs.lemmas.List.{length-map}
 use Rattle.entry_word.specs.declared.mark.PresenceMark.{PresenceMark}
@@ -8,22 +8,24 @@ use Rattle.directory.specs.Settings.{Setting}
 use Rattle.directory.specs.Courses.{Move}
 use Rattle.directory.specs.Histories.{puts_to}
 use Rattle.directory.specs.Puts.{course_in}
-use Rattle.directory.specs.Standing.{commit_by, commits, number, standing}
+use Rattle.directory.specs.Standing.{commit_by, number, standing}
 use Rattle.trail_laws.specs.Trail.{mark_seen, MarksTell, MarkTells}
 use Rattle.trail_laws.specs.Phases.{ComingStands, IsBeforeCommit, IsPassingFrom, IsSettled, PhasesCover}
 use Rattle.trail_laws.specs.Ways.{StandsInside}
 use Rattle.trail_laws.proofs.ClosedMarks.{rest_mark}
 use Rattle.trail_laws.proofs.ClosedViews.{clearing, coming, passage, Phase, phase_commits, phase_mark, Shown, View}
 use Rattle.trail_laws.proofs.Stops.{view-counts}
-use Rattle.trail_laws.proofs.Views.{shown}
 use Rattle.trail_laws.proofs.Laws.{HistoryView, Laws, view}
 use Rattle.directory.specs.ListLaws.{last_or-push}
 use Rattle.std.proofs.lemmas.Option.{same_Some}
 
 pub covers : Laws → MarksTell → StandsInside → PhasesCover
 unfolding HistoryView
-covers laws marks inside setting sub history low legal = at_count
-    (view-counts setting (shown setting sub history) (view laws setting sub history low legal))
+covers laws marks inside setting sub history low legal = elim (view-counts (view laws history low legal)) [
+  | inl before ↦ inl before
+  | inr all ↦ at_mark all (mark_seen setting sub history (standing setting sub history)) refl
+      (marks setting sub history low legal (standing setting sub history) (inside setting sub history low legal))
+]
   where
     Goal : Type 0
     Goal = IsBeforeCommit setting sub history
@@ -39,27 +41,21 @@ covers laws marks inside setting sub history low legal = at_count
           let clash : mark ≡ Coming (number sub history) from = sym e ∙ comes in cc,
     ))
 
-    at_count : (length (course_in setting sub (puts_to sub history)).moves ≡ suc (length (commits sub history)))
-        ⊎ (length (course_in setting sub (puts_to sub history)).moves ≡ length (commits sub history)) → Goal
-    at_count (inl before) = inl before
-    at_count (inr all) = at_mark all (mark_seen setting sub history (standing setting sub history)) refl
-        (marks setting sub history low legal (standing setting sub history) (inside setting sub history low legal))
-
 -- a move that isn't committed has its Coming where it goes
 last-is : (xs : List Move) (x y : Move) → last_or None (xs ++ x ∷ []) ≡ Some y → x ≡ y
 last-is xs x y h = same_Some x y (sym (last_or-push None xs x) ∙ h)
 
-begun-shown : (setting : Setting) (shown : Shown) (move : Move) → View setting shown
+begun-shown : {setting : Setting} {shown : Shown} (move : Move) → View setting shown
     → length shown.moves ≡ suc (length shown.commits) → last_or None shown.moves ≡ Some move
     → shown.marks move.to ≡ Coming move.number move.from
-begun-shown setting shown move (inl h) early last = absurd (omega (
+begun-shown move (inl h) early last = absurd (omega (
   arith,
   early,
   ap length h.moves_are,
   ap length h.commits_are,
   length-map h.course.moves commit_by,
 ))
-begun-shown setting shown move (inr h) early last = at_phase h.phase h.marks_are h.commits_are
+begun-shown {setting} {shown} move (inr h) early last = at_phase h.phase h.marks_are h.commits_are
   where
     same : h.move ≡ move
     same = last-is h.course.moves h.move move (sym (ap (last_or None) h.moves_are) ∙ last)
@@ -76,13 +72,12 @@ begun-shown setting shown move (inr h) early last = at_phase h.phase h.marks_are
     at_phase : (phase : Phase)
         → ((v : ℕ) → v < setting.nodes → shown.marks v ≡ phase_mark setting h.course h.move phase v)
         → shown.commits ≡ phase_commits h.course h.move phase → shown.marks move.to ≡ Coming move.number move.from
-    at_phase (coming written) are c = subst (λ (m : Move). shown.marks m.to ≡ Coming m.number m.from) same
-        (are h.move.to h.next.inside ∙ ap (λ b. cond b (Coming h.move.number h.move.from)
-        (rest_mark setting h.course h.move.to)) (eq-eqb h.move.to h.move.to refl))
+    at_phase (coming written) are c = rw same at (are h.move.to h.next.inside ∙ ap (λ b. cond b
+        (Coming h.move.number h.move.from) (rest_mark setting h.course h.move.to)) (eq-eqb h.move.to h.move.to refl))
     at_phase passage are c = absurd (late c)
     at_phase (clearing erased purged) are c = absurd (late c)
 
 pub coming-stands : Laws → ComingStands
 unfolding HistoryView
 coming-stands laws setting sub history move low legal early last =
-    begun-shown setting (shown setting sub history) move (view laws setting sub history low legal) early last
+    begun-shown move (view laws history low legal) early last

@@ -33,10 +33,10 @@ record AtEnd (setting : Setting) (scripts : Scripts) (history : History) (sub : 
   stands : standing setting sub history ≡ (place_at_end (start setting sub) (steps_of scripts sub)).node
   off_is : off sub history ≡ (place_at_end (start setting sub) (steps_of scripts sub)).is_off
 
-end-there : RestEndsItsCourse → DoneIsRest → DoneShowsScript → PlayedIsLegal → (setting : Setting) (scripts : Scripts)
+end-there : RestEndsItsCourse → DoneIsRest → DoneShowsScript → PlayedIsLegal → {setting : Setting} {scripts : Scripts}
     (history : History) (sub : ℕ) → setting.nodes ≤ 2 ^ 16 → AreValid setting scripts → sub < subs setting
     → IsPlayed setting scripts history → IsDone setting scripts history sub → AtEnd setting scripts history sub
-end-there ends rests shows legal setting scripts history sub low valid known played done =
+end-there ends rests shows legal {setting} {scripts} history sub low valid known played done =
     let is_legal : IsLegal setting sub history = legal setting scripts history sub low valid known played in
     let its = ends setting sub history low is_legal (rests setting scripts history sub low valid known played done) in
     let course : course_in setting sub (puts_to sub history)
@@ -63,8 +63,7 @@ end-by_scripts right ends rests shows played done legal setting scripts order no
         let listed = has-passing (λ s. says_here (mark_in (cell setting (history_of setting scripts order)
         (Presence node s)))) sub 0 (subs setting) (omega arith)
         (omega (arith, known)) in
-        let end = end-there ends rests shows legal setting scripts (history_of setting scripts order) sub low valid
-        known
+        let end = end-there ends rests shows legal (history_of setting scripts order) sub low valid known
         (played setting scripts order) (done setting scripts order sub) in
         let place : Place = place_at_end (start setting sub) (steps_of scripts sub) in
         both_ways _ _

@@ -1,5 +1,5 @@
 -- What the ways along the marks weigh, told for each state of the move under way.
-use Rattle.std.proofs.Common.{◌≡◌, ◌≢◌, ℕ, suc, ◌+◌, ◌*◌, ◌<◌, ◌≤◌, true, List, [], ◌∷◌, ◌++◌, None, length, map, sym, ap, ◌∙◌, subst, arith, length-append}
+use Rattle.std.proofs.Common.{◌≡◌, ◌≢◌, ℕ, suc, ◌+◌, ◌*◌, ◌<◌, ◌≤◌, true, List, [], ◌∷◌, ◌++◌, None, length, map, sym, ap, ◌∙◌, arith, length-append}
 use Rattle.std.proofs.lemmas.List.{length-map}
 use Rattle.entry_word.specs.declared.mark.PresenceMark.{PresenceMark}
 use Rattle.entry_word.specs.declared.mark.PresenceMark.TheVariants.{Here, Coming}
@@ -54,16 +54,16 @@ fine-rest setting marks course level last address below = fine-short setting mar
     (λ lazy. lazy-whole setting course.moves level below lazy)
     (λ all new. absurd (omega (arith, all, length-map course.moves commit_by)))
 
-pub fine-coming : (setting : Setting) (marks : ℕ → PresenceMark) (course : Course) (move : Move) (level last node : ℕ)
+pub fine-coming : {setting : Setting} (marks : ℕ → PresenceMark) {course : Course} (move : Move) (level last node : ℕ)
     → IsSound setting course → level ≤ setting.top
     → IsFine setting marks last (length (map commit_by course.moves)) (course.moves ++ move ∷ []) level
     (record { number = base level course.moves; node = node })
     (weight_from course.moves (base level course.moves) + 0)
-fine-coming setting marks course move level last node sound below = fine-short setting marks last
+fine-coming {setting} marks {course} move level last node sound below = fine-short setting marks last
     (length (map commit_by course.moves)) (course.moves ++ move ∷ []) level
     (record { number = base level course.moves; node = node }) (weight_from course.moves (base level course.moves) + 0)
     (λ lazy. omega (arith, lazy-front setting course.moves (move ∷ []) level below lazy))
-    (λ all new. absurd (omega (arith, new, base-low setting course level sound, length-map course.moves commit_by)))
+    (λ all new. absurd (omega (arith, new, base-low level sound, length-map course.moves commit_by)))
 
 pub fine-new : (setting : Setting) (marks : ℕ → PresenceMark) (course : Course) (move : Move) (level last number : ℕ)
     (address : Address) → level ≤ setting.top
@@ -72,13 +72,13 @@ fine-new setting marks course move level last number address below = fine-short 
     (course.moves ++ move ∷ []) level address 0
     (λ lazy. omega (arith, lazy-front setting course.moves (move ∷ []) level below lazy)) (λ all new. omega arith)
 
-pub fine-coming_new : (setting : Setting) (from : ℕ) (marks : ℕ → PresenceMark) (course : Course) (move : Move)
+pub fine-coming_new : {setting : Setting} (from : ℕ) (marks : ℕ → PresenceMark) {course : Course} {move : Move}
     (level : ℕ) → IsSound setting course → IsNext setting course move → course.start ≡ from
     → ((v : ℕ) → v < setting.nodes → marks v ≡ mark_coming setting course move v)
     → IsFine setting marks (stands from (map commit_by course.moves)) (length (map commit_by course.moves))
     (course.moves ++ move ∷ []) level (record { number = move.number; node = move.to })
     (setting.distance move.to (last_stop course) + 0)
-fine-coming_new setting from marks course move level sound next begins marks_are = record {
+fine-coming_new {setting} from marks {course} {move} level sound next begins marks_are = record {
   before_old = λ metric lazy all old. absurd (omega (arith, old, next.number, length-map course.moves commit_by));
   before_new = λ metric lazy all new. omega (arith, ap (setting.distance move.to) (rest-stands course from begins));
   passing = λ metric lazy u comes. absurd (clash u comes);
@@ -94,9 +94,9 @@ fine-coming_new setting from marks course move level sound next begins marks_are
     clash u comes =
         let there : answers None (Coming (length (map commit_by course.moves)) u) ≡ true =
         sym (ap (answers None) (sym (ap marks (rest-stands course from begins)) ∙ comes))
-        ∙ coming-there setting course move marks sound next marks_are None in cc
+        ∙ coming-there marks sound next marks_are None in cc
 
-pub fine-passing : (setting : Setting) (from : ℕ) (marks : ℕ → PresenceMark) (course : Course) (move : Move)
+pub fine-passing : {setting : Setting} (from : ℕ) (marks : ℕ → PresenceMark) {course : Course} {move : Move}
     (level : ℕ) (address : Address) (way : ℕ) → IsSound setting course → IsNext setting course move
     → course.start ≡ from
     → ((v : ℕ) → v < setting.nodes → marks v ≡ mark_passing setting course move v)
@@ -104,7 +104,7 @@ pub fine-passing : (setting : Setting) (from : ℕ) (marks : ℕ → PresenceMar
     → way < setting.threshold level + 2 * setting.distance move.from move.to)
     → IsFine setting marks (stands from (map commit_by (course.moves ++ move ∷ [])))
     (length (map commit_by (course.moves ++ move ∷ []))) (course.moves ++ move ∷ []) level address way
-fine-passing setting from marks course move level address way sound next begins marks_are short = record {
+fine-passing {setting} from marks {course} {move} level address way sound next begins marks_are short = record {
   before_old = λ metric lazy all old. absurd (same_count all);
   before_new = λ metric lazy all new. absurd (same_count all);
   passing = λ metric lazy u comes. omega (
@@ -121,7 +121,7 @@ fine-passing setting from marks course move level address way sound next begins 
     same_count all = omega (arith, all, length-map (course.moves ++ move ∷ []) commit_by)
 
     stood : stands from (map commit_by (course.moves ++ move ∷ [])) ≡ move.to
-    stood = next-stands setting course move from next begins
+    stood = next-stands from next begins
 
     count : move.number ≡ length (map commit_by (course.moves ++ move ∷ []))
     count = omega (
@@ -133,31 +133,29 @@ fine-passing setting from marks course move level address way sound next begins 
 
     comes_here : marks (stands from (map commit_by (course.moves ++ move ∷ [])))
         ≡ Coming (length (map commit_by (course.moves ++ move ∷ []))) move.from
-    comes_here = ap marks stood ∙ (passing-at_to setting course move marks sound next marks_are
+    comes_here = ap marks stood ∙ (passing-at_to marks sound next marks_are
         ∙ ap (λ n. Coming n move.from) count)
 
     left_is : (u : ℕ) → Coming (length (map commit_by (course.moves ++ move ∷ []))) move.from
         ≡ Coming (length (map commit_by (course.moves ++ move ∷ []))) u → u ≡ move.from
     left_is u e = cc
 
-pub fine-clearing : (setting : Setting) (from : ℕ) (marks : ℕ → PresenceMark) (course : Course) (move : Move)
+pub fine-clearing : {setting : Setting} (from : ℕ) (marks : ℕ → PresenceMark) {course : Course} {move : Move}
     (level : ℕ) → IsSound setting course → IsNext setting course move → course.start ≡ from → level ≤ setting.top
     → ((v : ℕ) → v < setting.nodes → marks v ≡ mark_erasing setting course move [] v)
     → IsFine setting marks (stands from (map commit_by (course.moves ++ move ∷ [])))
     (length (map commit_by (course.moves ++ move ∷ []))) (course.moves ++ move ∷ []) level
     (record { number = base level course.moves; node = address_node course level })
     (weight_from (course.moves ++ move ∷ []) (base level course.moves))
-fine-clearing setting from marks course move level sound next begins below marks_are = record {
+fine-clearing {setting} from marks {course} {move} level sound next begins below marks_are = record {
   before_old = λ metric lazy all old. absurd (same_count all);
   before_new = λ metric lazy all new. absurd (same_count all);
   passing = λ metric lazy u comes. absurd (clash u comes);
   settled = λ metric lazy all other. omega (
     arith,
-    price-clearing setting from course move level sound next begins below metric lazy,
+    price-clearing from level sound next begins below metric lazy,
   );
-  current = λ metric lazy all other same.
-      subst (λ n. weight_from (course.moves ++ move ∷ []) n < setting.threshold level) (sym same)
-      (lazy-whole setting (course.moves ++ move ∷ []) level below lazy);
+  current = λ metric lazy all other same. rw same (lazy-whole setting (course.moves ++ move ∷ []) level below lazy);
 }
   where
     same_count : length (course.moves ++ move ∷ []) ≡ suc (length (map commit_by (course.moves ++ move ∷ []))) → ⊥
@@ -167,5 +165,5 @@ fine-clearing setting from marks course move level sound next begins below marks
         ≡ Coming (length (map commit_by (course.moves ++ move ∷ []))) u → ⊥
     clash u comes =
         let both : Here move.number ≡ Coming (length (map commit_by (course.moves ++ move ∷ []))) u =
-        sym (ap marks (next-stands setting course move from next begins)
-        ∙ clearing-here setting course move marks sound next marks_are) ∙ comes in cc
+        sym (ap marks (next-stands from next begins)
+        ∙ clearing-here marks sound next marks_are) ∙ comes in cc

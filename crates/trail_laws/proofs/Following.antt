@@ -1,6 +1,7 @@
 -- How the marks of a chase follow one another, by the looks of a find: what a Gone or a Coming tells of the node where
 -- it leads holds at every later look.
-use Rattle.std.proofs.Common.{◌≡◌, ◌⊎◌, inl, inr, ℕ, zero, suc, ◌-◌, ◌<◌, ◌≤◌, ◌^◌, max, Bool, true, false, cond, List, [], ◌∷◌, ◌++◌, Option, Some, None, length, refl, sym, ap, ◌∙◌, subst, arith}
+use Rattle.std.proofs.lemmas.Bool.{cases_Bool}
+use Rattle.std.proofs.Common.{◌≡◌, ◌⊎◌, inl, inr, ℕ, zero, suc, ◌-◌, ◌<◌, ◌≤◌, ◌^◌, max, true, false, List, [], ◌∷◌, ◌++◌, Option, Some, None, length, refl, sym, ap, ◌∙◌, subst, arith}
 use Rattle.std.specs.Prelude.{flat_map}
 use Rattle.std.proofs.lemmas.Bool.Decides.{nat_tests}
 use Rattle.entry_word.specs.Marks.{mark_in}
@@ -18,7 +19,6 @@ use Rattle.directory.specs.Statements.{FrontsAreLegal}
 use Rattle.directory.specs.declared.answers.Found.{Found}
 use Rattle.directory.specs.declared.answers.Found.TheVariants.{At, Off as OffAt, Again}
 use Rattle.directory.specs.declared.answers.Why.TheVariants.{Empty as EmptyAt, Chased}
-use Rattle.trail_laws.proofs.Views.{shown}
 use Rattle.trail_laws.specs.Trail.{EntriesTell, GoesUp, mark_seen, MarksTell, MarkTells}
 use Rattle.trail_laws.specs.Phases.{moves_begun}
 use Rattle.trail_laws.specs.Chased.{ChasesRise, marks_chased}
@@ -37,20 +37,20 @@ pub record ChaseLaws : Type 0 where
   pub fronts : FrontsAreLegal
 
 -- what the counts of a legal history tell
-number-few : Laws → (setting : Setting) (sub : ℕ) (history : History) → setting.nodes ≤ 2 ^ 16
+number-few : Laws → {setting : Setting} {sub : ℕ} (history : History) → setting.nodes ≤ 2 ^ 16
     → IsLegal setting sub history → number sub history ≤ moves_begun setting sub history
 unfolding HistoryView
-number-few laws setting sub history low legal =
-    elim (view-counts setting (shown setting sub history) (view laws setting sub history low legal)) [
+number-few laws {setting} {sub} history low legal =
+    elim (view-counts (view laws history low legal)) [
       | inl more ↦ omega (arith, more)
       | inr same ↦ omega (arith, same)
     ]
 
-off-rests : Laws → (setting : Setting) (sub : ℕ) (history : History) → setting.nodes ≤ 2 ^ 16
+off-rests : Laws → {setting : Setting} {sub : ℕ} (history : History) → setting.nodes ≤ 2 ^ 16
     → IsLegal setting sub history → off sub history ≡ true → moves_begun setting sub history ≡ number sub history
 unfolding HistoryView
-off-rests laws setting sub history low legal e =
-    off-counts setting (shown setting sub history) (view laws setting sub history low legal) e
+off-rests laws {setting} {sub} history low legal e =
+    off-counts (view laws history low legal) e
 
 -- the mark that a chase reads fits what is behind it
 zero-up : (setting : Setting) (sub : ℕ) (seen : History) (node : ℕ) (mark : PresenceMark)
@@ -59,53 +59,51 @@ zero-up setting sub seen node Empty tells = tt
 zero-up setting sub seen node (Gone q to) tells = tells.0
 zero-up setting sub seen node mark tells = omega arith
 
-fits-up : ChaseLaws → (setting : Setting) (sub : ℕ) (seen : History) (behind : Behind) (known : Option ℕ) (node : ℕ)
+fits-up : ChaseLaws → {setting : Setting} {sub : ℕ} {seen : History} {behind : Behind} {known : Option ℕ} {node : ℕ}
     → setting.nodes ≤ 2 ^ 16 → IsLegal setting sub seen → node < setting.nodes
     → IsBehind setting sub seen behind known node → GoesUp behind.place (mark_seen setting sub seen node)
-fits-up laws setting sub seen behind known node low legal inside is = at_stop is.stop
+fits-up laws {setting} {sub} {seen} {behind} {node} low legal inside is = at_stop is.stop
   where
     at_stop : (behind.place ≡ 0) ⊎ (stop_after (start setting sub) (commits sub seen) behind.place ≡ node)
         → GoesUp behind.place (mark_seen setting sub seen node)
-    at_stop (inl none) = subst (λ j. GoesUp j (mark_seen setting sub seen node)) (sym none)
-        (zero-up setting sub seen node (mark_seen setting sub seen node)
+    at_stop (inl none) = rw none (zero-up setting sub seen node (mark_seen setting sub seen node)
         (laws.marks setting sub seen low legal node inside))
-    at_stop (inr stop) = stop-goes_up laws.cells laws.marks setting sub seen low legal behind.place node is.few stop
-        inside
+    at_stop (inr stop) = stop-goes_up laws.cells laws.marks seen low legal behind.place node is.few stop inside
 
-fits-begun : ChaseLaws → (setting : Setting) (sub : ℕ) (seen : History) (n node : ℕ) (mark : PresenceMark)
+fits-begun : ChaseLaws → {setting : Setting} {sub : ℕ} (seen : History) (n node : ℕ) (mark : PresenceMark)
     → setting.nodes ≤ 2 ^ 16 → IsLegal setting sub seen → n ≤ moves_begun setting sub seen
     → MarkTells setting sub seen node mark → IsBegun n mark
-fits-begun laws setting sub seen n node (Coming q from) low legal early tells = omega (arith, early, tells.0)
-fits-begun laws setting sub seen n node (Off q) low legal early tells =
-    omega (arith, early, tells.1, off-rests laws.cells setting sub seen low legal tells.2)
-fits-begun laws setting sub seen n node mark low legal early tells = tt
+fits-begun laws seen n node (Coming q from) low legal early tells = omega (arith, early, tells.0)
+fits-begun laws {setting} {sub} seen n node (Off q) low legal early tells =
+    omega (arith, early, tells.1, off-rests laws.cells seen low legal tells.2)
+fits-begun laws seen n node mark low legal early tells = tt
 
 -- where a Gone and a Coming lead
 unknown : (p q : ℕ) (known : Option ℕ) → is_known q (known_with p known) ≡ false → p ≤ q - 1
 unknown p q None h = let more : p < q = grind (arith, nat_tests, h) in omega (arith, more)
 unknown p q (Some k) h = let more : max k p < q = grind (arith, nat_tests, h) in omega (arith, more)
 
-gone-leads : ChaseLaws → (setting : Setting) (sub : ℕ) (seen : History) (known : Option ℕ) (node p to : ℕ)
+gone-leads : ChaseLaws → {setting : Setting} {sub : ℕ} (seen : History) (known : Option ℕ) (node p to : ℕ)
     → setting.nodes ≤ 2 ^ 16 → IsLegal setting sub seen → MarkTells setting sub seen node (Gone p to)
     → IsBehind setting sub seen (after_gone p) (known_with p known) to
-gone-leads laws setting sub seen known node p to low legal tells = record {
+gone-leads laws {setting} {sub} seen known node p to low legal tells = record {
   few = gone-known setting sub seen node p to tells;
   stop = inr (stop-listed (start setting sub) (commits sub seen) p _ tells.0 tells.1);
   early = omega (
     arith,
     gone-known setting sub seen node p to tells,
-    number-few laws.cells setting sub seen low legal,
+    number-few laws.cells seen low legal,
   );
   rises = omega arith;
   fresh = λ q h. unknown p q known h;
 }
 
-coming-leads : ChaseLaws → (setting : Setting) (sub : ℕ) (seen : History) (behind : Behind) (known : Option ℕ)
-    (node p from : ℕ) → setting.nodes ≤ 2 ^ 16 → IsLegal setting sub seen
+coming-leads : ChaseLaws → {setting : Setting} {sub : ℕ} {seen : History} {behind : Behind} {known : Option ℕ}
+    {node : ℕ} (p from : ℕ) → setting.nodes ≤ 2 ^ 16 → IsLegal setting sub seen
     → MarkTells setting sub seen node (Coming p from) → IsBehind setting sub seen behind known node
     → is_known p known ≡ false → IsBehind setting sub seen (after_coming behind p) known from
 unfolding HistoryView
-coming-leads laws setting sub seen behind known node p from low legal tells is new = record {
+coming-leads laws {setting} {sub} {seen} {node} p from low legal tells is new = record {
   few = (led tells.3).0;
   stop = inr (led tells.3).1;
   early = omega (arith, tells.0);
@@ -126,12 +124,12 @@ coming-leads laws setting sub seen behind known node p from low legal tells is n
         let gone : MarkTells setting sub seen from (Gone p node) = subst (MarkTells setting sub seen from) late.2
         (laws.marks setting sub seen low legal from tells.1) in (
           omega (arith, late.0),
-          stop-left setting (shown setting sub seen) (view laws.cells setting sub seen low legal) (p - 1) _ gone.1,
+          stop-left (view laws.cells seen low legal) (p - 1) _ gone.1,
         )
 
 -- one look of a chase
-module _ (laws : ChaseLaws) (setting : Setting) (history : History) (call : FindCall) (t : ℕ) (chase : Chase)
-    (node : ℕ) (words : List ℕ) (behind : Behind) (low : setting.nodes ≤ 2 ^ 16)
+module _ (laws : ChaseLaws) {setting : Setting} (history : History) (call : FindCall) (t : ℕ) (chase : Chase)
+    {node : ℕ} (words : List ℕ) {behind : Behind} (low : setting.nodes ≤ 2 ^ 16)
     (legal : IsLegal setting call.sub (before t history))
     (is : IsBehind setting call.sub (before t history) behind chase.known node) where
   abbrev pub Later : Pursuit → Type 0
@@ -147,8 +145,7 @@ module _ (laws : ChaseLaws) (setting : Setting) (history : History) (call : Find
       → Rises b (marks_chased setting call (hop setting known level weight left node to) words)
   hop-rises known level weight zero to b its more = subst (Rises b)
       (sym (ended-so (Again Chased weight))) (none-rise b)
-  hop-rises known level weight (suc left) to b its more = more b
-      (behind-later setting call.sub t (suc t) history b known to (omega arith) its)
+  hop-rises known level weight (suc left) to b its more = more b (behind-later t (suc t) history (omega arith) its)
 
   continues : (mark : PresenceMark) → MarkTells setting call.sub (before t history) node mark
       → Later (after_mark setting chase node mark)
@@ -157,21 +154,12 @@ module _ (laws : ChaseLaws) (setting : Setting) (history : History) (call : Find
   continues (Here q) tells more = ended-so (At node q chase.level chase.weight)
   continues (Off q) tells more = ended-so (OffAt node q chase.level chase.weight)
   continues (Gone q to) tells more = hop-rises (known_with q chase.known) chase.level chase.weight chase.hops_left to
-      (after_gone q) (gone-leads laws setting call.sub (before t history) chase.known node q to low legal tells) more
-  continues (Coming q from) tells more = at_known (is_known q chase.known) refl more
-    where
-      at_known : (b : Bool) → is_known q chase.known ≡ b
-          → Later (cond b (ended (At node q chase.level chase.weight))
-          (hop setting chase.known chase.level chase.weight chase.hops_left node from))
-          → Rises (after_coming behind q) (marks_chased setting call
-          (cond b (ended (At node q chase.level chase.weight))
-          (hop setting chase.known chase.level chase.weight chase.hops_left node from)) words)
-      at_known true e rest = subst (Rises (after_coming behind q))
-          (sym (ended-so (At node q chase.level chase.weight))) (none-rise (after_coming behind q))
-      at_known false e rest = hop-rises chase.known chase.level chase.weight chase.hops_left from
-          (after_coming behind q)
-          (coming-leads laws setting call.sub (before t history) behind chase.known node q from low legal tells is e)
-          rest
+      (after_gone q) (gone-leads laws (before t history) chase.known node q to low legal tells) more
+  continues (Coming q from) tells more = elim (cases_Bool (is_known q chase.known)) [
+    | inl e ↦ rw (e, ended-so (At node q chase.level chase.weight)) (none-rise (after_coming behind q))
+    | inr e ↦ rw e (hop-rises chase.known chase.level chase.weight chase.hops_left from (after_coming behind q)
+        (coming-leads laws q from low legal tells is e) (rw e at more))
+  ]
 
   chase-rises : node < setting.nodes
       → Later (after_mark setting chase node (mark_seen setting call.sub (before t history) node))
@@ -179,17 +167,15 @@ module _ (laws : ChaseLaws) (setting : Setting) (history : History) (call : Find
       ∷ marks_chased setting call (after_mark setting chase node
       (mark_seen setting call.sub (before t history) node)) words)
   chase-rises inside more =
-      one-more behind (mark_seen setting call.sub (before t history) node) _ is.rises
-      (fits-up laws setting call.sub (before t history) behind chase.known node low legal inside is)
-      (fits-begun laws setting call.sub (before t history) behind.begun node
-      (mark_seen setting call.sub (before t history) node) low legal is.early tells)
-      (continues (mark_seen setting call.sub (before t history) node) tells more)
+      one-more behind (mark_seen setting call.sub (before t history) node) _ is.rises (fits-up laws low legal inside is)
+      (fits-begun laws (before t history) behind.begun node (mark_seen setting call.sub (before t history) node) low
+      legal is.early tells) (continues (mark_seen setting call.sub (before t history) node) tells more)
     where
       tells : MarkTells setting call.sub (before t history) node (mark_seen setting call.sub (before t history) node)
       tells = laws.marks setting call.sub (before t history) low legal node inside
 
 -- one look of a find
-look-rises : ChaseLaws → (setting : Setting) (history : History) (call : FindCall) (t : ℕ) (pursuit : Pursuit)
+look-rises : ChaseLaws → {setting : Setting} (history : History) (call : FindCall) (t : ℕ) (pursuit : Pursuit)
     (key : Key)
     (words : List ℕ) (behind : Behind) → setting.nodes ≤ 2 ^ 16 → IsLegal setting call.sub (before t history)
     → IsSafe setting (number call.sub (before t history)) pursuit
@@ -199,7 +185,7 @@ look-rises : ChaseLaws → (setting : Setting) (history : History) (call : FindC
     → Rises b (marks_chased setting call
     (after_word setting call pursuit (cell setting (before t history) key)) words))
     → Rises behind (marks_chased setting call pursuit (cell setting (before t history) key ∷ words))
-look-rises laws setting history call t (chases chase node) key words behind low legal safe tracked wanted more =
+look-rises laws {setting} history call t (chases chase node) key words behind low legal safe tracked wanted more =
     let e : key ≡ Presence node call.sub = cc in
     subst (λ (k : Key). ((b : Behind) → IsTracked setting call.sub (before (suc t) history) b
     (after_mark setting chase node (mark_in (cell setting (before t history) k)))
@@ -207,20 +193,20 @@ look-rises laws setting history call t (chases chase node) key words behind low 
     (after_mark setting chase node (mark_in (cell setting (before t history) k))) words))
     → Rises behind (mark_in (cell setting (before t history) k) ∷ marks_chased setting call
     (after_mark setting chase node (mark_in (cell setting (before t history) k))) words)) (sym e)
-    (chase-rises laws setting history call t chase node words behind low legal tracked safe.1) more
-look-rises laws setting history call t (ended found) key words behind low legal safe tracked wanted more = cc
-look-rises laws setting history call t pursuit key words behind low legal safe tracked wanted more =
+    (chase-rises laws history call t chase words low legal tracked safe.1) more
+look-rises laws history call t (ended found) key words behind low legal safe tracked wanted more = cc
+look-rises laws {setting} history call t pursuit key words behind low legal safe tracked wanted more =
     subst (λ b. Rises b (marks_chased setting call pursuit (cell setting (before t history) key ∷ words)))
     (sym tracked) (more nothing (tracked-nothing setting call.sub (before (suc t) history) _))
 
 tracked-later : (setting : Setting) (sub t u : ℕ) (history : History) (behind : Behind) (pursuit : Pursuit) → t ≤ u
     → IsTracked setting sub (before t history) behind pursuit → IsTracked setting sub (before u history) behind pursuit
 tracked-later setting sub t u history behind (chases chase node) h tracked =
-    behind-later setting sub t u history behind chase.known node h tracked
+    behind-later t u history h tracked
 tracked-later setting sub t u history behind other h tracked = tracked
 
 -- the looks of a find
-looks-rise : ChaseLaws → (setting : Setting) (history : History) (actor : ℕ) (call : FindCall)
+looks-rise : ChaseLaws → {setting : Setting} (history : History) (actor : ℕ) (call : FindCall)
     → setting.nodes ≤ 2 ^ 16 → call.from < setting.nodes → IsLegal setting call.sub history
     → (tickets : List ℕ) (earliest : ℕ) (pursuit : Pursuit) (behind : Behind)
     → IsSafe setting (number call.sub (before earliest history)) pursuit
@@ -228,15 +214,14 @@ looks-rise : ChaseLaws → (setting : Setting) (history : History) (actor : ℕ)
     → AreLooks setting history actor call earliest pursuit tickets
     → Rises behind (marks_chased setting call pursuit (flat_map (words_at setting history) tickets))
 unfolding AreLooks
-looks-rise laws setting history actor call low inside legal [] earliest pursuit behind safe tracked looks =
+looks-rise laws history actor call low inside legal [] earliest pursuit behind safe tracked looks =
     none-rise behind
-looks-rise laws setting history actor call low inside legal (t ∷ later) earliest pursuit behind safe tracked
+looks-rise laws {setting} history actor call low inside legal (t ∷ later) earliest pursuit behind safe tracked
     (first, (key, wanted, is_look, rest)) =
-    subst (Rises behind) (sym read)
-    (look-rises laws setting history call t pursuit key (flat_map (words_at setting history) later) behind low
-    legal_now safe_now
+    subst (Rises behind) (sym read) (look-rises laws history call t pursuit key
+    (flat_map (words_at setting history) later) behind low legal_now safe_now
     (tracked-later setting call.sub earliest t history behind pursuit first tracked) wanted
-    (λ b its. looks-rise laws setting history actor call low inside legal later (suc t) next b safe_next its rest))
+    (λ b its. looks-rise laws history actor call low inside legal later (suc t) next b safe_next its rest))
   where
     word : ℕ
     word = cell setting (before t history) key
@@ -261,13 +246,11 @@ looks-rise laws setting history actor call low inside legal (t ∷ later) earlie
         (after_word setting call pursuit (cell setting (before t history) key))
     safe_next = safe-later setting (number call.sub (before t history)) (number call.sub (before (suc t) history))
         (after_word setting call pursuit (cell setting (before t history) key))
-        (number-grows call.sub t (suc t) history (omega arith))
-        (good-safe setting call.sub (before t history)
-        (after_word setting call pursuit (cell setting (before t history) key))
-        (look-good laws.marks laws.entries setting (before t history) call pursuit key low inside legal_now safe_now
-        wanted))
+        (number-grows call.sub t (suc t) history (omega arith)) (good-safe setting call.sub (before t history)
+        (after_word setting call pursuit (cell setting (before t history) key)) (look-good laws.marks laws.entries
+        (before t history) call pursuit key low inside legal_now safe_now wanted))
 
 pub chases-rise : ChaseLaws → ChasesRise
 chases-rise laws setting history actor call tickets low inside legal looks =
-    let all = looks-rise laws setting history actor call low inside legal tickets 0 at_origin nothing tt refl looks in
+    let all = looks-rise laws history actor call low inside legal tickets 0 at_origin nothing tt refl looks in
     (all.on, all.ascends)

@@ -1,7 +1,8 @@
 -- Which addresses an entry has: the old one of its level, or that of the move under way.
-use Rattle.std.proofs.Common.{◌≡◌, ◌⊎◌, inl, inr, ℕ, suc, ◌≤◌, Bool, true, false, cond, ◌==◌, ◌&&◌, not, List, Some, None, refl, sym, ap, ◌∙◌, arith}
+use Rattle.std.proofs.lemmas.Option.{cond_some}
+use Rattle.std.proofs.lemmas.Bool.{cases_Bool, and_from, and_parts, eqb-true}
+use Rattle.std.proofs.Common.{◌≡◌, ◌⊎◌, inl, inr, ℕ, suc, ◌≤◌, true, false, ◌==◌, ◌&&◌, not, List, Some, None, sym, ap, ◌∙◌, arith}
 use Rattle.std.specs.Prelude.{nat_le}
-use Rattle.std.proofs.lemmas.Bool.{and_from, and_parts, eqb-true}
 use Rattle.std.proofs.lemmas.Bool.Decides.{nat_tests}
 use Rattle.node_set.specs.Ascending.{has}
 use Rattle.node_set.specs.SetLaws.{has-passing}
@@ -29,17 +30,12 @@ unfoldable pub IsNew : Setting → Move → ℕ → ℕ → Address → Type 0
 IsNew setting move level cluster address = (address ≡ move_address move)
     × ((cluster == setting.home level move.to) ≡ true)
 
-some-of : (b : Bool) (x address : Address) → cond b (Some x) None ≡ Some address → (b ≡ true) × (address ≡ x)
-some-of true x address h = (refl, cc)
-some-of false x address h = cc
-
 pub rest-some : (setting : Setting) (course : Course) (level cluster : ℕ) (address : Address)
     → rest_entry setting course level cluster ≡ Some address → IsOld setting course level cluster address
 unfolding IsOld
 rest-some setting course level cluster address h =
-    let both : ((cluster == old_home setting course level) ≡ true)
-    × (address ≡ old_address course level) = some-of (cluster == old_home setting course level)
-    (old_address course level) address h in (both.1, both.0)
+    let both = cond_some (cluster == old_home setting course level) (old_address course level) address h in
+    (sym both.1, both.0)
 
 pub written-some : (setting : Setting) (course : Course) (move : Move) (written : List ℕ) (level cluster : ℕ)
     (address : Address) → entry_written setting course move written level cluster ≡ Some address
@@ -47,31 +43,25 @@ pub written-some : (setting : Setting) (course : Course) (move : Move) (written 
     ⊎ (IsOld setting course level cluster address × ((has level written && cluster == setting.home level move.to)
     ≡ false))
 unfolding IsNew
-written-some setting course move written level cluster address h = at_test
-    (has level written && cluster == setting.home level move.to) refl h
-  where
-    at_test : (b : Bool) → (has level written && cluster == setting.home level move.to) ≡ b
-        → cond b (new_entry move) (rest_entry setting course level cluster) ≡ Some address
-        → (IsNew setting move level cluster address × (has level written ≡ true))
-        ⊎ (IsOld setting course level cluster address
-        × ((has level written && cluster == setting.home level move.to) ≡ false))
-    at_test true e g =
-        let both : (has level written ≡ true) × ((cluster == setting.home level move.to) ≡ true) = and_parts
-        (has level written) (cluster == setting.home level move.to) e in
-        let same : address ≡ move_address move = cc in inl ((same, both.1), both.0)
-    at_test false e g = inr (rest-some setting course level cluster address g, e)
+written-some setting course move written level cluster address h =
+    elim (cases_Bool (has level written && cluster == setting.home level move.to)) [
+      | inl e ↦
+          let both = and_parts (has level written) (cluster == setting.home level move.to) e in
+          let is_new : new_entry move ≡ Some address = rw e at h in
+          let same : address ≡ move_address move = cc in
+          inl ((same, both.1), both.0)
+      | inr e ↦ inr (rest-some setting course level cluster address (rw e at h), e)
+    ]
 
 pub erased-some : (setting : Setting) (course : Course) (move : Move) (written erased : List ℕ) (level cluster : ℕ)
     (address : Address) → entry_erased setting course move written erased level cluster ≡ Some address
     → ((has level erased && cluster == old_home setting course level) ≡ false)
     × (entry_written setting course move written level cluster ≡ Some address)
-erased-some setting course move written erased level cluster address h = at_test
-    (has level erased && cluster == old_home setting course level) h
-  where
-    at_test : (b : Bool) → cond b None (entry_written setting course move written level cluster) ≡ Some address
-        → (b ≡ false) × (entry_written setting course move written level cluster ≡ Some address)
-    at_test true g = cc
-    at_test false g = (refl, g)
+erased-some setting course move written erased level cluster address h =
+    elim (cases_Bool (has level erased && cluster == old_home setting course level)) [
+      | inl e ↦ let clash : None ≡ Some address = rw e at h in cc
+      | inr e ↦ (e, rw e at h)
+    ]
 
 -- when all old addresses are erased at all levels, only the new one is left
 pub only-new : (setting : Setting) (course : Course) (move : Move) (level cluster : ℕ) (address : Address)

@@ -1,9 +1,7 @@
 -- Each line of an actor's finds begins behind the last visit of those before it.
 use Rattle.std.proofs.Common.{◌≡◌, ◌⊎◌, inl, inr, ℕ, zero, suc, ◌+◌, ◌<◌, ◌≤◌, List, [], ◌∷◌, ◌++◌, length, map, take, drop, fold, get_or, refl, sym, ap, ◌∙◌, subst, arith, Option}
 use Rattle.std.specs.Prelude.{Some, None, flat_map, slice_get}
-use Rattle.std.proofs.lemmas.Bool.{cases_lt}
 use Rattle.std.proofs.lemmas.Option.{slice_get_within}
-use Rattle.node_set.specs.Ascending.{IsAscending}
 use Rattle.directory.specs.Settings.{Setting, start, subs}
 use Rattle.directory.specs.Statements.{CallersCount, FindsFollow, TicketsAscend}
 use Rattle.directory.specs.Courses.{Course, Step, after_step, course_at, move_to}
@@ -18,7 +16,7 @@ use Rattle.directory.specs.declared.answers.Done.{Done}
 use Rattle.directory.specs.declared.answers.Found.{Found}
 use Rattle.directory.specs.declared.answers.Found.TheVariants.{At, Off as OffAt, Again}
 use Rattle.trail_laws.specs.RightOutcomes.{LinesAreInTurn}
-use Rattle.node_set.specs.SetLaws.{below_each}
+use Rattle.node_set.specs.SetLaws.{place-rises, place-stays_or_rises}
 
 -- where an element of joined lists lies
 append-at : {A : Type 0} (xs ys : List A) (i : ℕ) (y : A) → slice_get (xs ++ ys) i ≡ Some y
@@ -92,21 +90,6 @@ looked-all setting [] caller h = h
 looked-all setting (word ∷ words) caller h =
     looked-all setting words (after_read setting caller word) (looked-more setting caller caller.calls word h)
 
-get-above : (xs : List ℕ) (i j : ℕ) → IsAscending xs → i < j → j < length xs → get_or xs i 0 < get_or xs j 0
-get-above [] i j ascending le short = absurd (omega (arith, short))
-get-above (x ∷ xs) zero zero ascending le short = absurd (omega (arith, le))
-get-above (x ∷ xs) zero (suc j) ascending le short =
-    omega (arith, below_each x xs j ascending.0 (omega (arith, short)))
-get-above (x ∷ xs) (suc i) zero ascending le short = absurd (omega (arith, le))
-get-above (x ∷ xs) (suc i) (suc j) ascending le short =
-    get-above xs i j ascending.1 (omega (arith, le)) (omega (arith, short))
-
-get-rising : (xs : List ℕ) (i j : ℕ) → IsAscending xs → i ≤ j → j < length xs → get_or xs i 0 ≤ get_or xs j 0
-get-rising xs i j ascending le short = elim (cases_lt i j) [
-  | inl less ↦ omega (arith, get-above xs i j ascending less short)
-  | inr same ↦ omega (arith, ap (λ n. get_or xs n 0) (let e : i ≡ j = omega (arith, le, same) in e))
-]
-
 -- so the lines of one caller are in turn
 map-at : {A B : Type 0} (f : A → B) (xs : List A) (i : ℕ) (y : B) → slice_get (map f xs) i ≡ Some y
     → (x : A) × (slice_get xs i ≡ Some x) × (f x ≡ y)
@@ -156,20 +139,20 @@ caller-in-turn follow count ascend setting scripts history played actor i j one 
     let short : b.0.last < length seen =
     omega (arith, looked, (count setting scripts history actor high played).0) in
     let one_is = line-visits actor a.0.call a.0.found (get_or seen a.0.first 0) (get_or seen a.0.last 0) earlier
-    (subst (λ (l : Done). find_of l ≡ Some earlier) (sym a.2) is_earlier) in
+    (rw a.2 is_earlier) in
     let other_is = line-visits actor b.0.call b.0.found (get_or seen b.0.first 0) (get_or seen b.0.last 0) later
-    (subst (λ (l : Done). find_of l ≡ Some later) (sym b.2) is_later) in (
+    (rw b.2 is_later) in (
       omega (
         arith,
         one_is.1,
         other_is.0,
-        get-above seen a.0.last b.0.first (ascend actor history) order.0 (omega (arith, order.1, short)),
+        place-rises seen a.0.last b.0.first (ascend actor history) order.0 (omega (arith, order.1, short)),
       ),
       omega (
         arith,
         other_is.0,
         other_is.1,
-        get-rising seen b.0.first b.0.last (ascend actor history) order.1 short,
+        place-stays_or_rises seen b.0.first b.0.last (ascend actor history) order.1 short,
       ),
     )
 
@@ -235,8 +218,7 @@ steps-untold setting sub course [] seen i line find at told = cc
 steps-untold setting sub course (step ∷ steps) seen zero line find at told =
     let first : List ℕ = take (length (step_writes setting course step)) seen in
     let same : step_line setting sub course step first ≡ line = cc in
-    step-untold setting sub course step first find
-    (subst (λ (l : Done). find_of l ≡ Some find) (sym same) told)
+    step-untold setting sub course step first find (rw same told)
 steps-untold setting sub course (step ∷ steps) seen (suc i) line find at told =
     steps-untold setting sub (after_step setting course step) steps
     (drop (length (step_writes setting course step)) seen) i line find at told

@@ -6,16 +6,13 @@ use Rattle.entry_word.specs.declared.mark.PresenceMark.TheVariants.{Empty}
 use Rattle.entry_word.specs.declared.address.Address.{Address}
 use Rattle.directory.specs.Settings.{Setting, start}
 use Rattle.directory.specs.Histories.{History, puts_to}
-use Rattle.directory.specs.Courses.{Move, stop}
-use Rattle.directory.specs.Puts.{course_in}
+use Rattle.directory.specs.Courses.{Move, stop, course_at}
+use Rattle.directory.specs.Puts.{course_in, steps_in}
 use Rattle.directory.specs.Legal.{IsLegal}
 use Rattle.directory.specs.Standing.{commits, off, standing}
 use Rattle.directory.specs.Statements.{CommitsAreTold, EntriesAreLeft, LegalIsAmid, MarksAreLeft, OffIsTold}
-use Rattle.trail_laws.specs.Trail.{AddressesLead, ComingsLead, EntriesTell, entry_seen, EntryTells, IsLed, mark_seen, MarksTell, MarkTells, OneComing, TopHasEntry}
-use Rattle.directory.specs.Courses.{course_at}
-use Rattle.directory.specs.Puts.{steps_in}
+use Rattle.trail_laws.specs.Trail.{AddressesLead, ComingsLead, EntriesTell, entry_seen, EntryTells, IsLed, mark_seen, MarksTell, MarkTells, OneComing, TopHasEntry, answers}
 use Rattle.directory.specs.Parts.{lead}
-use Rattle.trail_laws.specs.Trail.{answers}
 use Rattle.trail_laws.proofs.ClosedViews.{View}
 use Rattle.trail_laws.proofs.Views.{legal-view, shown}
 use Rattle.trail_laws.proofs.Tells.{mark-is, MarkIs}
@@ -40,16 +37,16 @@ laws amid marks entries told off =
 unfoldable pub HistoryView : Setting → ℕ → History → Type 0
 HistoryView setting sub history = View setting (shown setting sub history)
 
-pub view : Laws → (setting : Setting) (sub : ℕ) (history : History) → setting.nodes ≤ 2 ^ 16
+pub view : Laws → {setting : Setting} {sub : ℕ} (history : History) → setting.nodes ≤ 2 ^ 16
     → IsLegal setting sub history → HistoryView setting sub history
 unfolding HistoryView
-view laws setting sub history low legal = legal-view laws.amid laws.marks laws.entries laws.told laws.off_told setting
-    sub history low legal
+view laws {setting}
+    {sub} history low legal = legal-view laws.amid laws.marks laws.entries laws.told laws.off_told history low legal
 
 pub marks-tell : Laws → MarksTell
 unfolding HistoryView
 marks-tell laws setting sub history low legal node inside = told (mark_seen setting sub history node)
-    (mark-is setting (shown setting sub history) node inside (view laws setting sub history low legal))
+    (mark-is node inside (view laws history low legal))
   where
     told : (mark : PresenceMark) → MarkIs setting.nodes (start setting sub) (mark_seen setting sub history)
         (commits sub history) (off sub history) (course_in setting sub (puts_to sub history)).moves node mark
@@ -59,19 +56,18 @@ marks-tell laws setting sub history low legal node inside = told (mark_seen sett
 pub one-coming : Laws → OneComing
 unfolding HistoryView
 one-coming laws setting sub history low legal one other p q u v one_in other_in first second =
-    let its = view laws setting sub history low legal in
-    coming-one setting (shown setting sub history) one p u one_in its first
-    ∙ sym (coming-one setting (shown setting sub history) other q v other_in its second)
+    let its = view laws history low legal in
+    coming-one one p u one_in its first
+    ∙ sym (coming-one other q v other_in its second)
 
-pub placed : Laws → (setting : Setting) (sub : ℕ) (history : History) → setting.nodes ≤ 2 ^ 16
+pub placed : Laws → {setting : Setting} {sub : ℕ} (history : History) → setting.nodes ≤ 2 ^ 16
     → IsLegal setting sub history → (level cluster : ℕ) (address : Address) → level ≤ setting.top
     → entry_seen setting sub history level cluster ≡ Some address
     → IsPlaced setting (start setting sub) (mark_seen setting sub history) (commits sub history)
     (course_in setting sub (puts_to sub history)).moves level cluster address
 unfolding HistoryView
-placed laws setting sub history low legal level cluster address below is_some =
-    entry-placed setting (shown setting sub history) level cluster address below
-    (view laws setting sub history low legal) is_some
+placed laws {setting} {sub} history low legal level cluster address below is_some =
+    entry-placed level cluster address below (view laws history low legal) is_some
 
 not_empty : (setting : Setting) (marks : ℕ → PresenceMark) (node last hops way : ℕ)
     → IsLed setting marks None node last hops way → marks node ≢ Empty
@@ -83,7 +79,7 @@ not_empty setting marks node last (suc hops) way led empty = let clash : None
 
 pub addresses-lead : Laws → AddressesLead
 addresses-lead laws setting sub history low legal level cluster address known below is_some knows =
-    let there = (placed laws setting sub history low legal level cluster address below is_some).leads known knows
+    let there = (placed laws history low legal level cluster address below is_some).leads known knows
     in (there.hops, there.way, there.few, there.led)
 
 pub entries-tell : Laws → EntriesTell
@@ -94,7 +90,7 @@ entries-tell laws setting sub history low legal level cluster below = told
         → EntryTells setting sub history level cluster entry
     told None e = tt
     told (Some address) e =
-        let there = placed laws setting sub history low legal level cluster address below e in
+        let there = placed laws history low legal level cluster address below e in
         let led = there.leads None tt in (
           there.inside,
           there.home_is,
@@ -115,12 +111,10 @@ entries-tell laws setting sub history low legal level cluster below = told
 pub top-has_entry : Laws → TopHasEntry
 unfolding HistoryView
 top-has_entry laws setting sub history low legal =
-    let its = level-has setting (shown setting sub history) setting.top (omega arith)
-    (view laws setting sub history low legal) in (its.0, its.1, its.2, its.3)
+    let its = level-has setting.top (omega arith) (view laws history low legal) in (its.0, its.1, its.2, its.3)
 
 pub comings-lead : Laws → ComingsLead
 unfolding HistoryView
 comings-lead laws setting sub history low legal node p from known inside comes knows =
-    let there = coming-leads_on setting (shown setting sub history) node p from known inside
-    (view laws setting sub history low legal) comes in
+    let there = coming-leads_on node p from known inside (view laws history low legal) comes in
     (there.2.hops, there.2.way, there.2.few, there.2.led)

@@ -1,5 +1,6 @@
 -- After each move of a course each level has gathered less than its threshold.
-use Rattle.std.proofs.Common.{◌≡◌, ◌⊎◌, inl, inr, ℕ, zero, suc, ◌+◌, ◌<◌, ◌≤◌, Bool, true, false, cond, List, [], ◌∷◌, ◌++◌, length, take, refl, sym, ap, ◌∙◌, subst, arith, length-append}
+use Rattle.std.proofs.lemmas.Bool.{cases_Bool, cases_eq, cases_lt}
+use Rattle.std.proofs.Common.{◌≡◌, inl, inr, ℕ, zero, suc, ◌+◌, ◌<◌, ◌≤◌, Bool, false, List, [], ◌∷◌, ◌++◌, length, ap, ◌∙◌, arith, length-append}
 use Rattle.std.specs.Prelude.{nat_le, sum_by}
 use Rattle.std.proofs.lemmas.Bool.Decides.{nat_tests}
 use Rattle.std.proofs.lemmas.List.{take_all, take-append-le}
@@ -13,49 +14,53 @@ use Rattle.trail_laws.proofs.Links.{AreLinked, IsSound, base-low, sound-step}
 use Rattle.trail_laws.proofs.ClosedMarks.{base-with}
 use Rattle.trail_laws.proofs.LinkedStops.{weight_from}
 use Rattle.trail_laws.proofs.Prices.{AreLazy, weight-push}
-use Rattle.std.proofs.lemmas.Bool.{cases_lt}
 
 -- above the highest level that passes a test no level passes it
 highest-above : (test : ℕ → Bool) (limit level : ℕ) → highest test limit < level → level < limit → test level ≡ false
 unfolding highest
 highest-above test zero level above below = absurd (omega arith)
-highest-above test (suc limit) level above below = at_test (test limit) refl above
-    (λ h g. highest-above test limit level h g)
-  where
-    cases : (a b : ℕ) → a < suc b → (a ≡ b) ⊎ (a < b)
-    cases a b h = grind (arith, nat_tests)
-
-    at_test : (b : Bool) → test limit ≡ b → cond b limit (highest test limit) < level
-        → (highest test limit < level → level < limit → test level ≡ false) → test level ≡ false
-    at_test true e h more = absurd (omega arith)
-    at_test false e h more = at_place (cases level limit below)
-      where
-        at_place : (level ≡ limit) ⊎ (level < limit) → test level ≡ false
-        at_place (inl same) = ap test same ∙ e
-        at_place (inr low) = more h low
+highest-above test (suc limit) level above below = elim (cases_Bool (test limit)) [
+  | inl e ↦ let passed : limit < level = rw e at above in absurd (omega (arith, passed, below))
+  | inr e ↦ elim (cases_eq level limit) [
+    | inl same ↦ ap test same ∙ e
+    | inr other ↦ highest-above test limit level (rw e at above) (omega (arith, other, below))
+  ]
+]
 
 -- one more move
 lazy-push : (setting : Setting) (moves : List Move) (move : Move) → AreLazy setting moves
     → ((level : ℕ) → level ≤ setting.top
     → weight_from (moves ++ move ∷ []) (base level (moves ++ move ∷ [])) < setting.threshold level)
     → AreLazy setting (moves ++ move ∷ [])
-lazy-push setting moves move lazy whole k level low below = at_place (cases_lt (length moves) k)
-  where
-    at_place : (length moves < k) ⊎ (k ≤ length moves)
-        → weight_from (take k (moves ++ move ∷ [])) (base level (take k (moves ++ move ∷ []))) < setting.threshold level
-    at_place (inl h) = subst (λ (ms : List Move). weight_from ms (base level ms) < setting.threshold level)
-        (sym (take_all k (moves ++ move ∷ []) (omega (arith, h, length-append moves (move ∷ []))))) (whole level below)
-    at_place (inr h) = subst (λ (ms : List Move). weight_from ms (base level ms) < setting.threshold level)
-        (sym (take-append-le k moves (move ∷ []) h)) (lazy k level h below)
+lazy-push setting moves move lazy whole k level low below = elim (cases_lt (length moves) k) [
+  | inl h ↦ rw (take_all k (moves ++ move ∷ []) (omega (arith, h, length-append moves (move ∷ [])))) (whole level below)
+  | inr h ↦ rw (take-append-le k moves (move ∷ []) h) (lazy k level h below)
+]
 
 -- a move renews each level that reaches its threshold
-lazy-whole_move : (setting : Setting) (course : Course) (node level : ℕ) → IsSound setting course
+lazy-whole_move : {setting : Setting} {course : Course} (node level : ℕ) → IsSound setting course
     → ((i : ℕ) → i ≤ setting.top → 1 ≤ setting.threshold i) → level ≤ setting.top
     → weight_from (course.moves ++ next_move setting course node ∷ [])
     (base level (course.moves ++ next_move setting course node ∷ [])) < setting.threshold level
-lazy-whole_move setting course node level sound some below =
-    subst (λ b. weight_from (course.moves ++ move ∷ []) b < setting.threshold level)
-    (sym (base-with level course move)) (at_test (nat_le level move.renewed) refl)
+lazy-whole_move {setting} {course} node level sound some below =
+    elim (cases_Bool (nat_le level move.renewed)) [
+      | inl e ↦
+          let nothing : weight_from (course.moves ++ move ∷ []) (suc (length course.moves)) ≡ 0 =
+          ap (sum_by (λ (m : Move). m.weight)) (drop_of_length-le (course.moves ++ move ∷ [])
+          {i = suc (length course.moves)} (omega (arith, length-append course.moves (move ∷ [])))) in
+          rw (base-with level course move, e) (omega (arith, some level below, nothing))
+      | inr e ↦
+          let high : move.renewed < level = grind (arith, nat_tests, e) in
+          let failed : nat_le (setting.threshold level) (gathered_weight course level + move.weight) ≡ false =
+          highest-above test (levels setting) level high (omega (arith, below)) in
+          let less : gathered_weight course level + move.weight < setting.threshold level =
+          grind (arith, nat_tests, failed) in
+          rw (base-with level course move, e) (omega (
+            arith,
+            less,
+            weight-push course.moves move (base level course.moves) (base-low level sound),
+          ))
+    ]
   where
     move : Move
     move = next_move setting course node
@@ -63,33 +68,13 @@ lazy-whole_move setting course node level sound some below =
     test : ℕ → Bool
     test l = nat_le (setting.threshold l) (gathered_weight course l + move.weight)
 
-    at_test : (b : Bool) → nat_le level move.renewed ≡ b
-        → weight_from (course.moves ++ move ∷ []) (cond b move.number (base level course.moves))
-        < setting.threshold level
-    at_test true e =
-        let nothing : weight_from (course.moves ++ move ∷ []) (suc (length course.moves)) ≡ 0 =
-        ap (sum_by (λ (m : Move). m.weight)) (drop_of_length-le (course.moves ++ move ∷ [])
-        {i = suc (length course.moves)} (omega (arith, length-append course.moves (move ∷ [])))) in
-        omega (arith, some level below, nothing)
-    at_test false e =
-        let high : move.renewed < level = grind (arith, nat_tests, e) in
-        let failed : nat_le (setting.threshold level) (gathered_weight course level + move.weight) ≡ false =
-        highest-above test (levels setting) level high (omega (arith, below)) in
-        let less : gathered_weight course level + move.weight < setting.threshold level =
-        grind (arith, nat_tests, failed) in
-        omega (
-          arith,
-          less,
-          weight-push course.moves move (base level course.moves) (base-low setting course level sound),
-        )
-
-lazy-step : (setting : Setting) (course : Course) (step : Step) → IsSound setting course
+lazy-step : {setting : Setting} {course : Course} (step : Step) → IsSound setting course
     → ((i : ℕ) → i ≤ setting.top → 1 ≤ setting.threshold i) → AreLazy setting course.moves
     → AreLazy setting (after_step setting course step).moves
-lazy-step setting course (move_to node) sound some lazy = lazy-push setting course.moves
-    (next_move setting course node) lazy (λ level below. lazy-whole_move setting course node level sound some below)
-lazy-step setting course switch_off sound some lazy = lazy
-lazy-step setting course switch_on sound some lazy = lazy
+lazy-step {setting} {course} (move_to node) sound some lazy = lazy-push setting course.moves
+    (next_move setting course node) lazy (λ level below. lazy-whole_move node level sound some below)
+lazy-step switch_off sound some lazy = lazy
+lazy-step switch_on sound some lazy = lazy
 
 lazy-steps : (setting : Setting) (course : Course) (steps : List Step) → IsSound setting course
     → MaySteps setting course steps → ((i : ℕ) → i ≤ setting.top → 1 ≤ setting.threshold i)
@@ -97,18 +82,18 @@ lazy-steps : (setting : Setting) (course : Course) (steps : List Step) → IsSou
 unfolding MaySteps
 lazy-steps setting course [] sound may some lazy = lazy
 lazy-steps setting course (step ∷ steps) sound may some lazy =
-    lazy-steps setting (after_step setting course step) steps (sound-step setting course step sound may.0) may.1 some
-    (lazy-step setting course step sound some lazy)
+    lazy-steps setting (after_step setting course step) steps (sound-step step sound may.0) may.1 some
+    (lazy-step step sound some lazy)
 
 lazy-none : (setting : Setting) → ((i : ℕ) → i ≤ setting.top → 1 ≤ setting.threshold i) → AreLazy setting []
 lazy-none setting some zero level low below = some level below
 lazy-none setting some (suc k) level low below = some level below
 
 -- so it is after the puts of a legal history
-pub legal-lazy : (setting : Setting) (sub : ℕ) (history : History)
+pub legal-lazy : {setting : Setting} {sub : ℕ} (history : History)
     → ((i : ℕ) → i ≤ setting.top → 1 ≤ setting.threshold i) → IsLegal setting sub history
     → AreLazy setting (course_in setting sub (puts_to sub history)).moves
 unfolding AreLinked
-legal-lazy setting sub history some legal =
+legal-lazy {setting} {sub} history some legal =
     lazy-steps setting (course_at (start setting sub)) _ (record { begins = legal.script.begins; linked = tt })
     legal.script.allowed some (lazy-none setting some)

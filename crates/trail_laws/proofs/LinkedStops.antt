@@ -127,26 +127,26 @@ stops-inside setting from number (m ∷ later) (suc i) (f0, f1, f2, f3, f4, f5, 
     setting m.to (suc number) later i f7 f3 (omega arith)
 
 -- the way to the end is no longer than the moves to it
-pub way-short : (setting : Setting) (from number : ℕ) (moves : List Move) (i : ℕ)
+pub way-short : {setting : Setting} (from number : ℕ) (moves : List Move) (i : ℕ)
     → AreLinked setting from number moves → from < setting.nodes → HasMetric setting → i ≤ length moves
     → setting.distance (stop_at from moves i) (stop_at from moves (length moves)) ≤ weight_from moves i
 unfolding AreLinked
-way-short setting from number [] zero linked begins metric low = omega (arith, metric.none from begins)
-way-short setting from number [] (suc i) linked begins metric low = absurd (omega arith)
-way-short setting from number (m ∷ later) zero (f0, f1, f2, f3, f4, f5, f6, f7) begins metric low =
+way-short from number [] zero linked begins metric low = omega (arith, metric.none from begins)
+way-short from number [] (suc i) linked begins metric low = absurd (omega arith)
+way-short {setting} from number (m ∷ later) zero (f0, f1, f2, f3, f4, f5, f6, f7) begins metric low =
     omega (
       arith,
       metric.detour from m.to (stop_at m.to later (length later)) begins f3
           (stops-inside setting m.to (suc number) later (length later) f7 f3 (omega arith)),
-      way-short setting m.to (suc number) later 0 f7 f3 metric (omega arith),
+      way-short m.to (suc number) later 0 f7 f3 metric (omega arith),
       f6 ∙ ap (λ x. setting.distance x m.to) f1,
       sum_by-cons (λ (x : Move). x.weight) m later,
     )
-way-short setting from number (m ∷ later) (suc i) (f0, f1, f2, f3, f4, f5, f6, f7) begins metric low = way-short
-    setting m.to (suc number) later i f7 f3 metric (omega arith)
+way-short {setting} from number (m ∷ later) (suc i) (f0, f1, f2, f3, f4, f5, f6, f7) begins metric low = way-short m.to
+    (suc number) later i f7 f3 metric (omega arith)
 
 -- the node of the address of a level is one
-pub old-inside : (setting : Setting) (course : Course) (level : ℕ) → IsSound setting course
+pub old-inside : {setting : Setting} {course : Course} (level : ℕ) → IsSound setting course
     → address_node course level < setting.nodes
-old-inside setting course level sound = stops-inside setting course.start 0 course.moves
-    (base level course.moves) sound.linked sound.begins (base-low setting course level sound)
+old-inside {setting} {course} level sound = stops-inside setting course.start 0 course.moves
+    (base level course.moves) sound.linked sound.begins (base-low level sound)

@@ -1,5 +1,6 @@
 -- The moves of a course are linked: each begins where the one before ended, and is numbered after it.
-use Rattle.std.proofs.Common.{◌≡◌, ◌≢◌, ℕ, suc, ◌+◌, ◌<◌, ◌≤◌, Bool, true, false, cond, List, [], ◌∷◌, ◌++◌, length, fold, refl, ◌∙◌, arith, length-append}
+use Rattle.std.proofs.Common.{inl, inr, ◌≡◌, ◌≢◌, ℕ, suc, ◌+◌, ◌<◌, ◌≤◌, List, [], ◌∷◌, ◌++◌, length, fold, refl, ◌∙◌, arith, length-append}
+use Rattle.std.proofs.lemmas.Bool.{cases_Bool}
 use Rattle.std.specs.Prelude.{nat_le, if◌then◌else◌}
 use Rattle.directory.specs.Settings.{Setting}
 use Rattle.directory.specs.Courses.{Step, move_to, switch_off, switch_on, Move, Course, last_stop, base, next_move, after_step, after_steps, MayStep, MaySteps}
@@ -48,30 +49,30 @@ last-inside setting from number (move ∷ later) h (f0, f1, f2, f3, f4, f5, f6, 
     (suc number) later f3 f7
 
 -- a subscriber stands at a node of the network
-pub stop-inside : (setting : Setting) (course : Course) → IsSound setting course → last_stop course < setting.nodes
-stop-inside setting course sound = last-inside setting course.start 0 course.moves sound.begins sound.linked
+pub stop-inside : {setting : Setting} {course : Course} → IsSound setting course → last_stop course < setting.nodes
+stop-inside {setting} {course} sound = last-inside setting course.start 0 course.moves sound.begins sound.linked
 
 pub renewed-low : (setting : Setting) (course : Course) (node : ℕ)
     → (next_move setting course node).renewed ≤ setting.top
 renewed-low setting course node = highest-low _ setting.top
 
-pub sound-step : (setting : Setting) (course : Course) (step : Step) → IsSound setting course
+pub sound-step : {setting : Setting} {course : Course} (step : Step) → IsSound setting course
     → MayStep setting course step → IsSound setting (after_step setting course step)
-sound-step setting course (move_to node) sound may = record {
+sound-step {setting} {course} (move_to node) sound may = record {
   begins = sound.begins;
   linked = linked-push setting course.start 0 course.moves (next_move setting course node)
       (let e : suc (length course.moves) ≡ suc (0 + length course.moves) = omega arith in e) refl
-      (stop-inside setting course sound) may.inside may.moving (renewed-low setting course node) refl sound.linked;
+      (stop-inside sound) may.inside may.moving (renewed-low setting course node) refl sound.linked;
 }
-sound-step setting course switch_off sound may = record { begins = sound.begins; linked = sound.linked }
-sound-step setting course switch_on sound may = record { begins = sound.begins; linked = sound.linked }
+sound-step switch_off sound may = record { begins = sound.begins; linked = sound.linked }
+sound-step switch_on sound may = record { begins = sound.begins; linked = sound.linked }
 
 pub sound-steps : (setting : Setting) (course : Course) (steps : List Step) → IsSound setting course
     → MaySteps setting course steps → IsSound setting (after_steps setting course steps)
 unfolding MaySteps
 sound-steps setting course [] sound may = sound
 sound-steps setting course (step ∷ steps) sound may = sound-steps setting (after_step setting course step) steps
-    (sound-step setting course step sound may.0) may.1
+    (sound-step step sound may.0) may.1
 
 -- the last renewal of a level is one of the moves, or none
 base-from : (level last from number : ℕ) (setting : Setting) (moves : List Move) → last ≤ number
@@ -81,18 +82,17 @@ base-from : (level last from number : ℕ) (setting : Setting) (moves : List Mov
 unfolding AreLinked
 base-from level last from number setting [] low linked = omega (arith, low)
 base-from level last from number setting (move ∷ later) low (f0, f1, f2, f3, f4, f5, f6, f7) =
-    at_test (nat_le level move.renewed) (λ l h. base-from level l move.to (suc number) setting later h f7)
-  where
-    at_test : (b : Bool) → ((l : ℕ) → l ≤ suc number → fold
-        (λ k (m : Move). if nat_le level m.renewed then m.number else k) l later ≤ suc number + length later)
-        → fold (λ l (m : Move). if nat_le level m.renewed then m.number else l)
-        (cond b move.number last) later ≤ number + suc (length later)
-    at_test true more = omega (arith, more move.number (omega (arith, f0)))
-    at_test false more = omega (arith, more last (omega (arith, low)))
+    elim (cases_Bool (nat_le level move.renewed)) [
+      | inl e ↦ rw e (omega (
+        arith,
+        base-from level move.number move.to (suc number) setting later (omega (arith, f0)) f7,
+      ))
+      | inr e ↦ rw e (omega (arith, base-from level last move.to (suc number) setting later (omega (arith, low)) f7))
+    ]
 
-pub base-low : (setting : Setting) (course : Course) (level : ℕ) → IsSound setting course
+pub base-low : {setting : Setting} {course : Course} (level : ℕ) → IsSound setting course
     → base level course.moves ≤ length course.moves
-base-low setting course level sound = omega (
+base-low {setting} {course} level sound = omega (
   arith,
   base-from level 0 course.start 0 setting course.moves
       (omega arith) sound.linked,

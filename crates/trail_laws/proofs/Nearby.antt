@@ -1,7 +1,9 @@
 -- Each level has an address at the home of a node that is near where the subscriber stands.
+use Rattle.std.proofs.Math.Bool.{and-false}
+use Rattle.std.proofs.lemmas.Bool.{cases_Bool, cond_both, eqb-true, eq-eqb}
+use Rattle.trail_laws.proofs.ClosedMarks.{from-inside, base-with, IsNext}
 use Rattle.std.proofs.Common.{◌≡◌, inl, inr, ℕ, suc, ◌<◌, ◌≤◌, Bool, true, false, cond, not, ◌==◌, ◌&&◌, List, [], ◌∷◌, ◌++◌, Some, None, map, take, refl, sym, ap, ◌∙◌, subst, arith}
 use Rattle.std.specs.Prelude.{nat_le}
-use Rattle.std.proofs.lemmas.Bool.{eqb-true, eq-eqb}
 use Rattle.std.proofs.lemmas.Bool.Decides.{nat_tests}
 use Rattle.node_set.specs.Ascending.{has}
 use Rattle.node_set.specs.SetLaws.{has-passing, passing_over}
@@ -11,39 +13,34 @@ use Rattle.directory.specs.Courses.{address_node, base, Course, Move}
 use Rattle.directory.specs.Writes.{old_home}
 use Rattle.directory.specs.Standing.{commit_by}
 use Rattle.trail_laws.specs.Trail.{HasMetric}
-use Rattle.trail_laws.proofs.Links.{base-low, IsSound, stop-inside}
-use Rattle.trail_laws.proofs.ClosedMarks.{base-with, IsNext}
+use Rattle.trail_laws.proofs.Links.{base-low, IsSound}
 use Rattle.trail_laws.proofs.ClosedEntries.{entry_written, new_entry, rest_entry}
 use Rattle.trail_laws.proofs.ClosedViews.{clearing, coming, IsPhase, old_levels, passage, Phase, phase_commits, phase_entry, renewed_levels, Shown, View, while_clearing}
 use Rattle.trail_laws.proofs.ClosedWrites.{in-levels}
-use Rattle.trail_laws.proofs.LinkedStops.{weight_from, old-inside}
+use Rattle.trail_laws.proofs.LinkedStops.{old-inside}
 use Rattle.trail_laws.proofs.Tells.{next-stands, rest-stands, stands}
 use Rattle.trail_laws.proofs.Addresses.{not-taken}
 use Rattle.trail_laws.proofs.Holders.{move_address}
 use Rattle.trail_laws.proofs.Prices.{address-near, AreLazy, lazy-front, lazy-whole, weight-push}
 
 -- at a level that a move doesn't renew the address stays near
-near-kept : (setting : Setting) (course : Course) (move : Move) (level : ℕ) → HasMetric setting
+near-kept : {setting : Setting} {course : Course} {move : Move} (level : ℕ) → HasMetric setting
     → IsSound setting course → IsNext setting course move → level ≤ setting.top
     → AreLazy setting (course.moves ++ move ∷ []) → nat_le level move.renewed ≡ false
     → setting.distance (address_node course level) move.to < setting.threshold level
-near-kept setting course move level metric sound next below lazy e = omega (
+near-kept {setting} {course} {move} level metric sound next below lazy e = omega (
   arith,
-  metric.detour (address_node course level) move.from move.to old_inside from_inside next.inside,
-  address-near setting course level sound metric,
+  metric.detour (address_node course level) move.from move.to old_inside (from-inside sound next) next.inside,
+  address-near level sound metric,
   ap (setting.distance (address_node course level)) next.from,
   next.weight,
-  weight-push course.moves move (base level course.moves) (base-low setting course level sound),
-  subst (λ b. weight_from (course.moves ++ move ∷ []) b < setting.threshold level)
-      (base-with level course move ∙ ap (λ b. cond b move.number (base level course.moves)) e)
+  weight-push course.moves move (base level course.moves) (base-low level sound),
+  rw (base-with level course move ∙ ap (λ b. cond b move.number (base level course.moves)) e) at
       (lazy-whole setting (course.moves ++ move ∷ []) level below lazy),
 )
   where
-    from_inside : move.from < setting.nodes
-    from_inside = subst (λ n. n < setting.nodes) (sym next.from) (stop-inside setting course sound)
-
     old_inside : address_node course level < setting.nodes
-    old_inside = old-inside setting course level sound
+    old_inside = old-inside level sound
 
 -- ---- each level has an address
 rest-has : (setting : Setting) (course : Course) (level : ℕ)
@@ -57,16 +54,10 @@ rest-has setting course level =
 written-has : (setting : Setting) (course : Course) (move : Move) (written : List ℕ) (level : ℕ)
     → (address : Address) × (entry_written setting course move written level
     (setting.home level (address_node course level)) ≡ Some address)
-written-has setting course move written level = at_test
-    (has level written && setting.home level (address_node course level) == setting.home level move.to)
-  where
-    at_test : (b : Bool) → (address : Address) × (cond b (new_entry move)
-        (rest_entry setting course level (setting.home level (address_node course level))) ≡ Some address)
-    at_test true = (record { number = move.number; node = move.to }, refl)
-    at_test false = (
-      record { number = base level course.moves; node = address_node course level },
-      rest-has setting course level,
-    )
+written-has setting course move written level =
+    cond_both (has level written && setting.home level (address_node course level) == setting.home level move.to)
+    (new_entry move) (rest_entry setting course level (setting.home level (address_node course level)))
+    (λ entry. (address : Address) × (entry ≡ Some address)) (λ e. (_, refl)) (λ e. (_, rest-has setting course level))
 
 -- the home of a node has an address, and while no level has gathered its threshold the node is near where the
 -- subscriber stands
@@ -77,22 +68,20 @@ HasNear setting shown level =
     × (HasMetric setting → AreLazy setting shown.moves
     → setting.distance node (stands shown.from shown.commits) < setting.threshold level)
 
-pub level-has : (setting : Setting) (shown : Shown) (level : ℕ) → level ≤ setting.top → View setting shown
+pub level-has : {setting : Setting} {shown : Shown} (level : ℕ) → level ≤ setting.top → View setting shown
     → HasNear setting shown level
-level-has setting shown level below (inl h) = (
+level-has {setting} {shown} level below (inl h) = (
   address_node h.course level,
   _,
-  old-inside setting h.course level h.sound,
+  old-inside level h.sound,
   h.entries_are level _ below ∙ rest-has setting h.course level,
-  λ metric lazy. subst (λ n. setting.distance (address_node h.course level) n < setting.threshold level)
-      (sym (ap (stands shown.from) h.commits_are ∙ rest-stands h.course shown.from h.begins))
-      (omega (
-        arith,
-        address-near setting h.course level h.sound metric,
-        lazy-whole setting h.course.moves level below (subst (AreLazy setting) h.moves_are lazy),
-      )),
+  λ metric lazy. rw (ap (stands shown.from) h.commits_are ∙ rest-stands h.course shown.from h.begins) (omega (
+    arith,
+    address-near level h.sound metric,
+    lazy-whole setting h.course.moves level below (subst (AreLazy setting) h.moves_are lazy),
+  )),
 )
-level-has setting shown level below (inr h) = at_phase h.phase h.is_phase
+level-has {setting} {shown} level below (inr h) = at_phase h.phase h.is_phase
     (λ cluster. h.entries_are level cluster below) h.commits_are
   where
     course : Course
@@ -115,7 +104,7 @@ level-has setting shown level below (inr h) = at_phase h.phase h.is_phase
     old_one : ((address : Address) × (shown.entries level (setting.home level (address_node course level))
         ≡ Some address)) → Near (address_node course level) → HasNear setting shown level
     old_one found near =
-        (address_node course level, found.0, old-inside setting course level h.sound, found.1, near)
+        (address_node course level, found.0, old-inside level h.sound, found.1, near)
 
     new_one : shown.commits ≡ map commit_by (course.moves ++ move ∷ [])
         → shown.entries level new_home ≡ new_entry move → HasNear setting shown level
@@ -126,8 +115,7 @@ level-has setting shown level below (inr h) = at_phase h.phase h.is_phase
       e,
       λ metric lazy. omega (
         arith,
-        ap (setting.distance move.to)
-            (ap (stands shown.from) c ∙ next-stands setting course move shown.from h.next h.begins),
+        ap (setting.distance move.to) (ap (stands shown.from) c ∙ next-stands shown.from h.next h.begins),
         metric.none move.to h.next.inside,
         lazy-front setting course.moves (move ∷ []) level below (subst (AreLazy setting) h.moves_are lazy),
       ),
@@ -144,8 +132,8 @@ level-has setting shown level below (inr h) = at_phase h.phase h.is_phase
     old_near c t metric lazy = omega (
       arith,
       ap (setting.distance (address_node course level))
-          (ap (stands shown.from) c ∙ next-stands setting course move shown.from h.next h.begins),
-      near-kept setting course move level metric h.sound h.next below (subst (AreLazy setting) h.moves_are lazy) t,
+          (ap (stands shown.from) c ∙ next-stands shown.from h.next h.begins),
+      near-kept level metric h.sound h.next below (subst (AreLazy setting) h.moves_are lazy) t,
     )
 
     new_written : nat_le level move.renewed ≡ true
@@ -163,14 +151,13 @@ level-has setting shown level below (inr h) = at_phase h.phase h.is_phase
       arith,
       ap (setting.distance (address_node course level))
           (ap (stands shown.from) c ∙ rest-stands course shown.from h.begins),
-      address-near setting course level h.sound metric,
+      address-near level h.sound metric,
       lazy-front setting course.moves (move ∷ []) level below (subst (AreLazy setting) h.moves_are lazy),
     ))
-    at_phase passage p e c = at_level (nat_le level move.renewed) refl
-      where
-        at_level : (b : Bool) → nat_le level move.renewed ≡ b → HasNear setting shown level
-        at_level true t = new_one c (e new_home ∙ new_written t)
-        at_level false t = old_one (found_old (renewed_levels move) e) (old_near c t)
+    at_phase passage p e c = elim (cases_Bool (nat_le level move.renewed)) [
+      | inl t ↦ new_one c (e new_home ∙ new_written t)
+      | inr t ↦ old_one (found_old (renewed_levels move) e) (old_near c t)
+    ]
     at_phase (clearing erased purged) (while_clearing n k in_order) e c = at_level
         (nat_le level move.renewed) refl
       where
@@ -181,13 +168,9 @@ level-has setting shown level below (inr h) = at_phase h.phase h.is_phase
             (suc move.renewed) (let high : move.renewed < level = grind (arith, nat_tests, t) in omega
             (arith, high)))
 
-        never : (b : Bool) → (b && false) ≡ false
-        never true = refl
-        never false = refl
-
         kept : nat_le level move.renewed ≡ true → (b : Bool) → (new_home == its_old) ≡ b
             → (has level (take n (old_levels setting course move)) && b) ≡ false
-        kept t false e2 = never (has level (take n (old_levels setting course move)))
+        kept t false e2 = and-false (has level (take n (old_levels setting course move)))
         kept t true e2 = ap (λ b. b && true) (not-taken level n (old_levels setting course move)
             (has-passing (λ l. not (old_home setting course l == setting.home l move.to)) level 0
             (suc move.renewed) (omega arith) (let low : level ≤ move.renewed = grind

@@ -14,7 +14,7 @@ use Rattle.entry_word.specs.declared.visit.Act.TheVariants.{Look, Put, Census}
 use Rattle.entry_word.specs.declared.visit.Visit.{Visit}
 use Rattle.directory.specs.Settings.{Setting, start}
 use Rattle.directory.specs.Histories.{cell, History, is_put_for, puts_to, word_after}
-use Rattle.directory.specs.Courses.{after_step, after_steps, Course, course_at, next_move}
+use Rattle.directory.specs.Courses.{after_step, after_steps, course_at, next_move}
 use Rattle.directory.specs.Puts.{course_in, mark_put, mark_step, node_put, steps_from, steps_in}
 use Rattle.directory.specs.Legal.{IsLegal}
 use Rattle.directory.specs.Standing.{Commit, commit_of, commits, confirms, number, passage, passage_of, standing}
@@ -80,10 +80,8 @@ coming-grows : (setting : Setting) (sub : ℕ) (puts : List Visit) (visit : Visi
     → length (course_in setting sub puts).moves < length (course_in setting sub (puts ++ visit ∷ [])).moves
 coming-grows setting sub puts visit p u comes =
     let more = put-course setting sub puts visit in
-    subst (λ (c : Course). length (course_in setting sub puts).moves < length c.moves)
-    (sym (more.1 ∙ ap (λ m. after_steps setting (course_in setting sub puts)
-    (cons_option (mark_step more.0 (node_put visit.act) m) [])) comes))
-    (omega (
+    rw (more.1 ∙ ap (λ m. after_steps setting (course_in setting sub puts)
+    (cons_option (mark_step more.0 (node_put visit.act) m) [])) comes) (omega (
       arith,
       length-append (course_in setting sub puts).moves
           (next_move setting (course_in setting sub puts) (node_put visit.act) ∷ []),
@@ -106,11 +104,11 @@ IsPast setting sub c history =
     list_any (confirmed c) (puts_to sub history) ≡ true
     → (c.number ≤ number sub history) × ((u : ℕ) → mark_seen setting sub history c.to ≡ Coming c.number u → ⊥)
 
-past-step : PassageLaws → (setting : Setting) (sub : ℕ) (c : Commit) (history : History) (visit : Visit)
+past-step : PassageLaws → {setting : Setting} {sub : ℕ} (c : Commit) (history : History) (visit : Visit)
     → setting.nodes ≤ 2 ^ 16 → c.to < setting.nodes → IsLegal setting sub history
     → IsLegal setting sub (history ++ visit ∷ []) → IsPast setting sub c history
     → IsPast setting sub c (history ++ visit ∷ [])
-past-step laws setting sub c history visit low inside legal legal_more past = at_put (is_put_for sub visit.act) refl
+past-step laws {setting} {sub} c history visit low inside legal legal_more past = at_put (is_put_for sub visit.act) refl
   where
     after : cell setting (history ++ visit ∷ []) (Presence c.to sub)
         ≡ word_after (Presence c.to sub) (cell setting history (Presence c.to sub)) visit.act
@@ -201,14 +199,12 @@ past-step laws setting sub c history visit low inside legal legal_more past = at
                   (past (earlier g)).0,
                 )
 
-past-all : PassageLaws → (setting : Setting) (sub : ℕ) (c : Commit) (history : History) → setting.nodes ≤ 2 ^ 16
+past-all : PassageLaws → {setting : Setting} {sub : ℕ} (c : Commit) (history : History) → setting.nodes ≤ 2 ^ 16
     → c.to < setting.nodes → IsLegal setting sub history → IsPast setting sub c history
-past-all laws setting sub c history low inside legal =
-    by_fronts (IsPast setting sub c) history none (λ t visit found past.
-    past-step laws setting sub c (take t history) visit low inside
-    (front-legal laws.fronts setting sub history t low legal)
-    (subst (IsLegal setting sub) (take-more history t visit found)
-    (front-legal laws.fronts setting sub history (suc t) low legal)) past)
+past-all laws {setting} {sub} c history low inside legal =
+    by_fronts (IsPast setting sub c) history none (λ t visit found past. past-step laws c (take t history) visit low
+    inside (front-legal laws.fronts setting sub history t low legal) (subst (IsLegal setting sub)
+    (take-more history t visit found) (front-legal laws.fronts setting sub history (suc t) low legal)) past)
   where
     none : IsPast setting sub c []
     none any = cc
@@ -231,11 +227,11 @@ last-get xs p c count some found = at_number p count some found
         at_end xs n None h (ap (slice_get xs) (sym e) ∙ g)
 
 -- a Coming whose move is committed opens its passage
-pub coming-opens : PassageLaws → (setting : Setting) (sub : ℕ) (history : History) (node p u : ℕ)
+pub coming-opens : PassageLaws → {setting : Setting} {sub : ℕ} (history : History) (node p u : ℕ)
     → setting.nodes ≤ 2 ^ 16 → node < setting.nodes → IsLegal setting sub history
     → mark_seen setting sub history node ≡ Coming p u → p ≡ number sub history
     → passage setting sub history ≡ setting.distance u node
-coming-opens laws setting sub history node p u low inside legal comes reached = at_cases its.3
+coming-opens laws {setting} {sub} history node p u low inside legal comes reached = at_cases its.3
   where
     its : MarkTells setting sub history node (Coming p u)
     its = subst (MarkTells setting sub history node) comes (laws.marks setting sub history low legal node inside)
@@ -260,4 +256,4 @@ coming-opens laws setting sub history node p u low inside legal comes reached = 
 
         not_yet : (b : Bool) → list_any (confirmed c) (puts_to sub history) ≡ b → b ≡ false
         not_yet false e = refl
-        not_yet true e = absurd ((past-all laws setting sub c history low inside legal e).1 u comes)
+        not_yet true e = absurd ((past-all laws c history low inside legal e).1 u comes)

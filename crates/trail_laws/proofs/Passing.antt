@@ -1,5 +1,7 @@
 -- What a legal history is at its fronts: they are legal, numbers only grow, and a look changes nothing.
-use Rattle.std.proofs.Common.{◌<◌, ◌≡◌, ℕ, zero, suc, ◌+◌, ◌-◌, ◌≤◌, ◌^◌, Bool, true, false, cond, List, [], ◌∷◌, ◌++◌, Some, length, take, filter, refl, sym, ap, ◌∙◌, subst, arith, length-append}
+use Rattle.std.proofs.Math.Seq.{take-nil}
+use Rattle.std.proofs.Common.{inl, inr, ◌<◌, ◌≡◌, ℕ, zero, suc, ◌+◌, ◌-◌, ◌≤◌, ◌^◌, Bool, false, List, [], ◌∷◌, ◌++◌, Some, length, take, filter, refl, sym, ap, ◌∙◌, subst, arith, length-append}
+use Rattle.std.proofs.lemmas.Bool.{cases_Bool}
 use Rattle.std.specs.Prelude.{slice_get}
 use Rattle.std.proofs.lemmas.List.{append-nil, length-take}
 use Rattle.std.proofs.lemmas.List.Elements.{filter-append}
@@ -23,14 +25,10 @@ filter-front : (p : Visit → Bool) (t : ℕ) (xs : List Visit)
     → filter p (take t xs) ≡ take (length (filter p (take t xs))) (filter p xs)
 filter-front p zero xs = refl
 filter-front p (suc t) [] = refl
-filter-front p (suc t) (x ∷ xs) = at_test (p x) (filter-front p t xs)
-  where
-    at_test : (b : Bool) → filter p (take t xs) ≡ take (length (filter p (take t xs))) (filter p xs)
-        → cond b (x ∷ filter p (take t xs)) (filter p (take t xs))
-        ≡ take (length (cond b (x ∷ filter p (take t xs)) (filter p (take t xs))))
-        (cond b (x ∷ filter p xs) (filter p xs))
-    at_test true h = ap (λ zs. x ∷ zs) h
-    at_test false h = h
+filter-front p (suc t) (x ∷ xs) = elim (cases_Bool (p x)) [
+  | inl e ↦ rw e (ap (λ zs. x ∷ zs) (filter-front p t xs))
+  | inr e ↦ rw e (filter-front p t xs)
+]
 
 -- a front of a legal history is legal
 pub front-legal : FrontsAreLegal → (setting : Setting) (sub : ℕ) (history : History) (t : ℕ) → setting.nodes ≤ 2 ^ 16
@@ -44,7 +42,7 @@ front-legal fronts setting sub history t low legal =
     legal)
 
 -- what a visit keeps that is none of a move holds from a front to a later one, while no move is made
-module _ (fronts : FrontsAreLegal) (setting : Setting) (sub : ℕ) (history : History) (P : History → Type 0)
+module _ (fronts : FrontsAreLegal) {setting : Setting} {sub : ℕ} (history : History) (P : History → Type 0)
     (low : setting.nodes ≤ 2 ^ 16) (legal : IsLegal setting sub history)
     (one : (seen : History) (visit : Visit) → IsLegal setting sub seen → IsLegal setting sub (seen ++ visit ∷ [])
     → is_of_move sub seen visit.act ≡ false → P seen → P (seen ++ visit ∷ [])) where
@@ -67,16 +65,11 @@ module _ (fronts : FrontsAreLegal) (setting : Setting) (sub : ℕ) (history : Hi
       → ((x : ℕ) → t ≤ x → x < u → moves_at sub history x ≡ false) → P (before t history) → P (before u history)
   while-quiet t u order within quiet now =
       let e : (u - t) + t ≡ u = omega (arith, order) in
-      subst (λ n. P (before n history)) e (quiet-steps (u - t) t (omega (arith, within, e))
-      (λ x h g. quiet x h (omega (arith, g, e))) now)
+      rw e at (quiet-steps (u - t) t (omega (arith, within, e)) (λ x h g. quiet x h (omega (arith, g, e))) now)
 
 take-further : (k t : ℕ) (xs : History) → (rest : History) × (take (k + t) xs ≡ take t xs ++ rest)
 take-further k zero xs = (take (k + 0) xs, refl)
-take-further k (suc t) [] = ([], at_length (k + suc t))
-  where
-    at_length : (n : ℕ) → take {A = Visit} n [] ≡ []
-    at_length zero = refl
-    at_length (suc n) = refl
+take-further k (suc t) [] = ([], take-nil (k + suc t))
 take-further k (suc t) (x ∷ xs) =
     let more = take-further k t xs in
     let e : k + suc t ≡ suc (k + t) = omega arith in (more.0, rw e (ap (λ zs. x ∷ zs) more.1))
@@ -122,11 +115,9 @@ begun-grows setting sub t u history h =
   where
     of_puts : (all xs ys : List Visit) → all ≡ xs ++ ys
         → length (course_in setting sub xs).moves ≤ length (course_in setting sub all).moves
-    of_puts all xs ys same = subst (λ (c : Course). length (course_in setting sub xs).moves ≤ length c.moves)
-        (sym (ap (course_in setting sub) same
+    of_puts all xs ys same = rw (ap (course_in setting sub) same
         ∙ (ap (after_steps setting (course_at (start setting sub))) (steps-append false xs ys)
-        ∙ fold-append (after_step setting) (course_at (start setting sub)) (steps_in xs)
-        (steps_from (ends_off xs) ys))))
+        ∙ fold-append (after_step setting) (course_at (start setting sub)) (steps_in xs) (steps_from (ends_off xs) ys)))
         (moves-kept setting (course_in setting sub xs) (steps_from (ends_off xs) ys))
 
 -- after a look all is as before

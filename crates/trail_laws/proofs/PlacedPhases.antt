@@ -1,5 +1,6 @@
 -- What an address tells, and where the marks lead from its node: at rest, and in each phase of a move.
-use Rattle.std.proofs.Common.{◌==◌, ◌≡◌, ◌≢◌, ◌⊎◌, inl, inr, ℕ, zero, suc, ◌<◌, ◌≤◌, true, List, [], ◌∷◌, ◌++◌, Option, length, map, refl, sym, ap, ◌∙◌, subst, arith}
+use Rattle.trail_laws.proofs.ClosedMarks.{from-inside, IsNext, mark_coming, mark_erasing, mark_passing, rest_mark}
+use Rattle.std.proofs.Common.{◌==◌, ◌≡◌, ◌≢◌, ◌⊎◌, inl, inr, ℕ, zero, suc, ◌<◌, ◌≤◌, true, List, [], ◌∷◌, ◌++◌, Option, length, map, refl, sym, ap, ◌∙◌, arith}
 use Rattle.std.specs.Prelude.{slice_index}
 use Rattle.std.proofs.lemmas.Bool.{eqb-true}
 use Rattle.std.proofs.lemmas.List.{get_or_append_left, get_or_at, length-map, map-append}
@@ -11,8 +12,7 @@ use Rattle.directory.specs.Settings.{Setting}
 use Rattle.directory.specs.Courses.{Move, Course, address_node, base, last_stop}
 use Rattle.directory.specs.Standing.{Commit, commit_by}
 use Rattle.trail_laws.specs.Trail.{answers, KnowsAtMost}
-use Rattle.trail_laws.proofs.Links.{IsSound, base-low, stop-inside, moves-count}
-use Rattle.trail_laws.proofs.ClosedMarks.{IsNext, mark_coming, mark_erasing, mark_passing, rest_mark}
+use Rattle.trail_laws.proofs.Links.{IsSound, base-low, moves-count}
 use Rattle.trail_laws.proofs.Holders.{IsNew, IsOld, move_address, old_address}
 use Rattle.trail_laws.proofs.GoneCounts.{above, gone_above, passing-fewer, some-out}
 use Rattle.trail_laws.proofs.Chases.{Arrival, arrived, longer}
@@ -47,21 +47,21 @@ above-but_one : (setting : Setting) (marks : ℕ → PresenceMark) (q x p from :
 above-but_one setting marks q x p from low comes = some-out (λ v. gone_above q (marks v)) x setting.nodes low
     (ap (gone_above q) comes)
 
-old-stop : (setting : Setting) (course : Course) (more : List Move) (level : ℕ) → IsSound setting course
+old-stop : {setting : Setting} {course : Course} (more : List Move) (level : ℕ) → IsSound setting course
     → stop_at course.start (course.moves ++ more) (base level course.moves) ≡ address_node course level
-old-stop setting course more level sound =
+old-stop {setting} {course} more level sound =
     ap (λ xs. slice_index (course.start ∷ xs) (base level course.moves))
     (map-append (λ (m : Move). m.to) course.moves more)
     ∙ get_or_append_left (course.start ∷ map (λ (m : Move). m.to) course.moves) (map (λ (m : Move). m.to) more) 0
     (base level course.moves) (omega (
       arith,
       length-map course.moves (λ (m : Move). m.to),
-      base-low setting course level sound,
+      base-low level sound,
     ))
 
-new-stop : (setting : Setting) (course : Course) (move : Move) → IsNext setting course move
+new-stop : {setting : Setting} {course : Course} {move : Move} → IsNext setting course move
     → stop_at course.start (course.moves ++ move ∷ []) move.number ≡ move.to
-new-stop setting course move next =
+new-stop {course} {move} next =
     ap (λ xs. slice_index (course.start ∷ xs) move.number) (map-append (λ (m : Move). m.to) course.moves (move ∷ []))
     ∙ get_or_at (course.start ∷ map (λ (m : Move). m.to) course.moves) move.to [] 0 move.number
     (omega (arith, length-map course.moves (λ (m : Move). m.to), next.number))
@@ -76,36 +76,34 @@ module _ (setting : Setting) (from : ℕ) (marks : ℕ → PresenceMark) (commit
       → ((known : Option ℕ) → KnowsAtMost number known → Arrival setting marks known its.node last hops way)
       → IsPlaced setting from marks commits moves level cluster address
   at-home moves level cluster address its hops way same inside home few is_stop some fine leads =
-      subst (λ (a : Address). IsPlaced setting from marks commits moves level cluster a) (sym same) (record {
+      rw same (record {
         inside = inside;
         home_is = eqb-true cluster (setting.home level its.node) home;
         few = few;
         is_stop = is_stop;
         most_way = way;
         fine = fine;
-        leads = λ known knows. subst (λ n. Arrival setting marks known its.node n setting.nodes way) (sym stood)
-            (longer setting marks known its.node last hops setting.nodes way way some (λ metric. omega arith)
-            (leads known (subst (λ n. KnowsAtMost n known) count knows)));
+        leads = λ known knows. rw stood (longer setting marks known its.node last hops setting.nodes way way some
+            (λ metric. omega arith) (leads known (rw count at knows)));
       })
 
-pub rest-placed : (setting : Setting) (from : ℕ) (marks : ℕ → PresenceMark) (course : Course) (level cluster : ℕ)
+pub rest-placed : {setting : Setting} (from : ℕ) (marks : ℕ → PresenceMark) {course : Course} (level cluster : ℕ)
     (address : Address) → IsSound setting course → course.start ≡ from → level ≤ setting.top
     → ((v : ℕ) → v < setting.nodes → marks v ≡ rest_mark setting course v)
     → IsOld setting course level cluster address → IsPlaced setting from marks
     (map commit_by course.moves) course.moves level cluster address
 unfolding IsOld
-rest-placed setting from marks course level cluster address sound begins below marks_are old =
+rest-placed {setting} from marks {course} level cluster address sound begins below marks_are old =
     at-home setting from marks (map commit_by course.moves) (length course.moves) (last_stop course)
     (length-map course.moves commit_by) (rest-stands course from begins) course.moves level cluster address _ _ _ old.0
-    (old-inside setting course level sound) old.1 (base-low setting course level sound)
+    (old-inside level sound) old.1 (base-low level sound)
     (ap (λ f. stop_at f course.moves (base level course.moves)) begins)
-    (above-few setting marks (base level course.moves)) (fine-rest setting marks course level _ _ below)
-    (λ known knows. rest-leads setting course marks sound marks_are (base level course.moves)
-    (address_node course level) known (base-top setting course level sound below)
-    (base-low setting course level sound) (old-inside setting course level sound) refl knows)
+    (above-few setting marks (base level course.moves)) (fine-rest setting marks course level _ _ below) (λ known knows.
+    rest-leads marks sound marks_are (base level course.moves) (address_node course level) known
+    (base-top level sound below) (base-low level sound) (old-inside level sound) refl knows)
 
 -- ---- while a move is under way
-module _ (setting : Setting) (from : ℕ) (marks : ℕ → PresenceMark) (course : Course) (move : Move)
+module _ {setting : Setting} (from : ℕ) (marks : ℕ → PresenceMark) {course : Course} {move : Move}
     (level cluster : ℕ) (address : Address) (sound : IsSound setting course) (next : IsNext setting course move)
     (begins : course.start ≡ from) (below : level ≤ setting.top) where
   -- an old address, and that of the move
@@ -120,9 +118,8 @@ module _ (setting : Setting) (from : ℕ) (marks : ℕ → PresenceMark) (course
   unfolding IsOld
   old-placed commits number last hops way count stood some fine leads old =
       at-home setting from marks commits number last count stood (course.moves ++ move ∷ []) level cluster address
-      (old_address course level) hops way old.0 (old-inside setting course level sound) old.1
-      (omega (arith, base-low setting course level sound, moves-count course move))
-      (sym (old-stop setting course (move ∷ []) level sound)
+      (old_address course level) hops way old.0 (old-inside level sound) old.1
+      (omega (arith, base-low level sound, moves-count course move)) (sym (old-stop (move ∷ []) level sound)
       ∙ ap (λ f. stop_at f (course.moves ++ move ∷ []) (base level course.moves)) begins) some fine leads
 
   move-placed : (commits : List Commit) (number last hops way : ℕ) → length commits ≡ number
@@ -136,14 +133,14 @@ module _ (setting : Setting) (from : ℕ) (marks : ℕ → PresenceMark) (course
   move-placed commits number last hops way count stood some fine leads new =
       at-home setting from marks commits number last count stood (course.moves ++ move ∷ []) level cluster address
       (move_address move) hops way new.0 next.inside new.1 (omega (arith, next.number, moves-count course move))
-      (sym (new-stop setting course move next)
+      (sym (new-stop next)
       ∙ ap (λ f. stop_at f (course.moves ++ move ∷ []) move.number) begins) some fine leads
 
   all-count : length (map commit_by (course.moves ++ move ∷ [])) ≡ suc (length course.moves)
   all-count = length-map (course.moves ++ move ∷ []) commit_by ∙ moves-count course move
 
   all-stood : stands from (map commit_by (course.moves ++ move ∷ [])) ≡ move.to
-  all-stood = next-stands setting course move from next begins
+  all-stood = next-stands from next begins
 
   pub coming-placed : ((v : ℕ) → v < setting.nodes → marks v ≡ mark_coming setting course move v)
       → IsNew setting move level cluster address ⊎ IsOld setting course level cluster address
@@ -154,17 +151,14 @@ module _ (setting : Setting) (from : ℕ) (marks : ℕ → PresenceMark) (course
       (omega (
         arith,
         above-but_one setting marks (base level course.moves) move.to move.number (last_stop course) next.inside
-            (coming-at_to setting course move marks sound next marks_are),
-      ))
-      (fine-coming setting marks course move level _ _ sound below)
-      (λ known knows. coming-leads setting course move marks sound next marks_are (base level course.moves)
-      (address_node course level) known (base-top setting course level sound below)
-      (base-low setting course level sound) (old-inside setting course level sound) refl knows) old
+            (coming-at_to marks sound next marks_are),
+      )) (fine-coming marks move level _ _ sound below) (λ known knows. coming-leads marks sound
+      next marks_are (base level course.moves) (address_node course level) known (base-top level sound below)
+      (base-low level sound) (old-inside level sound) refl knows) old
   coming-placed marks_are (inl new) =
       move-placed (map commit_by course.moves) (length course.moves) (last_stop course) 1 _
       (length-map course.moves commit_by) (rest-stands course from begins) (omega (arith, next.inside))
-      (fine-coming_new setting from marks course move level sound next begins marks_are)
-      (coming-back setting course move marks sound next marks_are) new
+      (fine-coming_new from marks level sound next begins marks_are) (coming-back marks sound next marks_are) new
 
   pub passing-placed : ((v : ℕ) → v < setting.nodes → marks v ≡ mark_passing setting course move v)
       → IsNew setting move level cluster address ⊎ IsOld setting course level cluster address
@@ -176,27 +170,21 @@ module _ (setting : Setting) (from : ℕ) (marks : ℕ → PresenceMark) (course
       (omega (
         arith,
         above-but_one setting marks (base level course.moves) move.to move.number move.from next.inside
-            (passing-at_to setting course move marks sound next marks_are),
-      ))
-      (fine-passing setting from marks course move level _ _ sound next begins marks_are
-      (λ metric lazy. omega (arith, lazy-front setting course.moves (move ∷ []) level below lazy)))
-      (λ known knows. passage-leads setting course move marks sound next marks_are (base level course.moves)
-      (address_node course level) known (base-top setting course level sound below)
-      (base-low setting course level sound) (old-inside setting course level sound) refl knows) old
+            (passing-at_to marks sound next marks_are),
+      )) (fine-passing from marks level _ _ sound next begins marks_are
+      (λ metric lazy. omega (arith, lazy-front setting course.moves (move ∷ []) level below lazy))) (λ known knows.
+      passage-leads marks sound next marks_are (base level course.moves) (address_node course level)
+      known (base-top level sound below) (base-low level sound) (old-inside level sound) refl knows) old
   passing-placed marks_are (inl new) =
-      move-placed (map commit_by (course.moves ++ move ∷ [])) (suc (length course.moves)) move.to 2 _
-      all-count all-stood (two-inside move.to move.from next.inside from_inside next.moving)
-      (fine-passing setting from marks course move level _ _ sound next begins marks_are
-      (λ metric lazy. omega (
+      move-placed (map commit_by (course.moves ++ move ∷ [])) (suc (length course.moves)) move.to 2 _ all-count
+      all-stood (two-inside move.to move.from next.inside (from-inside sound next) next.moving)
+      (fine-passing from marks level _ _
+      sound next begins marks_are (λ metric lazy. omega (
         arith,
         lazy-front setting course.moves (move ∷ []) level below lazy,
-        metric.both_ways move.to move.from next.inside from_inside,
-      )))
-      (λ known knows. passage-new setting course move marks sound next marks_are known) new
+        metric.both_ways move.to move.from next.inside (from-inside sound next),
+      ))) (λ known knows. passage-new marks sound next marks_are known) new
     where
-      from_inside : move.from < setting.nodes
-      from_inside = subst (λ n. n < setting.nodes) (sym next.from) (stop-inside setting course sound)
-
       two-inside : (a b : ℕ) → a < setting.nodes → b < setting.nodes → a ≢ b → 2 ≤ setting.nodes
       two-inside zero zero h g d = absurd (d refl)
       two-inside zero (suc b) h g d = omega (arith, g)
@@ -216,11 +204,11 @@ module _ (setting : Setting) (from : ℕ) (marks : ℕ → PresenceMark) (course
       → IsPlaced setting from marks (map commit_by (course.moves ++ move ∷ []))
       (course.moves ++ move ∷ []) level cluster address
   clearing-placed marks_are (inr old) =
-      old-placed (map commit_by (course.moves ++ move ∷ [])) (suc (length course.moves)) move.to _ _
-      all-count all-stood (above-few setting marks (base level course.moves))
-      (fine-clearing setting from marks course move level sound next begins below marks_are)
-      (λ known knows. clearing-leads setting course move marks sound next marks_are (base level course.moves)
-      (address_node course level) known (base-top setting course level sound below)
-      (omega (arith, base-low setting course level sound)) (old-inside setting course level sound)
-      (old-stop setting course (move ∷ []) level sound) knows) old
-  clearing-placed marks_are (inl new) = new-placed (clearing-here setting course move marks sound next marks_are) new
+      old-placed (map commit_by (course.moves ++ move ∷ [])) (suc (length course.moves)) move.to _ _ all-count all-stood
+      (above-few setting marks (base level course.moves))
+      (fine-clearing from marks level sound next begins below marks_are)
+      (λ known knows. clearing-leads marks sound next marks_are (base level course.moves)
+      (address_node course level) known
+      (base-top level sound below) (omega (arith, base-low level sound)) (old-inside level sound)
+      (old-stop (move ∷ []) level sound) knows) old
+  clearing-placed marks_are (inl new) = new-placed (clearing-here marks sound next marks_are) new

@@ -1,6 +1,7 @@
 -- What the ways along the marks weigh: no level has gathered its threshold, so that the trail from its address is
 -- short.
-use Rattle.std.proofs.Common.{◌≡◌, ℕ, ◌+◌, ◌*◌, ◌<◌, ◌≤◌, List, [], ◌∷◌, ◌++◌, length, map, take, drop, refl, sym, ap, ◌∙◌, subst, arith, length-append}
+use Rattle.trail_laws.proofs.ClosedMarks.{from-inside, IsNext}
+use Rattle.std.proofs.Common.{◌≡◌, ℕ, ◌+◌, ◌*◌, ◌<◌, ◌≤◌, List, [], ◌∷◌, ◌++◌, length, map, take, drop, refl, ap, ◌∙◌, arith, length-append}
 use Rattle.std.specs.Prelude.{sum_by}
 use Rattle.std.proofs.lemmas.List.{drop-append-le, take_all, take_at}
 use Rattle.std.proofs.lemmas.List.Sums.{sum_by_push}
@@ -8,8 +9,7 @@ use Rattle.directory.specs.Settings.{Setting}
 use Rattle.directory.specs.Courses.{Move, Course, address_node, base, last_stop}
 use Rattle.directory.specs.Standing.{commit_by}
 use Rattle.trail_laws.specs.Trail.{HasMetric}
-use Rattle.trail_laws.proofs.Links.{IsSound, base-low, stop-inside}
-use Rattle.trail_laws.proofs.ClosedMarks.{IsNext}
+use Rattle.trail_laws.proofs.Links.{IsSound, base-low}
 use Rattle.trail_laws.proofs.LinkedStops.{way-short, weight_from, old-inside}
 use Rattle.trail_laws.proofs.Tells.{next-stands, stands}
 use Rattle.trail_laws.proofs.Leads.{stop-end}
@@ -23,14 +23,12 @@ AreLazy setting moves =
 pub lazy-whole : (setting : Setting) (moves : List Move) (level : ℕ) → level ≤ setting.top → AreLazy setting moves
     → weight_from moves (base level moves) < setting.threshold level
 lazy-whole setting moves level below lazy =
-    subst (λ (ms : List Move). weight_from ms (base level ms) < setting.threshold level)
-    (take_all (length moves) moves (omega arith)) (lazy (length moves) level (omega arith) below)
+    rw (take_all (length moves) moves (omega arith)) at (lazy (length moves) level (omega arith) below)
 
 pub lazy-front : (setting : Setting) (xs ys : List Move) (level : ℕ) → level ≤ setting.top
     → AreLazy setting (xs ++ ys) → weight_from xs (base level xs) < setting.threshold level
 lazy-front setting xs ys level below lazy =
-    subst (λ (ms : List Move). weight_from ms (base level ms) < setting.threshold level)
-    (take_at xs ys (length xs) refl) (lazy (length xs) level (omega (arith, length-append xs ys)) below)
+    rw (take_at xs ys (length xs) refl) at (lazy (length xs) level (omega (arith, length-append xs ys)) below)
 
 pub weight-push : (moves : List Move) (move : Move) (b : ℕ) → b ≤ length moves
     → weight_from (moves ++ move ∷ []) b ≡ weight_from moves b + move.weight
@@ -38,36 +36,32 @@ weight-push moves move b low = ap (sum_by (λ (m : Move). m.weight)) (drop-appen
     ∙ sum_by_push (λ (m : Move). m.weight) (drop b moves) move
 
 -- how far the address of a level is from the last stop
-pub address-near : (setting : Setting) (course : Course) (level : ℕ) → IsSound setting course → HasMetric setting
+pub address-near : {setting : Setting} {course : Course} (level : ℕ) → IsSound setting course → HasMetric setting
     → setting.distance (address_node course level) (last_stop course) ≤ weight_from course.moves
     (base level course.moves)
-address-near setting course level sound metric =
-    subst (λ n. setting.distance (address_node course level) n ≤ weight_from course.moves (base level course.moves))
-    (stop-end course.start course.moves)
-    (way-short setting course.start 0 course.moves (base level course.moves) sound.linked sound.begins metric
-    (base-low setting course level sound))
+address-near {setting} {course} level sound metric =
+    rw (stop-end course.start course.moves) at (way-short course.start 0 course.moves
+    (base level course.moves) sound.linked
+    sound.begins metric (base-low level sound))
 
 -- after the confirm the trail from an old address is short
-pub price-clearing : (setting : Setting) (from : ℕ) (course : Course) (move : Move) (level : ℕ) → IsSound setting course
+pub price-clearing : {setting : Setting} (from : ℕ) {course : Course} {move : Move} (level : ℕ) → IsSound setting course
     → IsNext setting course move → course.start ≡ from → level ≤ setting.top → HasMetric setting
     → AreLazy setting (course.moves ++ move ∷ [])
     → weight_from (course.moves ++ move ∷ []) (base level course.moves) + 2
     ≤ 2 * setting.threshold level
     + setting.distance (address_node course level) (stands from (map commit_by (course.moves ++ move ∷ [])))
-price-clearing setting from course move level sound next begins below metric lazy = omega (
+price-clearing {setting} from {course} {move} level sound next begins below metric lazy = omega (
   arith,
   lazy-front setting course.moves (move ∷ []) level below lazy,
-  weight-push course.moves move (base level course.moves) (base-low setting course level sound),
+  weight-push course.moves move (base level course.moves) (base-low level sound),
   next.weight,
-  metric.detour move.from (address_node course level) move.to from_inside old_inside next.inside,
-  metric.both_ways move.from (address_node course level) from_inside old_inside,
+  metric.detour move.from (address_node course level) move.to (from-inside sound next) old_inside next.inside,
+  metric.both_ways move.from (address_node course level) (from-inside sound next) old_inside,
   ap (setting.distance (address_node course level)) next.from,
-  address-near setting course level sound metric,
-  ap (setting.distance (address_node course level)) (next-stands setting course move from next begins),
+  address-near level sound metric,
+  ap (setting.distance (address_node course level)) (next-stands from next begins),
 )
   where
-    from_inside : move.from < setting.nodes
-    from_inside = subst (λ n. n < setting.nodes) (sym next.from) (stop-inside setting course sound)
-
     old_inside : address_node course level < setting.nodes
-    old_inside = old-inside setting course level sound
+    old_inside = old-inside level sound

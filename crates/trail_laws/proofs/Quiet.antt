@@ -1,8 +1,7 @@
 -- A quiet find has its answer: what it stands on stays while no visit of a move is made.
-use Rattle.std.proofs.Common.{◌≡◌, ◌≢◌, ◌⊎◌, inl, inr, ℕ, zero, suc, ◌+◌, ◌-◌, ◌*◌, ◌<◌, ◌≤◌, ◌^◌, Bool, true, false, ◌==◌, ◌||◌, List, [], ◌∷◌, ◌++◌, Option, Some, None, map, fold, refl, sym, ap, ◌∙◌, subst, arith}
+use Rattle.std.proofs.lemmas.Bool.{cases_Bool, cases_eq, or_cases, eqb-true, cases_lt}
+use Rattle.std.proofs.Common.{◌≡◌, ◌⊎◌, inl, inr, ℕ, zero, suc, ◌+◌, ◌-◌, ◌*◌, ◌<◌, ◌≤◌, ◌^◌, true, false, ◌==◌, List, [], ◌∷◌, ◌++◌, Option, Some, None, map, fold, refl, sym, ap, ◌∙◌, subst, arith}
 use Rattle.std.specs.Prelude.{All, flat_map, is_some}
-use Rattle.std.proofs.lemmas.Bool.{eqb-true, cases_eq, cases_lt}
-use Rattle.std.proofs.lemmas.Bool.Decides.{nat_tests}
 use Rattle.std.proofs.lemmas.List.Elements.{All-head, All-tail}
 use Rattle.std.proofs.lemmas.Option.{slice_get_within}
 use Rattle.node_set.specs.Ascending.{has}
@@ -17,7 +16,7 @@ use Rattle.directory.specs.declared.answers.Found.{Found}
 use Rattle.directory.specs.declared.answers.Found.TheVariants.{Again}
 use Rattle.trail_laws.specs.Trail.{entry_seen}
 use Rattle.trail_laws.specs.Rightness.{AgainHasItsCause, IsAnswered, QuietFindsAnswer, ReadsTop}
-use Rattle.trail_laws.specs.Within.{Affords, AffordsAddress, Begins, EntryAsks, WeighsAtMost, QuietFindsStayWithin}
+use Rattle.trail_laws.specs.Within.{Affords, AffordsAddress, Begins, EntryAsks, QuietFindsStayWithin}
 use Rattle.trail_laws.proofs.Passing.{front-legal}
 use Rattle.trail_laws.proofs.Right.{last-more, Low, read-one, readers-low}
 use Rattle.trail_laws.proofs.Sure.{first-sure, IsSure, Used, look-sure, sure-until}
@@ -38,7 +37,7 @@ last-late setting history actor call earliest pursuit t (u ∷ later) (first, (k
           (after_word setting call pursuit (cell setting (before t history) key)) u later rest,
     ))
 
-module _ (used : Used) (setting : Setting) (history : History) (actor : ℕ) (call : FindCall) (Within : ℕ → Type 0)
+module _ (used : Used) {setting : Setting} (history : History) (actor : ℕ) (call : FindCall) (Within : ℕ → Type 0)
     (found : Found) (low : setting.nodes ≤ 2 ^ 16) (inside : call.from < setting.nodes)
     (legal : IsLegal setting call.sub history) where
   sure-looks : (later : List ℕ) (t : ℕ) (pursuit : Pursuit)
@@ -60,7 +59,7 @@ module _ (used : Used) (setting : Setting) (history : History) (actor : ℕ) (ca
       late = last-late setting history actor call (suc t) pursuit u later (first, (key, wanted, is_look, rest))
 
       waited : IsSure setting call.sub (before u history) call Within pursuit
-      waited = sure-until used setting call.sub history call Within t u pursuit low legal (omega (arith, first))
+      waited = sure-until used history call Within t u pursuit low legal (omega (arith, first))
           (omega (arith, slice_get_within history u (look_by actor key) is_look))
           (λ x h g. quiet x h (omega (arith, g, late, last-more t u later))) sure
 
@@ -73,19 +72,17 @@ module _ (used : Used) (setting : Setting) (history : History) (actor : ℕ) (ca
   unfolding AreLooks
   first-looks [] begins quiet looks ends = let clash : at_origin ≡ ended found = ends in cc
   first-looks (t ∷ later) begins quiet (first, (key, wanted, is_look, rest)) ends =
-      sure-looks later t (after_word setting call at_origin (cell setting (before t history) key))
-      (first-sure used setting (before t history) call Within key begins low inside
-      (front-legal used.fronts setting call.sub history t low legal) wanted) rest quiet
+      sure-looks later t (after_word setting call at_origin (cell setting (before t history) key)) (first-sure used key
+      begins low inside (front-legal used.fronts setting call.sub history t low legal) wanted) rest quiet
       (sym (read-one setting history actor t key call at_origin later is_look) ∙ ends)
 
-pub quiet-within : Used → (setting : Setting) (history : History) (actor : ℕ) (call : FindCall) (Within : ℕ → Type 0)
-    (found : Found) (tickets : List ℕ) → setting.nodes ≤ 2 ^ 16 → call.from < setting.nodes
+pub quiet-within : Used → {setting : Setting} {history : History} {actor : ℕ} {call : FindCall} {Within : ℕ → Type 0}
+    {found : Found} {tickets : List ℕ} → setting.nodes ≤ 2 ^ 16 → call.from < setting.nodes
     → IsLegal setting call.sub history → Begins setting (before (first_of tickets) history) call Within
     → IsFind setting history actor call found tickets
     → IsQuiet history call.sub (first_of tickets) (last_of tickets) → IsAnswered found × Within (found_weight found)
-quiet-within used setting history actor call Within found tickets low inside legal begins find quiet =
-    first-looks used setting history actor call Within found low inside legal tickets begins quiet find.looks
-    find.answer
+quiet-within used {setting} {history} {actor} {call} {Within} {found} {tickets} low inside legal begins find quiet =
+    first-looks used history actor call Within found low inside legal tickets begins quiet find.looks find.answer
 
 -- ---- without a bound: the home at the top level has an address that the origin reads
 abbrev pub HasReader : Setting → ℕ → History → List Reader → Type 0
@@ -101,17 +98,11 @@ at-level : (setting : Setting) (sub : ℕ) (seen : History) (level cluster : ℕ
     → has cluster clusters ≡ true → is_some (entry_seen setting sub seen level cluster) ≡ true
     → HasReader setting sub seen (map (λ c. record { level = level; cluster = c }) clusters ++ rest)
 at-level setting sub seen level cluster [] rest h some = cc
-at-level setting sub seen level cluster (c ∷ clusters) rest h some = at_test (cluster == c) refl h
-    (λ g. at-level setting sub seen level cluster clusters rest g some)
-  where
-    at_test : (b : Bool) → (cluster == c) ≡ b → (b || has cluster clusters) ≡ true
-        → (has cluster clusters ≡ true → HasReader setting sub seen
-        (map (λ x. record { level = level; cluster = x }) clusters ++ rest))
-        → HasReader setting sub seen (record { level = level; cluster = c } ∷
-        (map (λ x. record { level = level; cluster = x }) clusters ++ rest))
-    at_test true e g more = inl (ap (λ x. is_some (entry_seen setting sub seen level x)) (sym (eqb-true cluster c e))
-        ∙ some)
-    at_test false e g more = inr (more g)
+at-level setting sub seen level cluster (c ∷ clusters) rest h some =
+    elim (or_cases (cluster == c) (has cluster clusters) h) [
+      | inl e ↦ inl (rw (← eqb-true cluster c e) some)
+      | inr later ↦ inr (at-level setting sub seen level cluster clusters rest later some)
+    ]
 
 passed : (setting : Setting) (sub : ℕ) (seen : History) (xs ys : List Reader) → HasReader setting sub seen ys
     → HasReader setting sub seen (xs ++ ys)
@@ -124,40 +115,31 @@ from-level : (setting : Setting) (sub node : ℕ) (seen : History) (cluster firs
     → HasReader setting sub seen (flat_map (λ level. map (λ c. record { level = level; cluster = c })
     (setting.readers level node)) (numbers_from first count))
 from-level setting sub node seen cluster first zero low high h some = absurd (omega arith)
-from-level setting sub node seen cluster first (suc count) low high h some = at_place (cases_eq first setting.top)
-    (λ less. from-level setting sub node seen cluster (suc first) count less (omega arith) h some)
-  where
-    at_place : (first ≡ setting.top) ⊎ (first ≢ setting.top)
-        → (suc first ≤ setting.top → HasReader setting sub seen
-        (flat_map (λ level. map (λ c. record { level = level; cluster = c }) (setting.readers level node))
-        (numbers_from (suc first) count)))
-        → HasReader setting sub seen (map (λ c. record { level = first; cluster = c })
-        (setting.readers first node) ++ flat_map (λ level. map (λ c. record { level = level; cluster = c })
-        (setting.readers level node)) (numbers_from (suc first) count))
-    at_place (inl e) more = at-level setting sub seen first cluster (setting.readers first node) _
-        (ap (λ l. has cluster (setting.readers l node)) e ∙ h)
-        (ap (λ l. is_some (entry_seen setting sub seen l cluster)) e ∙ some)
-    at_place (inr other) more = passed setting sub seen
-        (map (λ c. record { level = first; cluster = c }) (setting.readers first node)) _
-        (more (let less : first < setting.top = grind (arith, nat_tests, other, low) in omega (arith, less)))
+from-level setting sub node seen cluster first (suc count) low high h some = elim (cases_eq first setting.top) [
+  | inl e ↦ at-level setting sub seen first cluster (setting.readers first node) _
+      (ap (λ l. has cluster (setting.readers l node)) e ∙ h)
+      (ap (λ l. is_some (entry_seen setting sub seen l cluster)) e ∙ some)
+  | inr other ↦ passed setting sub seen
+      (map (λ c. record { level = first; cluster = c }) (setting.readers first node)) _
+      (from-level setting sub node seen cluster (suc first) count (omega (arith, other, low)) (omega arith) h some)
+]
 
-pub readers-have : Used → (setting : Setting) (sub node : ℕ) (seen : History) → setting.nodes ≤ 2 ^ 16
+pub readers-have : Used → {setting : Setting} {sub : ℕ} (node : ℕ) (seen : History) → setting.nodes ≤ 2 ^ 16
     → ReadsTop setting → node < setting.nodes → IsLegal setting sub seen
     → HasReader setting sub seen (all_readers setting node)
-readers-have used setting sub node seen low reads inside legal =
+readers-have used {setting} {sub} node seen low reads inside legal =
     let there = used.top setting sub seen low legal in
     from-level setting sub node seen (setting.home setting.top there.0) 0 (levels setting) (omega arith) (omega arith)
     (reads there.0 node there.2 inside) (ap is_some there.3)
 
-affords-any : Used → (setting : Setting) (seen : History) (call : FindCall) (weight : ℕ) (readers : List Reader)
+affords-any : Used → {setting : Setting} (seen : History) (call : FindCall) (weight : ℕ) (readers : List Reader)
     → setting.nodes ≤ 2 ^ 16 → IsLegal setting call.sub seen → All (Low setting) readers
     → HasReader setting call.sub seen readers → Affords setting call.sub seen call Anything weight readers
 unfolding Affords
-affords-any used setting seen call weight [] low legal all some = absurd some
-affords-any used setting seen call weight (reader ∷ later) low legal all some =
-    at_entry (entry_seen setting call.sub seen reader.level reader.cluster) refl some
-    (λ h. affords-any used setting seen call (weight + 2 * way_in setting call reader) later low legal
-    (All-tail (Low setting) reader later all) h)
+affords-any used seen call weight [] low legal all some = absurd some
+affords-any used {setting} seen call weight (reader ∷ later) low legal all some =
+    at_entry (entry_seen setting call.sub seen reader.level reader.cluster) refl some (λ h. affords-any used seen call
+    (weight + 2 * way_in setting call reader) later low legal (All-tail (Low setting) reader later all) h)
   where
     at_entry : (entry : Option Address) → entry_seen setting call.sub seen reader.level reader.cluster ≡ entry
         → (is_some (entry_seen setting call.sub seen reader.level reader.cluster) ≡ true)
@@ -176,7 +158,7 @@ affords-any used setting seen call weight (reader ∷ later) low legal all some 
 
 pub quiet-answers : Used → QuietFindsAnswer
 quiet-answers used setting history actor call found tickets low reads inside legal find quiet =
-    (quiet-within used setting history actor call Anything found tickets low inside legal begins find quiet).0
+    (quiet-within used low inside legal begins find quiet).0
   where
     seen : History
     seen = before (first_of tickets) history
@@ -187,10 +169,8 @@ quiet-answers used setting history actor call found tickets low reads inside leg
     begins : Begins setting (before (first_of tickets) history) call Anything
     begins = record {
       here = tt;
-      climbing = λ c h o. affords-any used setting (before (first_of tickets) history) call 0
-          (all_readers setting call.from)
-          low legal_seen (readers-low setting call.from)
-          (readers-have used setting call.sub call.from
+      climbing = λ c h o. affords-any used (before (first_of tickets) history) call 0 (all_readers setting call.from)
+          low legal_seen (readers-low setting call.from) (readers-have used call.from
           (before (first_of tickets) history) low reads inside legal_seen);
       chasing = λ p from e.
           let there = used.comings setting call.sub (before (first_of tickets) history) low legal_seen call.from p
@@ -204,38 +184,26 @@ either-quiet : (sub : ℕ) (history : History) (first count : ℕ)
     → ((u : ℕ) → first ≤ u → u < first + count → moves_at sub history u ≡ false)
     ⊎ ((ticket : ℕ) × (first ≤ ticket) × (ticket < first + count) × (moves_at sub history ticket ≡ true))
 either-quiet sub history first zero = inl (λ u h g. absurd (omega arith))
-either-quiet sub history first (suc count) = at_more (moves_at sub history (first + count)) refl
-    (either-quiet sub history first count)
-  where
-    at_more : (b : Bool) → moves_at sub history (first + count) ≡ b
-        → ((u : ℕ) → first ≤ u → u < first + count → moves_at sub history u ≡ false)
-        ⊎ ((ticket : ℕ) × (first ≤ ticket) × (ticket < first + count) × (moves_at sub history ticket ≡ true))
-        → ((u : ℕ) → first ≤ u → u < first + suc count → moves_at sub history u ≡ false)
-        ⊎ ((ticket : ℕ) × (first ≤ ticket) × (ticket < first + suc count) × (moves_at sub history ticket ≡ true))
-    at_more b e (inr found) = inr (found.0, found.1, omega (arith, found.2), found.3)
-    at_more true e (inl all) = inr (first + count, omega arith, omega arith, e)
-    at_more false e (inl all) = inl (λ u h g. at_place u h (cases_lt u (first + count)) g)
-      where
-        at_place : (u : ℕ) → first ≤ u → (u < first + count) ⊎ (first + count ≤ u) → u < first + suc count
-            → moves_at sub history u ≡ false
-        at_place u h (inl low) g = all u h low
-        at_place u h (inr high) g = let same : u ≡ first + count = omega arith in ap (moves_at sub history) same ∙ e
+either-quiet sub history first (suc count) = elim (either-quiet sub history first count) [
+  | inr found ↦ inr (found.0, found.1, omega (arith, found.2), found.3)
+  | inl all ↦ elim (cases_Bool (moves_at sub history (first + count))) [
+    | inl e ↦ inr (first + count, omega arith, omega arith, e)
+    | inr e ↦ inl (λ u h g. elim (cases_lt u (first + count)) [
+      | inl low ↦ all u h low
+      | inr high ↦ let same : u ≡ first + count = omega arith in ap (moves_at sub history) same ∙ e
+    ])
+  ]
+]
 
 pub again-cause : Used → AgainHasItsCause
 again-cause used setting history actor call why weight tickets low reads inside legal find =
-    at_either (either-quiet call.sub history (first_of tickets) (suc (last_of tickets) - first_of tickets))
-  where
-    at_either : ((u : ℕ) → first_of tickets ≤ u → u < first_of tickets + (suc (last_of tickets) - first_of tickets)
-        → moves_at call.sub history u ≡ false)
-        ⊎ ((ticket : ℕ) × (first_of tickets ≤ ticket) × (ticket < first_of tickets +
-        (suc (last_of tickets) - first_of tickets)) × (moves_at call.sub history ticket ≡ true))
-        → (ticket : ℕ) × (first_of tickets ≤ ticket) × (ticket ≤ last_of tickets)
-        × (moves_at call.sub history ticket ≡ true)
-    at_either (inl all) = absurd (quiet-answers used setting history actor call
-        (Again why weight) tickets low reads inside legal find (λ u h g. all u h (omega arith)))
-    at_either (inr found) = (found.0, found.1, omega (arith, found.1, found.2), found.3)
+    elim (either-quiet call.sub history (first_of tickets) (suc (last_of tickets) - first_of tickets)) [
+      | inl all ↦ absurd (quiet-answers used setting history actor call
+          (Again why weight) tickets low reads inside legal find (λ u h g. all u h (omega arith)))
+      | inr found ↦ (found.0, found.1, omega (arith, found.1, found.2), found.3)
+    ]
 
 -- a quiet find whose beginning is sure of a bound stays within it
 pub quiet-stays : Used → QuietFindsStayWithin
 quiet-stays used setting history actor call found tickets most low inside legal begins find quiet =
-    quiet-within used setting history actor call (WeighsAtMost most) found tickets low inside legal begins find quiet
+    quiet-within used low inside legal begins find quiet

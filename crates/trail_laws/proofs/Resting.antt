@@ -1,5 +1,6 @@
 -- How far the marks lead in each phase, and what rest is.
-use Rattle.std.proofs.Common.{◌≡◌, ◌≢◌, ℕ, ◌^◌, ◌≤◌, Bool, true, false, cond, Some, length, map, refl, sym, ap, ◌∙◌, arith, inl, inr}
+use Rattle.std.proofs.lemmas.Bool.{cases_Bool}
+use Rattle.std.proofs.Common.{◌≡◌, ◌≢◌, ℕ, ◌^◌, ◌≤◌, false, cond, Some, length, map, sym, ap, ◌∙◌, arith, inl, inr}
 use Rattle.std.specs.Prelude.{filter_map, fold}
 use Rattle.std.proofs.lemmas.List.{length-drop, length-map, take_all}
 use Rattle.entry_word.specs.declared.address.Address.{Address}
@@ -29,9 +30,9 @@ use Rattle.trail_laws.proofs.Comings.{there-not_coming}
 
 pub addresses-by_phase : Laws → AddressesLeadByPhase
 addresses-by_phase laws setting sub history low metric some legal level cluster address known below is_some knows =
-    let its = placed laws setting sub history low legal level cluster address below is_some in
+    let its = placed laws history low legal level cluster address below is_some in
     let there = its.leads known knows in
-    let lazy = legal-lazy setting sub history some legal in (
+    let lazy = legal-lazy history some legal in (
       there.hops,
       there.way,
       there.few,
@@ -82,17 +83,16 @@ module _ (laws : Laws) (setting : Setting) (sub : ℕ) (history : History) (low 
   mark-there = laws.marks setting sub history low legal (last_stop course)
       ∙ (ap (λ ws. mark_left setting sub ws (last_stop course)) all-made
       ∙ (rest-marks_of setting sub (steps_in (puts_to sub history)) (last_stop course) legal.script
-      (stop-inside setting course (sound-script setting sub (steps_in (puts_to sub history)) legal.script))
+      (stop-inside (sound-script setting sub (steps_in (puts_to sub history)) legal.script))
       ∙ rest-there setting course))
 
   marked : IsMarked setting sub history
-  marked = at_state course.is_off refl
-    where
-      at_state : (b : Bool) → course.is_off ≡ b → IsMarked setting sub history
-      at_state true e = inr (ap (mark_seen setting sub history) stood ∙ (mark-there
-          ∙ (ap (λ b. cond b (Off (length course.moves)) (Here (length course.moves))) e ∙ ap Off all)))
-      at_state false e = inl (ap (mark_seen setting sub history) stood ∙ (mark-there
-          ∙ (ap (λ b. cond b (Off (length course.moves)) (Here (length course.moves))) e ∙ ap Here all)))
+  marked = elim (cases_Bool course.is_off) [
+    | inl e ↦ inr (ap (mark_seen setting sub history) stood ∙ (mark-there
+        ∙ (ap (λ b. cond b (Off (length course.moves)) (Here (length course.moves))) e ∙ ap Off all)))
+    | inr e ↦ inl (ap (mark_seen setting sub history) stood ∙ (mark-there
+        ∙ (ap (λ b. cond b (Off (length course.moves)) (Here (length course.moves))) e ∙ ap Here all)))
+  ]
 
   not-coming : (from : ℕ) → mark_seen setting sub history (standing setting sub history)
       ≢ Coming (number sub history) from

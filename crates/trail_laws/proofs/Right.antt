@@ -1,6 +1,7 @@
 -- The answers of finds are right: what is known grows with the commits, and the mark that answers says where the
 -- subscriber stands.
-use Rattle.std.proofs.Common.{◌≡◌, ◌⊎◌, inl, inr, ℕ, zero, suc, ◌+◌, ◌-◌, ◌*◌, ◌<◌, ◌≤◌, ◌^◌, Bool, true, false, cond, List, [], ◌∷◌, ◌++◌, Option, Some, None, length, map, fold, refl, sym, ap, ◌∙◌, subst, arith}
+use Rattle.std.proofs.lemmas.Bool.{cond_both}
+use Rattle.std.proofs.Common.{◌≡◌, inl, inr, ℕ, zero, suc, ◌+◌, ◌-◌, ◌*◌, ◌<◌, ◌≤◌, ◌^◌, true, false, List, [], ◌∷◌, ◌++◌, Option, Some, None, length, map, fold, sym, ap, ◌∙◌, subst, arith}
 use Rattle.std.specs.Prelude.{All, filter_map, flat_map, slice_get, slice_index}
 use Rattle.std.proofs.lemmas.Bool.Decides.{nat_tests}
 use Rattle.std.proofs.lemmas.List.Elements.{All-append, All-cons, All-head, All-nil, All-tail}
@@ -142,33 +143,26 @@ mark-good setting sub seen chase node (Off q) knows tells = tells
 mark-good setting sub seen chase node (Gone q to) knows tells =
     hop-good setting sub seen (known_with q chase.known) chase.level chase.weight chase.hops_left node to
     (knows-with (number sub seen) q chase.known knows (gone-known setting sub seen node q to tells)) tells.2
-mark-good setting sub seen chase node (Coming q from) knows tells = at_known (is_known q chase.known) refl
-  where
-    at_known : (b : Bool) → is_known q chase.known ≡ b
-        → IsGood setting sub seen (cond b (ended (At node q chase.level chase.weight))
-        (hop setting chase.known chase.level chase.weight chase.hops_left node from))
-    at_known true e = committed tells.3
-      where
-        committed : ((q ≡ suc (number sub seen)) × (from ≡ standing setting sub seen))
-            ⊎ ((q ≡ number sub seen) × (node ≡ standing setting sub seen)
-            × (mark_seen setting sub seen from ≡ Gone q node))
-            → RightAt setting sub seen (At node q chase.level chase.weight)
-        committed (inl early) = absurd (omega (arith, early.0, known-low (number sub seen) q chase.known knows e))
-        committed (inr late) = (late.1, late.0, tells.2)
-    at_known false e = hop-good setting sub seen chase.known chase.level chase.weight chase.hops_left node from knows
-        tells.1
+mark-good setting sub seen chase node (Coming q from) knows tells = cond_both (is_known q chase.known)
+    (ended (At node q chase.level chase.weight))
+    (hop setting chase.known chase.level chase.weight chase.hops_left node from) (IsGood setting sub seen)
+    (λ e. elim tells.3 [
+      | inl early ↦ absurd (omega (arith, early.0, known-low (number sub seen) q chase.known knows e))
+      | inr late ↦ (late.1, late.0, tells.2)
+    ])
+    (λ e. hop-good setting sub seen chase.known chase.level chase.weight chase.hops_left node from knows tells.1)
 
 -- one look
-pub look-good : MarksTell → EntriesTell → (setting : Setting) (seen : History) (call : FindCall) (pursuit : Pursuit)
+pub look-good : MarksTell → EntriesTell → {setting : Setting} (seen : History) (call : FindCall) (pursuit : Pursuit)
     (key : Key) → setting.nodes ≤ 2 ^ 16 → call.from < setting.nodes → IsLegal setting call.sub seen
     → IsSafe setting (number call.sub seen) pursuit → key_of call pursuit ≡ Some key
     → IsGood setting call.sub seen (after_word setting call pursuit (cell setting seen key))
-look-good marks entries setting seen call at_origin key low inside legal safe wanted =
+look-good marks entries {setting} seen call at_origin key low inside legal safe wanted =
     let e : Presence call.from call.sub ≡ key = cc in
     subst (λ (k : Key). IsGood setting call.sub seen (after_origin setting call (mark_in (cell setting seen k)))) e
     (origin-good setting seen call (mark_seen setting call.sub seen call.from)
     (marks setting call.sub seen low legal call.from inside))
-look-good marks entries setting seen call (climbs known weight reader later) key low inside legal safe wanted =
+look-good marks entries {setting} seen call (climbs known weight reader later) key low inside legal safe wanted =
     let e : Entry reader.level reader.cluster call.sub ≡ key = cc in
     subst (λ (k : Key). IsGood setting call.sub seen (after_entry setting call known weight reader later
     (address_in (cell setting seen k)))) e
@@ -176,13 +170,13 @@ look-good marks entries setting seen call (climbs known weight reader later) key
     (entry_seen setting call.sub seen reader.level reader.cluster) safe.0 safe.1
     (entries setting call.sub seen low legal reader.level reader.cluster
     (All-head (Low setting) reader later safe.1)))
-look-good marks entries setting seen call (chases chase node) key low inside legal safe wanted =
+look-good marks entries {setting} seen call (chases chase node) key low inside legal safe wanted =
     let e : Presence node call.sub ≡ key = cc in
     subst (λ (k : Key). IsGood setting call.sub seen (after_mark setting chase node (mark_in (cell setting seen k))))
     e
     (mark-good setting call.sub seen chase node (mark_seen setting call.sub seen node) safe.0
     (marks setting call.sub seen low legal node safe.1))
-look-good marks entries setting seen call (ended found) key low inside legal safe wanted = cc
+look-good marks entries seen call (ended found) key low inside legal safe wanted = cc
 
 -- what is right before a look is right through it
 pub commits-through : (sub actor t : ℕ) (key : Key) (history : History)
@@ -216,13 +210,13 @@ read-one setting history actor t key call pursuit later h = ap
     (words_at setting history) later)) h
 
 -- the looks of a find end with a right answer
-module _ (marks : MarksTell) (entries : EntriesTell) (fronts : FrontsAreLegal) (setting : Setting) (history : History)
+module _ (marks : MarksTell) (entries : EntriesTell) (fronts : FrontsAreLegal) {setting : Setting} (history : History)
     (actor : ℕ) (call : FindCall) (found : Found) (low : setting.nodes ≤ 2 ^ 16) (inside : call.from < setting.nodes)
     (legal : IsLegal setting call.sub history) where
   next-good : (t : ℕ) (pursuit : Pursuit) (key : Key) → IsSafe setting (number call.sub (before t history)) pursuit
       → key_of call pursuit ≡ Some key → IsGood setting call.sub (before t history)
       (after_word setting call pursuit (cell setting (before t history) key))
-  next-good t pursuit key = look-good marks entries setting (before t history) call pursuit key low inside
+  next-good t pursuit key = look-good marks entries (before t history) call pursuit key low inside
       (front-legal fronts setting call.sub history t low legal)
 
   right-looks : (later : List ℕ) (t : ℕ) (key : Key) (pursuit : Pursuit)
@@ -254,7 +248,7 @@ module _ (marks : MarksTell) (entries : EntriesTell) (fronts : FrontsAreLegal) (
 
 pub answers-right : MarksTell → EntriesTell → FrontsAreLegal → AnswersAreRight
 answers-right marks entries fronts setting history actor call found tickets low inside legal find =
-    first-right marks entries fronts setting history actor call found low inside legal tickets find.looks find.answer
+    first-right marks entries fronts history actor call found low inside legal tickets find.looks find.answer
 
 -- so numbers never fall
 number-of : (setting : Setting) (history : History) (sub : ℕ) (found : Found) (last p : ℕ)

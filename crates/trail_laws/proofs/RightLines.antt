@@ -29,45 +29,40 @@ right_find right cause setting history actor call found seen low reads is legal 
     right setting history actor call found seen low is.inside legal find
 
 -- so the line of a find is
-right_line : AnswersAreRight → AgainHasItsCause → (setting : Setting) (scripts : Scripts) (history : History)
+right_line : AnswersAreRight → AgainHasItsCause → {setting : Setting} {scripts : Scripts} {history : History}
     → setting.nodes ≤ 2 ^ 16 → ReadsTop setting → AreValid setting scripts
-    → ((sub : ℕ) → sub < subs setting → IsLegal setting sub history) → (actor : ℕ) (call : FindCall) (line : Done)
+    → ((sub : ℕ) → sub < subs setting → IsLegal setting sub history) → {actor : ℕ} {call : FindCall} {line : Done}
     → IsFindLine setting scripts history actor call line → IsRightLine setting history line
-right_line right cause setting scripts history low reads valid legal actor call line h =
+right_line right cause {setting} {scripts} {history} low reads valid legal {actor} {call} h =
     let is : IsFindCall setting call = call_of_valid setting scripts actor h.before _ h.later valid h.script in
     subst (IsRightLine setting history) (sym h.tells)
     (right_find right cause setting history actor call h.found h.seen low reads is (legal call.sub is.known) h.find)
 
 -- and each line of an outcome
-made_right : AnswersAreRight → AgainHasItsCause → (setting : Setting) (scripts : Scripts) (history : History)
+made_right : AnswersAreRight → AgainHasItsCause → {setting : Setting} {scripts : Scripts} (history : History)
     → setting.nodes ≤ 2 ^ 16 → ReadsTop setting → AreValid setting scripts
     → ((sub : ℕ) → sub < subs setting → IsLegal setting sub history) → (line : Done)
     → IsMade setting scripts history line → IsRightLine setting history line
-made_right right cause setting scripts history low reads valid legal
-    (Moved actor n from to weight first commit last) h
-    = tt
-made_right right cause setting scripts history low reads valid legal (Switched actor is_off node n ticket) h = tt
-made_right right cause setting scripts history low reads valid legal
+made_right right cause history low reads valid legal (Moved actor n from to weight first commit last) h = tt
+made_right right cause history low reads valid legal (Switched actor is_off node n ticket) h = tt
+made_right right cause {setting} {scripts} history low reads valid legal
     (FoundBy actor from sub node n level weight first last) h =
-    right_line right cause setting scripts history low reads valid legal actor (record { from = from; sub = sub }) _ h
-made_right right cause setting scripts history low reads valid legal
+    right_line right cause low reads valid legal h
+made_right right cause {setting} {scripts} history low reads valid legal
     (OffBy actor from sub node n level weight first last) h =
-    right_line right cause setting scripts history low reads valid legal actor (record { from = from; sub = sub }) _ h
-made_right right cause setting scripts history low reads valid legal
+    right_line right cause low reads valid legal h
+made_right right cause {setting} {scripts} history low reads valid legal
     (AgainBy actor from sub why weight first last) h =
-    right_line right cause setting scripts history low reads valid legal actor (record { from = from; sub = sub }) _ h
+    right_line right cause low reads valid legal h
 
 pub outcomes-right : AnswersAreRight → AgainHasItsCause → OrdersArePlayed → OrdersAreDone → PlayedIsLegal
     → LinesAreMade → OutcomesAreRight
 outcomes-right right cause played done legal made setting scripts order low reads valid =
     All-weaker (IsMade setting scripts (history_of setting scripts order))
-    (IsRightLine setting (history_of setting scripts order))
-    (made_right right cause setting scripts (history_of setting scripts order) low reads valid
-    (λ sub below. legal setting scripts (history_of setting scripts order) sub low valid below
-    (played setting scripts order)))
-    (outcome_of setting scripts order).calls
-    (made setting scripts (history_of setting scripts order) (played setting scripts order)
-    (done setting scripts order))
+    (IsRightLine setting (history_of setting scripts order)) (made_right right cause (history_of setting scripts order)
+    low reads valid (λ sub below. legal setting scripts (history_of setting scripts order) sub low valid below
+    (played setting scripts order))) (outcome_of setting scripts order).calls (made setting scripts
+    (history_of setting scripts order) (played setting scripts order) (done setting scripts order))
 
 -- a find whose answer has a number
 record Numbered (setting : Setting) (history : History) (sub p ticket : ℕ) : Type 0 where
@@ -102,20 +97,20 @@ told_by setting history actor from found seen line sub s p ticket is find tells 
       last = told_there.2;
     })
 
-numbered : (setting : Setting) (scripts : Scripts) (history : History) → AreValid setting scripts → (line : Done)
+numbered : {setting : Setting} {scripts : Scripts} (history : History) → AreValid setting scripts → (line : Done)
     (s p ticket : ℕ) → IsMade setting scripts history line → TellsNumber line s p ticket
     → Numbered setting history s p ticket
-numbered setting scripts history valid (Moved actor n from to weight first commit last) s p ticket h told = absurd told
-numbered setting scripts history valid (Switched actor is_off node n at) s p ticket h told = absurd told
-numbered setting scripts history valid (FoundBy actor from sub node n level weight first last) s p ticket h told =
+numbered history valid (Moved actor n from to weight first commit last) s p ticket h told = absurd told
+numbered history valid (Switched actor is_off node n at) s p ticket h told = absurd told
+numbered {setting} {scripts} history valid (FoundBy actor from sub node n level weight first last) s p ticket h told =
     told_by setting history actor from h.found h.seen _ sub s p ticket
     (call_of_valid setting scripts actor h.before (record { from = from; sub = sub }) h.later valid h.script) h.find
     h.tells told
-numbered setting scripts history valid (OffBy actor from sub node n level weight first last) s p ticket h told =
+numbered {setting} {scripts} history valid (OffBy actor from sub node n level weight first last) s p ticket h told =
     told_by setting history actor from h.found h.seen _ sub s p ticket
     (call_of_valid setting scripts actor h.before (record { from = from; sub = sub }) h.later valid h.script) h.find
     h.tells told
-numbered setting scripts history valid (AgainBy actor from sub why weight first last) s p ticket h told = absurd told
+numbered history valid (AgainBy actor from sub why weight first last) s p ticket h told = absurd told
 
 at_place : {A : Type 0} (P : A → Type 0) (xs : List A) (i : ℕ) (x : A) → All P xs → slice_get xs i ≡ Some x → P x
 at_place P [] i x all e = cc
@@ -128,9 +123,9 @@ numbers-rise fall played done legal made setting scripts order low valid i j one
     let history : History = history_of setting scripts order in
     let all : All (IsMade setting scripts history) (outcome_of setting scripts order).calls =
     made setting scripts history (played setting scripts order) (done setting scripts order) in
-    let a : Numbered setting history sub p earlier = numbered setting scripts history valid one sub p earlier
+    let a : Numbered setting history sub p earlier = numbered history valid one sub p earlier
     (at_place (IsMade setting scripts history) (outcome_of setting scripts order).calls i one all at_one) told_one in
-    let b : Numbered setting history sub q later = numbered setting scripts history valid other sub q later
+    let b : Numbered setting history sub q later = numbered history valid other sub q later
     (at_place (IsMade setting scripts history) (outcome_of setting scripts order).calls j other all at_other)
     told_other in
     fall setting history a.actor b.actor sub a.from b.from p q a.found b.found a.seen b.seen low a.is.inside b.is.inside

@@ -1,6 +1,6 @@
 -- Where a subscriber was after so many commits, the number is no lower: so the marks of a trail rise from hop to hop.
-use Rattle.std.proofs.Common.{◌≡◌, ◌≢◌, ◌⊎◌, inl, inr, ℕ, ◌+◌, ◌-◌, ◌<◌, ◌≤◌, ◌^◌, ◌==◌, Bool, true, false, cond, List, [], ◌∷◌, ◌++◌, length, length-append, map, refl, sym, ap, ◌∙◌, subst, arith, eqb-true, eq-eqb}
-use Rattle.std.proofs.lemmas.Bool.{cases_eq, cases_lt}
+use Rattle.std.proofs.lemmas.Bool.{cases_Bool, cases_cond, eqb-false, cases_eq, cases_lt}
+use Rattle.std.proofs.Common.{◌≡◌, ◌≢◌, ◌⊎◌, inl, inr, ℕ, ◌+◌, ◌-◌, ◌<◌, ◌≤◌, ◌^◌, ◌==◌, Bool, true, false, cond, List, [], ◌∷◌, ◌++◌, length, length-append, map, refl, sym, ap, ◌∙◌, subst, arith, eqb-true}
 use Rattle.std.proofs.lemmas.List.{length-map}
 use Rattle.std.proofs.lemmas.Option.{slice_get_within}
 use Rattle.node_set.specs.Ascending.{has}
@@ -15,7 +15,6 @@ use Rattle.trail_laws.specs.Trail.{GoesUp, MarksTell, MarkTells, NumbersGoUp, ma
 use Rattle.trail_laws.proofs.Links.{AreLinked, IsSound}
 use Rattle.trail_laws.proofs.ClosedMarks.{IsNext, mark_coming, mark_erasing, mark_passing, rest_mark, since_top, there, trail_mark, trail_mark-push}
 use Rattle.trail_laws.proofs.ClosedViews.{Phase, View, coming, passage, clearing, phase_commits, phase_mark, Shown}
-use Rattle.trail_laws.proofs.Views.{shown}
 use Rattle.trail_laws.proofs.LinkedStops.{last-left, LeavesMark, stop_at}
 use Rattle.trail_laws.proofs.Leads.{trail-count, trail-ends, trail-linked, trail-stops, with-end, with-linked, with-stops}
 use Rattle.trail_laws.proofs.Laws.{HistoryView, Laws, view}
@@ -34,10 +33,10 @@ not-empty : (p w : ℕ) (mark : PresenceMark) → mark ≡ Empty → mark ≡ Go
 not-empty p w mark none h = let clash : Empty ≡ Gone p w = sym none ∙ h in cc
 
 -- a Gone where these moves had stopped is that of a later move
-later : (setting : Setting) (marks : ℕ → PresenceMark) (from number : ℕ) (moves : List Move)
+later : {setting : Setting} {marks : ℕ → PresenceMark} {from number : ℕ} {moves : List Move}
     → IsTrailOf setting marks from number moves → (j w q x : ℕ) → w < setting.nodes
     → j ≤ number + length moves → (number ≤ j → stop_at from moves (j - number) ≡ w) → marks w ≡ Gone q x → j < q
-later setting marks from number moves is j w q x low few stops at_w =
+later {setting} {from} {number} {moves} is j w q x low few stops at_w =
     at_left (last-left setting from number moves w Empty is.linked)
   where
     at_left : LeavesMark setting from number moves w Empty → j < q
@@ -63,68 +62,48 @@ later setting marks from number moves is j w q x low few stops at_w =
 
 -- at rest, and in each phase of a move
 there-not : (course : Course) (p w : ℕ) → there course ≡ Gone p w → ⊥
-there-not course p w h = at_state course.is_off h
-  where
-    at_state : (b : Bool) → cond b (Off (length course.moves)) (Here (length course.moves)) ≡ Gone p w → ⊥
-    at_state true g = cc
-    at_state false g = cc
+there-not course p w h =
+    elim (cases_cond course.is_off (Off (length course.moves)) (Here (length course.moves)) (Gone p w) (sym h))
+    [ inl is_off ↦ cc | inr here ↦ cc ]
 
 rest-gone : (setting : Setting) (course : Course) (v p w : ℕ) → rest_mark setting course v ≡ Gone p w
     → (trail_mark (since_top setting course) v Empty ≡ Gone p w) × (v ≢ last_stop course)
-rest-gone setting course v p w h = at_place (v == last_stop course) refl h
-  where
-    at_place : (b : Bool) → (v == last_stop course) ≡ b
-        → cond b (there course) (trail_mark (since_top setting course) v Empty) ≡ Gone p w
-        → (trail_mark (since_top setting course) v Empty ≡ Gone p w) × (v ≢ last_stop course)
-    at_place true e g = absurd (there-not course p w g)
-    at_place false e g = (g, λ same. let clash : false ≡ true = sym e ∙ eq-eqb v (last_stop course) same in cc)
+rest-gone setting course v p w h = elim (cases_Bool (v == last_stop course)) [
+  | inl e ↦ absurd (there-not course p w (rw e at h))
+  | inr e ↦ (rw e at h, eqb-false v (last_stop course) e)
+]
 
 coming-gone : (setting : Setting) (course : Course) (move : Move) (v p w : ℕ)
     → mark_coming setting course move v ≡ Gone p w
     → (trail_mark (since_top setting course) v Empty ≡ Gone p w) × (v ≢ last_stop course) × (v ≢ move.to)
-coming-gone setting course move v p w h = at_to (v == move.to) refl h
-  where
-    at_to : (b : Bool) → (v == move.to) ≡ b
-        → cond b (Coming move.number move.from) (rest_mark setting course v) ≡ Gone p w
-        → (trail_mark (since_top setting course) v Empty ≡ Gone p w) × (v ≢ last_stop course) × (v ≢ move.to)
-    at_to true e g = cc
-    at_to false e g =
-        let rest = rest-gone setting course v p w g in
-        (rest.0, rest.1, λ same. let clash : false ≡ true = sym e ∙ eq-eqb v move.to same in cc)
+coming-gone setting course move v p w h = elim (cases_Bool (v == move.to)) [
+  | inl e ↦ let clash : Coming move.number move.from ≡ Gone p w = rw e at h in cc
+  | inr e ↦ let rest = rest-gone setting course v p w (rw e at h) in (rest.0, rest.1, eqb-false v move.to e)
+]
 
-passing-gone : (setting : Setting) (course : Course) (move : Move) (v p w : ℕ) → IsNext setting course move
+passing-gone : {setting : Setting} {course : Course} {move : Move} (v p w : ℕ) → IsNext setting course move
     → mark_passing setting course move v ≡ Gone p w
     → (trail_mark (since_top setting course ++ move ∷ []) v Empty ≡ Gone p w) × (v ≢ move.to)
-passing-gone setting course move v p w next h = at_from (v == move.from) refl h
-  where
-    pushed : trail_mark (since_top setting course ++ move ∷ []) v Empty
-        ≡ cond (v == move.from) (Gone move.number move.to) (trail_mark (since_top setting course) v Empty)
-    pushed = trail_mark-push (since_top setting course) move v Empty
+passing-gone {setting} {course} {move} v p w next h = elim (cases_Bool (v == move.from)) [
+  | inl e ↦ (
+    rw (trail_mark-push (since_top setting course) move v Empty, e) (rw e at h),
+    λ same. next.moving (sym same ∙ eqb-true v move.from e),
+  )
+  | inr e ↦
+      let rest = coming-gone setting course move v p w (rw e at h) in
+      (rw (trail_mark-push (since_top setting course) move v Empty, e) rest.0, rest.2)
+]
 
-    at_from : (b : Bool) → (v == move.from) ≡ b
-        → cond b (Gone move.number move.to) (mark_coming setting course move v) ≡ Gone p w
-        → (trail_mark (since_top setting course ++ move ∷ []) v Empty ≡ Gone p w) × (v ≢ move.to)
-    at_from true e g = (
-      pushed ∙ (ap (λ b. cond b (Gone move.number move.to) (trail_mark (since_top setting course) v Empty)) e ∙ g),
-      λ same. next.moving (sym same ∙ eqb-true v move.from e),
-    )
-    at_from false e g =
-        let rest = coming-gone setting course move v p w g in (
-          pushed ∙ (ap (λ b. cond b (Gone move.number move.to) (trail_mark (since_top setting course) v Empty)) e
-              ∙ rest.0),
-          rest.2,
-        )
-
-clearing-gone : (setting : Setting) (course : Course) (move : Move) (purged : List ℕ) (v p w : ℕ)
+clearing-gone : {setting : Setting} {course : Course} {move : Move} (purged : List ℕ) (v p w : ℕ)
     → IsNext setting course move → mark_erasing setting course move purged v ≡ Gone p w
     → (trail_mark (since_top setting course ++ move ∷ []) v Empty ≡ Gone p w) × (v ≢ move.to)
-clearing-gone setting course move purged v p w next h = at_purged (has v purged) (v == move.to) h
+clearing-gone {setting} {course} {move} purged v p w next h = at_purged (has v purged) (v == move.to) h
   where
     at_purged : (a b : Bool) → cond a Empty (cond b (Here move.number) (mark_passing setting course move v)) ≡ Gone p w
         → (trail_mark (since_top setting course ++ move ∷ []) v Empty ≡ Gone p w) × (v ≢ move.to)
     at_purged true b g = cc
     at_purged false true g = cc
-    at_purged false false g = passing-gone setting course move v p w next g
+    at_purged false false g = passing-gone v p w next g
 
 -- the trail of a view, which ends the commits
 record HasTrail (setting : Setting) (marks : ℕ → PresenceMark) (begin : ℕ) (commits : List Commit) : Type 0 where
@@ -159,63 +138,63 @@ trail-of setting marks from number start last begin moves all commits linked end
           ∙ stops-told begin start commits all j begins commits_are);
     }
 
-short-trail : (setting : Setting) (course : Course) (marks : ℕ → PresenceMark) (begin : ℕ) (commits : List Commit)
+short-trail : {setting : Setting} {course : Course} (marks : ℕ → PresenceMark) (begin : ℕ) (commits : List Commit)
     → IsSound setting course → course.start ≡ begin → commits ≡ map commit_by course.moves
     → ((v p w : ℕ) → v < setting.nodes → marks v ≡ Gone p w
     → (trail_mark (since_top setting course) v Empty ≡ Gone p w) × (v ≢ last_stop course))
     → HasTrail setting marks begin commits
-short-trail setting course marks begin commits sound =
-    trail-of setting marks _ _ course.start (last_stop course) begin _
-    course.moves commits (trail-linked setting course sound) (trail-ends setting course sound)
-    (λ i. trail-stops setting course i sound) (trail-count setting course sound)
+short-trail {setting} {course} marks begin commits sound =
+    trail-of setting marks _ _ course.start (last_stop course) begin _ course.moves commits (trail-linked sound)
+    (trail-ends sound) (λ i. trail-stops i sound) (trail-count sound)
 
-long-trail : (setting : Setting) (course : Course) (move : Move) (marks : ℕ → PresenceMark) (begin : ℕ)
+long-trail : {setting : Setting} {course : Course} {move : Move} (marks : ℕ → PresenceMark) (begin : ℕ)
     (commits : List Commit) → IsSound setting course → IsNext setting course move → course.start ≡ begin
     → commits ≡ map commit_by (course.moves ++ move ∷ [])
     → ((v p w : ℕ) → v < setting.nodes → marks v ≡ Gone p w
     → (trail_mark (since_top setting course ++ move ∷ []) v Empty ≡ Gone p w) × (v ≢ move.to))
     → HasTrail setting marks begin commits
-long-trail setting course move marks begin commits sound next = trail-of setting marks _ _ course.start move.to begin _
-    (course.moves ++ move ∷ []) commits (with-linked setting course move sound next) (with-end setting course move)
-    (λ i. with-stops setting course move i sound) (omega (
+long-trail {setting} {course}
+    {move} marks begin commits sound next = trail-of setting marks _ _ course.start move.to begin _
+    (course.moves ++ move ∷ []) commits (with-linked sound next) (with-end setting course move)
+    (λ i. with-stops move i sound) (omega (
       arith,
       length-append course.moves (move ∷ []),
       length-append (since_top setting course) (move ∷ []),
-      trail-count setting course sound,
+      trail-count sound,
     ))
 
-has-trail : (setting : Setting) (shown : Shown) → View setting shown
+has-trail : {setting : Setting} {shown : Shown} → View setting shown
     → HasTrail setting shown.marks shown.from shown.commits
-has-trail setting shown (inl h) =
-    short-trail setting h.course shown.marks shown.from shown.commits h.sound h.begins h.commits_are
+has-trail {setting} {shown} (inl h) =
+    short-trail shown.marks shown.from shown.commits h.sound h.begins h.commits_are
     (λ v p w low is. rest-gone setting h.course v p w (sym (h.marks_are v low) ∙ is))
-has-trail setting shown (inr h) = at_phase h.phase h.marks_are h.commits_are
+has-trail {setting} {shown} (inr h) = at_phase h.phase h.marks_are h.commits_are
   where
     at_phase : (phase : Phase)
         → ((v : ℕ) → v < setting.nodes → shown.marks v ≡ phase_mark setting h.course h.move phase v)
         → shown.commits ≡ phase_commits h.course h.move phase → HasTrail setting shown.marks shown.from shown.commits
     at_phase (coming written) are c =
-        short-trail setting h.course shown.marks shown.from shown.commits h.sound h.begins c
+        short-trail shown.marks shown.from shown.commits h.sound h.begins c
         (λ v p w low is. let rest = coming-gone setting h.course h.move v p w (sym (are v low) ∙ is) in
         (rest.0, rest.1))
     at_phase passage are c =
-        long-trail setting h.course h.move shown.marks shown.from shown.commits h.sound h.next h.begins c
-        (λ v p w low is. passing-gone setting h.course h.move v p w h.next (sym (are v low) ∙ is))
+        long-trail shown.marks shown.from shown.commits h.sound h.next h.begins c
+        (λ v p w low is. passing-gone v p w h.next (sym (are v low) ∙ is))
     at_phase (clearing erased purged) are c =
-        long-trail setting h.course h.move shown.marks shown.from shown.commits h.sound h.next h.begins c
-        (λ v p w low is. clearing-gone setting h.course h.move purged v p w h.next (sym (are v low) ∙ is))
+        long-trail shown.marks shown.from shown.commits h.sound h.next h.begins c
+        (λ v p w low is. clearing-gone purged v p w h.next (sym (are v low) ∙ is))
 
 -- where a subscriber was after so many commits, the number is no lower, and that of a Gone is higher
-pub stop-goes_up : Laws → MarksTell → (setting : Setting) (sub : ℕ) (history : History) → setting.nodes ≤ 2 ^ 16
+pub stop-goes_up : Laws → MarksTell → {setting : Setting} {sub : ℕ} (history : History) → setting.nodes ≤ 2 ^ 16
     → IsLegal setting sub history → (j w : ℕ) → j ≤ number sub history
     → stop_after (start setting sub) (commits sub history) j ≡ w → w < setting.nodes
     → GoesUp j (mark_seen setting sub history w)
 unfolding HistoryView
-stop-goes_up laws tells setting sub history low legal j w few stop inside =
+stop-goes_up laws tells {setting} {sub} history low legal j w few stop inside =
     at_mark (mark_seen setting sub history w) refl (tells setting sub history low legal w inside)
   where
     trail : HasTrail setting (mark_seen setting sub history) (start setting sub) (commits sub history)
-    trail = has-trail setting (shown setting sub history) (view laws setting sub history low legal)
+    trail = has-trail (view laws history low legal)
 
     at_mark : (mark : PresenceMark) → mark_seen setting sub history w ≡ mark
         → MarkTells setting sub history w (mark_seen setting sub history w) → GoesUp j mark
@@ -227,8 +206,7 @@ stop-goes_up laws tells setting sub history low legal j w few stop inside =
         let h : MarkTells setting sub history w (Off q) = subst (MarkTells setting sub history w) e told in
         omega (arith, few, h.1)
     at_mark (Gone q x) e told =
-        later setting (mark_seen setting sub history) trail.from trail.number trail.moves trail.is j w q x inside
-        (omega (arith, few, trail.count)) (λ h. trail.stops j h ∙ stop) e
+        later trail.is j w q x inside (omega (arith, few, trail.count)) (λ h. trail.stops j h ∙ stop) e
     at_mark (Coming q u) e told =
         let h : MarkTells setting sub history w (Coming q u) = subst (MarkTells setting sub history w) e told in
         elim h.3 [
@@ -238,7 +216,7 @@ stop-goes_up laws tells setting sub history low legal j w few stop inside =
 
 pub numbers-go_up : Laws → MarksTell → NumbersGoUp
 numbers-go_up laws tells setting sub history low legal node p to inside is =
-    stop-goes_up laws tells setting sub history low legal p to few
+    stop-goes_up laws tells history low legal p to few
     (stop-listed (start setting sub) (commits sub history) p _ its.0 its.1) its.2
   where
     its : MarkTells setting sub history node (Gone p to)

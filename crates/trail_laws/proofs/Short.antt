@@ -7,7 +7,6 @@ use Rattle.trail_laws.specs.Trail.{EntriesTell, EntryTells, mark_seen, MarksTell
 use Rattle.trail_laws.specs.Phases.{AddressesLeadByPhase, PhasesCover}
 use Rattle.trail_laws.specs.Ways.{AddressesLeadShortly, ComingsLeadShortly, LevelsStayNear, PassagesAreOpen, StandsInside}
 use Rattle.trail_laws.proofs.Stops.{view-inside}
-use Rattle.trail_laws.proofs.Views.{shown}
 use Rattle.trail_laws.proofs.Comings.{coming-leads_on}
 use Rattle.trail_laws.proofs.Laws.{HistoryView, Laws, view}
 use Rattle.trail_laws.proofs.Lazy.{legal-lazy}
@@ -17,17 +16,17 @@ use Rattle.trail_laws.proofs.Passages.{coming-opens, PassageLaws}
 pub stands-inside : Laws → StandsInside
 unfolding HistoryView
 stands-inside laws setting sub history low legal =
-    view-inside setting (shown setting sub history) (view laws setting sub history low legal)
+    view-inside (view laws history low legal)
 
 pub levels-near : Laws → LevelsStayNear
 unfolding HistoryView
 levels-near laws setting sub history low metric some legal level below =
-    let its = level-has setting (shown setting sub history) level below (view laws setting sub history low legal) in
-    (its.0, its.1, its.2, its.4 metric (legal-lazy setting sub history some legal), its.3)
+    let its = level-has level below (view laws history low legal) in
+    (its.0, its.1, its.2, its.4 metric (legal-lazy history some legal), its.3)
 
 pub passages-open : PassageLaws → PassagesAreOpen
 passages-open laws setting sub history low legal node p from inside comes reached =
-    coming-opens laws setting sub history node p from low inside legal comes reached
+    coming-opens laws history node p from low inside legal comes reached
 
 old-or_new : (a b : ℕ) → a ≤ suc b → (a ≤ b) ⊎ (a ≡ suc b)
 old-or_new a b h = grind (arith, nat_tests)
@@ -65,8 +64,7 @@ addresses-short by_phase cover tell setting sub history low metric some legal le
 pub comings-short : Laws → MarksTell → ComingsLeadShortly
 unfolding HistoryView
 comings-short laws marks setting sub history low metric legal node p u pass inside comes opens =
-    let there = coming-leads_on setting (shown setting sub history) node p u None inside
-    (view laws setting sub history low legal) comes in (
+    let there = coming-leads_on node p u None inside (view laws history low legal) comes in (
       there.2.hops,
       there.2.way,
       there.2.few,

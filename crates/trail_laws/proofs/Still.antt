@@ -32,12 +32,12 @@ record IsStill (setting : Setting) (sub : ℕ) (one other : History) : Type 0 wh
   open_too : (p u : ℕ) → mark_seen setting sub one (standing setting sub one) ≡ Coming p u → p ≡ number sub one
       → mark_seen setting sub other (standing setting sub one) ≡ Coming p u
 
-still-step : Used → RestIsSettled → (setting : Setting) (sub : ℕ) (one history : History) (visit : Visit)
+still-step : Used → RestIsSettled → {setting : Setting} {sub : ℕ} {one history : History} (visit : Visit)
     → setting.nodes ≤ 2 ^ 16 → IsLegal setting sub history → IsLegal setting sub (history ++ visit ∷ [])
     → is_of_move sub history visit.act ≡ false → IsStill setting sub one history
     → IsStill setting sub one (history ++ visit ∷ [])
-still-step used rested setting sub one history visit low legal legal_more quiet still =
-    let alike = alike-step used.cells used.marks_left used.rests setting sub history visit low legal legal_more quiet in
+still-step used rested {setting} {sub} {one} {history} visit low legal legal_more quiet still =
+    let alike = alike-step used.cells used.marks_left used.rests history visit low legal legal_more quiet in
     record {
       stands = alike.stands ∙ still.stands;
       count = alike.count ∙ still.count;
@@ -92,11 +92,9 @@ stand-still used rested opens inside setting history actor call found (t ∷ lat
     ends = last-inside setting history actor call 0 at_origin t later find.looks
 
     still : IsStill setting call.sub (before t history) (through (last_of (t ∷ later)) history)
-    still = while-quiet used.fronts setting call.sub history (IsStill setting call.sub (before t history)) low legal
-        (λ seen visit is more calm now.
-        still-step used rested setting call.sub (before t history) seen visit low is more calm now)
-        t (suc (last_of (t ∷ later))) (omega (arith, late)) (omega (arith, ends))
-        (λ x h g. quiet x h (omega (arith, g)))
+    still = while-quiet used.fronts history (IsStill setting call.sub (before t history)) low legal (λ
+        seen visit is more calm now. still-step used rested visit low is more calm now) t (suc (last_of (t ∷ later)))
+        (omega (arith, late)) (omega (arith, ends)) (λ x h g. quiet x h (omega (arith, g)))
         (record { stands = refl; count = refl; open_too = λ p u comes same. comes })
 
     legal_last : IsLegal setting call.sub (through (last_of (t ∷ later)) history)

@@ -1,13 +1,13 @@
 -- Where the commits of a subscriber lead, and where each begins.
-use Rattle.std.proofs.Common.{◌⊎◌, true, false, ◌≡◌, inl, inr, ℕ, zero, suc, ◌-◌, ◌<◌, ◌≤◌, List, [], ◌∷◌, ◌++◌, Some, length, map, fold, refl, sym, ap, ◌∙◌, subst, arith}
+use Rattle.trail_laws.proofs.ClosedMarks.{from-inside, IsNext}
+use Rattle.std.proofs.Common.{◌⊎◌, true, false, ◌≡◌, inl, inr, ℕ, zero, suc, ◌-◌, ◌<◌, ◌≤◌, List, [], ◌∷◌, ◌++◌, Some, length, map, fold, refl, sym, ap, ◌∙◌, arith}
 use Rattle.std.specs.Prelude.{slice_get, slice_index}
 use Rattle.std.proofs.lemmas.List.{get_or_append_left, length-map, map-append}
 use Rattle.directory.specs.Settings.{Setting}
 use Rattle.directory.specs.Courses.{Course, Move}
 use Rattle.directory.specs.Standing.{Commit, commit_by}
-use Rattle.trail_laws.proofs.Links.{AreLinked, IsSound, last-inside, linked-push, moves-count, stop-inside}
+use Rattle.trail_laws.proofs.Links.{AreLinked, IsSound, last-inside, linked-push, moves-count}
 use Rattle.trail_laws.proofs.Tells.{stands, stands-moves}
-use Rattle.trail_laws.proofs.ClosedMarks.{IsNext}
 use Rattle.trail_laws.proofs.ClosedViews.{Shown, View, Phase, clearing, coming, passage, phase_commits}
 use Rattle.trail_laws.proofs.LinkedStops.{stop_at}
 
@@ -63,13 +63,12 @@ left-linked setting from number (m ∷ moves) (f0, f1, f2, f3, f4, f5, f6, f7) z
 left-linked setting from number (m ∷ moves) (f0, f1, f2, f3, f4, f5, f6, f7) (suc i) c h =
     left-linked setting m.to (suc number) moves f7 i c h
 
-course-linked : (setting : Setting) (course : Course) (move : Move) → IsSound setting course
+course-linked : {setting : Setting} {course : Course} {move : Move} → IsSound setting course
     → IsNext setting course move → AreLinked setting course.start 0 (course.moves ++ move ∷ [])
-course-linked setting course move sound next =
-    linked-push setting course.start 0 course.moves move
-    (omega (arith, next.number)) next.from
-    (subst (λ n. n < setting.nodes) (sym next.from) (stop-inside setting course sound)) next.inside next.moving
-    next.renewed next.weight sound.linked
+course-linked {setting} {course} {move} sound next =
+    linked-push setting course.start 0 course.moves move (omega (arith, next.number)) next.from
+    (from-inside sound next) next.inside next.moving next.renewed
+    next.weight sound.linked
 
 -- the moves of a view that are committed: all, or all but one
 pub record IsCommitted (setting : Setting) (shown : Shown) : Type 0 where
@@ -80,26 +79,25 @@ pub record IsCommitted (setting : Setting) (shown : Shown) : Type 0 where
   pub count : length shown.commits ≡ length moves
   pub rest : (shown.moves ≡ moves) ⊎ ((length shown.moves ≡ suc (length moves)) × (shown.off ≡ false))
 
-pub committed : (setting : Setting) (shown : Shown) → View setting shown → IsCommitted setting shown
-committed setting shown (inl h) = record {
+pub committed : {setting : Setting} {shown : Shown} → View setting shown → IsCommitted setting shown
+committed {setting} (inl h) = record {
   moves = h.course.moves;
-  begins = subst (λ n. n < setting.nodes) h.begins h.sound.begins;
-  linked = subst (λ n. AreLinked setting n 0 h.course.moves) h.begins h.sound.linked;
+  begins = rw h.begins at h.sound.begins;
+  linked = rw h.begins at h.sound.linked;
   are = h.commits_are;
   count = ap length h.commits_are ∙ length-map h.course.moves commit_by;
   rest = inl h.moves_are;
 }
-committed setting shown (inr h) = at_phase h.phase h.commits_are
+committed {setting} {shown} (inr h) = at_phase h.phase h.commits_are
   where
     begins : shown.from < setting.nodes
-    begins = subst (λ n. n < setting.nodes) h.begins h.sound.begins
+    begins = rw h.begins at h.sound.begins
 
     all : shown.commits ≡ map commit_by (h.course.moves ++ h.move ∷ []) → IsCommitted setting shown
     all c = record {
       moves = h.course.moves ++ h.move ∷ [];
       begins = begins;
-      linked = subst (λ n. AreLinked setting n 0 (h.course.moves ++ h.move ∷ [])) h.begins
-          (course-linked setting h.course h.move h.sound h.next);
+      linked = rw h.begins at (course-linked h.sound h.next);
       are = c;
       count = ap length c ∙ length-map (h.course.moves ++ h.move ∷ []) commit_by;
       rest = inl h.moves_are;
@@ -109,7 +107,7 @@ committed setting shown (inr h) = at_phase h.phase h.commits_are
     at_phase (coming written) c = record {
       moves = h.course.moves;
       begins = begins;
-      linked = subst (λ n. AreLinked setting n 0 h.course.moves) h.begins h.sound.linked;
+      linked = rw h.begins at h.sound.linked;
       are = c;
       count = ap length c ∙ length-map h.course.moves commit_by;
       rest = inr (ap length h.moves_are ∙ moves-count h.course h.move, h.off_is);
@@ -118,35 +116,35 @@ committed setting shown (inr h) = at_phase h.phase h.commits_are
     at_phase (clearing erased purged) c = all c
 
 -- at most one move is begun that isn't committed, and none when the subscriber is off
-pub view-counts : (setting : Setting) (shown : Shown) → View setting shown
+pub view-counts : {setting : Setting} {shown : Shown} → View setting shown
     → (length shown.moves ≡ suc (length shown.commits)) ⊎ (length shown.moves ≡ length shown.commits)
-view-counts setting shown view =
-    let its = committed setting shown view in
+view-counts {setting} {shown} view =
+    let its = committed view in
     elim its.rest [
       | inl all ↦ inr (ap length all ∙ sym its.count)
       | inr more ↦ inl (more.0 ∙ ap suc (sym its.count))
     ]
 
-pub off-counts : (setting : Setting) (shown : Shown) → View setting shown → shown.off ≡ true
+pub off-counts : {setting : Setting} {shown : Shown} → View setting shown → shown.off ≡ true
     → length shown.moves ≡ length shown.commits
-off-counts setting shown view off =
-    let its = committed setting shown view in
+off-counts {setting} {shown} view off =
+    let its = committed view in
     elim its.rest [
       | inl all ↦ ap length all ∙ sym its.count
       | inr more ↦ let clash : true ≡ false = sym off ∙ more.1 in cc
     ]
 
 -- it stands at a node of the network
-pub view-inside : (setting : Setting) (shown : Shown) → View setting shown
+pub view-inside : {setting : Setting} {shown : Shown} → View setting shown
     → stands shown.from shown.commits < setting.nodes
-view-inside setting shown view =
-    let its = committed setting shown view in
-    subst (λ n. n < setting.nodes) (sym (ap (stands shown.from) its.are ∙ stands-moves shown.from its.moves))
+view-inside {setting} {shown} view =
+    let its = committed view in
+    rw (ap (stands shown.from) its.are ∙ stands-moves shown.from its.moves)
     (last-inside setting shown.from 0 its.moves its.begins its.linked)
 
-pub stop-left : (setting : Setting) (shown : Shown) → View setting shown
+pub stop-left : {setting : Setting} {shown : Shown} → View setting shown
     → (i : ℕ) (c : Commit) → slice_get shown.commits i ≡ Some c → stop_after shown.from shown.commits i ≡ c.from
-stop-left setting shown view i c h =
-    let its = committed setting shown view in
+stop-left {setting} {shown} view i c h =
+    let its = committed view in
     ap (λ cs. stop_after shown.from cs i) its.are
     ∙ left-linked setting shown.from 0 its.moves its.linked i c (sym (ap (λ cs. slice_get cs i) its.are) ∙ h)

@@ -1,5 +1,6 @@
 -- What makes a find sure of an answer at each pursuit: a look keeps it, and what is no put of a move.
-use Rattle.std.proofs.Common.{◌≡◌, ℕ, zero, suc, ◌+◌, ◌*◌, ◌<◌, ◌≤◌, ◌^◌, Bool, true, false, cond, List, [], ◌∷◌, ◌++◌, Option, Some, None, length, refl, sym, ap, ◌∙◌, subst, arith}
+use Rattle.std.proofs.lemmas.Bool.{cond_both}
+use Rattle.std.proofs.Common.{◌≡◌, ℕ, zero, suc, ◌+◌, ◌*◌, ◌<◌, ◌≤◌, ◌^◌, Bool, true, false, cond, List, [], ◌∷◌, Option, Some, None, length, refl, sym, ap, ◌∙◌, subst, arith}
 use Rattle.entry_word.specs.Marks.{mark_in}
 use Rattle.entry_word.specs.Addresses.{address_in}
 use Rattle.entry_word.specs.declared.address.Address.{Address}
@@ -35,22 +36,21 @@ IsSure setting sub seen call Within (chases chase node) =
 IsSure setting sub seen call Within (ended found) = IsAnswered found × Within (found_weight found)
 
 -- ---- it stays
-module _ (setting : Setting) (sub : ℕ) (one other : History) (call : FindCall) (Within : ℕ → Type 0)
+module _ {setting : Setting} {sub : ℕ} {one other : History} (call : FindCall) (Within : ℕ → Type 0)
     (alike : IsAlike setting sub one other) where
   led-on : (known : Option ℕ) (node hops way : ℕ)
       → IsLed setting (mark_seen setting sub one) known node (standing setting sub one) hops way
       → IsLed setting (mark_seen setting sub other) known node (standing setting sub other) hops way
   led-on known node hops way led =
-      subst (λ n. IsLed setting (mark_seen setting sub other) known node n hops way) (sym alike.stands)
-      (led-alike setting (mark_seen setting sub one) (mark_seen setting sub other) alike.marks known node
-      (standing setting sub one) hops way led)
+      rw alike.stands (led-alike setting (mark_seen setting sub one) (mark_seen setting sub other) alike.marks known
+      node (standing setting sub one) hops way led)
 
   entry-alike : (old new : Option Address) (on other_on : Type 0) (there other_there : Address → Type 0) → new ≡ old
       → (on → other_on) → ((a : Address) → there a → other_there a) → EntryAsks old on there
       → EntryAsks new other_on other_there
   entry-alike None None on other_on there other_there same f g h = f h
   entry-alike (Some a) (Some b) on other_on there other_there same f g h =
-      let is_one : a ≡ b = cc in subst (λ (x : Address). other_there x) is_one (g a h)
+      let is_one : a ≡ b = cc in rw is_one at (g a h)
   entry-alike old new on other_on there other_there same f g h = cc
 
   affords-alike : (weight : ℕ) (readers : List Reader)
@@ -62,13 +62,13 @@ module _ (setting : Setting) (sub : ℕ) (one other : History) (call : FindCall)
       (entry_seen setting sub other reader.level reader.cluster) _ _ _ _ (alike.entries reader.level reader.cluster)
       (affords-alike (weight + 2 * way_in setting call reader) later)
       (λ address its known knows.
-      let led = its known (subst (λ n. KnowsAtMost n known) alike.count knows) in
+      let led = its known (rw alike.count at knows) in
       (led.0, led.1, led.2, led-on known address.node led.0 led.1 led.3, led.4)) h
 
   pub sure-alike : (pursuit : Pursuit) → IsSure setting sub one call Within pursuit
       → IsSure setting sub other call Within pursuit
   sure-alike (climbs known weight reader later) sure =
-      (subst (λ n. KnowsAtMost n known) (sym alike.count) sure.0, affords-alike weight (reader ∷ later) sure.1)
+      (rw alike.count sure.0, affords-alike weight (reader ∷ later) sure.1)
   sure-alike (chases chase node) sure =
       (sure.0, sure.1, sure.2, led-on chase.known node sure.0 sure.1 sure.3, sure.4)
   sure-alike other_pursuit sure = sure
@@ -84,16 +84,29 @@ pub record Used : Type 0 where
   pub comings : ComingsLead
   pub top : TopHasEntry
 
+pub used : CellsOfPuts → MarksAreLeft → StepsBeginAtRest → FrontsAreLegal → MarksTell → AddressesLead → ComingsLead
+    → TopHasEntry → Used
+used cells marks_left rests fronts marks addresses comings top = record {
+  cells = cells;
+  marks_left = marks_left;
+  rests = rests;
+  fronts = fronts;
+  marks = marks;
+  addresses = addresses;
+  comings = comings;
+  top = top;
+}
+
 -- up to a later ticket, while no move is made
-pub sure-until : Used → (setting : Setting) (sub : ℕ) (history : History) (call : FindCall) (Within : ℕ → Type 0)
+pub sure-until : Used → {setting : Setting} {sub : ℕ} (history : History) (call : FindCall) (Within : ℕ → Type 0)
     (t u : ℕ) (pursuit : Pursuit) → setting.nodes ≤ 2 ^ 16 → IsLegal setting sub history → t ≤ u → u ≤ length history
     → ((x : ℕ) → t ≤ x → x < u → moves_at sub history x ≡ false)
     → IsSure setting sub (before t history) call Within pursuit
     → IsSure setting sub (before u history) call Within pursuit
-sure-until used setting sub history call Within t u pursuit low legal =
-    while-quiet used.fronts setting sub history (λ seen. IsSure setting sub seen call Within pursuit) low legal
-    (λ seen visit is more quiet sure. sure-alike setting sub seen (seen ++ visit ∷ []) call Within
-    (alike-step used.cells used.marks_left used.rests setting sub seen visit low is more quiet) pursuit sure) t u
+sure-until used {setting} {sub} history call Within t u pursuit low legal =
+    while-quiet used.fronts history (λ seen. IsSure setting sub seen call Within pursuit) low legal
+    (λ seen visit is more quiet sure. sure-alike call Within
+    (alike-step used.cells used.marks_left used.rests seen visit low is more quiet) pursuit sure) t u
 
 -- ---- one look
 module _ (setting : Setting) (seen : History) (call : FindCall) (Within : ℕ → Type 0) where
@@ -152,11 +165,8 @@ module _ (setting : Setting) (seen : History) (call : FindCall) (Within : ℕ �
   hop-on chase node to known hops way few led allowed leads knows =
       let at_to : Some to ≡ Some led.0 = sym leads ∙ led.2 in
       let is_to : led.0 ≡ to = cc in
-      hop-sure known chase.level chase.weight chase.hops_left node to hops led.1 few
-      (subst (λ n. IsLed setting (mark_seen setting call.sub seen) known n (standing setting call.sub seen) hops led.1)
-      is_to (subst (λ k. IsLed setting (mark_seen setting call.sub seen) k led.0 (standing setting call.sub seen) hops
-      led.1) knows led.4))
-      (subst (λ n. Within (chase.weight + setting.distance node n + led.1)) is_to (subst Within
+      hop-sure known chase.level chase.weight chase.hops_left node to hops led.1 few (rw is_to at (rw knows at led.4))
+      (rw is_to at (subst Within
       (let e : chase.weight + way ≡ chase.weight + setting.distance node led.0 + led.1 = omega (arith, led.3) in e)
       allowed))
 
@@ -170,37 +180,33 @@ module _ (setting : Setting) (seen : History) (call : FindCall) (Within : ℕ �
   mark-sure chase node (Gone q to) same zero way few led allowed =
       let clash : false ≡ true = sym (ap (answers chase.known) same) ∙ led.1 in cc
   mark-sure chase node (Coming q from) same zero way few led allowed =
-      subst (λ b. IsSureOf (cond b (ended (At node q chase.level chase.weight))
-      (hop setting chase.known chase.level chase.weight chase.hops_left node from)))
-      (sym (sym (ap (answers chase.known) same) ∙ led.1))
+      rw (sym (ap (answers chase.known) same) ∙ led.1)
       (tt, subst Within (let e : chase.weight + way ≡ chase.weight = omega (arith, led.2) in e) allowed)
   mark-sure chase node mark same zero way few led allowed =
       (tt, subst Within (let e : chase.weight + way ≡ chase.weight = omega (arith, led.2) in e) allowed)
   mark-sure chase node (Gone q to) same (suc hops) way few led allowed =
       hop-on chase node to (known_with q chase.known) hops way few led allowed (ap (lead chase.known) same)
       (ap (known_after chase.known) same)
-  mark-sure chase node (Coming q from) same (suc hops) way few led allowed = at_known (is_known q chase.known) refl
+  mark-sure chase node (Coming q from) same (suc hops) way few led allowed = cond_both (is_known q chase.known)
+      (ended (At node q chase.level chase.weight))
+      (hop setting chase.known chase.level chase.weight chase.hops_left node from) IsSureOf
+      (λ e. let clash : None ≡ Some led.0 = sym (leads true e) ∙ led.2 in cc)
+      (λ e. hop-on chase node from chase.known hops way few led allowed (leads false e)
+      (ap (known_after chase.known) same))
     where
       leads : (b : Bool) → is_known q chase.known ≡ b
           → lead chase.known (mark_seen setting call.sub seen node) ≡ cond b None (Some from)
       leads b e = ap (lead chase.known) same ∙ ap (λ b. cond b None (Some from)) e
-
-      at_known : (b : Bool) → is_known q chase.known ≡ b
-          → IsSureOf (cond b (ended (At node q chase.level chase.weight))
-          (hop setting chase.known chase.level chase.weight chase.hops_left node from))
-      at_known true e = let clash : None ≡ Some led.0 = sym (leads true e) ∙ led.2 in cc
-      at_known false e = hop-on chase node from chase.known hops way few led allowed (leads false e)
-          (ap (known_after chase.known) same)
   mark-sure chase node mark same (suc hops) way few led allowed =
       let clash : None ≡ Some led.0 = sym (ap (lead chase.known) same) ∙ led.2 in cc
 
 -- the look at the origin, and one after it
-pub first-sure : Used → (setting : Setting) (seen : History) (call : FindCall) (Within : ℕ → Type 0) (key : Key)
+pub first-sure : Used → {setting : Setting} {seen : History} {call : FindCall} {Within : ℕ → Type 0} (key : Key)
     → Begins setting seen call Within → setting.nodes ≤ 2 ^ 16 → call.from < setting.nodes
     → IsLegal setting call.sub seen → key_of call at_origin ≡ Some key
     → IsSure setting call.sub seen call Within (after_word setting call at_origin (cell setting seen key))
 unfolding Affords
-first-sure used setting seen call Within key begins low inside legal wanted =
+first-sure used {setting} {seen} {call} {Within} key begins low inside legal wanted =
     let e : Presence call.from call.sub ≡ key = cc in
     subst (λ (k : Key). IsSure setting call.sub seen call Within
     (after_origin setting call (mark_in (cell setting seen k)))) e

@@ -1,7 +1,8 @@
 -- What marks tell.
+use Rattle.std.proofs.lemmas.Bool.{cond_both, eqb-true, eq-eqb}
+use Rattle.trail_laws.proofs.ClosedMarks.{from-inside, IsNext, rest_mark, mark_coming, mark_passing, mark_erasing, since_top, there, trail_mark}
 use Rattle.std.proofs.Common.{◌≡◌, ◌⊎◌, inl, inr, ℕ, zero, suc, ◌+◌, ◌-◌, ◌<◌, ◌≤◌, Bool, true, false, cond, ◌==◌, List, [], ◌∷◌, ◌++◌, Some, length, map, drop, fold, refl, sym, ap, ◌∙◌, subst, arith}
 use Rattle.std.specs.Prelude.{slice_get, option_map}
-use Rattle.std.proofs.lemmas.Bool.{eqb-true, eq-eqb}
 use Rattle.std.proofs.lemmas.List.{append-nil, length-map, map-append}
 use Rattle.std.proofs.lemmas.List.Sums.{fold-append}
 use Rattle.node_set.specs.Ascending.{has}
@@ -10,8 +11,7 @@ use Rattle.entry_word.specs.declared.mark.PresenceMark.TheVariants.{Empty, Here,
 use Rattle.directory.specs.Settings.{Setting}
 use Rattle.directory.specs.Courses.{Move, Course, base, last_stop}
 use Rattle.directory.specs.Standing.{Commit, commit_by}
-use Rattle.trail_laws.proofs.Links.{AreLinked, IsSound, base-low, stop-inside, moves-count}
-use Rattle.trail_laws.proofs.ClosedMarks.{IsNext, rest_mark, mark_coming, mark_passing, mark_erasing, since_top, there, trail_mark}
+use Rattle.trail_laws.proofs.Links.{AreLinked, IsSound, base-low, moves-count}
 use Rattle.trail_laws.proofs.ClosedViews.{clearing, coming, IsPhase, passage, Phase, phase_commits, phase_mark, Shown, View}
 use Rattle.trail_laws.proofs.LinkedStops.{last-left, LeavesMark, stop_at}
 use Rattle.directory.specs.ListLaws.{slice_get-left}
@@ -63,14 +63,13 @@ stop-drop from (m ∷ later) (suc b) i low = let e : suc b + i
     ≡ suc (b + i) = omega arith in rw e (stop-drop m.to later b i (omega arith))
 
 -- the Gone of a move at the node that it left
-gone-is : (from : ℕ) (marks : ℕ → PresenceMark) (off : Bool) (all : List Move) (setting : Setting) (course : Course)
+gone-is : (from : ℕ) (marks : ℕ → PresenceMark) (off : Bool) (all : List Move) {setting : Setting} {course : Course}
     (node : ℕ) (mark : PresenceMark) (more : List Commit) → IsSound setting course
     → trail_mark (since_top setting course) node Empty ≡ mark
     → MarkIs setting.nodes from marks (map commit_by course.moves ++ more) off all node mark
-gone-is from marks off all setting course node mark more sound same =
+gone-is from marks off all {setting} {course} node mark more sound same =
     at_left (last-left setting (stop_at course.start course.moves low) (0 + low) (since_top setting course) node Empty
-    (linked-drop setting course.start 0 course.moves low sound.linked
-    (base-low setting course setting.top sound)))
+    (linked-drop setting course.start 0 course.moves low sound.linked (base-low setting.top sound)))
   where
     low : ℕ
     low = base setting.top course.moves
@@ -92,37 +91,32 @@ gone-is from marks off all setting course node mark more sound same =
             ∙ ap (λ f. Some (record { number = left.move.number; from = f; to = left.move.to })) left.its_from)
 
 -- at rest
-rest-is : (from : ℕ) (marks : ℕ → PresenceMark) (all : List Move) (setting : Setting) (course : Course) (node : ℕ)
+rest-is : (from : ℕ) (marks : ℕ → PresenceMark) (all : List Move) {setting : Setting} {course : Course} (node : ℕ)
     → IsSound setting course → course.start ≡ from
     → MarkIs setting.nodes from marks (map commit_by course.moves) course.is_off all node
     (rest_mark setting course node)
-rest-is from marks all setting course node sound begins = at_place (node == last_stop course) refl
+rest-is from marks all {setting} {course} node sound begins =
+    cond_both (node == last_stop course) (there course) (trail_mark (since_top setting course) node Empty) Tells
+    (λ e.
+    let same : node ≡ last_stop course = eqb-true node (last_stop course) e in
+    cond_both course.is_off (Off (length course.moves)) (Here (length course.moves)) Tells
+    (λ is_off. (same ∙ sym stands_there, sym count, is_off)) (λ is_on. (same ∙ sym stands_there, sym count, is_on)))
+    (λ e. rw (append-nil (map commit_by course.moves)) at
+    (gone-is from marks course.is_off all node (trail_mark (since_top setting course) node Empty) [] sound refl))
   where
+    Tells : PresenceMark → Type 0
+    Tells = MarkIs setting.nodes from marks (map commit_by course.moves) course.is_off all node
+
     stands_there : stands from (map commit_by course.moves) ≡ last_stop course
     stands_there = stands-moves from course.moves ∙ ap (λ f. fold (λ n (m : Move). m.to) f course.moves) (sym begins)
 
     count : length (map commit_by course.moves) ≡ length course.moves
     count = length-map course.moves commit_by
 
-    at_state : (b : Bool) → course.is_off ≡ b → node ≡ last_stop course
-        → MarkIs setting.nodes from marks (map commit_by course.moves) course.is_off all node
-        (cond b (Off (length course.moves)) (Here (length course.moves)))
-    at_state true e same = (same ∙ sym stands_there, sym count, e)
-    at_state false e same = (same ∙ sym stands_there, sym count, e)
-
-    at_place : (b : Bool) → (node == last_stop course) ≡ b
-        → MarkIs setting.nodes from marks (map commit_by course.moves) course.is_off all node
-        (cond b (there course) (trail_mark (since_top setting course) node Empty))
-    at_place true e = at_state course.is_off refl (eqb-true node (last_stop course) e)
-    at_place false e = subst (λ (cs : List Commit). MarkIs setting.nodes from marks cs course.is_off all node
-        (trail_mark (since_top setting course) node Empty)) (append-nil (map commit_by course.moves))
-        (gone-is from marks course.is_off all setting course node
-        (trail_mark (since_top setting course) node Empty) [] sound refl)
-
 -- what holds of the marks at rest while the subscriber is on
-pub next-stands : (setting : Setting) (course : Course) (move : Move) (from : ℕ) → IsNext setting course move
+pub next-stands : {setting : Setting} {course : Course} {move : Move} (from : ℕ) → IsNext setting course move
     → course.start ≡ from → stands from (map commit_by (course.moves ++ move ∷ [])) ≡ move.to
-next-stands setting course move from next begins = stands-moves from (course.moves ++ move ∷ [])
+next-stands {course} {move} from next begins = stands-moves from (course.moves ++ move ∷ [])
     ∙ fold-append (λ n (m : Move). m.to) from course.moves (move ∷ [])
 
 pub rest-stands : (course : Course) (from : ℕ) → course.start ≡ from
@@ -131,9 +125,9 @@ rest-stands course from begins = stands-moves from course.moves
     ∙ ap (λ f. fold (λ n (m : Move). m.to) f course.moves) (sym begins)
 
 -- the Gone of the move itself
-own-gone : (setting : Setting) (course : Course) (move : Move) → IsNext setting course move
+own-gone : {setting : Setting} {course : Course} {move : Move} → IsNext setting course move
     → slice_get (map commit_by (course.moves ++ move ∷ [])) (move.number - 1) ≡ Some (commit_by move)
-own-gone setting course move next = ap (slice_get (map commit_by (course.moves ++ move ∷ [])))
+own-gone {course} {move} next = ap (slice_get (map commit_by (course.moves ++ move ∷ [])))
     (let e : move.number - 1 ≡ length course.moves = omega (arith, next.number) in e) ∙ at_end course.moves
   where
     at_end : (xs : List Move) → slice_get (map commit_by (xs ++ move ∷ [])) (length xs) ≡ Some (commit_by move)
@@ -141,27 +135,24 @@ own-gone setting course move next = ap (slice_get (map commit_by (course.moves +
     at_end (x ∷ xs) = at_end xs
 
 -- each phase of a move
-module _ (setting : Setting) (from : ℕ) (marks : ℕ → PresenceMark) (course : Course) (move : Move) (node : ℕ)
+module _ {setting : Setting} (from : ℕ) (marks : ℕ → PresenceMark) {course : Course} {move : Move} (node : ℕ)
     (sound : IsSound setting course) (next : IsNext setting course move) (begins : course.start ≡ from) where
   coming-is : MarkIs setting.nodes from marks (map commit_by course.moves) false (course.moves ++ move ∷ []) node
       (mark_coming setting course move node)
-  coming-is = at_to (node == move.to) refl
-    where
-      at_to : (b : Bool) → (node == move.to) ≡ b
-          → MarkIs setting.nodes from marks (map commit_by course.moves) false (course.moves ++ move ∷ []) node
-          (cond b (Coming move.number move.from) (rest_mark setting course node))
-      at_to true e = (
+  coming-is = cond_both (node == move.to) (Coming move.number move.from) (rest_mark setting course node)
+      (MarkIs setting.nodes from marks (map commit_by course.moves) false (course.moves ++ move ∷ []) node)
+      (λ e. (
         next.number ∙ sym (moves-count course move),
-        subst (λ n. n < setting.nodes) (sym next.from) (stop-inside setting course sound),
+        from-inside sound next,
         refl,
         inl (
           next.number ∙ ap suc (sym (length-map course.moves commit_by)),
           next.from ∙ sym (rest-stands course from begins),
         ),
-      )
-      at_to false e = subst (λ b. MarkIs setting.nodes from marks (map commit_by course.moves) b
-          (course.moves ++ move ∷ []) node (rest_mark setting course node)) next.is_on
-          (rest-is from marks (course.moves ++ move ∷ []) setting course node sound begins)
+      ))
+      (λ e. subst (λ b. MarkIs setting.nodes from marks (map commit_by course.moves) b
+      (course.moves ++ move ∷ []) node (rest_mark setting course node)) next.is_on
+      (rest-is from marks (course.moves ++ move ∷ []) node sound begins))
 
   -- what a mark tells once the move is committed
   abbrev pub TellsCommit : PresenceMark → Type 0
@@ -173,18 +164,15 @@ module _ (setting : Setting) (from : ℕ) (marks : ℕ → PresenceMark) (course
 
   -- the marks of the trail, when the subscriber has left it
   trail-is : (node == move.from) ≡ false → TellsCommit (rest_mark setting course node)
-  trail-is other = subst TellsCommit
-      (sym (ap (λ b. cond b (there course) (trail_mark (since_top setting course) node Empty))
-      (ap (λ n. node == n) (sym next.from) ∙ other)))
-      (subst (λ (cs : List Commit). MarkIs setting.nodes from marks cs false (course.moves ++ move ∷ []) node
-      (trail_mark (since_top setting course) node Empty)) (sym (map-append commit_by course.moves (move ∷ [])))
-      (gone-is from marks false (course.moves ++ move ∷ []) setting course node
+  trail-is other = subst TellsCommit (sym (ap (λ b. cond b (there course)
+      (trail_mark (since_top setting course) node Empty)) (ap (λ n. node == n) (sym next.from) ∙ other))) (rw
+      (map-append commit_by course.moves (move ∷ [])) (gone-is from marks false (course.moves ++ move ∷ []) node
       (trail_mark (since_top setting course) node Empty) (commit_by move ∷ []) sound refl))
 
   left-is : (node == move.from) ≡ true → TellsCommit (Gone move.number move.to)
   left-is e = (
     omega (arith, next.number),
-    own-gone setting course move next
+    own-gone next
         ∙ ap (λ f. Some (record { number = move.number; from = f; to = move.to })) (sym (eqb-true node move.from e)),
     next.inside,
   )
@@ -198,11 +186,11 @@ module _ (setting : Setting) (from : ℕ) (marks : ℕ → PresenceMark) (course
       at_from true t e at = left-is e
       at_from false true e at = (
         next.number ∙ sym (moves-count course move),
-        subst (λ n. n < setting.nodes) (sym next.from) (stop-inside setting course sound),
+        from-inside sound next,
         refl,
         inr (
           all-count,
-          eqb-true node move.to at ∙ sym (next-stands setting course move from next begins),
+          eqb-true node move.to at ∙ sym (next-stands from next begins),
           gone ∙ ap (λ n. Gone move.number n) (sym (eqb-true node move.to at)),
         ),
       )
@@ -216,19 +204,18 @@ module _ (setting : Setting) (from : ℕ) (marks : ℕ → PresenceMark) (course
           (cond t (Coming move.number move.from) (rest_mark setting course node)))))
       at_marks true t f at e = tt
       at_marks false true f at e =
-          (eqb-true node move.to at ∙ sym (next-stands setting course move from next begins), all-count, refl)
+          (eqb-true node move.to at ∙ sym (next-stands from next begins), all-count, refl)
       at_marks false false true at e = left-is e
       at_marks false false false at e = trail-is e
 
 -- so a mark of a view tells it
-pub mark-is : (setting : Setting) (shown : Shown) (node : ℕ) → node < setting.nodes → View setting shown
+pub mark-is : {setting : Setting} {shown : Shown} (node : ℕ) → node < setting.nodes → View setting shown
     → MarkIs setting.nodes shown.from shown.marks shown.commits shown.off shown.moves node (shown.marks node)
-mark-is setting shown node low (inl h) =
+mark-is {setting} {shown} node low (inl h) =
     rw (h.marks_are node low, h.commits_are, h.off_is)
-    (rest-is shown.from shown.marks shown.moves setting h.course node h.sound h.begins)
-mark-is setting shown node low (inr h) = at_phase h.phase h.is_phase
-    (h.marks_are node low) h.commits_are (h.marks_are h.move.from
-    (subst (λ n. n < setting.nodes) (sym h.next.from) (stop-inside setting h.course h.sound)))
+    (rest-is shown.from shown.marks shown.moves node h.sound h.begins)
+mark-is {setting} {shown} node low (inr h) = at_phase h.phase h.is_phase (h.marks_are node low) h.commits_are
+    (h.marks_are h.move.from (from-inside h.sound h.next))
   where
     at_phase : (phase : Phase) → IsPhase setting h.course h.move phase
         → shown.marks node ≡ phase_mark setting h.course h.move phase node
@@ -236,10 +223,9 @@ mark-is setting shown node low (inr h) = at_phase h.phase h.is_phase
         → shown.marks h.move.from ≡ phase_mark setting h.course h.move phase h.move.from
         → MarkIs setting.nodes shown.from shown.marks shown.commits shown.off shown.moves node (shown.marks node)
     at_phase (coming written) p m c f = rw (m, c, h.off_is, h.moves_are)
-        (coming-is setting shown.from shown.marks h.course h.move node h.sound h.next h.begins)
-    at_phase passage p m c f = rw (m, c, h.off_is, h.moves_are)
-        (passing-is setting shown.from shown.marks h.course h.move node h.sound h.next h.begins
-        (f ∙ ap (λ b. cond b (Gone h.move.number h.move.to) (mark_coming setting h.course h.move h.move.from))
+        (coming-is shown.from shown.marks node h.sound h.next h.begins)
+    at_phase passage p m c f = rw (m, c, h.off_is, h.moves_are) (passing-is shown.from shown.marks node h.sound h.next
+        h.begins (f ∙ ap (λ b. cond b (Gone h.move.number h.move.to) (mark_coming setting h.course h.move h.move.from))
         (eq-eqb h.move.from h.move.from refl)))
     at_phase (clearing erased purged) p m c f = rw (m, c, h.off_is, h.moves_are)
-        (clearing-is setting shown.from shown.marks h.course h.move node h.sound h.next h.begins purged)
+        (clearing-is shown.from shown.marks node h.sound h.next h.begins purged)

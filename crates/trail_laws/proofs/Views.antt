@@ -1,4 +1,5 @@
 -- What a legal history leaves, in closed form: its subscriber rests, or is in a phase of a move.
+use Rattle.std.proofs.Math.Seq.{take-nil}
 use Rattle.std.proofs.Common.{◌≡◌, ◌⊎◌, inl, inr, ℕ, zero, suc, ◌<◌, ◌≤◌, ◌^◌, false, List, [], ◌∷◌, ◌++◌, None, length, map, take, fold, refl, sym, ap, ◌∙◌, subst, arith}
 use Rattle.std.specs.Prelude.{filter_map}
 use Rattle.std.proofs.lemmas.Bool.{lt-ltb}
@@ -57,14 +58,13 @@ module _ (setting : Setting) (sub : ℕ) where
       → mark_left setting sub (writes_of steps) v ≡ rest_mark setting (course_of steps) v
   rest-marks_of steps v script low =
       ap (λ m. marked v m (writes_of steps)) (opens-marks v script.known)
-      ∙ marks-steps setting (course_at (start setting sub)) steps v low (sound-opening steps script) script.allowed
+      ∙ marks-steps steps v low (sound-opening steps script) script.allowed
 
   pub rest-entries_of : (steps : List Step) (level cluster : ℕ) → IsScript setting sub steps → level ≤ setting.top
       → entry_left setting sub (writes_of steps) level cluster ≡ rest_entry setting (course_of steps) level cluster
   rest-entries_of steps level cluster script low =
       ap (λ e. entered level cluster e (writes_of steps)) (opens-entries level cluster script.known low)
-      ∙ entries-steps setting (course_at (start setting sub)) steps level cluster (sound-opening steps script)
-      script.allowed
+      ∙ entries-steps steps level cluster (sound-opening steps script) script.allowed
 
   -- the view of a subscriber whose steps are done, and of one that is amid a step
   pub WritesView : List Write → List Move → Type 0
@@ -103,7 +103,7 @@ may-before setting course (first ∷ before) step may =
     ((may.0, rest.0), rest.1)
 
 -- ---- amid a move
-module _ (setting : Setting) (sub : ℕ) (before : List Step) (node : ℕ) (script : IsScript setting sub before)
+module _ {setting : Setting} {sub : ℕ} {before : List Step} {node : ℕ} (script : IsScript setting sub before)
     (may : MayMove setting (course_of setting sub before) node) where
   abbrev pub its_course : Course
   its_course = course_of setting sub before
@@ -123,7 +123,7 @@ module _ (setting : Setting) (sub : ℕ) (before : List Step) (node : ℕ) (scri
     move = its_move;
     phase = phase;
     sound = sound-script setting sub before script;
-    next = is-next setting its_course node may;
+    next = is-next may;
     is_phase = is_phase;
     begins = start-kept setting (course_at (start setting sub)) before;
     marks_are = λ v low. fold-append (mark_after v) (opening_mark setting sub v) made front
@@ -202,11 +202,11 @@ module _ (setting : Setting) (sub : ℕ) (before : List Step) (node : ℕ) (scri
           shaped g h = cc
 
 -- the same told of other functions with the same values
-pub view-along : (setting : Setting) (one other : Shown) → other.from ≡ one.from
+pub view-along : {setting : Setting} {one : Shown} (other : Shown) → other.from ≡ one.from
     → ((v : ℕ) → other.marks v ≡ one.marks v)
     → ((level cluster : ℕ) → other.entries level cluster ≡ one.entries level cluster) → other.commits ≡ one.commits
     → other.off ≡ one.off → other.moves ≡ one.moves → View setting one → View setting other
-view-along setting one other b f g c o m (inl h) = inl (record {
+view-along other b f g c o m (inl h) = inl (record {
   course = h.course;
   sound = h.sound;
   begins = h.begins ∙ sym b;
@@ -216,7 +216,7 @@ view-along setting one other b f g c o m (inl h) = inl (record {
   off_is = o ∙ h.off_is;
   moves_are = m ∙ h.moves_are;
 })
-view-along setting one other b f g c o m (inr h) = inr (record {
+view-along other b f g c o m (inr h) = inr (record {
   course = h.course;
   move = h.move;
   phase = h.phase;
@@ -232,36 +232,30 @@ view-along setting one other b f g c o m (inr h) = inr (record {
 })
 
 -- so it is amid each step
-amid-view : (setting : Setting) (sub : ℕ) (before under : List Step) (made : ℕ)
+amid-view : {setting : Setting} {sub : ℕ} (before under : List Step) (made : ℕ)
     → IsScript setting sub (before ++ under) → length under ≤ 1 → length under ≤ made
     → made ≤ length (writes setting (course_of setting sub before) under)
     → WritesView setting sub (writes_of setting sub before ++ take made
     (writes setting (course_of setting sub before) under)) (course_of setting sub (before ++ under)).moves
 unfolding writes
-amid-view setting sub before [] made script one some few =
-    subst (λ steps. WritesView setting sub (writes_of setting sub before ++ take made [])
-    (course_of setting sub steps).moves) (sym (append-nil before))
-    (subst (λ ws. WritesView setting sub ws (course_of setting sub before).moves)
-    (sym (ap (λ ws. writes_of setting sub before ++ ws) (nothing made) ∙ append-nil (writes_of setting sub before)))
+amid-view {setting} {sub} before [] made script one some few =
+    rw (append-nil before)
+    (rw (ap (λ ws. writes_of setting sub before ++ ws) (take-nil made) ∙ append-nil (writes_of setting sub before))
     (rests setting sub before (subst (IsScript setting sub) (append-nil before) script)))
-  where
-    nothing : (n : ℕ) → take {A = Write} n [] ≡ []
-    nothing zero = refl
-    nothing (suc n) = refl
-amid-view setting sub before (move_to node ∷ []) made script one some few =
+amid-view {setting} {sub} before (move_to node ∷ []) made script one some few =
     let may = may-before setting (course_at (start setting sub)) before (move_to node) script.allowed in
-    subst (λ ws. WritesView setting sub (writes_of setting sub before ++ take made ws)
-    (course_of setting sub (before ++ move_to node ∷ [])).moves)
-    (sym (append-nil (move_writes setting (course_of setting sub before)
-    (next_move setting (course_of setting sub before) node))))
-    (amid-move setting sub before node (record { known = script.known; begins = script.begins; allowed = may.0 })
-    may.1 made some)
-amid-view setting sub before (step ∷ []) made script one some few =
+    rw (append-nil (move_writes setting
+    (course_of setting sub before) (next_move setting (course_of setting sub before) node))) (amid-move (record {
+      known =
+          script.known;
+      begins = script.begins;
+      allowed = may.0;
+    }) may.1 made some)
+amid-view {setting} {sub} before (step ∷ []) made script one some few =
     let e : made ≡ 1 = omega (arith, some, few) in
-    rw e (subst (λ ws. WritesView setting sub ws (course_of setting sub (before ++ step ∷ [])).moves)
-    (writes-more setting (course_at (start setting sub)) before step)
+    rw e (rw (writes-more setting (course_at (start setting sub)) before step) at
     (rests setting sub (before ++ step ∷ []) script))
-amid-view setting sub before (step ∷ other ∷ more) made script one some few = absurd (omega (arith, one))
+amid-view before (step ∷ other ∷ more) made script one some few = absurd (omega (arith, one))
 
 -- what is shown after a history
 abbrev pub shown : Setting → ℕ → History → Shown
@@ -276,20 +270,19 @@ shown setting sub history = record {
 
 -- what holds of the puts of a legal history
 pub legal-view : LegalIsAmid → MarksAreLeft → EntriesAreLeft → CommitsAreTold → OffIsTold
-    → (setting : Setting) (sub : ℕ) (history : History) → setting.nodes ≤ 2 ^ 16 → IsLegal setting sub history
+    → {setting : Setting} {sub : ℕ} (history : History) → setting.nodes ≤ 2 ^ 16 → IsLegal setting sub history
     → View setting (shown setting sub history)
 unfolding WritesView
-legal-view amid marks_left entries_left told off_told setting sub history low legal = at_amid
+legal-view amid marks_left entries_left told off_told {setting} {sub} history low legal = at_amid
     (amid setting sub (puts_to sub history) low legal)
   where
     at_amid : IsAmid setting sub (puts_to sub history) → View setting (shown setting sub history)
     at_amid far =
-        view-along setting _ (shown setting sub history) refl
+        view-along (shown setting sub history) refl
         (λ v. marks_left setting sub history low legal v ∙ ap (λ ws. mark_left setting sub ws v) far.writes)
         (λ level cluster. entries_left setting sub history low legal level cluster
         ∙ ap (λ ws. entry_left setting sub ws level cluster) far.writes)
         (told setting sub history low legal ∙ ap (filter_map write_commit) far.writes)
         (off_told setting sub history low legal ∙ ap (fold (λ o write. write_off write) false) far.writes)
-        (ap (λ steps. (course_of setting sub steps).moves) far.steps)
-        (amid-view setting sub far.before far.under far.made
+        (ap (λ steps. (course_of setting sub steps).moves) far.steps) (amid-view far.before far.under far.made
         (subst (IsScript setting sub) far.steps legal.script) far.one far.some far.few)

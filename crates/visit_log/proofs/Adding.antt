@@ -1,14 +1,14 @@
 -- How the row grows: by the readers of a node at a level, one after another.
-use Rattle.std.specs.Prelude.{◌/◌}
-use Rattle.std.proofs.Common.{◌≡◌, ℕ, suc, ◌+◌, ◌*◌, ◌^◌, ◌<◌, ◌≤◌, List, [], ◌∷◌, ◌++◌, length, sym, ap, ◌∙◌, subst, inl, inr, arith, Vec, Global}
 use Rattle.std.specs.Prelude.{slice_index}
+use Rattle.std.proofs.Common.{◌≡◌, ℕ, suc, ◌+◌, ◌*◌, ◌^◌, ◌<◌, ◌≤◌, List, [], ◌∷◌, ◌++◌, length, sym, ap, ◌∙◌, inl, inr, arith, Vec, Global}
 use Rattle.std.proofs.lemmas.Bool.{cases_lt}
 use Rattle.std.proofs.lemmas.List.{get_or_append_left, get_or_push, length_push}
-use Rattle.std.proofs.lemmas.Nat.{div-mul-add, mul-add-lt}
+use Rattle.std.proofs.lemmas.Nat.{mul-add-lt}
 use Rattle.std.proofs.Math.Nat.{mul-le-mul}
 use Rattle.region_plan.specs.Kept.{IsKept}
 use Rattle.region_plan.specs.Plan.{PlanData, levels_of, nodes_of, readers}
 use Rattle.visit_log.specs.Routes.{HaveParts, IsPart, RouteData, entry_place, rung_at, way_at}
+use Rattle.visit_log.proofs.Apart.{same-part}
 
 -- the row of these lists
 abbrev pub row_of : (levels : ℕ) (starts places level_of ways : Vec ℕ Global) → RouteData
@@ -81,9 +81,7 @@ adding-more {plan} {old} {new} next {node} {level} {count} {place} {sum} adding 
       places = λ i low. elim (cases_lt i count) [
         | inl less ↦ place_before (length old.places + i) (omega (arith, less, adding.size)) ∙ adding.places i less
         | inr over ↦
-            let same : count ≡ i = omega (arith, low, over) in
-            subst (λ n. slice_index next.places (length old.places + n) ≡ entry_place plan node (rung_at level n)) same
-            (last_place ∙ is)
+            let same : i ≡ count = omega (arith, low, over) in rw same (last_place ∙ is)
       ];
       ways = λ i low. elim (cases_lt i count) [
         | inl less ↦
@@ -94,11 +92,9 @@ adding-more {plan} {old} {new} next {node} {level} {count} {place} {sum} adding 
               adding.ways i less,
             )
         | inr over ↦
-            let same : count ≡ i = omega (arith, low, over) in
+            let same : i ≡ count = omega (arith, low, over) in
             let end : length new.places ≡ length old.places + count = adding.size in
-            subst (λ n. slice_index next.ways (length old.places + n + 1)
-            ≡ slice_index next.ways (length old.places + n) + way_at plan node (rung_at level n)) same
-            (omega (
+            rw same (omega (
               arith,
               last_way,
               way,
@@ -110,17 +106,6 @@ adding-more {plan} {old} {new} next {node} {level} {count} {place} {sum} adding 
           let there : length next.places ≡ length old.places + count + 1 = omega (arith, longer, adding.size) in
           omega (arith, ap (slice_index next.ways) there, last_way, light, longer);
     }
-
--- one part of a row is another where node and level are
-pub same-part : (width node level other above : ℕ) → level < width → above < width
-    → other * width + above ≡ node * width + level → (other ≡ node) × (above ≡ level)
-same-part width node level other above low high same =
-    let nodes : other ≡ node =
-    sym (div-mul-add other width above high) ∙ (ap (λ n. n / width) same ∙ div-mul-add node width level low) in (
-      nodes,
-      let there : node * width + above ≡ node * width + level = ap (λ n. n * width + above) (sym nodes) ∙ same in
-          omega (arith, there),
-    )
 
 -- a list is filled with a level up to a size
 pub record IsTold (old new : List ℕ) (size level : ℕ) : Type 0 where
@@ -175,21 +160,19 @@ adding-done {plan} {old} {new} next {node} {level} low have adding all some few 
               some = was.some;
               next = omega (arith, begins, ends, was.next);
               within = omega (arith, ends, was.within, size, adding.size);
-              level_of = λ i short.
-                  ap (λ s. slice_index next.level_of (s + i)) begins
-                  ∙ (told.before (slice_index old.starts part + i)
-                  (omega (arith, short, was.next, was.within, have.level_of, ap length adding.level_of))
-                  ∙ (ap (λ xs. slice_index xs (slice_index old.starts part + i)) adding.level_of
-                  ∙ was.level_of i short));
-              places = λ i short.
-                  ap (λ s. slice_index next.places (s + i)) begins
-                  ∙ (place_at (slice_index old.starts part + i)
-                  ∙ (adding.places_before (slice_index old.starts part + i)
-                  (omega (arith, short, was.next, was.within)) ∙ was.places i short));
+              level_of = λ i short. rw (
+                begins,
+                told.before (slice_index old.starts part + i)
+                    (omega (arith, short, was.next, was.within, have.level_of, ap length adding.level_of)),
+                adding.level_of,
+              ) (was.level_of i short);
+              places = λ i short. rw (
+                begins,
+                place_at (slice_index old.starts part + i),
+                adding.places_before (slice_index old.starts part + i) (omega (arith, short, was.next, was.within)),
+              ) (was.places i short);
               ways = λ i short.
-                  subst (λ s. slice_index next.ways (s + i + 1) ≡ slice_index next.ways (s + i)
-                  + way_at plan other (rung_at above i)) (sym begins)
-                  (omega (
+                  rw begins (omega (
                     arith,
                     way_to (slice_index old.starts part + i + 1),
                     way_to (slice_index old.starts part + i),
@@ -201,28 +184,21 @@ adding-done {plan} {old} {new} next {node} {level} low have adding all some few 
             }
         | inr over ↦
             let both = same-part (levels_of plan) node level other above low high (omega (arith, before, over)) in
-            subst (λ n. IsPart plan next (n * levels_of plan + above) n above) (sym both.0)
-            (subst (λ l. IsPart plan next (node * levels_of plan + l) node l) (sym both.1)
-            (record {
+            rw (both.0, both.1) (record {
               some = omega (arith, some, all);
               next = omega (arith, last, here, adding.size, all);
               within = omega (arith, last, size);
-              level_of = λ i short.
-                  ap (λ s. slice_index next.level_of (s + i)) here
-                  ∙ told.behind (length old.places + i)
-                  (omega (arith, have.level_of, ap length adding.level_of)) (omega (arith, short, adding.size, all));
+              level_of = λ i short. rw here (told.behind (length old.places + i)
+                  (omega (arith, have.level_of, ap length adding.level_of)) (omega (arith, short, adding.size, all)));
               places = λ i short.
-                  ap (λ s. slice_index next.places (s + i)) here
-                  ∙ (place_at (length old.places + i) ∙ adding.places i (omega (arith, short, all)));
+                  rw (here, place_at (length old.places + i)) (adding.places i (omega (arith, short, all)));
               ways = λ i short.
-                  subst (λ s. slice_index next.ways (s + i + 1) ≡ slice_index next.ways (s + i)
-                  + way_at plan node (rung_at level i)) (sym here)
-                  (omega (
+                  rw here (omega (
                     arith,
                     way_to (length old.places + i + 1),
                     way_to (length old.places + i),
                     adding.ways i (omega (arith, short, all)),
                   ));
-            }))
+            })
       ];
     }

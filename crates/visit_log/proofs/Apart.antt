@@ -1,7 +1,6 @@
 -- Places of cells: below the count, and different for different cells.
-use Rattle.std.proofs.Common.{◌≡◌, ℕ, suc, ◌+◌, ◌*◌, ◌<◌, ◌≤◌, Bool, true, false, List, length, take, refl, sym, ap, ◌∙◌, subst, arith}
-use Rattle.std.specs.Prelude.{get_or, nat_lt, sum_by}
-use Rattle.std.proofs.lemmas.Bool.Decides.{nat_tests}
+use Rattle.std.proofs.Common.{◌≡◌, ℕ, ◌+◌, ◌*◌, ◌<◌, ◌≤◌, List, length, take, sym, ap, ◌∙◌, subst, arith, inl, inr}
+use Rattle.std.specs.Prelude.{get_or, sum_by, ◌/◌}
 use Rattle.std.proofs.lemmas.List.{take-take}
 use Rattle.std.proofs.lemmas.List.Sums.{sum_by_more, sum_by-take-le}
 use Rattle.std.proofs.Math.Nat.{mul-le-mul_left}
@@ -12,6 +11,8 @@ use Rattle.region_plan.specs.Plan.{PlanData, Level, no_level, nodes_of, levels_o
 use Rattle.visit_log.specs.Cells.{CellData, GoWith, IsPlaceOf, slot_of, width_of}
 use Rattle.region_plan.specs.Cells.{IsPlace, IsCell}
 use Rattle.visit_log.specs.Numbers.{clusters_below, cluster_count, key_place, NumbersBelow, NumbersApart}
+use Rattle.std.proofs.lemmas.Bool.{cases_lt}
+use Rattle.std.proofs.lemmas.Nat.{div-mul-add}
 
 -- the clusters of a level come before those of each later one, and are among all
 abbrev pub size : Level → ℕ
@@ -42,54 +43,28 @@ place-below plan (Entry level cluster sub) h = omega (arith, h.1, below-all plan
 level-apart : (plan : PlanData) (i c j d : ℕ) → i < levels_of plan → c < clusters_of plan i → j < levels_of plan
     → d < clusters_of plan j
     → clusters_below plan i + c ≡ clusters_below plan j + d → (i ≡ j) × (c ≡ d)
-level-apart plan i c j d hi hc hj hd same = at_tests (nat_lt i j) (nat_lt j i) refl refl
-  where
-    at_tests : (a b : Bool) → nat_lt i j ≡ a → nat_lt j i ≡ b → (i ≡ j) × (c ≡ d)
-    at_tests true b one two = absurd (let low : i < j = grind (arith, nat_tests) in omega (
-      arith,
-      below-later plan.levels i j low (omega (arith, hj)),
-      hc,
-      same,
-    ))
-    at_tests false true one two = absurd (let low : j < i = grind (arith, nat_tests) in omega (
-      arith,
-      below-later plan.levels j i low (omega (arith, hi)),
-      hd,
-      same,
-    ))
-    at_tests false false one two =
-        let high : j ≤ i = grind (arith, nat_tests) in
-        let low : i ≤ j = grind (arith, nat_tests) in
-        let e : i ≡ j = omega arith in (
-          e,
-          let f : clusters_below plan i ≡ clusters_below plan j = ap (clusters_below plan) e in omega (
-            arith,
-            f,
-            same,
-          ),
-        )
+level-apart plan i c j d hi hc hj hd same = elim (cases_lt i j) [
+  | inl low ↦ absurd (omega (arith, below-later plan.levels i j low (omega (arith, hj)), hc, same))
+  | inr high ↦ elim (cases_lt j i) [
+    | inl low ↦ absurd (omega (arith, below-later plan.levels j i low (omega (arith, hi)), hd, same))
+    | inr low ↦
+        let e : i ≡ j = omega (arith, high, low) in
+        (e, omega (arith, ap (clusters_below plan) e, same))
+  ]
+]
 
 -- a place and a subscriber in one number
 pub number-below : (place total subs sub : ℕ) → place < total → sub < subs → place * subs + sub < total * subs
 number-below place total subs sub h l =
-    let step : subs * suc place ≤ subs * total = mul-le-mul_left subs h in
-    let one : subs * suc place ≡ place * subs + subs = omega arith in
-    let two : subs * total ≡ total * subs = omega arith in
-    omega (arith, step, one, two, l)
+    omega (arith, mul-le-mul_left subs h, l)
 
-pub number-apart : (p q subs s t : ℕ) → s < subs → t < subs → p * subs + s ≡ q * subs + t → (p ≡ q) × (s ≡ t)
-number-apart p q subs s t hs ht same = at_tests (nat_lt p q) (nat_lt q p) refl refl
-  where
-    at_tests : (a b : Bool) → nat_lt p q ≡ a → nat_lt q p ≡ b → (p ≡ q) × (s ≡ t)
-    at_tests true b one two = absurd (let low : p < q = grind (arith, nat_tests) in
-        let step : p * subs + s < q * subs = number-below p q subs s low hs in omega (arith, step, same))
-    at_tests false true one two = absurd (let low : q < p = grind (arith, nat_tests) in
-        let step : q * subs + t < p * subs = number-below q p subs t low ht in omega (arith, step, same))
-    at_tests false false one two =
-        let high : q ≤ p = grind (arith, nat_tests) in
-        let low : p ≤ q = grind (arith, nat_tests) in
-        let e : p ≡ q = omega arith in
-        (e, let f : p * subs ≡ q * subs = ap (λ n. n * subs) e in omega (arith, f, same))
+-- one part of a row is another where node and level are
+pub same-part : (width node level other above : ℕ) → level < width → above < width
+    → other * width + above ≡ node * width + level → (other ≡ node) × (above ≡ level)
+same-part width node level other above low high same =
+    let nodes : other ≡ node =
+    sym (div-mul-add other width above high) ∙ (ap (λ n. n / width) same ∙ div-mul-add node width level low) in
+    (nodes, omega (arith, ap (λ n. n * width) nodes, same))
 
 -- keys
 same-key : (plan : PlanData) (key other : Key) → IsPlace plan key → IsPlace plan other → key_place plan key
@@ -109,8 +84,7 @@ cell-below plan subs key h = number-below (key_place plan key) (nodes_of plan + 
 pub cell-apart : NumbersApart
 cell-apart plan subs key other h l same =
     let both : (key_place plan key ≡ key_place plan other) × (key_sub key ≡ key_sub other) =
-    number-apart (key_place plan key) (key_place plan other) subs (key_sub key)
-    (key_sub other) h.known l.known same in
+    same-part subs (key_place plan other) (key_sub other) (key_place plan key) (key_sub key) l.known h.known same in
     same-key plan key other h.place l.place both.0 both.1
 
 -- slots of cells
@@ -127,13 +101,12 @@ pub slot-apart : {plan : PlanData} {subs : ℕ} {key other : Key} → IsCell pla
     → slot_of plan key ≡ slot_of plan other → key ≡ other
 slot-apart {plan} {key} {other} h l same =
     let both : (key_sub key ≡ key_sub other) × (key_place plan key ≡ key_place plan other) =
-    number-apart (key_sub key) (key_sub other) (width_of plan) (key_place plan key) (key_place plan other)
-    (place-below plan key h.place) (place-below plan other l.place) same in
+    same-part (width_of plan) (key_sub other) (key_place plan other) (key_sub key) (key_place plan key)
+    (place-below plan other l.place) (place-below plan key h.place) same in
     same-key plan key other h.place l.place both.1 both.0
 
 -- where the word of a cell is, by its place
 pub slot-at : {plan : PlanData} {cells : CellData} {sub at width : ℕ} {key : Key} → GoWith plan cells
     → width ≡ cells.width → IsPlaceOf plan cells.subs sub at key → sub * width + at ≡ slot_of plan key
 slot-at {plan} {sub} {width} {key} goes wide its =
-    ap (λ n. sub * width + n) its.place ∙ (ap (λ w. sub * w + key_place plan key) (wide ∙ goes.width)
-    ∙ ap (λ s. s * width_of plan + key_place plan key) (sym its.owner))
+    rw (its.place, wide, goes.width, its.owner)

@@ -1,5 +1,5 @@
 -- What plain cells hold after a put.
-use Rattle.std.proofs.Common.{◌≡◌, ℕ, ◌<◌, Bool, true, false, cond, List, [], ◌∷◌, ◌++◌, length, refl, sym, ap, ◌∙◌, subst}
+use Rattle.std.proofs.Common.{◌≡◌, ℕ, ◌<◌, Bool, true, false, cond, List, [], ◌∷◌, ◌++◌, length, refl, sym, subst}
 use Rattle.std.specs.Prelude.{get_or, slice_set}
 use Rattle.std.proofs.lemmas.List.{get_or-set_same, get_or-set_other}
 use Rattle.entry_word.specs.declared.visit.Key.{Key}
@@ -25,14 +25,11 @@ word-after law {plan} {cells} {key} {other} word goes mine its = at_test (same_k
     at_test true test =
         let same : other ≡ key = (law other key).0 test in
         let inside : slot_of plan key < length cells.words = slot-within goes mine in
-        ap (λ k. get_or (slice_set cells.words (slot_of plan key) word)
-        (slot_of plan k) 0) same
-        ∙ get_or-set_same cells.words (slot_of plan key) word 0 inside
+        rw (same, get_or-set_same cells.words (slot_of plan key) word 0 inside)
     at_test false test =
         let apart : slot_of plan other ≡ slot_of plan key → ⊥ =
         λ e. (let yes : same_key other key ≡ true = (law other key).1 (slot-apart its mine e) in cc) in
-        get_or-set_other cells.words (slot_of plan key) (slot_of plan other) word 0
-        apart
+        get_or-set_other cells.words (slot_of plan key) (slot_of plan other) word 0 apart
 
 pub hold-after : SameKey → CellAfter → {plan : PlanData} {starts : List ℕ} {cells : CellData} {history : History}
     (actor word : ℕ) {key : Key} → GoWith plan cells → IsCell plan cells.subs key → Hold plan starts cells history
@@ -41,7 +38,6 @@ pub hold-after : SameKey → CellAfter → {plan : PlanData} {starts : List ℕ}
 hold-after law after {plan} {starts} {history} actor word {key} goes mine hold = record {
   subs = hold.subs;
   words = λ other its.
-      word-after law word goes mine (subst (λ n. IsCell plan n other) (sym hold.subs) its)
-      ∙ (ap (λ w. cond (same_key other key) word w) (hold.words other its)
-      ∙ sym (after (setting_of plan starts) history (record { actor = actor; act = Put key word }) other));
+      rw (word-after law word goes mine (subst (λ n. IsCell plan n other) (sym hold.subs) its), hold.words other its)
+      (sym (after (setting_of plan starts) history (record { actor = actor; act = Put key word }) other));
 }

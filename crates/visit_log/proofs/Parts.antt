@@ -1,5 +1,5 @@
 -- The readers of a node in the row: one after another, level by level.
-use Rattle.std.proofs.Common.{◌≡◌, ℕ, zero, suc, ◌+◌, ◌-◌, ◌*◌, ◌<◌, ◌≤◌, List, length, take, ap, ◌∙◌, subst, inl, inr, arith}
+use Rattle.std.proofs.Common.{◌≡◌, ℕ, zero, suc, ◌+◌, ◌-◌, ◌*◌, ◌<◌, ◌≤◌, length, take, ap, ◌∙◌, inl, inr, arith}
 use Rattle.std.specs.List.{sum_by}
 use Rattle.std.specs.Prelude.{slice_index}
 use Rattle.std.proofs.lemmas.Bool.{cases_lt, le-ltb, lt-ltb}
@@ -27,26 +27,20 @@ module _ (plan : PlanData) (routes : RouteData) (node : ℕ) (are : AreRoutes pl
       ≡ slice_index routes.starts (base + level) + length (readers plan level node)
   next-start level low =
       let one : base + level + 1 ≡ base + suc level = omega arith in
-      subst (λ k. slice_index routes.starts k
-      ≡ slice_index routes.starts (base + level) + length (readers plan level node)) one
-      (its-part plan routes node level are inside low).next
+      rw one at (its-part plan routes node level are inside low).next
 
   rise-by : (level k : ℕ) → level + k ≤ levels_of plan
       → slice_index routes.starts (base + level) ≤ slice_index routes.starts (base + (level + k))
   rise-by level zero short =
-      let same : level ≡ level + 0 = omega arith in
-      subst (λ n. slice_index routes.starts (base + level) ≤ slice_index routes.starts (base + n)) same (omega arith)
+      let same : level + 0 ≡ level = omega arith in rw same (omega arith)
   rise-by level (suc k) short =
-      let one : suc (level + k) ≡ level + suc k = omega arith in
-      subst (λ n. slice_index routes.starts (base + level) ≤ slice_index routes.starts (base + n)) one
-      (omega (arith, rise-by level k (omega arith), next-start (level + k) (omega arith)))
+      let one : level + suc k ≡ suc (level + k) = omega arith in
+      rw one (omega (arith, rise-by level k (omega arith), next-start (level + k) (omega arith)))
 
   pub starts-rise : (level above : ℕ) → level ≤ above → above ≤ levels_of plan
       → slice_index routes.starts (base + level) ≤ slice_index routes.starts (base + above)
   starts-rise level above order short =
-      let e : level + (above - level) ≡ above = omega arith in
-      subst (λ n. slice_index routes.starts (base + level) ≤ slice_index routes.starts (base + n)) e
-      (rise-by level (above - level) (omega arith))
+      let e : level + (above - level) ≡ above = omega arith in rw e at (rise-by level (above - level) (omega arith))
 
   -- so many readers stand before a level
   readers-below : (level : ℕ) → level ≤ levels_of plan
@@ -70,9 +64,7 @@ module _ (plan : PlanData) (routes : RouteData) (node : ℕ) (are : AreRoutes pl
   pub readers-summed : slice_index routes.starts (base + levels_of plan)
       ≡ slice_index routes.starts base + sum_by (λ l. length (readers_in l node)) plan.levels
   readers-summed =
-      readers-below (levels_of plan) (omega arith)
-      ∙ ap (λ (ls : List Level). slice_index routes.starts base + sum_by (λ (l : Level). length (readers_in l node)) ls)
-      (take_all (levels_of plan) plan.levels (omega arith))
+      rw (take_all (levels_of plan) plan.levels (omega arith)) at (readers-below (levels_of plan) (omega arith))
 
   -- the reader that comes next has the next place
   pub next-place : (rung : Rung) → IsRung plan node rung

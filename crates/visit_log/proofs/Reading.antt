@@ -18,18 +18,7 @@ reads {held} {k} {at} {v} read same there short =
 pub part-within : (plan : PlanData) (routes : RouteData) (node level : ℕ) → AreRoutes plan routes → node < nodes_of plan
     → level ≤ levels_of plan → node * levels_of plan + level < length routes.starts
 part-within plan routes node level are inside low =
-    omega (
-      arith,
-      are.starts,
-      row-ends node (levels_of plan) (nodes_of plan) inside,
-      low,
-    )
-  where
-    row-ends : (node width nodes : ℕ) → node < nodes → node * width + width ≤ nodes * width
-    row-ends node width nodes inside =
-        let more : (node + 1) * width ≤ nodes * width =
-        mul-le-mul_right width (omega (arith, inside)) in
-        omega (arith, more)
+    omega (arith, are.starts, mul-le-mul_right (levels_of plan) inside, low)
 
 -- the readers of a node end within the row
 pub end-within : (plan : PlanData) (routes : RouteData) (node : ℕ) → AreRoutes plan routes → node < nodes_of plan
@@ -37,8 +26,7 @@ pub end-within : (plan : PlanData) (routes : RouteData) (node : ℕ) → AreRout
 end-within plan routes node are inside some =
     let last : node * levels_of plan + (levels_of plan - 1) + 1 ≡ node * levels_of plan + levels_of plan =
     omega (arith, some) in
-    subst (λ k. slice_index routes.starts k ≤ length routes.places) last
-    (its-part plan routes node (levels_of plan - 1) are inside (omega (arith, some))).within
+    rw last at (its-part plan routes node (levels_of plan - 1) are inside (omega (arith, some))).within
 
 -- between the starts that are read lie the readers of a node
 pub readers-between : (plan : PlanData) {held routes : RouteData} (node : ℕ) {first end : ℕ} → held ≡ routes

@@ -1,5 +1,5 @@
 -- What a row of words holds after a put in 32 bits.
-use Rattle.std.proofs.Common.{◌≡◌, ℕ, List, [], ◌∷◌, ap, length, map, set, sym, ◌∙◌}
+use Rattle.std.proofs.Common.{◌≡◌, ℕ, List, [], ◌∷◌, length, map, set, ◌∙◌}
 use Rattle.std.proofs.lemmas.List.{append-nil, map-set}
 use Rattle.visit_log.specs.Words.{word_of_narrow, words_of}
 
@@ -8,7 +8,5 @@ pub set-narrow : (narrow wide : List ℕ) (i n : ℕ) {word : ℕ} → length wi
     → words_of (set narrow i n) wide ≡ set (words_of narrow wide) i word
 set-narrow narrow [] i n {word} none means =
     append-nil (map word_of_narrow (set narrow i n))
-    ∙ (map-set word_of_narrow narrow i n
-    ∙ (ap (λ w. set (map word_of_narrow narrow) i w) means
-    ∙ ap (λ l. set l i word) (sym (append-nil (map word_of_narrow narrow)))))
+    ∙ rw (map-set word_of_narrow narrow i n, means, append-nil (map word_of_narrow narrow))
 set-narrow narrow (one ∷ wide) i n none means = cc

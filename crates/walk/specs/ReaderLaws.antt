@@ -1,12 +1,12 @@
 -- Laws of the readers of a node, for proofs. Key laws: `climb-here` (how the climb comes to each),
 -- `reads-top` (over a matched plan each node reads the home of each at the top level).
-use Rattle.std.proofs.Common.{◌≡◌, ℕ, suc, ◌+◌, ◌<◌, List, ◌∷◌, ◌++◌, length, drop, ap, ◌∙◌, arith, drop-cons, Option}
+use Rattle.std.proofs.Common.{◌≡◌, ℕ, suc, ◌<◌, List, ◌∷◌, ◌++◌, length, drop, ap, ◌∙◌, arith, drop-cons, Option}
 use Rattle.std.specs.Prelude.{slice_index, slice_index_or}
 use Rattle.std.proofs.lemmas.List.{get_or-map, length-map}
 use Rattle.node_set.specs.Ascending.{has}
 use Rattle.directory.specs.Settings.{Setting}
 use Rattle.directory.specs.Finds.{Reader, climb, climbs}
-use Rattle.region_plan.specs.Plan.{PlanData, level_at, cluster_in, clusters_of, inside, readers, home, top_of}
+use Rattle.region_plan.specs.Plan.{PlanData, level_at, cluster_in, clusters_of, inside, home, top_of}
 use Rattle.region_plan.specs.Matched.{IsMatched}
 use Rattle.walk.specs.Walks.{readers_at}
 use Rattle.node_set.specs.SetLaws.{has-passing}

@@ -1,8 +1,7 @@
 use Rattle.std.proofs.Common.{refl, arith, get_or, slice_index}
 use Rattle.cluster_tree.proofs.Joining.{leader_joined, one_joined, all_joined}
 use Rattle.cluster_tree.proofs.inside.are_joined.Goals as goal
-use Rattle.cluster_tree.proofs.inside.are_joined.Goals.{else-member-leader-via-then-member-leader+else-not-has_nearer}
-use Rattle.cluster_tree.proofs.inside.are_joined.Goals.{else-member-leader-via-else-member-leader}
+use Rattle.cluster_tree.proofs.inside.are_joined.Goals.{else-member-leader-via-then-member-leader+else-not-has_nearer, else-member-leader-via-else-member-leader}
 
 pub loop-member-preserved : goal.loop-member-preserved
 loop-member-preserved c = elim c.else-member-leader.branch [

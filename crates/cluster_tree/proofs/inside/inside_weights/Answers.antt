@@ -1,5 +1,4 @@
-use Rattle.std.proofs.Common.{◌≡◌, List, ℕ, subst, sym, true, rules}
-use Rattle.node_set.specs.Ascending.{has}
+use Rattle.std.proofs.Common.{rules}
 use Rattle.cluster_tree.proofs.Joining.{is_written}
 use Rattle.cluster_tree.proofs.inside.inside_weights.Goals as goal
 
@@ -8,7 +7,6 @@ returns-clause-written c =
     is_written c.args.graph.now c.args.members.now c.args.leader c.args.weights.now.items
     c.push_inside.new.weights.items
     c.len-start.result c.greatest_weight.result c.in_ok-push_inside.ensures.ordered
-    (subst (λ (xs : List ℕ). has c.args.leader xs ≡ true) (sym c.requires.members) c.requires.leader)
-    (search rules) c.in_ok-push_inside.ensures.appended
+    (rw c.requires.members c.requires.leader) (search rules) c.in_ok-push_inside.ensures.appended
     (rw c.deref.ensures.value at c.greatest_weight.ensures.bound)
     (rw c.deref.ensures.value at c.greatest_weight.ensures.attained)

@@ -1,6 +1,5 @@
-use Rattle.std.proofs.Common.{arith, ℕ, List, refl, subst}
+use Rattle.std.proofs.Common.{arith, refl}
 use Rattle.node_set.specs.SetLaws.{below-has}
-use Rattle.cluster_tree.specs.Inside.{AreJoined, IsRound}
 use Rattle.cluster_tree.proofs.Joining.{members_below, joined_keep}
 use Rattle.cluster_tree.proofs.Rounding.{round_keeps}
 use Rattle.cluster_tree.proofs.inside.keeps_distances.Goals as goal
@@ -28,7 +27,7 @@ pub returns-then-is_round : goal.returns-then-is_round
 returns-then-is_round c = λ _.
     round_keeps c.args.graph.now c.graph_is_sound.ensures c.args.cluster.now.members c.args.leader c.requires.leader
     c.args.row.now c.requires.row
-    (subst (λ (xs : List ℕ). IsRound xs c.args.row.now) c.requires.members (c.if-is_round.ensures refl))
+    (rw c.requires.members at (c.if-is_round.ensures refl))
     (rw c.requires.row.count
     (members_below c.args.cluster.now c.requires.sound c.args.graph.now.nodes c.requires.room))
 
@@ -36,5 +35,4 @@ pub returns : goal.returns
 returns c = λ same.
     joined_keep c.args.graph.now c.args.cluster.now c.requires.sound c.requires.room c.args.leader
     c.requires.leader c.args.row.now c.requires.row
-    (subst (λ (xs : List ℕ). AreJoined c.args.graph.now c.args.cluster.now.members xs c.args.leader c.args.row.now)
-    c.requires.members (c.are_joined.ensures same))
+    (rw c.requires.members at (c.are_joined.ensures same))

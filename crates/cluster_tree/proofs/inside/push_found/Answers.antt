@@ -1,7 +1,6 @@
-use Rattle.std.proofs.Common.{◌∙◌, ◌≡◌, ◌++◌, length, List, ℕ, ap, subst}
+use Rattle.std.proofs.Common.{◌∙◌, ◌≡◌, ◌++◌, length, List, ℕ, ap}
 use Rattle.node_set.specs.SetLaws.{below-has}
 use Rattle.cluster_tree.specs.Faults.{IsTreeFault}
-use Rattle.cluster_tree.specs.Tree.{IsTreeOf}
 use Rattle.cluster_tree.proofs.Growing.{err_passed, is_fault, is_tree, members_are}
 use Rattle.cluster_tree.proofs.inside.push_found.Goals as goal
 
@@ -17,9 +16,8 @@ pub returns-in_err-weighed-clause-fault : goal.returns-in_err-weighed-clause-fau
 returns-in_err-weighed-clause-fault c =
     err_passed c.from_residual-in_err-weighed.result c.in_err-weighed.field-0.0
     (IsTreeFault c.args.graph.now c.args.cluster.now.members c.args.leader) c.from_residual-in_err-weighed.ensures.1
-    (is_fault c.args.graph.now c.weights_from.ensures.sound c.args.cluster.now c.flags_of.ensures.sound c.requires.room
-    c.args.leader c.requires.leader c.in_ok-flags.flags.items c.in_ok-flags.ensures.flags c.in_ok-found.found.items
-    (rw c.deref.ensures.value at c.in_ok-found.ensures.weights)
+    (is_fault c.weights_from.ensures.sound c.flags_of.ensures.sound c.requires.room c.requires.leader
+    c.in_ok-flags.ensures.flags (rw c.deref.ensures.value at c.in_ok-found.ensures.weights)
     c.in_err-weighed.field-0.0 (rw c.deref-2.ensures.value at c.in_err-weighed.ensures.missing))
 
 pub returns-clause-found : goal.returns-clause-found
@@ -27,20 +25,14 @@ returns-clause-found c =
     let weighed = c.in_ok-weighed.weighed in
     let are_weighed = rw c.deref-2.ensures.value at c.in_ok-weighed.ensures.weighed in
     let same : weighed.nodes.items ≡ c.args.cluster.now.members =
-    members_are c.args.graph.now c.weights_from.ensures.sound c.args.cluster.now c.flags_of.ensures.sound
-    c.requires.room
-    c.args.leader c.requires.leader c.in_ok-flags.flags.items c.in_ok-flags.ensures.flags c.in_ok-found.found.items
-    (rw c.deref.ensures.value at c.in_ok-found.ensures.weights) weighed are_weighed in
+    members_are c.weights_from.ensures.sound c.flags_of.ensures.sound c.requires.room c.requires.leader
+    c.in_ok-flags.ensures.flags (rw c.deref.ensures.value at c.in_ok-found.ensures.weights) are_weighed in
     record {
       weights = weighed.weights.items;
       appended = c.in_ok-extend_from_slice.ensures.items
           ∙ ap (λ (xs : List ℕ). c.args.weights.now.items ++ xs) c.deref-3.ensures.value;
       count = are_weighed.count ∙ ap (λ (xs : List ℕ). length xs) same;
-      tree = subst (λ (xs : List ℕ). IsTreeOf c.args.graph.now c.args.cluster.now.members c.args.leader
-          (record { leader = c.args.leader; members = xs; weights = weighed.weights.items })) same
-          (is_tree c.args.graph.now c.weights_from.ensures.sound c.args.cluster.now c.flags_of.ensures.sound
-          c.requires.room
-          c.args.leader c.requires.leader c.in_ok-flags.flags.items c.in_ok-flags.ensures.flags
-          c.in_ok-found.found.items
-          (rw c.deref.ensures.value at c.in_ok-found.ensures.weights) weighed are_weighed);
+      tree = rw same at (is_tree c.weights_from.ensures.sound c.flags_of.ensures.sound c.requires.room
+          c.requires.leader c.in_ok-flags.ensures.flags (rw c.deref.ensures.value at c.in_ok-found.ensures.weights)
+          are_weighed);
     }

@@ -1,5 +1,4 @@
-use Rattle.std.proofs.Common.{◌≤◌, ℕ, List, arith, slice_index, subst}
-use Rattle.std.specs.Prelude.{All}
+use Rattle.std.proofs.Common.{arith}
 use Rattle.std.proofs.lemmas.List.{take_all}
 use Rattle.cluster_tree.proofs.Rounding.{near_more}
 use Rattle.cluster_tree.proofs.round.farthest.Goals as goal
@@ -19,6 +18,5 @@ loop-member-preserved c = elim c.if-far-distance.branch [
 
 pub returns : goal.returns
 returns c =
-    subst (λ (xs : List ℕ). All (λ v. slice_index c.args.row.now v ≤ c.loop-member.far) xs)
-    (take_all c.loop-member.member-index c.args.members.now (omega (arith, c.loop-member-test.false)))
-    c.loop-member.invariant
+    rw (take_all c.loop-member.member-index c.args.members.now (omega (arith, c.loop-member-test.false)))
+    at c.loop-member.invariant

@@ -1,6 +1,4 @@
-use Rattle.std.proofs.Common.{◌+◌, ◌∙◌, subst, sym}
-use Rattle.cluster_tree.specs.declared.weighing.Weighed.{Weighed}
-use Rattle.cluster_tree.specs.Weighing.{AreWeighedBelow}
+use Rattle.std.proofs.Common.{◌∙◌, sym}
 use Rattle.cluster_tree.proofs.Gathering.{member_taken, other_skipped}
 use Rattle.cluster_tree.proofs.weighing.weigh.Goals as goal
 use Rattle.cluster_tree.proofs.weighing.weigh.Goals.{then-has+in-Some+in_ok-push_member, else-has}
@@ -8,15 +6,14 @@ use Rattle.cluster_tree.proofs.weighing.weigh.Goals.{then-has+in-Some+in_ok-push
 pub loop-v-preserved : goal.loop-v-preserved
 loop-v-preserved c = elim c.if-has.branch [
   | then-has+in-Some+in_ok-push_member w ↦
-      subst (λ (weighed : Weighed). AreWeighedBelow (c.loop-v.v + 1) c.args.members.now.members c.args.weights.now
-      weighed) (sym w.weighed-is)
+      rw w.weighed-is
       (member_taken c.loop-v.v w.in-Some.weight c.args.members.now.members c.args.weights.now c.loop-v.weighed
       w.push_member.new.weighed
       (sym c.has.ensures ∙ w.if-has.true) w.in-Some.is w.in_ok-push_member.ensures.nodes
       w.in_ok-push_member.ensures.weights
       c.loop-v.invariant)
-  | else-has w ↦ subst (λ (weighed : Weighed).
-      AreWeighedBelow (c.loop-v.v + 1) c.args.members.now.members c.args.weights.now weighed) (sym w.weighed-is)
+  | else-has w ↦
+      rw w.weighed-is
       (other_skipped c.loop-v.v c.args.members.now.members c.args.weights.now c.loop-v.weighed
       (sym c.has.ensures ∙ w.if-has.false) c.loop-v.invariant)
 ]

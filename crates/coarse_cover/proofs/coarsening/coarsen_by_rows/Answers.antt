@@ -1,12 +1,9 @@
-use Rattle.std.proofs.Common.{◌≡◌, ◌≤◌, ◌-◌, ℕ, List, length, ap, arith, sym, ◌∙◌, subst}
+use Rattle.std.proofs.Common.{◌≡◌, ◌-◌, ℕ, length, ap, arith, sym, ◌∙◌, subst}
 use Rattle.coarse_cover.specs.Coarsening.{coarsening}
 use Rattle.coarse_cover.specs.Covers.{IsCover}
-use Rattle.coarse_cover.specs.HalfMade.{IsBetween}
-use Rattle.coarse_cover.specs.declared.cover.Cluster.{Cluster}
 use Rattle.coarse_cover.proofs.Results.{is_cover, clusters_few, nothing_in, overlap, phases_bounded}
 use Rattle.coarse_cover.proofs.Steps.{between_start}
 use Rattle.coarse_cover.proofs.coarsening.coarsen_by_rows.Goals as goal
-use Rattle.coarse_cover.specs.declared.cover.Cover.{Cover}
 use Rattle.node_set.specs.Nodes.{Nodes}
 use Rattle.node_set.specs.Balls.{centres, sets}
 use Rattle.node_set.specs.Workspaces.{SpareTaken}
@@ -21,11 +18,8 @@ phase-init c =
     full ∙ ap (λ (n : ℕ). centres n) (sym (length-sets c.args.balls.now))
     in
     record {
-      between = subst (λ (l : List Cluster).
-          IsBetween (sets c.args.balls.now) c.args.k c.fill_all.new.set.members l c.in_ok-vec.field-0.items 0)
-          (sym c.new.ensures.items)
-          (between_start (sets c.args.balls.now) c.args.k c.in_ok-vec.field-0.items c.requires.low c.requires.centred
-          all);
+      between = rw c.new.ensures.items (between_start (sets c.args.balls.now) c.args.k c.in_ok-vec.field-0.items
+          c.requires.low c.requires.centred all);
       sized = record {
         left = ap (λ (s : Nodes). s.room) c.fill_all.ensures ∙ c.requires.work.left;
         waiting = c.requires.work.waiting;
@@ -34,8 +28,7 @@ phase-init c =
         spare = c.requires.work.spare;
       };
       home_count = sym c.in_ok-vec.field-0.ok.0 ∙ c.in_ok-vec.ensures.len;
-      spare = subst (λ (l : List Cluster). SpareTaken (length l) c.args.work.now.growth.spare.items
-          c.args.work.now.growth.spare.items) (sym c.new.ensures.items) (none_taken c.args.work.now.growth.spare.items);
+      spare = rw c.new.ensures.items (none_taken c.args.work.now.growth.spare.items);
     }
 
 pub phase-preserved : goal.phase-preserved
@@ -53,37 +46,26 @@ phase-preserved c = record {
 }
 
 -- no ball is left
-cover_is : (balls : List Nodes) {k : ℕ} {left : List ℕ} (cover : Cover) → length left ≤ 0
-    → IsBetween (sets balls) k left cover.clusters.items cover.home.items cover.phases
-    → length cover.home.items ≡ length balls → IsCover (length balls) (coarsening (sets balls) k) cover
-cover_is balls {k} {left} cover none between home_count =
-    subst (λ (n : ℕ). IsCover n (coarsening (sets balls) k) cover) (length-sets balls)
-    (is_cover cover between (nothing_in left none) (home_count ∙ sym (length-sets balls)))
-
 pub returns-clause-exact : goal.returns-clause-exact
 returns-clause-exact c =
-    cover_is c.args.balls.now c.phase.cover (subst (λ (n : ℕ). n ≤ 0) c.count.ensures c.phase-test.false)
-    c.phase.invariant.between c.phase.invariant.home_count
+    subst (λ (n : ℕ). IsCover n (coarsening (sets c.args.balls.now) c.args.k) c.phase.cover)
+    (length-sets c.args.balls.now) (is_cover c.phase.cover c.phase.invariant.between
+    (nothing_in c.phase.work.left.members (rw c.count.ensures at c.phase-test.false))
+    (c.phase.invariant.home_count ∙ sym (length-sets c.args.balls.now)))
 
 pub returns-clause-few : goal.returns-clause-few
 returns-clause-few c =
-    subst (λ (n : ℕ). length c.phase.cover.clusters.items ≤ n) (length-sets c.args.balls.now)
-    (clusters_few (sets c.args.balls.now) c.args.k c.requires.low c.requires.centred
-    (cover_is c.args.balls.now c.phase.cover (subst (λ (n : ℕ). n ≤ 0) c.count.ensures c.phase-test.false)
-    c.phase.invariant.between c.phase.invariant.home_count))
+    rw (length-sets c.args.balls.now) at (clusters_few (sets c.args.balls.now) c.args.k c.requires.low
+    c.requires.centred (returns-clause-exact c))
 
 pub returns-clause-phases : goal.returns-clause-phases
 returns-clause-phases c =
     phases_bounded c.covers_are_sparse.ensures (sets c.args.balls.now) c.args.k c.requires.low c.requires.centred
-    (sym (length-sets c.args.balls.now)) (cover_is c.args.balls.now c.phase.cover
-    (subst (λ (n : ℕ). n ≤ 0) c.count.ensures c.phase-test.false) c.phase.invariant.between
-    c.phase.invariant.home_count)
+    (sym (length-sets c.args.balls.now)) (returns-clause-exact c)
 
 pub returns-clause-overlap : goal.returns-clause-overlap
-returns-clause-overlap c = λ x.
-    overlap c.covers_are_sparse.ensures (sets c.args.balls.now) c.args.k x c.requires.low c.requires.centred
-    (cover_is c.args.balls.now c.phase.cover (subst (λ (n : ℕ). n ≤ 0) c.count.ensures c.phase-test.false)
-    c.phase.invariant.between c.phase.invariant.home_count)
+returns-clause-overlap c = λ x. overlap c.covers_are_sparse.ensures (sets c.args.balls.now) c.args.k x c.requires.low
+    c.requires.centred (returns-clause-exact c)
 
 pub returns-clause-spare_left : goal.returns-clause-spare_left
 returns-clause-spare_left c = (length c.phase.cover.clusters.items, c.phase.invariant.spare)

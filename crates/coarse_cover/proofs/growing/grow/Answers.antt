@@ -5,9 +5,8 @@ use Rattle.node_set.specs.Nodes.{Nodes}
 use Rattle.coarse_cover.specs.Coarsening.{is_enough}
 use Rattle.node_set.specs.LeadLaws.{nodes_from}
 use Rattle.node_set.specs.TurnLaws.{touched_grown}
-use Rattle.coarse_cover.proofs.Growth.{cluster_homed, cluster_members, some_enough}
+use Rattle.coarse_cover.proofs.Growth.{cluster_homed, cluster_members, some_enough, stops, goes_on}
 use Rattle.node_set.specs.GrowthLaws.{growth_fits, next_union, reached}
-use Rattle.coarse_cover.proofs.Growth.{stops, goes_on}
 use Rattle.coarse_cover.proofs.growing.grow.Goals as goal
 use Rattle.node_set.specs.Balls.{growth, least, touches, union_of, sets}
 use Rattle.node_set.specs.BallLaws.{ball_at, growth_first, union_first}
@@ -78,11 +77,7 @@ growths c =
     c.count-more.result
     c.loop-step.size c.loop-step.members.members c.touch.new.touched.members
     (ap (λ (s : Nodes). s.members) c.loop-step.invariant.members)
-    (touched_grown c.args.balls.now c.args.rows.now c.loop-step.members c.args.waiting.now c.touch.new.touched.members
-    c.requires.turned
-    (ap (λ (s : Nodes). s.room) c.loop-step.invariant.members) c.requires.waiting c.touch.ensures.sound
-    c.touch.ensures.waits
-    c.touch.ensures.members)
+    (touched_are c.before.before)
     c.count-more.ensures c.loop-step.invariant.size c.loop-step-test.true c.loop-step.invariant.none
     (c.at_most.ensures.0 c.if-at_most.true)
 
@@ -102,21 +97,14 @@ returns-then-at_most-clause-touched c =
       cluster_members (sets c.args.balls.now) c.args.k c.args.r c.args.first c.args.waiting.now.members,
       growths c,
       ← ap (λ (s : Nodes). s.members) c.loop-step.invariant.members,
-    ) (touched_grown c.args.balls.now c.args.rows.now c.loop-step.members c.args.waiting.now c.touch.new.touched.members
-    c.requires.turned
-    (ap (λ (s : Nodes). s.room) c.loop-step.invariant.members) c.requires.waiting c.touch.ensures.sound
-    c.touch.ensures.waits
-    c.touch.ensures.members)
+    ) (touched_are c.before.before)
 
 pub loop-step-preserved : goal.loop-step-preserved
 loop-step-preserved c =
     let e : c.loop-step._step + 1 ≡ suc c.loop-step._step = add-one c.loop-step._step in
     let touched = touched_grown c.args.balls.now c.args.rows.now c.loop-step.members c.args.waiting.now
-    c.touch.new.touched.members c.requires.turned
-    (ap (λ (s : Nodes). s.room) c.loop-step.invariant.members) c.requires.waiting c.touch.ensures.sound
-    c.touch.ensures.waits
-    c.touch.ensures.members
-    in
+    c.touch.new.touched.members c.requires.turned (ap (λ (s : Nodes). s.room) c.loop-step.invariant.members)
+    c.requires.waiting c.touch.ensures.sound c.touch.ensures.waits c.touch.ensures.members in
     let members : c.loop-step.members.members
     ≡ union_of (sets c.args.balls.now) (growth (sets c.args.balls.now) c.args.waiting.now.members c.args.first
     c.loop-step._step) =

@@ -1,5 +1,4 @@
-use Rattle.std.proofs.Common.{◌≡◌, inl, inr, ◌<◌, ◌≤◌, ℕ, List, [], ◌∷◌, false, length, ap, arith, refl, sym, ◌∙◌}
-use Rattle.std.proofs.Common.{subst, add-one, ◌+◌, ◌-◌, length-append}
+use Rattle.std.proofs.Common.{◌≡◌, inl, inr, ◌<◌, ◌≤◌, ℕ, List, [], ◌∷◌, false, length, ap, arith, refl, sym, ◌∙◌, subst, add-one, ◌+◌, ◌-◌, length-append}
 use Rattle.coarse_cover.specs.Coarsening.{cluster_of}
 use Rattle.coarse_cover.specs.HalfMade.{IsAdded}
 use Rattle.node_set.specs.Workspaces.{SpareTaken}
@@ -8,8 +7,7 @@ use Rattle.node_set.specs.LeadLaws.{lead, nothing_at, members_few, none_waits}
 use Rattle.node_set.specs.Ascending.{has}
 use Rattle.node_set.specs.Nodes.{Nodes}
 use Rattle.std.proofs.lemmas.Bool.{cases_lt}
-use Rattle.coarse_cover.proofs.Steps.{in_phase_start, in_phase_next, in_phase_end, in_phase_numbers, in_phase_number}
-use Rattle.coarse_cover.proofs.Steps.{none_next}
+use Rattle.coarse_cover.proofs.Steps.{in_phase_start, in_phase_next, in_phase_end, in_phase_numbers, in_phase_number, none_next}
 use Rattle.coarse_cover.proofs.phasing.make_phase.Goals as goal
 use Rattle.node_set.specs.Balls.{GrownCluster, sets}
 use Rattle.node_set.specs.BallLaws.{length-sets}

@@ -1,7 +1,7 @@
-use Rattle.std.proofs.Common.{ℕ, List, get_or, replicate, subst, sym, arith}
+use Rattle.std.proofs.Common.{get_or, arith}
 use Rattle.distances.specs.declared.weights.TheConstants.{FAR}
 use Rattle.distances.specs.declared.near_nodes.Near.{Near}
-use Rattle.distances.specs.Lowering.{Among, IsLowered, OwnOffer, PairOffer}
+use Rattle.distances.specs.Lowering.{Among, PairOffer}
 use Rattle.distances.proofs.Lowered.{lowered_all, lowered_light, lowered_more}
 use Rattle.distances.proofs.near_nodes.lower_pairs.Goals as goal
 use Rattle.distances.proofs.near_nodes.lower_pairs.Goals.{then-by_row, else-by_row, then-by_row-2, else-by_row-2}
@@ -12,12 +12,8 @@ loop-a-preserved c =
     lowered_more (λ a. Among c.args.near.now (PairOffer c.args.width a)) c.args.near.now c.loop-a.a-index
     (record { node = 0; weight = 0 }) c.loop-a-test.true c.loop-a.invariant
     (elim c.if-by_row-2.branch [
-      | then-by_row-2 w ↦ subst
-          (λ (xs : List ℕ). IsLowered (Among c.args.near.now (PairOffer c.args.width a)) c.loop-a.table xs)
-          (sym w.table-is) w.lower_whole_row.ensures
-      | else-by_row-2 w ↦ subst
-          (λ (xs : List ℕ). IsLowered (Among c.args.near.now (PairOffer c.args.width a)) c.loop-a.table xs)
-          (sym w.table-is) w.lower_row.ensures
+      | then-by_row-2 w ↦ rw w.table-is w.lower_whole_row.ensures
+      | else-by_row-2 w ↦ rw w.table-is w.lower_row.ensures
     ])
 
 pub lower_whole_row-requires-clause-light : goal.lower_whole_row-requires-clause-light
@@ -30,9 +26,6 @@ returns c = lowered_all (λ a. Among c.args.near.now (PairOffer c.args.width a))
 
 pub lower_whole_row-requires-clause-mine : goal.lower_whole_row-requires-clause-mine
 lower_whole_row-requires-clause-mine c = elim c.if-by_row.branch [
-  | then-by_row w ↦ subst (λ (xs : List ℕ). IsLowered (Among c.args.near.now OwnOffer) (replicate c.args.n FAR) xs)
-      (sym w.mine-is)
-      (subst (λ (k : ℕ). IsLowered (Among c.args.near.now OwnOffer) (replicate k FAR) w.spread.new.weights)
-      c.requires.width w.spread.ensures)
+  | then-by_row w ↦ rw (w.mine-is, ← c.requires.width) w.spread.ensures
   | else-by_row w ↦ absurd (omega (arith, w.if-by_row.false, c.if-by_row-2.true))
 ]

@@ -1,8 +1,8 @@
 use Rattle.std.proofs.Common.{◌≡◌, ◌<◌, [], get_or, length, map, List, Vec, sym, ap, ◌∙◌, arith}
-use Rattle.std.proofs.lemmas.List.{length-map}
+use Rattle.std.proofs.lemmas.List.{length-map, get_or-map}
 use Rattle.std.specs.Global.{Global}
 use Rattle.net_reader.specs.declared.said.Call.{Call}
-use Rattle.input_text.proofs.ByActor.{calls-step, get-map}
+use Rattle.input_text.proofs.ByActor.{calls-step}
 use Rattle.input_text.proofs.input.calls_by_actor.Goals as goal
 
 pub loop-script-preserved : goal.loop-script-preserved
@@ -12,7 +12,7 @@ loop-script-preserved c =
     let items : Vec Call Global → List Call = λ s. s.items in
     let below : actor < length scripts = omega arith in
     let found : get_or (map items scripts) actor [] ≡ c.deref.result.now =
-    get-map items scripts actor c.script-item.result below
+    get_or-map items scripts actor c.script-item.result [] below
     ∙ ap items (ap (λ i. get_or scripts i c.script-item.result) c.loop-script.invariant.at ∙ sym c.script-item.is)
     ∙ sym c.deref.ensures.value in
     record {

@@ -3,8 +3,9 @@ use Rattle.handset.specs.Condition.{HandsetData}
 use Rattle.handset.specs.StepWrites.{due}
 use Rattle.region_plan.specs.Settings.{setting_of}
 use Rattle.machine.proofs.Beginning.{on-some}
-use Rattle.machine.proofs.OwnCells.{cell-due, same-owner}
+use Rattle.machine.proofs.OwnCells.{cell-due}
 use Rattle.machine.proofs.ahead.next_ahead.Goals as goal
+use Rattle.handset.specs.StageLaws.{write-sub}
 
 pub returns-clause-next : goal.returns-clause-next
 returns-clause-next c =
@@ -25,5 +26,5 @@ returns-clause-next c =
       stands = on-some _ c.in-Some.is c.write.ensures.stands;
       goes = c.write.ensures.goes;
       its = ap (λ (h : HandsetData). h.sub) c.write.ensures.after
-          ∙ same-owner (setting_of plan []) old old.stage;
+          ∙ write-sub (setting_of plan []) old old.stage;
     }

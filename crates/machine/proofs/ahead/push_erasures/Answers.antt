@@ -1,10 +1,8 @@
-use Rattle.std.proofs.Common.{◌≡◌, ◌<◌, ◌≤◌, ◌+◌, ◌-◌, ℕ, List, true, false, not, suc, [], Some, ap, subst, sym, arith, refl, ◌∙◌, get_or}
+use Rattle.std.proofs.Common.{◌≡◌, ◌<◌, ◌≤◌, ◌+◌, ◌-◌, ℕ, List, true, false, not, suc, [], Some, ap, subst, sym, arith, refl, ◌∙◌, get_or, add-one}
 use Rattle.std.specs.Prelude.{option_map, slice_index}
 use Rattle.std.proofs.lemmas.Bool.{eq-eqb, ne_eqb}
-use Rattle.entry_word.specs.declared.visit.Act.TheVariants.{Put}
-use Rattle.entry_word.specs.declared.visit.Key.TheVariants.{Entry}
-use Rattle.handset.specs.Entries.{EntryWrite, at_entry, entry_put, entry_write, erasure_to}
-use Rattle.handset.specs.Condition.{GoesWith, HandsetData, IsMoveStage}
+use Rattle.handset.specs.Entries.{EntryWrite, at_entry, entry_write, erasure_to}
+use Rattle.handset.specs.Condition.{GoesWith, HandsetData}
 use Rattle.handset.specs.NextEntries.{IsNextEntry, erasures_from}
 use Rattle.handset.specs.StepWrites.{first_with, is_old}
 use Rattle.handset.specs.declared.entries.Erasures.{Erasures}
@@ -13,7 +11,7 @@ use Rattle.region_plan.specs.Plan.{PlanData, home, levels_of, nodes_of}
 use Rattle.region_plan.specs.Settings.{setting_of}
 use Rattle.visit_log.specs.Homes.{home_place}
 use Rattle.machine.specs.Owed.{IsAhead}
-use Rattle.machine.proofs.MovedEntries.{at-stage, first-found, first-passed}
+use Rattle.machine.proofs.MovedEntries.{at-stage, entry-ahead, first-found, first-passed}
 use Rattle.machine.proofs.Owing.{ahead-more, ahead-none}
 use Rattle.machine.proofs.ahead.push_erasures.Goals as goal
 use Rattle.machine.proofs.ahead.push_erasures.Goals.{then-old-new, else-old-new}
@@ -33,14 +31,14 @@ node-inside {plan} above goes same low =
 pub bounds-of-above : goal.bounds-of-above
 bounds-of-above c =
     let low = low-above c.loop-above.above c.requires.goes c.requires.they c.loop-above-test.true in
-    subst (λ n. c.loop-above.above < n) (sym (c.of-in-loop-above.ensures.count c.args.plan.now c.requires.homes
-    (node-inside c.loop-above.above c.requires.goes c.addresses-addresses.ensures low))) low
+    rw (c.of-in-loop-above.ensures.count c.args.plan.now c.requires.homes
+    (node-inside c.loop-above.above c.requires.goes c.addresses-addresses.ensures low)) low
 
 pub bounds-new-above : goal.bounds-new-above
 bounds-new-above c =
-    subst (λ n. c.loop-above.above < n) (sym (c.of-new.ensures.count c.args.plan.now c.requires.homes
-    (subst (λ n. n < nodes_of c.args.plan.now) (sym (ap (λ (e : Erasures). e.node) c.requires.they))
-    c.requires.goes.to))) (low-above c.loop-above.above c.requires.goes c.requires.they c.loop-above-test.true)
+    rw (c.of-new.ensures.count c.args.plan.now c.requires.homes
+    (rw (ap (λ (e : Erasures). e.node) c.requires.they) c.requires.goes.to))
+    (low-above c.loop-above.above c.requires.goes c.requires.they c.loop-above-test.true)
 
 pub loop-above-init : goal.loop-above-init
 loop-above-init c =
@@ -49,12 +47,8 @@ loop-above-init c =
     let at : ℕ = c.args.erasures.level in
     let here : handset ≡ at_entry handset (entries.Erasing at) =
     at-stage handset (entries.Erasing at) c.requires.stage in
-    let next : suc at ≡ at + 1 = omega arith in
-    let low : at < levels_of plan = omega (
-      arith,
-      subst (λ s. IsMoveStage (nodes_of plan) handset.last s) c.requires.stage c.requires.goes.stage,
-      c.requires.goes.renewed,
-    ) in
+    let low : at < levels_of plan =
+    omega (arith, rw c.requires.stage at c.requires.goes.stage, c.requires.goes.renewed) in
     let inside = node-inside at c.requires.goes c.addresses-addresses.ensures low in
     let here_place : get_or c.of.result.now at 0 ≡ home_place plan (slice_index handset.addresses at) at =
     c.of.ensures.places plan c.requires.homes inside at low
@@ -63,7 +57,8 @@ loop-above-init c =
       low = omega arith;
       goes = subst (GoesWith plan) here c.requires.goes;
       place = here_place;
-      next = ap (λ n. first_with (is_old (setting_of plan []) handset) n (suc handset.last.renewed - n)) next;
+      next = ap (λ n. first_with (is_old (setting_of plan []) handset) n (suc handset.last.renewed - n))
+          (sym (add-one at));
       ahead = λ subs known.
           subst (λ h. IsAhead plan subs handset h c.args.ahead.now c.args.ahead.now) here
           (ahead-none subs c.args.ahead.now c.requires.goes);
@@ -107,31 +102,11 @@ loop-above-preserved c =
             goes = its.goes;
             place = here;
             next = ap (λ n. first_with (is_old (setting_of plan []) handset) n (suc handset.last.renewed - n))
-                (let e : suc above ≡ above + 1 = omega arith in e);
+                (sym (add-one above));
             ahead = λ subs known. ahead-more w.push_reserved.new.self (c.loop-above.invariant.ahead subs known)
-                (record {
-                  visit = entry_put handset.sub write;
-                  key = Entry at (home plan at (slice_index handset.addresses at)) handset.sub;
-                  act = ap (Put (Entry at (home plan at (slice_index handset.addresses at)) handset.sub))
-                      (sym c.pack_address-word.ensures);
-                  commits = refl;
-                  cell = record {
-                    cell = record {
-                      place = (
-                        low,
-                        c.plan_is_sound.ensures.matched.homes at (slice_index handset.addresses at) low
-                            (c.requires.goes.inside at low),
-                      );
-                      known = known;
-                    };
-                    owner = refl;
-                    place = c.loop-above.invariant.place;
-                  };
-                  next = its.visit;
-                  stands = its.stands;
-                  goes = its.goes;
-                  its = refl;
-                }) w.push_reserved.ensures.items w.push_reserved.ensures.capacity;
+                (entry-ahead (slice_index handset.addresses at) c.plan_is_sound.ensures.matched its known low
+                (c.requires.goes.inside at low) refl c.loop-above.invariant.place c.pack_address-word.ensures)
+                w.push_reserved.ensures.items w.push_reserved.ensures.capacity;
           })
       | else-old-new w ↦
           let young : is_old (setting_of plan []) handset above ≡ false =

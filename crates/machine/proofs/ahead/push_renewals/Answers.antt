@@ -1,8 +1,7 @@
-use Rattle.std.proofs.Common.{◌≡◌, ◌<◌, ◌≤◌, ◌+◌, ◌-◌, ℕ, false, suc, [], Some, ap, subst, sym, arith, refl, ◌∙◌, length, get_or}
+use Rattle.std.proofs.Common.{◌≡◌, ◌<◌, ◌≤◌, ◌+◌, ◌-◌, ℕ, false, suc, [], Some, ap, subst, sym, arith, refl, ◌∙◌, length, get_or, add-one}
 use Rattle.std.specs.Prelude.{min}
 use Rattle.std.proofs.Math.Nat.{min-le_left, min-le_right}
-use Rattle.entry_word.specs.declared.visit.Key.TheVariants.{Entry}
-use Rattle.handset.specs.Entries.{EntryWrite, at_entry, entry_put, entry_write}
+use Rattle.handset.specs.Entries.{EntryWrite, at_entry, entry_write}
 use Rattle.handset.specs.Condition.{GoesWith, HandsetData}
 use Rattle.handset.specs.NextEntries.{IsNextEntry, renewals_from}
 use Rattle.handset.specs.declared.entries.EntryStage.TheVariants as entries
@@ -12,7 +11,7 @@ use Rattle.region_plan.specs.Settings.{setting_of}
 use Rattle.std.proofs.lemmas.List.{length_push}
 use Rattle.visit_log.specs.Homes.{home_place}
 use Rattle.machine.specs.Owed.{IsAhead}
-use Rattle.machine.proofs.MovedEntries.{at-stage, renewal-at}
+use Rattle.machine.proofs.MovedEntries.{at-stage, entry-ahead, renewal-at}
 use Rattle.machine.proofs.Owing.{ahead-more, ahead-none}
 use Rattle.machine.proofs.ahead.push_renewals.Goals as goal
 
@@ -55,10 +54,10 @@ loop-level-init c =
 
 pub bounds-places-level : goal.bounds-places-level
 bounds-places-level c =
-    subst (λ n. c.loop-level.level < n) (sym (c.of-places.ensures.count c.args.plan.now c.requires.homes
-    (subst (λ n. n < nodes_of c.args.plan.now) (sym (ap (λ (r : Renewals). r.node) c.requires.they))
-    c.requires.goes.to))) (level-low c.loop-level.level (c.capacity.result - c.len.result) c.requires.goes
-    c.requires.they c.min.ensures c.loop-level.auto.level c.loop-level-test.true).1
+    rw (c.of-places.ensures.count c.args.plan.now c.requires.homes
+    (rw (ap (λ (r : Renewals). r.node) c.requires.they) c.requires.goes.to)) (level-low c.loop-level.level
+    (c.capacity.result - c.len.result) c.requires.goes c.requires.they c.min.ensures c.loop-level.auto.level
+    c.loop-level-test.true).1
 
 pub loop-level-preserved : goal.loop-level-preserved
 loop-level-preserved c =
@@ -85,9 +84,8 @@ loop-level-preserved c =
     c.entry_writes_are_next.ensures plan handset (entries.Renewing at) write c.plan_is_sound.ensures.sound
     c.loop-level.invariant.goes is
     in
-    let more : suc at ≡ at + 1 = omega arith in
     record {
-      goes = subst (λ n. GoesWith plan (at_entry handset (entries.Renewing n))) more its.goes;
+      goes = rw (add-one at) its.goes;
       fits = omega (
         arith,
         c.loop-level.invariant.fits,
@@ -100,27 +98,10 @@ loop-level-preserved c =
           word = c.args.renewals.word;
         }),
       );
-      ahead = λ subs known.
-          subst (λ n. IsAhead plan subs handset (at_entry handset (entries.Renewing n)) c.args.ahead.now
-          c.push_reserved.new.self) more
-          (ahead-more c.push_reserved.new.self (c.loop-level.invariant.ahead subs known) (record {
-            visit = entry_put handset.sub write;
-            key = Entry at (home plan at handset.last.to) handset.sub;
-            act = refl;
-            commits = refl;
-            cell = record {
-              cell = record {
-                place = (low.1, c.plan_is_sound.ensures.matched.homes at handset.last.to low.1 c.requires.goes.to);
-                known = known;
-              };
-              owner = refl;
-              place = there;
-            };
-            next = its.visit;
-            stands = its.stands;
-            goes = its.goes;
-            its = refl;
-          }) c.push_reserved.ensures.items c.push_reserved.ensures.capacity);
+      ahead = λ subs known. rw (add-one at)
+          (ahead-more c.push_reserved.new.self (c.loop-level.invariant.ahead subs known)
+          (entry-ahead handset.last.to c.plan_is_sound.ensures.matched its known low.1 c.requires.goes.to refl there
+          refl) c.push_reserved.ensures.items c.push_reserved.ensures.capacity);
     }
 
 pub returns : goal.returns

@@ -1,17 +1,14 @@
-use Rattle.std.proofs.Common.{◌≡◌, ◌+◌, ◌-◌, ◌<◌, ℕ, List, suc, false, drop, get_or, length, ap, arith, subst}
+use Rattle.std.proofs.Common.{◌≡◌, ◌+◌, ◌-◌, ◌<◌, ℕ, List, suc, false, get_or, length, ap, arith, add-one}
 use Rattle.std.proofs.Math.Nat.{min-le_right}
 use Rattle.std.proofs.lemmas.List.{get_or_default}
 use Rattle.machine.specs.declared.ahead.Ahead.{Ahead}
 use Rattle.visit_log.specs.Cells.{CellData}
-use Rattle.machine.specs.Owed.{HasCome}
 use Rattle.machine.proofs.Owing.{come-more, come-none}
 use Rattle.machine.proofs.ahead.put_plain.Goals as goal
 
 pub loop-place-init : goal.loop-place-init
 loop-place-init c = λ plan old new may.
-    let none : 0 ≡ c.args.made - c.args.made = omega arith in
-    subst (λ n. HasCome plan c.args.sub old new c.args.cells.now c.args.cells.now n (drop c.args.made c.args.ahead.now))
-    none (come-none may)
+    let none : c.args.made - c.args.made ≡ 0 = omega arith in rw none (come-none may)
 
 pub loop-place-preserved : goal.loop-place-preserved
 loop-place-preserved c = λ plan old new may.
@@ -27,12 +24,8 @@ loop-place-preserved c = λ plan old new may.
       min-le_right c.args.most (length writes - c.args.made),
     ) in
     let come = c.loop-place.invariant plan old new may in
-    let one : suc (place - c.args.made) ≡ place + 1 - c.args.made = omega (arith, c.loop-place.auto.place) in
-    let more : suc place ≡ place + 1 = omega arith in
-    subst (λ n. HasCome plan c.args.sub old new c.args.cells.now c.put_at.new.self n (drop (place + 1) writes)) one
-    (subst (λ n. HasCome plan c.args.sub old new c.args.cells.now c.put_at.new.self (suc (place - c.args.made))
-    (drop n writes)) more
-    (come-more place writes low
+    let one : place + 1 - c.args.made ≡ suc (place - c.args.made) = omega (arith, c.loop-place.auto.place) in
+    rw (one, add-one place) (come-more place writes low
     (get_or_default writes place (record { place = 0; commits = false; word = 0 }) write low) c.if-write.false come
     (λ key its. c.put_at.ensures.history plan key come.may.over its) (c.put_at.ensures.goes plan come.may.over)
-    (λ key its. ap (λ (k : CellData). k.subs) (c.put_at.ensures.words plan key come.may.over its))))
+    (λ key its. ap (λ (k : CellData). k.subs) (c.put_at.ensures.words plan key come.may.over its)))

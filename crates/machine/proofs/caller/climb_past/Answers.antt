@@ -6,18 +6,13 @@ use Rattle.walk.specs.declared.progress.Climb.{Climb}
 use Rattle.walk.specs.Climbs.{IsClimbOver, climb_past}
 use Rattle.machine.specs.Climbs.{rung_of}
 use Rattle.machine.proofs.Climbing.{climb-is, passes, past-over}
+use Rattle.machine.proofs.ClimbCells.{climb-at}
 use Rattle.machine.proofs.caller.climb_past.Goals as goal
 
 pub returns-clause-exact : goal.returns-clause-exact
 returns-clause-exact c =
-    let on : ComesTo c.args.plan.now c.args.routes.now c.args.climb.from (rung_of c.args.climb) c.args.count = record {
-      at = record {
-        are = c.requires.routes;
-        inside = c.requires.over.from;
-        is = record { level = c.requires.over.progress.0; index = c.requires.over.progress.1 };
-      };
-      on = c.requires.rungs c.args.count (omega arith);
-    } in
+    let on : ComesTo c.args.plan.now c.args.routes.now c.args.climb.from (rung_of c.args.climb) c.args.count =
+    record { at = climb-at c.requires.routes c.requires.over; on = c.requires.rungs c.args.count (omega arith) } in
     ap (λ (r : Height). let k : Climb = record c.args.climb {
       weight = c.args.climb.weight + r.weight;
       level = r.level;
@@ -39,14 +34,8 @@ returns-clause-each c = λ i low.
 
 pub overflow_add-result : goal.overflow_add-result
 overflow_add-result c =
-    let on : ComesTo c.args.plan.now c.args.routes.now c.args.climb.from (rung_of c.args.climb) c.args.count = record {
-      at = record {
-        are = c.requires.routes;
-        inside = c.requires.over.from;
-        is = record { level = c.requires.over.progress.0; index = c.requires.over.progress.1 };
-      };
-      on = c.requires.rungs c.args.count (omega arith);
-    } in
+    let on : ComesTo c.args.plan.now c.args.routes.now c.args.climb.from (rung_of c.args.climb) c.args.count =
+    record { at = climb-at c.requires.routes c.requires.over; on = c.requires.rungs c.args.count (omega arith) } in
     let there : Climb = climb_past c.args.plan.now c.args.climb c.args.count in
     let over : IsClimbOver c.args.plan.now there =
     past-over c.climbs_go_on.ensures c.args.plan.now c.args.climb c.plan_is_sound.ensures.sound

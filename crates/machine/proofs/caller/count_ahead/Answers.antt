@@ -3,9 +3,7 @@ use Rattle.std.specs.Prelude.{slice_index, slice_index_or}
 use Rattle.std.proofs.Math.Nat.{min-le_left}
 use Rattle.std.proofs.lemmas.List.{get_or-take, get_or_default, length-take-le}
 use Rattle.visit_log.specs.Cells.{word_beside}
-use Rattle.visit_log.specs.Routes.{IsAt}
-use Rattle.machine.specs.Climbs.{rung_of}
-use Rattle.machine.proofs.ClimbCells.{place-below}
+use Rattle.machine.proofs.ClimbCells.{climb-at, place-below}
 use Rattle.machine.proofs.caller.count_ahead.Goals as goal
 
 -- one of the first of some places
@@ -20,11 +18,7 @@ first-of xs n k d few low =
 pub count_empty-requires-clause-inside : goal.count_empty-requires-clause-inside
 count_empty-requires-clause-inside g c = λ k d low.
     let plan = c.args.plan.now in
-    let at : IsAt plan c.args.routes.now c.args.climb.from (rung_of c.args.climb) = record {
-      are = c.requires.routes;
-      inside = c.requires.over.from;
-      is = record { level = c.requires.over.progress.0; index = c.requires.over.progress.1 };
-    } in
+    let at = climb-at c.requires.routes c.requires.over in
     let one = first-of c.ahead-ahead.result.now c.min.result k d
     (omega (arith, c.min.ensures, min-le_left (length c.ahead-ahead.result.now - 1) c.args.most)) low in
     omega (
@@ -39,11 +33,7 @@ count_empty-requires-clause-inside g c = λ k d low.
 pub returns-clause-empty : goal.returns-clause-empty
 returns-clause-empty g c = λ i low.
     let plan = c.args.plan.now in
-    let at : IsAt plan c.args.routes.now c.args.climb.from (rung_of c.args.climb) = record {
-      are = c.requires.routes;
-      inside = c.requires.over.from;
-      is = record { level = c.requires.over.progress.0; index = c.requires.over.progress.1 };
-    } in
+    let at = climb-at c.requires.routes c.requires.over in
     let one = first-of c.ahead-ahead.result.now c.min.result i 0
     (omega (arith, c.min.ensures, min-le_left (length c.ahead-ahead.result.now - 1) c.args.most))
     (omega (arith, low, c.count_empty.ensures.within)) in

@@ -1,43 +1,28 @@
-use Rattle.std.proofs.Common.{◌≡◌, ◌<◌, ◌+◌, ◌∙◌, [], ap, get_or, subst, arith, length, Vec, Global}
+use Rattle.std.proofs.Common.{◌≡◌, ◌<◌, ◌+◌, ◌∙◌, [], get_or, arith, length}
 use Rattle.std.specs.Prelude.{vec_capacity}
-use Rattle.std.proofs.lemmas.List.{length-map}
-use Rattle.net_reader.specs.declared.said.Call.{Call}
 use Rattle.net_reader.specs.Seen.{seen_input}
 use Rattle.machine.specs.declared.caller.Caller.{Caller}
 use Rattle.machine.specs.Callers.{IsCaller}
 use Rattle.machine.specs.Stands.{calls_of}
-use Rattle.machine.proofs.Looking.{script-is, script-searches}
 use Rattle.machine.proofs.Opening.{caller-opens, each-more}
 use Rattle.machine.proofs.machine.callers_of.Goals as goal
+use Rattle.machine.specs.ScriptVisits.{script-searches, script-is}
 
 pub new-requires : goal.new-requires
 new-requires c =
-    let low : c.len-subs.result + c.loop-caller.caller < length c.args.input.now.scripts.items =
-    omega (
-      arith,
-      c.loop-caller-test.true,
-      c.len-subs.ensures,
-      c.requires.together.valid.scripts,
-      length-map c.args.input.now.scripts.items (λ (s : Vec Call Global). s.items),
-    ) in
+    let low : c.len-subs.result + c.loop-caller.caller < length (seen_input c.args.input.now).scripts =
+    omega (arith, c.loop-caller-test.true, c.len-subs.ensures, c.requires.together.valid.scripts) in
     record {
       searches = script-searches c.args.plan.now (c.len-subs.result + c.loop-caller.caller) c.requires.together.valid
-          c.requires.together.nodes (omega (arith, c.len-subs.ensures))
-          (omega (arith, low, length-map c.args.input.now.scripts.items (λ (s : Vec Call Global). s.items)))
+          c.requires.together.nodes (omega (arith, c.len-subs.ensures)) low
           (script-is c.args.input.now.scripts.items (c.len-subs.result + c.loop-caller.caller) low c.index.ensures
           c.as_slice-script.ensures.value) (omega (arith, c.len-subs.ensures));
     }
 
 pub loop-caller-preserved : goal.loop-caller-preserved
 loop-caller-preserved c =
-    let low : c.len-subs.result + c.loop-caller.caller < length c.args.input.now.scripts.items =
-    omega (
-      arith,
-      c.loop-caller-test.true,
-      c.len-subs.ensures,
-      c.requires.together.valid.scripts,
-      length-map c.args.input.now.scripts.items (λ (s : Vec Call Global). s.items),
-    ) in
+    let low : c.len-subs.result + c.loop-caller.caller < length (seen_input c.args.input.now).scripts =
+    omega (arith, c.loop-caller-test.true, c.len-subs.ensures, c.requires.together.valid.scripts) in
     let count : c.len-subs.result ≡ length c.args.input.now.homes.items = omega (arith, c.len-subs.ensures) in
     let script : c.as_slice-script.result.now
     ≡ get_or (seen_input c.args.input.now).scripts (c.len-subs.result + c.loop-caller.caller) [] =
@@ -49,15 +34,12 @@ loop-caller-preserved c =
       each = each-more (λ i x. IsCaller (seen_input c.args.input.now) c.args.plan.now []
           (length c.args.input.now.homes.items + i) x) c.loop-caller.callers.items c.push_reserved.ensures.items
           (omega (arith, c.loop-caller.invariant.count)) c.loop-caller.invariant.each
-          (subst (λ n. IsCaller (seen_input c.args.input.now) c.args.plan.now [] (n + c.loop-caller.caller)
-          c.in_ok-new.field-0) count (caller-opens (seen_input c.args.input.now) c.args.plan.now
-          (c.len-subs.result + c.loop-caller.caller) c.in_ok-new.field-0 (omega (arith, c.len-subs.ensures))
-          (omega (arith, low, length-map c.args.input.now.scripts.items (λ (s : Vec Call Global). s.items))) script
+          (rw count at (caller-opens (seen_input c.args.input.now) c.args.plan.now
+          (c.len-subs.result + c.loop-caller.caller) c.in_ok-new.field-0 (omega (arith, c.len-subs.ensures)) low script
           c.in_ok-new.ensures.walk c.in_ok-new.ensures.first c.in_ok-new.ensures.lines
           (omega (arith, c.in_ok-new.ensures.room))));
       rooms = each-more (λ i (x : Caller). vec_capacity x.lines ≡ calls_of (seen_input c.args.input.now)
           (length c.args.input.now.homes.items + i)) c.loop-caller.callers.items c.push_reserved.ensures.items
           (omega (arith, c.loop-caller.invariant.count)) c.loop-caller.invariant.rooms
-          (c.in_ok-new.ensures.room ∙ (ap length script
-          ∙ ap (λ n. calls_of (seen_input c.args.input.now) (n + c.loop-caller.caller)) count));
+          (rw (c.in_ok-new.ensures.room, script, count));
     }

@@ -2,8 +2,9 @@ use Rattle.std.proofs.Common.{sym, ap, ◌∙◌, arith, map, Vec, Global, suc, 
 use Rattle.std.proofs.lemmas.List.{take_all}
 use Rattle.net_reader.specs.declared.said.Call.{Call}
 use Rattle.net_reader.specs.Valid.{count_calls}
-use Rattle.machine.proofs.Sums.{added, calls-more}
+use Rattle.machine.proofs.Sums.{calls-more}
 use Rattle.machine.proofs.room.count_calls.Goals as goal
+use Rattle.directory.specs.ListLaws.{added}
 
 pub loop-script-preserved : goal.loop-script-preserved
 loop-script-preserved c =

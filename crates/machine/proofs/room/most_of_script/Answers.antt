@@ -4,8 +4,8 @@ use Rattle.std.proofs.lemmas.List.Sums.{sum_by_more}
 use Rattle.net_reader.specs.declared.said.Call.TheVariants as calls
 use Rattle.region_plan.specs.Settings.{setting_of}
 use Rattle.scripts.specs.Scripts.{most_of, most_in}
-use Rattle.machine.proofs.Sums.{added}
 use Rattle.machine.proofs.room.most_of_script.Goals as goal
+use Rattle.directory.specs.ListLaws.{added}
 
 pub loop-call-preserved : goal.loop-call-preserved
 loop-call-preserved c = λ starts.

@@ -3,8 +3,9 @@ use Rattle.std.proofs.lemmas.List.{take_all}
 use Rattle.net_reader.specs.declared.said.Call.{Call}
 use Rattle.region_plan.specs.Settings.{setting_of}
 use Rattle.scripts.specs.Scripts.{most_in, most_visits}
-use Rattle.machine.proofs.Sums.{added, visits-more}
+use Rattle.machine.proofs.Sums.{visits-more}
 use Rattle.machine.proofs.room.most_visits.Goals as goal
+use Rattle.directory.specs.ListLaws.{added}
 
 pub loop-script-preserved : goal.loop-script-preserved
 loop-script-preserved c = λ starts.

@@ -10,7 +10,6 @@ use Rattle.node_set.specs.WorkspaceLaws.{left_on, none_taken, taken_on}
 use Rattle.mean_cover.specs.Covering.{mean_cluster, mean_covering}
 use Rattle.mean_cover.specs.MeanCovers.{IsMeanCover}
 use Rattle.mean_cover.specs.HalfMade.{IsAdded, IsUnderWay}
-use Rattle.mean_cover.specs.declared.cover.MeanCluster.{MeanCluster}
 use Rattle.mean_cover.specs.declared.cover.MeanCover.{MeanCover}
 use Rattle.mean_cover.proofs.Results.{is_mean_cover}
 use Rattle.mean_cover.proofs.Steps.{none_next, numbers_few, under_way_next, under_way_start}
@@ -22,11 +21,8 @@ first-init c =
     ap (λ (s : Nodes). s.members) c.fill_all.ensures ∙ ap (λ (n : ℕ). centres n) c.requires.work.waiting
     ∙ ap (λ (n : ℕ). centres n) (sym (length-sets c.args.balls.now)) in
     record {
-      under_way = subst (λ (l : List MeanCluster).
-          IsUnderWay (sets c.args.balls.now) c.args.k c.fill_all.new.set.members l c.in_ok-vec.field-0.items)
-          (sym c.new.ensures.items)
-          (under_way_start (sets c.args.balls.now) c.args.k c.fill_all.new.set.members c.in_ok-vec.field-0.items
-          c.requires.centred all);
+      under_way = rw c.new.ensures.items (under_way_start (sets c.args.balls.now) c.args.k c.fill_all.new.set.members
+          c.in_ok-vec.field-0.items c.requires.centred all);
       none_before = λ v h. absurd (omega arith);
       sized = record {
         left = c.requires.work.left;
@@ -36,8 +32,7 @@ first-init c =
         spare = c.requires.work.spare;
       };
       home_count = sym c.in_ok-vec.field-0.ok.0 ∙ c.in_ok-vec.ensures.len;
-      spare = subst (λ (l : List MeanCluster). SpareTaken (length l) c.args.work.now.growth.spare.items
-          c.args.work.now.growth.spare.items) (sym c.new.ensures.items) (none_taken c.args.work.now.growth.spare.items);
+      spare = rw c.new.ensures.items (none_taken c.args.work.now.growth.spare.items);
     }
 
 pub add_cluster-requires-clause-numbers : goal.add_cluster-requires-clause-numbers

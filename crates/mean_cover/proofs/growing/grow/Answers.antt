@@ -1,4 +1,4 @@
-use Rattle.std.proofs.Common.{◌≡◌, ◌||◌, ◌+◌, ◌*◌, ◌^◌, ◌≤◌, ℕ, List, length, suc, ap, arith, refl, subst, sym, ◌∙◌, add-one}
+use Rattle.std.proofs.Common.{◌≡◌, ◌||◌, ◌+◌, ℕ, List, length, suc, ap, arith, refl, sym, ◌∙◌, add-one}
 use Rattle.std.proofs.lemmas.Bool.{false≢true}
 use Rattle.node_set.specs.Ascending.{has}
 use Rattle.node_set.specs.Balls.{growth, least, union_of, sets}
@@ -109,11 +109,9 @@ growths : (c : Then-at_most)
     → least (is_last (sets c.args.balls.now) c.args.k c.args.waiting.now.members c.args.first) c.args.k
     ≡ c.loop-step._step
 growths c =
-    stops (sets c.args.balls.now) c.args.k c.args.first c.args.waiting.now.members c.loop-step._step
-    c.count-more.result c.loop-step.size (next_size c.before.before) c.loop-step.invariant.size c.loop-step-test.true
-    c.loop-step.invariant.none
-    (subst (λ (n : ℕ). c.count-more.result ^ c.args.k ≤ n * c.loop-step.size ^ c.args.k)
-    (sym (length-sets c.args.balls.now)) (c.at_most.ensures.0 c.if-at_most.true))
+    stops (sets c.args.balls.now) c.args.k c.args.first c.args.waiting.now.members c.loop-step._step c.count-more.result
+    c.loop-step.size (next_size c.before.before) c.loop-step.invariant.size c.loop-step-test.true
+    c.loop-step.invariant.none (rw (length-sets c.args.balls.now) (c.at_most.ensures.0 c.if-at_most.true))
 
 pub returns-then-at_most-clause-members : goal.returns-then-at_most-clause-members
 returns-then-at_most-clause-members c =
@@ -133,10 +131,8 @@ loop-step-preserved c =
       size = next_size c.before.before;
       none = goes_on (sets c.args.balls.now) c.args.k c.args.first c.args.waiting.now.members c.loop-step._step
           c.count-more.result c.loop-step.size (next_size c.before.before) c.loop-step.invariant.size
-          c.loop-step.invariant.none
-          (λ fits. false≢true (sym c.if-at_most.false ∙ c.at_most.ensures.1
-          (subst (λ (n : ℕ). c.count-more.result ^ c.args.k ≤ n * c.loop-step.size ^ c.args.k)
-          (length-sets c.args.balls.now) fits)));
+          c.loop-step.invariant.none (λ fits. false≢true (sym c.if-at_most.false ∙ c.at_most.ensures.1
+          (rw (length-sets c.args.balls.now) at fits)));
       taken_room = c.loop-step.invariant.taken_room;
       touched_room = c.touch.ensures.room ∙ c.loop-step.invariant.touched_room;
       spare_rooms = c.loop-step.invariant.spare_rooms;

@@ -1,8 +1,9 @@
 use Rattle.std.proofs.Common.{◌≡◌, [], Bool, true, false, cond, ap, refl, ◌∙◌, arith, sym}
 use Rattle.region_plan.specs.Settings.{setting_of}
-use Rattle.move_cost.proofs.Following.{IsCost, Makes, finished, follows-on, left-falls, next-fits, room-on, write-sub}
+use Rattle.move_cost.proofs.Following.{IsCost, Makes, finished, follows-on, left-falls, next-fits, room-on}
 use Rattle.move_cost.proofs.counting.finish.Goals as goal
 use Rattle.move_cost.proofs.counting.finish.Goals.{After-made}
+use Rattle.handset.specs.StageLaws.{write-sub}
 
 bool-is : (b : Bool) → mir.Val.bool_byte b ≡ cond b 1 0
 bool-is true = refl

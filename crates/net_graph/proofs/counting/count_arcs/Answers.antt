@@ -1,7 +1,6 @@
-use Rattle.std.proofs.Common.{ℕ, ◌+◌, ◌<◌, ◌≤◌, List, ◌∷◌, [], ◌++◌, length, take, get_or, set, arith, subst, sym}
+use Rattle.std.proofs.Common.{ℕ, ◌+◌, ◌<◌, ◌≤◌, List, ◌∷◌, [], ◌++◌, length, take, get_or, set, arith, sym}
 use Rattle.std.proofs.lemmas.List.{get_or-set_other, length-set, length-take-le, take_all}
 use Rattle.net_graph.specs.declared.edge.Edge.{Edge}
-use Rattle.net_graph.specs.Network.{IsEdge}
 use Rattle.net_graph.specs.Notes.{AreCounts, note_of, notes_of}
 use Rattle.net_graph.proofs.Noting.{few_arcs}
 use Rattle.net_graph.proofs.Placing.{none_more, one_counted, two_more}
@@ -14,26 +13,29 @@ count_few : (edges : List Edge) (i v : ℕ) (counts : List ℕ) → i < length e
 count_few edges i v counts short below before =
     omega (arith, before v below, few_arcs (take i edges) v, length-take-le i edges (omega arith))
 
+abbrev no_edge : Edge
+no_edge = record { a = 0; b = 0; weight = 0 }
+
 pub overflow_add-counts : goal.overflow_add-counts
 overflow_add-counts c =
-    let e : Edge = get_or c.args.edges.now c.loop-place.place (record { a = 0; b = 0; weight = 0 }) in
-    let is_edge : IsEdge (length c.args.counts.now) e =
-    c.requires.edges c.loop-place.place (record { a = 0; b = 0; weight = 0 }) c.loop-place-test.true in
+    let i = c.loop-place.place in
+    let e : Edge = get_or c.args.edges.now i no_edge in
+    let is_edge = c.requires.edges i no_edge c.loop-place-test.true in
     omega (
       arith,
-      count_few c.args.edges.now c.loop-place.place e.a c.loop-place.counts c.loop-place-test.true
+      count_few c.args.edges.now i e.a c.loop-place.counts c.loop-place-test.true
           (omega (arith, is_edge.a_below, c.loop-place.auto.counts)) c.loop-place.invariant,
       c.loop-place-test.true,
     )
 
 pub overflow_add-counts-then-edge : goal.overflow_add-counts-then-edge
 overflow_add-counts-then-edge c =
-    let e : Edge = get_or c.args.edges.now c.loop-place.place (record { a = 0; b = 0; weight = 0 }) in
-    let is_edge : IsEdge (length c.args.counts.now) e =
-    c.requires.edges c.loop-place.place (record { a = 0; b = 0; weight = 0 }) c.loop-place-test.true in
+    let i = c.loop-place.place in
+    let e : Edge = get_or c.args.edges.now i no_edge in
+    let is_edge = c.requires.edges i no_edge c.loop-place-test.true in
     omega (
       arith,
-      count_few c.args.edges.now c.loop-place.place e.b c.loop-place.counts c.loop-place-test.true
+      count_few c.args.edges.now i e.b c.loop-place.counts c.loop-place-test.true
           (omega (arith, is_edge.b_below, c.loop-place.auto.counts)) c.loop-place.invariant,
       get_or-set_other c.loop-place.counts e.a e.b (get_or c.loop-place.counts e.a 0 + 1) 0
           (λ same. c.if-edge.true (sym same)),
@@ -42,34 +44,23 @@ overflow_add-counts-then-edge c =
 
 pub loop-place-preserved : goal.loop-place-preserved
 loop-place-preserved c =
-    let d : Edge = record { a = 0; b = 0; weight = 0 } in
-    let e : Edge = get_or c.args.edges.now c.loop-place.place d in
-    let is_edge : IsEdge (length c.args.counts.now) e =
-    c.requires.edges c.loop-place.place d c.loop-place-test.true in
+    let i = c.loop-place.place in
+    let edges = c.args.edges.now in
+    let counts = c.loop-place.counts in
+    let e : Edge = get_or edges i no_edge in
+    let is_edge = c.requires.edges i no_edge c.loop-place-test.true in
     elim c.if-edge.branch [
       | then-edge w ↦
-          let first : List ℕ = set c.loop-place.counts e.a (get_or c.loop-place.counts e.a 0 + 1) in
-          rw (w.counts-is)
-          (subst (λ notes. AreCounts notes (set first e.b (get_or first e.b 0 + 1)))
-          (sym (two_more c.args.edges.now c.loop-place.place d c.loop-place-test.true w.if-edge.true))
-          (one_counted (notes_of (take c.loop-place.place c.args.edges.now) ++ note_of e.a e.b e.weight ∷ [])
-          (note_of e.b e.a e.weight) first
-          (omega (
-            arith,
-            is_edge.b_below,
-            c.loop-place.auto.counts,
-            length-set c.loop-place.counts e.a (get_or c.loop-place.counts e.a 0 + 1),
-          ))
-          (one_counted (notes_of (take c.loop-place.place c.args.edges.now)) (note_of e.a e.b e.weight)
-          c.loop-place.counts (omega (arith, is_edge.a_below, c.loop-place.auto.counts)) c.loop-place.invariant)))
+          let first : List ℕ = set counts e.a (get_or counts e.a 0 + 1) in
+          let long = length-set counts e.a (get_or counts e.a 0 + 1) in
+          rw (w.counts-is, two_more edges i no_edge c.loop-place-test.true w.if-edge.true)
+          (one_counted (notes_of (take i edges) ++ note_of e.a e.b e.weight ∷ []) (note_of e.b e.a e.weight) first
+          (omega (arith, is_edge.b_below, c.loop-place.auto.counts, long))
+          (one_counted (notes_of (take i edges)) (note_of e.a e.b e.weight) counts
+          (omega (arith, is_edge.a_below, c.loop-place.auto.counts)) c.loop-place.invariant))
       | else-edge w ↦
-          rw (w.counts-is)
-          (subst (λ notes. AreCounts notes c.loop-place.counts)
-          (sym (none_more c.args.edges.now c.loop-place.place d c.loop-place-test.true w.if-edge.false))
-          c.loop-place.invariant)
+          rw (w.counts-is, none_more edges i no_edge c.loop-place-test.true w.if-edge.false) c.loop-place.invariant
     ]
 
 pub returns : goal.returns
-returns c =
-    subst (λ edges. AreCounts (notes_of edges) c.loop-place.counts)
-    (take_all c.loop-place.place c.args.edges.now (omega (arith, c.loop-place-test.false))) c.loop-place.invariant
+returns c = rw (take_all c.loop-place.place c.args.edges.now c.loop-place-test.false) at c.loop-place.invariant

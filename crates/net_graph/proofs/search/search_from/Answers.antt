@@ -1,7 +1,6 @@
 use Rattle.std.proofs.Common.{◌≡◌, ◌∙◌, ℕ, List, None, ◌∷◌, ap, subst, arith, rules, length, drop, replicate}
 use Rattle.std.specs.Prelude.{IsPermutation}
 use Rattle.std.specs.BinaryHeap.{heap_items}
-use Rattle.net_graph.specs.Walks.{among}
 use Rattle.net_graph.specs.Queue.{Waiting, make_waiting}
 use Rattle.net_graph.proofs.Searching.{search_begins, queue_begins, next_is_lightest, light_enough, search_settles, search_ends}
 use Rattle.net_graph.proofs.search.search_from.Goals as goal
@@ -26,13 +25,8 @@ next_unsettled-requires c = rw c.deref.ensures.value c.loop-lightest.invariant.q
 
 pub relax-requires-clause-weight : goal.relax-requires-clause-weight
 relax-requires-clause-weight c =
-    light_enough c.args.neighbours.now (among c.args.allowed.now) c.args.root c.loop-lightest.unsettled.items
-    c.loop-lightest.weights.items c.loop-lightest.invariant.found c.in-Some.lightest
-    (next_is_lightest c.loop-lightest.unsettled.items c.loop-lightest.weights.items
-    (heap_items c.loop-lightest.queue.heap)
-    (heap_items c.next_unsettled.new.self.heap) c.loop-lightest.invariant.queue c.in-Some.lightest
-    (rw c.deref.ensures.value at c.in-Some.ensures.next))
-    c.nodes.ensures.limits.few
+    light_enough c.loop-lightest.invariant.found (next_is_lightest c.loop-lightest.invariant.queue
+    (rw c.deref.ensures.value at c.in-Some.ensures.next)) c.nodes.ensures.limits.few
 
 pub loop-lightest-preserved : goal.loop-lightest-preserved
 loop-lightest-preserved c =
@@ -43,6 +37,5 @@ loop-lightest-preserved c =
 
 pub returns : goal.returns
 returns c =
-    search_ends c.args.neighbours.now (among c.args.allowed.now) c.args.root c.loop-lightest.unsettled.items
-    c.loop-lightest.weights.items c.loop-lightest.invariant.found (heap_items c.loop-lightest.queue.heap)
-    c.loop-lightest.invariant.queue (rw c.deref.ensures.value at c.in_default.ensures.none)
+    search_ends c.loop-lightest.invariant.found c.loop-lightest.invariant.queue
+    (rw c.deref.ensures.value at c.in_default.ensures.none)

@@ -6,16 +6,12 @@ use Rattle.node_set.proofs.bytes.rest_within.Goals as goal
 use Rattle.node_set.proofs.bytes.rest_within.Goals.{then-bytes-at, else-bytes-at}
 
 pub loop-i-preserved : goal.loop-i-preserved
-loop-i-preserved c = elim c.if-bytes-at.branch [
-  | then-bytes-at w ↦
-      rw w.word-is (one_more (λ (j : ℕ). nat_le (slice_index c.args.bytes.now (c.args.at + j)) c.args.limit)
-      c.loop-i.word c.loop-i.i
-      (omega (arith, c.loop-i-test.true, c.requires.few))
-      (le-leb (slice_index c.args.bytes.now (c.args.at + c.loop-i.i)) c.args.limit w.if-bytes-at.true)
-      c.loop-i.invariant)
-  | else-bytes-at w ↦
-      rw w.word-is (one_less (λ (j : ℕ). nat_le (slice_index c.args.bytes.now (c.args.at + j)) c.args.limit)
-      c.loop-i.word c.loop-i.i
-      (lt-leb (slice_index c.args.bytes.now (c.args.at + c.loop-i.i)) c.args.limit w.if-bytes-at.false)
-      c.loop-i.invariant)
-]
+loop-i-preserved c =
+    let test = λ (j : ℕ). nat_le (slice_index c.args.bytes.now (c.args.at + j)) c.args.limit in
+    elim c.if-bytes-at.branch [
+      | then-bytes-at w ↦
+          rw w.word-is (one_more test c.loop-i.word c.loop-i.i (omega (arith, c.loop-i-test.true, c.requires.few))
+          (le-leb _ _ w.if-bytes-at.true) c.loop-i.invariant)
+      | else-bytes-at w ↦
+          rw w.word-is (one_less test c.loop-i.word c.loop-i.i (lt-leb _ _ w.if-bytes-at.false) c.loop-i.invariant)
+    ]

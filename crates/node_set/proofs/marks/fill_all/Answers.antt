@@ -5,11 +5,10 @@ use Rattle.node_set.specs.SetLaws.{passing_inserts}
 use Rattle.std.specs.Prelude.{true}
 use Rattle.node_set.proofs.marks.fill_all.Goals as goal
 
-with_members : ℕ → List ℕ → Nodes
+abbrev with_members : ℕ → List ℕ → Nodes
 with_members room members = record { room = room; members = members }
 
 pub loop-v-preserved : goal.loop-v-preserved
-unfolding with_members
 loop-v-preserved c =
     c.insert.ensures
     ∙ ap (λ (s : Nodes). with_members s.room (with_number c.loop-v.v s.members)) c.loop-v.invariant

@@ -7,11 +7,10 @@ use Rattle.node_set.specs.SetLaws.{passing_inserts, passing_skips}
 use Rattle.node_set.proofs.turning.row_of.Goals as goal
 use Rattle.node_set.proofs.turning.row_of.Goals.{then-has, else-has}
 
-with_members : ℕ → List ℕ → Nodes
+abbrev with_members : ℕ → List ℕ → Nodes
 with_members room members = record { room = room; members = members }
 
 pub loop-u-preserved : goal.loop-u-preserved
-unfolding with_members
 loop-u-preserved c =
     let at : ball (sets c.args.balls.now) c.loop-u.u ≡ c.index-balls-u.result.members =
     ball_at c.args.balls.now c.loop-u.u c.index-balls-u.result c.loop-u-test.true c.index-balls-u.is

@@ -1,5 +1,4 @@
-use Rattle.std.proofs.Common.{◌≡◌, ◌+◌, ◌∙◌, List, ap, length, subst, sym}
-use Rattle.std.specs.Prelude.{All}
+use Rattle.std.proofs.Common.{◌≡◌, ◌+◌, ◌∙◌, ap, length}
 use Rattle.std.proofs.lemmas.List.{length_push}
 use Rattle.std.proofs.lemmas.List.Elements.{All-push}
 use Rattle.node_set.specs.Nodes.{Nodes}
@@ -9,7 +8,7 @@ pub loop-place-preserved : goal.loop-place-preserved
 loop-place-preserved c = record {
   count = ap (length {A = Nodes}) c.in_ok-push.ensures.items
       ∙ length_push c.loop-place.sets.items c.in_ok-empty.field-0 ∙ ap (λ n. n + 1) c.loop-place.invariant.count;
-  rooms = subst (λ (sets : List Nodes). All (λ (s : Nodes). s.room ≡ c.args.room) sets) (sym c.in_ok-push.ensures.items)
+  rooms = rw c.in_ok-push.ensures.items
       (All-push (λ (s : Nodes). s.room ≡ c.args.room) c.loop-place.sets.items c.in_ok-empty.field-0
       c.loop-place.invariant.rooms (ap (λ (s : Nodes). s.room) c.in_ok-empty.ensures));
 }

@@ -1,10 +1,9 @@
-use Rattle.std.proofs.Common.{arith, subst, sym}
-use Rattle.node_set.specs.Ascending.{IsAscending}
+use Rattle.std.proofs.Common.{arith}
 use Rattle.region_plan.proofs.Gathering.{cluster_counted, counts_few}
 use Rattle.region_plan.proofs.readers.count_readers.Goals as goal
 
 pub count_members-requires-clause-ascending : goal.count_members-requires-clause-ascending
-count_members-requires-clause-ascending c = subst IsAscending (sym c.nodes.ensures.members) c.nodes.ensures.ascending
+count_members-requires-clause-ascending c = rw c.nodes.ensures.members c.nodes.ensures.ascending
 
 pub count_members-requires-clause-small : goal.count_members-requires-clause-small
 count_members-requires-clause-small c =

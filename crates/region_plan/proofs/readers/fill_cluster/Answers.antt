@@ -1,42 +1,32 @@
-use Rattle.std.proofs.Common.{◌∙◌, ◌<◌, ℕ, List, get_or, length, subst, sym, arith}
+use Rattle.std.proofs.Common.{◌∙◌, ◌<◌, ℕ, get_or, length, arith}
 use Rattle.std.proofs.lemmas.List.{take_all}
-use Rattle.node_set.specs.Ascending.{IsAscending}
-use Rattle.region_plan.specs.Readers.{IsCounted}
 use Rattle.region_plan.proofs.Rows.{length-containing}
-use Rattle.region_plan.proofs.Filling.{its_weight, next_free, one_filled, place_within}
+use Rattle.region_plan.proofs.Filling.{its_weight, next_free, next_within, one_filled}
 use Rattle.region_plan.proofs.Gathering.{cluster_counted, one_counted, one_skipped}
 use Rattle.region_plan.proofs.readers.fill_cluster.Goals as goal
 use Rattle.region_plan.proofs.readers.fill_cluster.Goals.{then-v-taken, else-v-taken}
 
 pub bounds-readers-next : goal.bounds-readers-next
-bounds-readers-next c =
-    let m : ℕ = get_or c.nodes-members.result.now c.loop-place.place 0 in
-    let node : m < length c.args.taken.now = omega (arith, c.if-v-taken.true, c.loop-place.auto.taken) in
-    let free = next_free c.args.clusters.now c.args.number c.loop-place.place c.nodes-members.ensures.members
-    c.nodes-members.ensures.ascending c.requires.number c.loop-place-test.true node c.requires.counts
-    c.loop-place.invariant.counted in
-    omega (
-      arith,
-      place_within (length c.args.taken.now) c.args.clusters.now c.args.starts.now c.requires.room m
-          (get_or c.loop-place.taken m 0) node free.0,
-      c.loop-place.auto.readers,
-      c.requires.readers,
-    )
+bounds-readers-next c = omega (
+  arith,
+  next_within c.args.clusters.now c.args.number c.loop-place.place c.nodes-members.ensures.members
+      c.nodes-members.ensures.ascending c.requires.number c.loop-place-test.true
+      (omega (arith, c.if-v-taken.true, c.loop-place.auto.taken)) c.requires.counts c.loop-place.invariant.counted
+      c.args.starts.now c.requires.room,
+  c.loop-place.auto.readers,
+  c.requires.readers,
+)
 
 pub bounds-weights-next : goal.bounds-weights-next
-bounds-weights-next c =
-    let m : ℕ = get_or c.nodes-members.result.now c.loop-place.place 0 in
-    let node : m < length c.args.taken.now = omega (arith, c.if-v-taken.true, c.loop-place.auto.taken) in
-    let free = next_free c.args.clusters.now c.args.number c.loop-place.place c.nodes-members.ensures.members
-    c.nodes-members.ensures.ascending c.requires.number c.loop-place-test.true node c.requires.counts
-    c.loop-place.invariant.counted in
-    omega (
-      arith,
-      place_within (length c.args.taken.now) c.args.clusters.now c.args.starts.now c.requires.room m
-          (get_or c.loop-place.taken m 0) node free.0,
-      c.loop-place.auto.weights,
-      c.requires.weights,
-    )
+bounds-weights-next c = omega (
+  arith,
+  next_within c.args.clusters.now c.args.number c.loop-place.place c.nodes-members.ensures.members
+      c.nodes-members.ensures.ascending c.requires.number c.loop-place-test.true
+      (omega (arith, c.if-v-taken.true, c.loop-place.auto.taken)) c.requires.counts c.loop-place.invariant.counted
+      c.args.starts.now c.requires.room,
+  c.loop-place.auto.weights,
+  c.requires.weights,
+)
 
 pub overflow_add-taken : goal.overflow_add-taken
 overflow_add-taken c =
@@ -59,16 +49,13 @@ loop-place-preserved c = elim c.if-v-taken.branch [
       rw (w.taken-is, w.readers-is, w.weights-is) (record {
         counted = one_counted c.nodes-members.result.now c.args.taken.now c.loop-place.taken c.loop-place.place
             c.loop-place-test.true c.loop-place.invariant.counted
-            (subst IsAscending (sym c.nodes-members.ensures.members) c.nodes-members.ensures.ascending) node;
-        filled = one_filled (length c.args.taken.now) c.args.clusters.now c.args.starts.now c.requires.room m
-            c.loop-place.taken node c.loop-place.auto.taken c.loop-place.invariant.filled.within free.0
-            c.loop-place.readers c.loop-place.weights c.args.number
-            (get_or c.weights-inside.result.now c.loop-place.place 0) c.loop-place.invariant.filled
-            (c.loop-place.auto.readers ∙ c.requires.readers) (c.loop-place.auto.weights ∙ c.requires.weights)
-            free.1
-            (its_weight c.args.clusters.now c.args.number c.loop-place.place c.nodes-members.result.now
-            c.nodes-members.ensures.members c.loop-place-test.true c.weights-inside.result.now
-            c.nodes-members.ensures.ascending c.weights-inside.ensures.weights c.weights-inside.ensures.count);
+            (rw c.nodes-members.ensures.members c.nodes-members.ensures.ascending) node;
+        filled = one_filled c.requires.room c.loop-place.auto.taken c.loop-place.invariant.filled
+            (c.loop-place.auto.readers ∙ c.requires.readers) (c.loop-place.auto.weights ∙ c.requires.weights) m node
+            free.0 c.args.number (get_or c.weights-inside.result.now c.loop-place.place 0) free.1
+            (its_weight c.args.clusters.now c.args.number c.loop-place.place c.nodes-members.ensures.members
+            c.loop-place-test.true c.nodes-members.ensures.ascending c.weights-inside.ensures.weights
+            c.weights-inside.ensures.count);
       })
   | else-v-taken w ↦
       rw (w.taken-is, w.readers-is, w.weights-is) (record {
@@ -82,6 +69,5 @@ loop-place-preserved c = elim c.if-v-taken.branch [
 pub returns-clause-counts : goal.returns-clause-counts
 returns-clause-counts c =
     cluster_counted c.args.clusters.now c.args.number c.nodes-members.ensures.members c.requires.counts
-    (subst (λ (xs : List ℕ). IsCounted xs c.args.taken.now c.loop-place.taken)
-    (take_all c.loop-place.place c.nodes-members.result.now (omega (arith, c.loop-place-test.false)))
-    c.loop-place.invariant.counted)
+    (rw (take_all c.loop-place.place c.nodes-members.result.now (omega (arith, c.loop-place-test.false)))
+    at c.loop-place.invariant.counted)

@@ -1,6 +1,5 @@
-use Rattle.std.proofs.Common.{◌≡◌, ◌∙◌, ℕ, ap, length, subst, sym, arith}
+use Rattle.std.proofs.Common.{◌≡◌, ◌∙◌, ap, length, sym, arith}
 use Rattle.std.specs.Prelude.{slice_index}
-use Rattle.region_plan.specs.Readers.{AreCounts, HaveRoom}
 use Rattle.region_plan.proofs.Filling.{none_filled, table_made}
 use Rattle.region_plan.proofs.readers.fill_readers.Goals as goal
 
@@ -13,7 +12,7 @@ loop-number-init c = record {
 
 pub fill_cluster-requires-clause-room : goal.fill_cluster-requires-clause-room
 fill_cluster-requires-clause-room c =
-    subst (λ (n : ℕ). HaveRoom n c.args.clusters.now c.args.starts.now) (sym c.loop-number.auto.taken) c.requires.room
+    rw c.loop-number.auto.taken c.requires.room
 
 pub fill_cluster-requires-clause-readers : goal.fill_cluster-requires-clause-readers
 fill_cluster-requires-clause-readers c = c.loop-number.auto.readers ∙ c.requires.readers
@@ -27,8 +26,6 @@ pub returns : goal.returns
 returns c =
     let all : c.loop-number.number ≡ length c.args.clusters.now =
     omega (arith, c.loop-number-test.false, c.loop-number.auto.number-end, c.count-number-end.ensures) in
-    table_made (length c.args.taken.now) c.args.clusters.now c.args.starts.now c.requires.room c.loop-number.taken
-    c.loop-number.readers c.loop-number.weights c.loop-number.auto.taken
-    (subst (λ (k : ℕ). AreCounts c.args.clusters.now k c.loop-number.taken) all c.loop-number.invariant.counts)
+    table_made c.requires.room c.loop-number.auto.taken c.loop-number.invariant.filled
     (c.loop-number.auto.readers ∙ c.requires.readers) (c.loop-number.auto.weights ∙ c.requires.weights)
-    c.loop-number.invariant.filled
+    (rw all at c.loop-number.invariant.counts)

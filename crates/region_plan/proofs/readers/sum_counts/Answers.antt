@@ -1,6 +1,5 @@
-use Rattle.std.proofs.Common.{rules, ℕ, List, subst, arith}
+use Rattle.std.proofs.Common.{rules, arith}
 use Rattle.std.proofs.lemmas.List.{take_all}
-use Rattle.net_graph.specs.Starts.{AreStarts}
 use Rattle.net_graph.specs.StartLaws.{no_starts, one_start, last_start}
 use Rattle.region_plan.proofs.Gathering.{count_few}
 use Rattle.region_plan.proofs.readers.sum_counts.Goals as goal
@@ -37,6 +36,5 @@ loop-count-preserved c = record {
 }
 
 pub returns : goal.returns
-returns c = subst (λ (xs : List ℕ). AreStarts xs c.loop-count.starts.items)
-    (take_all c.loop-count.count-index c.args.counts.now (omega (arith, c.loop-count-test.false)))
-    c.loop-count.invariant.starts
+returns c = rw (take_all c.loop-count.count-index c.args.counts.now (omega (arith, c.loop-count-test.false)))
+    at c.loop-count.invariant.starts

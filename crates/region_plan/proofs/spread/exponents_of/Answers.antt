@@ -1,5 +1,5 @@
 use Rattle.std.proofs.Common.{◌≡◌, ◌++◌, ◌≤◌, ◌*◌, ℕ, List, take, drop, length, ap, ◌∙◌, sym, subst, arith}
-use Rattle.std.specs.Prelude.{All, slice_index}
+use Rattle.std.specs.Prelude.{slice_index}
 use Rattle.region_plan.specs.Spread.{AreExponentsTo}
 use Rattle.region_plan.proofs.Spreading.{row_short, row_small, row_written}
 use Rattle.region_plan.proofs.spread.exponents_of.Goals as goal
@@ -14,7 +14,7 @@ loop-u-init c = record {
     c.in_ok-exponents.exponents.ok.0,
     ap (λ n. n * n) c.nodes-nodes.ensures.count,
   );
-  few = subst (λ (l : List ℕ). All (λ e. e ≤ 30) l) (sym (c.in_ok-exponents.ensures.items_if_clones_equal (λ y e. e)))
+  few = rw (c.in_ok-exponents.ensures.items_if_clones_equal (λ y e. e))
       (All-replicate (λ e. e ≤ 30) (c.nodes-nodes.result * c.nodes-nodes.result) 0 (omega arith));
   each = λ u v none. absurd (omega arith);
 }
@@ -41,8 +41,7 @@ loop-u-preserved c =
     in
     rw whole (record {
       count = kept ∙ c.loop-u.invariant.count;
-      few = c.write_exponents.ensures.few
-          (subst (λ (l : List ℕ). All (λ e. e ≤ 30) l) (sym c.deref_mut.ensures.value) c.loop-u.invariant.few);
+      few = c.write_exponents.ensures.few (rw c.deref_mut.ensures.value c.loop-u.invariant.few);
       each = row_written c.loop-u.exponents.items c.write_exponents.new.exponents
           (ap (λ n. c.loop-u.u * n) c.nodes-nodes.ensures.count) c.row.ensures c.loop-u.invariant.each
           (λ x below. c.write_exponents.ensures.kept x below
@@ -56,6 +55,5 @@ returns c =
     record {
       count = c.loop-u.invariant.count;
       few = c.loop-u.invariant.few;
-      each = subst (λ (n : ℕ). AreExponentsTo c.args.distances.now c.loop-u.exponents.items n) all
-          c.loop-u.invariant.each;
+      each = subst (AreExponentsTo c.args.distances.now c.loop-u.exponents.items) all c.loop-u.invariant.each;
     }

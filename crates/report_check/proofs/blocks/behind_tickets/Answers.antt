@@ -1,5 +1,5 @@
-use Rattle.std.proofs.Common.{◌<◌, ap, arith, get_or, length, refl, subst, sym, List, Vec, Global, ℕ, ◌+◌}
-use Rattle.report_check.proofs.LastTickets.{IsBehindSoFar, behind-more, behind-past}
+use Rattle.std.proofs.Common.{ap, arith, get_or, refl, List, Vec, Global, ℕ}
+use Rattle.report_check.proofs.LastTickets.{behind-more, behind-past}
 use Rattle.report_check.proofs.blocks.behind_tickets.Goals as goal
 use Rattle.report_check.proofs.blocks.behind_tickets.Goals.{then-actor-len, else-actor-len}
 
@@ -14,8 +14,6 @@ tickets-preserved c =
           behind-more behind c.tickets-test.true refl (omega (arith, w.if-actor-len.true, c.len.ensures))
           (ap (λ (v : Vec ℕ Global). v.items) w.behind-is) c.tickets.invariant
       | else-actor-len w ↦
-          subst (λ (v : Vec ℕ Global). (a : ℕ) → a < length v.items
-          → IsBehindSoFar order (ticket + 1) a (get_or v.items a 0)) (sym w.behind-is)
-          (behind-past behind c.tickets-test.true refl (omega (arith, w.if-actor-len.false, c.len.ensures))
-          c.tickets.invariant)
+          rw w.behind-is (behind-past behind c.tickets-test.true refl
+          (omega (arith, w.if-actor-len.false, c.len.ensures)) c.tickets.invariant)
     ]

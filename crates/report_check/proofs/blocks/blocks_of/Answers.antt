@@ -1,11 +1,9 @@
-use Rattle.std.proofs.Common.{◌≡◌, ◌<◌, ◌∙◌, ap, arith, get_or, length, set, subst, sym, List, Vec, Global, ℕ, ◌+◌, map}
+use Rattle.std.proofs.Common.{◌≡◌, ◌<◌, ◌∙◌, ap, arith, get_or, length, set, List, Vec, Global}
 use Rattle.std.proofs.lemmas.List.{get_or_read}
 use Rattle.report_check.specs.declared.blocks.Block.{Block}
 use Rattle.report_check.specs.declared.calls.Line.TheVariants.{Move}
 use Rattle.report_check.specs.Blocks.{grown, no_block}
-use Rattle.report_check.specs.Parts.{is_of}
-use Rattle.report_check.specs.ReadLines.{done_of}
-use Rattle.report_check.proofs.Blocking.{IsSoFar, blocks-line, blocks-other}
+use Rattle.report_check.proofs.Blocking.{blocks-line, blocks-other}
 use Rattle.report_check.proofs.blocks.blocks_of.Goals as goal
 use Rattle.report_check.proofs.blocks.blocks_of.Goals.{then-actor-len, else-actor-len}
 
@@ -25,8 +23,6 @@ lines-preserved c =
           blocks-line c.args.calls.now blocks (Move 0 0 0 0 0 0 0 0) c.lines-test.true c.actor_of-actor.ensures known
           same c.lines.invariant
       | else-actor-len w ↦
-          subst (λ (v : Vec Block Global). (a : ℕ) → a < length v.items
-          → IsSoFar (is_of a) (map done_of c.args.calls.now) (place + 1) (get_or v.items a no_block)) (sym w.blocks-is)
-          (blocks-other c.args.calls.now blocks (Move 0 0 0 0 0 0 0 0) c.lines-test.true c.actor_of-actor.ensures
-          (omega (arith, w.if-actor-len.false, c.len.ensures)) c.lines.invariant)
+          rw w.blocks-is (blocks-other c.args.calls.now blocks (Move 0 0 0 0 0 0 0 0) c.lines-test.true
+          c.actor_of-actor.ensures (omega (arith, w.if-actor-len.false, c.len.ensures)) c.lines.invariant)
     ]

@@ -1,7 +1,7 @@
-use Rattle.std.proofs.Common.{◌∙◌, sym, ap, subst, ℕ, ◌+◌}
+use Rattle.std.proofs.Common.{◌∙◌, sym, ap, ◌+◌}
 use Rattle.std.proofs.lemmas.List.{take_rest}
 use Rattle.report_check.specs.Cuts.{is_cut}
-use Rattle.report_check.proofs.Searching.{IsPlace, input-end, input-found, input-whole, last-line, place-line, place-plain, report-end, report-found}
+use Rattle.report_check.proofs.Searching.{input-end, input-found, input-whole, last-line, place-line, place-plain, report-end, report-found}
 use Rattle.report_check.proofs.cut.cut_text.Goals as goal
 use Rattle.report_check.proofs.cut.cut_text.Goals.{then-text-at-eq10+else-is_cut, else-text-at-eq10}
 
@@ -21,11 +21,9 @@ returns-then-is_cut-clause-report c =
 pub bytes-preserved : goal.bytes-preserved
 bytes-preserved c =
     elim c.if-text-at-eq10.branch [
-      | then-text-at-eq10+else-is_cut w ↦ subst (λ (s : ℕ). IsPlace c.args.text.now s (c.bytes.at + 1)) (sym w.start-is)
-          (place-line c.bytes.invariant c.bytes-test.true w.if-text-at-eq10.true
-          (sym w.is_cut.ensures ∙ w.if-is_cut.false))
-      | else-text-at-eq10 w ↦ subst (λ (s : ℕ). IsPlace c.args.text.now s (c.bytes.at + 1)) (sym w.start-is)
-          (place-plain c.bytes.invariant c.bytes-test.true w.if-text-at-eq10.false)
+      | then-text-at-eq10+else-is_cut w ↦ rw w.start-is (place-line c.bytes.invariant c.bytes-test.true
+          w.if-text-at-eq10.true (sym w.is_cut.ensures ∙ w.if-is_cut.false))
+      | else-text-at-eq10 w ↦ rw w.start-is (place-plain c.bytes.invariant c.bytes-test.true w.if-text-at-eq10.false)
     ]
 
 pub returns-then-is_cut-2-clause-input : goal.returns-then-is_cut-2-clause-input

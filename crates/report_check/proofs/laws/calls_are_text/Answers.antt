@@ -1,6 +1,4 @@
-use Rattle.std.proofs.Common.{◌≡◌, ◌++◌, Some, subst, ap, ◌∙◌}
-use Rattle.report_text.specs.ReportText.{call_line}
-use Rattle.report_check.specs.declared.slots.Slot.{Slot}
+use Rattle.std.proofs.Common.{ap, ◌∙◌}
 use Rattle.report_check.specs.Reading.{call_in}
 use Rattle.report_check.proofs.CallForms.{call-formed}
 use Rattle.report_check.proofs.CallTexts.{call-text}
@@ -14,6 +12,5 @@ returns c bounds slot text rest call few short = (
       (formed.0, formed.1, call-text bounds slot text rest call few short is),
   λ is.
       ap (call_in bounds slot) is.2
-      ∙ subst (λ (s : Slot). call_in bounds s (call_line call ++ rest) ≡ Some (call, rest)) is.0
-      (call-reads bounds call rest few short is.1),
+      ∙ rw is.0 at (call-reads bounds call rest few short is.1),
 )

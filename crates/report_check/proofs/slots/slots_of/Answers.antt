@@ -1,6 +1,5 @@
-use Rattle.std.proofs.Common.{◌≡◌, ◌∙◌, ◌<◌, ◌^◌, ◌-◌, ap, sym, subst, length, get_or, ◌++◌, List, [], arith}
+use Rattle.std.proofs.Common.{◌≡◌, ◌∙◌, ap, sym, get_or, ◌++◌, [], arith}
 use Rattle.std.proofs.lemmas.List.{get_or-map, length-map}
-use Rattle.net_reader.specs.declared.said.Call.{Call}
 use Rattle.net_reader.specs.Seen.{seen_input}
 use Rattle.scripts.specs.ScriptLaws.{calls-few}
 use Rattle.report_check.specs.Slots.{slots_in}
@@ -13,8 +12,7 @@ push_slots-requires c =
     get_or-map (λ s. s.items) c.args.input.now.scripts.items c.actors.actor c.index.result.now []
     (omega (arith, c.actors-test.true, c.len-actor-end.ensures))
     ∙ ap (λ s. s.items) (sym c.index.ensures) ∙ sym c.deref-in-actors.ensures.value in record {
-      few = subst (λ (calls : List Call). length calls < 2 ^ 32 - 1) script
-          (calls-few (seen_input c.args.input.now) c.actors.actor c.requires);
+      few = rw script at (calls-few (seen_input c.args.input.now) c.actors.actor c.requires);
     }
 
 pub actors-preserved : goal.actors-preserved

@@ -1,10 +1,9 @@
-use Rattle.std.proofs.Common.{◌+◌, ◌++◌, [], ◌∷◌, length, sym, ap, ◌∙◌, arith}
+use Rattle.std.proofs.Common.{◌+◌, ◌++◌, [], ◌∷◌, length, sym, ap, ◌∙◌, arith, drop}
 use Rattle.region_plan.specs.Plan.{level_at, no_level}
 use Rattle.outside.specs.Texts.{fields}
 use Rattle.report_text.specs.Written.{levels_left}
 use Rattle.report_text.proofs.Parts.{homes-cut, homes-some}
 use Rattle.report_text.proofs.plan.write_homes.Goals as goal
-use Rattle.std.proofs.Common.{drop}
 
 pub returns-then-to-nodes : goal.returns-then-to-nodes
 returns-then-to-nodes c =

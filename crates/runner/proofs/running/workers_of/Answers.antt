@@ -1,8 +1,7 @@
-use Rattle.std.proofs.Common.{[], ◌∷◌, ◌++◌, List, length, ap, sym, ◌∙◌, arith, append_assoc, length-append}
+use Rattle.std.proofs.Common.{length, ap, sym, ◌∙◌, arith, append_assoc, length-append}
 use Rattle.std.specs.Prelude.{slice_get}
 use Rattle.std.specs.Vec.Iter.{into_iter_items}
 use Rattle.std.proofs.lemmas.List.{length_push}
-use Rattle.station.specs.Passes.{PassData}
 use Rattle.station.specs.declared.view.View.{View}
 use Rattle.runner.proofs.Finishing.{at-seam, at-some, fresh-actor, fresh-serves, fresh-worker, one-fresh, one-more}
 use Rattle.runner.proofs.running.workers_of.Goals as goal
@@ -42,8 +41,7 @@ passes-preserved c =
           one-fresh c.passes.workers.items (c.passes.invariant.fresh tracker fresh) (sym c.passes.invariant.count)
           (fresh-worker c.in-Ok.worker mine c.in-Ok.ensures.pass c.in-Ok.ensures.fresh.0 c.in-Ok.ensures.fresh.1) k one
           (ap (λ xs. slice_get xs k) (sym pushed) ∙ there);
-      all = c.passes.invariant.all ∙ (ap (λ (rest : List PassData). c.passes.yielded ++ rest) c.in-Some.ensures.steps.0
-          ∙ sym (append_assoc c.passes.yielded (c.in-Some.pass ∷ []) (into_iter_items c.next.new.self)));
+      all = rw (c.passes.invariant.all, c.in-Some.ensures.steps.0, append_assoc);
     }
 
 pub returns-clause-workers : goal.returns-clause-workers

@@ -1,12 +1,10 @@
-use Rattle.std.proofs.Common.{ℕ, List, [], map, sym, ap, ◌∙◌, arith, subst, get_or}
+use Rattle.std.proofs.Common.{ℕ, List, [], sym, ap, ◌∙◌, arith, get_or}
 use Rattle.std.proofs.lemmas.List.{get_or_default}
-use Rattle.directory.specs.Finds.{at_origin}
-use Rattle.machine.specs.Stands.{IsWalking}
 use Rattle.region_plan.specs.Settings.{setting_of}
-use Rattle.scripts.specs.Scripts.{find_of, most_in}
-use Rattle.runner.proofs.Finding.{script-searches}
-use Rattle.runner.proofs.Starting.{begin-inside, finder-at, mover-at, script-is}
+use Rattle.scripts.specs.Scripts.{most_in}
+use Rattle.runner.proofs.Starting.{begin-inside, finder-at, mover-at}
 use Rattle.runner.proofs.worker.role_of.Goals as goal
+use Rattle.machine.specs.ScriptVisits.{script-searches, script-is}
 
 pub most_of_script-requires : goal.most_of_script-requires
 most_of_script-requires c = record {
@@ -41,9 +39,8 @@ returns-clause-role c = λ setup view spare set is none bare enough.
     c.as_slice-script.ensures.value in
     finder-at c.lines_grow.ensures.kept c.in_ok-finder.finder (omega (arith, c.if-actor-len.false, c.len.ensures))
     c.requires.may.known (its.script ∙ script) (omega (arith, its.subs, c.len-2.ensures)) its.done
-    (subst (λ s. IsWalking c.args.plan.now (map find_of s) at_origin c.in_ok-finder.finder.walk) (sym its.script)
-    its.walk) (λ starts. c.in_ok-visits.ensures.most starts ∙ ap (most_in (setting_of c.args.plan.now starts))
-    (sym its.script)) view spare set is none enough
+    (rw its.script its.walk) (λ starts. c.in_ok-visits.ensures.most starts
+    ∙ ap (most_in (setting_of c.args.plan.now starts)) (sym its.script)) view spare set is none enough
 
 pub returns-then-actor-len-clause-most : goal.returns-then-actor-len-clause-most
 returns-then-actor-len-clause-most c =

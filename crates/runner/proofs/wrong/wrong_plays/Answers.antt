@@ -1,5 +1,4 @@
 use Rattle.std.proofs.Common.{◌≡◌, ℕ, suc, ◌+◌, List, [], ◌∷◌, ◌++◌, Some, None, Option, cond, eq-eqb, length, map, take, drop, refl, sym, ap, ◌∙◌, subst, arith, length-append}
-use Rattle.std.specs.Prelude.{All}
 use Rattle.std.proofs.lemmas.List.{append-nil, append_cancel_left}
 use Rattle.std.proofs.lemmas.List.Elements.{All-head}
 use Rattle.directory.specs.Histories.{History, IsFront, own, words_after}
@@ -24,15 +23,6 @@ use Rattle.runner.specs.declared.worker.Worker.{Worker}
 use Rattle.runner.proofs.Turning.{turns-mine}
 use Rattle.runner.proofs.wrong.wrong_plays.Goals as goal
 
-none-no : (visit : Visit) → ◌≡◌ {A = Option Visit} None (Some visit) → ⊥
-none-no visit e = cc
-
-front-no : (visit : Visit) → IsFront (visit ∷ []) [] → ⊥
-front-no visit e = cc
-
-some-no : (visit : Visit) → ◌≡◌ {A = List Visit} (visit ∷ []) [] → ⊥
-some-no visit e = cc
-
 lost_more : {input : Contents} {tracker : TrackerData} {old new : Worker} {held : ℕ}
     → HasGoneOn input tracker old new held → length new.pass.view.lost ≡ length old.pass.view.lost + held
 lost_more {old} gone =
@@ -40,7 +30,7 @@ lost_more {old} gone =
 
 pub returns-clause-finished : goal.returns-clause-finished
 returns-clause-finished c = λ input tracker tries old new visit played left.
-    none-no visit (sym played.says.0 ∙ left)
+    let no : ◌≡◌ {A = Option Visit} None (Some visit) = sym played.says.0 ∙ left in cc
 
 pub returns-clause-many : goal.returns-clause-many
 returns-clause-many c = λ input tracker old new played before after.
@@ -66,26 +56,11 @@ turns_of : {input : Contents} {tracker : TrackerData} {setup : Setup} {old new :
     → HasSeen old actor before → HasSeen new actor after → (gone : HasGoneOn input tracker old new held)
     → own actor after ≡ own actor before ++ visits → gone.events ≡ events
     → HaveTurns (setting_in setup) actor (next (setting_in setup) (scripts_of input) after actor) visits events
-turns_of {input} {setup} {old} {new} {actor} {before} {after} visits told one two gone made are =
-    let low : new.pass.view.low ≡ actor = two.low in
+turns_of {actor = actor} {before} {after} visits told one two gone made are =
     let more : own actor after ≡ own actor before ++ gone.visits =
-    subst (λ (h : History). own actor h ≡ own actor before ++ gone.visits) two.seen_is
-    (subst (λ (h : History). own actor new.pass.view.seen ≡ own actor h ++ gone.visits) one.seen_is
-    (subst (λ (a : ℕ). own a new.pass.view.seen ≡ own a old.pass.view.seen ++ gone.visits) one.low gone.made)) in
+    rw (one.low, one.seen_is, two.seen_is) at gone.made in
     let same : gone.visits ≡ visits = append_cancel_left (own actor before) gone.visits visits (sym more ∙ made) in
-    subst (λ es. HaveTurns (setting_in setup) actor (next (setting_in setup) (scripts_of input) after actor) visits es)
-    are
-    (subst (λ vs. HaveTurns (setting_in setup) actor (next (setting_in setup) (scripts_of input) after actor) vs
-    gone.events) same
-    (subst (λ (a : ℕ). HaveTurns (setting_in setup) actor (next (setting_in setup) (scripts_of input) after a)
-    gone.visits gone.events) low
-    (subst (λ (h : History). HaveTurns (setting_in setup) actor
-    (next (setting_in setup) (scripts_of input) h new.pass.view.low) gone.visits gone.events) two.seen_is
-    (subst (λ (a : ℕ). HaveTurns (setting_in setup) a
-    (next (setting_in setup) (scripts_of input) new.pass.view.seen new.pass.view.low) gone.visits gone.events) one.low
-    (subst (λ (s : Setup). HaveTurns (setting_in s) (actor_of old.pass)
-    (next (setting_in s) (scripts_of input) new.pass.view.seen new.pass.view.low) gone.visits gone.events) told
-    gone.turns)))))
+    rw (told, one.low, two.seen_is, two.low, same, are) at gone.turns
 
 -- turns that begin with one that is lost, are won or given back
 lost_here : (actor node : ℕ) {by at word : ℕ} (words : List ℕ) {later : List TurnEvent} (rest : List TurnEvent)
@@ -115,9 +90,6 @@ won_no setting actor by at (Some visit) later lost = go lost.0 lost.1
     go : (words : List ℕ) → Won by at ∷ later ≡ map (λ w. Lost actor (act_node setting visit.act) w) words → ⊥
     go [] e = cc
     go (w ∷ words) e = cc
-
-back_no : {actor node : ℕ} {later : List TurnEvent} → [] ≡ GivenBack actor node ∷ later → ⊥
-back_no e = cc
 
 -- what is lost first is lost at the node of the first visit
 first_lost : (setting : Setting) (actor at word : ℕ) (after : Option Visit) (visit : Visit) (visits : List Visit)
@@ -150,15 +122,13 @@ pub returns-clause-stranger : goal.returns-clause-stranger
 returns-clause-stranger c = λ input tracker tries old new played event events one has are its.
     let mine = λ (e : TurnEvent). event_actor e ≡ actor_of old.pass in
     let first = All-head mine event events
-    (subst (All mine) are
-    (turns-mine (setting_in tracker.setup) (actor_of old.pass) (next_of input tracker.setup new.pass.view)
+    (rw are at (turns-mine (setting_in tracker.setup) (actor_of old.pass) (next_of input tracker.setup new.pass.view)
     has.gone.visits has.gone.events has.gone.turns)) in
     omega (arith, first, one.low, its)
 
 pub returns-clause-unlogged : goal.returns-clause-unlogged
 returns-clause-unlogged c = λ input tracker tries old new played none has events.
-    let logs : LogsAll old.pass.view.turns (Won 0 2 ∷ []) new.pass.view.turns =
-    subst (λ es. LogsAll old.pass.view.turns es new.pass.view.turns) events has.gone.logged.logs in
+    let logs : LogsAll old.pass.view.turns (Won 0 2 ∷ []) new.pass.view.turns = rw events at has.gone.logged.logs in
     let here = logs.1.goes_on in
     omega (
       arith,
@@ -290,13 +260,11 @@ pub returns-clause-held : goal.returns-clause-held
 returns-clause-held c = λ tracker tries old new played setup one two has are.
     let won = first_won (setting_in line_setup) 0 2 (moves-next 1) moves-first.0 [] []
     (moved_turns 0 setup one two has.gone are) in
-    back_no won.2
+    cc won.2
 
 pub returns-clause-forgotten : goal.returns-clause-forgotten
 returns-clause-forgotten c = λ input tracker tries old new played seen none has.
-    front-no (count_by 0)
-    (subst (λ (h : History). IsFront (count_by 0 ∷ []) h) none.seen_is
-    (subst (λ (h : History). IsFront h new.pass.view.seen) seen.seen_is has.gone.begins))
+    let no : IsFront (count_by 0 ∷ []) [] = rw (none.seen_is, seen.seen_is) at has.gone.begins in cc
 
 pub returns-clause-actor : goal.returns-clause-actor
 returns-clause-actor c = λ input tracker tries old new played zeroth first has.
@@ -313,8 +281,8 @@ returns-clause-shut c = λ old new stayed. let e : ◌≡◌ {A = ℕ} 1 0 = sta
 
 pub returns-clause-visited : goal.returns-clause-visited
 returns-clause-visited c = λ old new played none one stayed.
-    some-no (count_by 0)
-    (sym one.seen_is ∙ (ap (λ (p : PassData). p.view.seen) stayed.pass ∙ none.seen_is))
+    let no : ◌≡◌ {A = List Visit} (count_by 0 ∷ []) [] =
+    sym one.seen_is ∙ (ap (λ (p : PassData). p.view.seen) stayed.pass ∙ none.seen_is) in cc
 
 pub returns-clause-counted : goal.returns-clause-counted
 returns-clause-counted c = λ old new played more stayed. omega (arith, more, stayed.made)

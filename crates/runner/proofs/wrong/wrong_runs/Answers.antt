@@ -1,4 +1,4 @@
-use Rattle.std.proofs.Common.{◌≡◌, ◌≤◌, ℕ, List, [], ◌∷◌, Some, None, Option, refl, sym, ap, ◌∙◌, subst, arith}
+use Rattle.std.proofs.Common.{◌≡◌, ◌≤◌, ℕ, List, [], ◌∷◌, None, refl, sym, ap, ◌∙◌, subst, arith}
 use Rattle.std.specs.Prelude.{slice_index}
 use Rattle.directory.specs.Histories.{History, IsFront, own, words_after}
 use Rattle.directory.specs.Orders.{IsPlayed, next}
@@ -8,27 +8,17 @@ use Rattle.directory.specs.declared.answers.Done.{Done}
 use Rattle.entry_word.specs.declared.visit.Visit.{Visit}
 use Rattle.scripts.specs.Scripts.{scripts_of}
 use Rattle.station.specs.Setup.{setting_in}
-use Rattle.station.specs.declared.view.NodeTurn.{NodeTurn}
 use Rattle.station.specs.declared.view.View.{View}
 use Rattle.runner.specs.Examples.{count_by, idle_input, line_setup, switching_input}
 use Rattle.runner.specs.Roles.{HasBegunNone}
 use Rattle.runner.specs.Runs.{actors_of}
 use Rattle.runner.proofs.wrong.wrong_runs.Goals as goal
 
-none-no : (visit : Visit) → ◌≡◌ {A = Option Visit} None (Some visit) → ⊥
-none-no visit e = cc
-
-front-no : (visit : Visit) → IsFront (visit ∷ []) [] → ⊥
-front-no visit e = cc
-
 some-no : (visit : Visit) → ◌≡◌ {A = List Visit} (visit ∷ []) [] → ⊥
 some-no visit e = cc
 
 number-no : (n : ℕ) → ◌≡◌ {A = List ℕ} (n ∷ []) [] → ⊥
 number-no n e = cc
-
-line-no : (line : Done) → ◌≡◌ {A = List Done} [] (line ∷ []) → ⊥
-line-no line e = cc
 
 pub returns-clause-few : goal.returns-clause-few
 returns-clause-few c = λ tracker worker its. let e : ◌≡◌ {A = ℕ} 1 2 = its.count in omega (arith, e)
@@ -40,16 +30,13 @@ returns-clause-swapped c = λ input tracker worker other seen its.
 pub returns-clause-serves : goal.returns-clause-serves
 returns-clause-serves c = λ input tracker worker other its. (its.each 1 other refl).0
 
-turn-no : (turn : NodeTurn) → ◌≡◌ {A = List NodeTurn} (turn ∷ []) [] → ⊥
-turn-no turn e = cc
-
 pub returns-clause-visited : goal.returns-clause-visited
 returns-clause-visited c = λ tracker worker seen fresh.
     some-no (count_by 0) (sym seen.seen_is ∙ ap (λ (v : View). v.seen) (fresh 0 worker refl).view)
 
 pub returns-clause-turned : goal.returns-clause-turned
 returns-clause-turned c = λ tracker worker lost fresh.
-    turn-no _ (sym lost ∙ ap (λ (v : View). v.lost) (fresh 0 worker refl).view)
+    cc (sym lost ∙ ap (λ (v : View). v.lost) (fresh 0 worker refl).view)
 
 pub returns-clause-counted : goal.returns-clause-counted
 returns-clause-counted c = λ tracker worker one fresh. omega (arith, one, (fresh 0 worker refl).made)
@@ -72,9 +59,7 @@ returns-clause-actors c = λ setup plan distances set three.
 
 pub returns-clause-unheard : goal.returns-clause-unheard
 returns-clause-unheard c = λ input setup worker outcome seen run none.
-    front-no (count_by 1)
-    (subst (λ (h : History). IsFront (count_by 1 ∷ []) h) none
-    (subst (λ (h : History). IsFront h run.history) seen.seen_is (run.seen 0 worker refl)))
+    let no : IsFront (count_by 1 ∷ []) [] = rw (none, seen.seen_is) at (run.seen 0 worker refl) in cc
 
 pub returns-clause-more : goal.returns-clause-more
 returns-clause-more c = λ input setup worker outcome seen run one.
@@ -96,7 +81,7 @@ idle-next = refl
 pub returns-clause-unplayed : goal.returns-clause-unplayed
 returns-clause-unplayed c = λ workers outcome run one.
     let played = subst (λ (h : History). IsPlayed (setting_in line_setup) (scripts_of idle_input) h) one run.played in
-    none-no (count_by 1) (sym idle-next ∙ played 0 (count_by 1) refl)
+    cc (sym idle-next ∙ played 0 (count_by 1) refl)
 
 idle : (outcome_of (setting_in line_setup) (scripts_of idle_input) []).order ≡ []
 unfolding writes words_after
@@ -131,4 +116,4 @@ returns-clause-left_out c = λ its.
     ap (λ (o : Outcome). o.calls) (its.is
     ∙ ap (λ (order : List ℕ). outcome_of (setting_in line_setup) (scripts_of switching_input) order)
     (sym its.printed)) in
-    line-no switched.0 (e ∙ switched.1)
+    cc (e ∙ switched.1)

@@ -1,14 +1,11 @@
-use Rattle.std.proofs.Common.{◌≡◌, ℕ, List, [], ◌∷◌, Some, None, Option, length, refl, sym, ap, ◌∙◌, subst, arith}
+use Rattle.std.proofs.Common.{◌≡◌, ℕ, [], ◌∷◌, None, length, refl, sym, ap, ◌∙◌, arith}
 use Rattle.std.specs.Prelude.{slice_index_or}
 use Rattle.directory.specs.Histories.{History, own, words_after}
 use Rattle.directory.specs.Orders.{next, script_visits}
 use Rattle.directory.specs.Writes.{writes}
-use Rattle.entry_word.specs.declared.visit.Visit.{Visit}
-use Rattle.net_reader.specs.declared.said.Call.{Call}
-use Rattle.net_reader.specs.declared.said.Call.TheVariants as calls
 use Rattle.scripts.specs.Scripts.{scripts_of}
 use Rattle.station.specs.Passes.{actor_of}
-use Rattle.station.specs.Setup.{Setup, setting_in}
+use Rattle.station.specs.Setup.{setting_in}
 use Rattle.station.specs.declared.view.View.{View}
 use Rattle.runner.specs.Examples.{count_by, idle_input, line_setup, switching_input}
 use Rattle.runner.specs.Playing.{IsPlayedBy}
@@ -17,17 +14,8 @@ use Rattle.runner.specs.declared.role.Role.{Role}
 use Rattle.runner.specs.declared.role.Role.TheVariants as roles
 use Rattle.runner.proofs.wrong.wrong_workers.Goals as goal
 
-outside-no : ◌≡◌ {A = Option ℕ} None (Some 1) → ⊥
-outside-no e = cc
-
-none-no : (visit : Visit) → ◌≡◌ {A = Option Visit} None (Some visit) → ⊥
-none-no visit e = cc
-
-script-no : ◌≡◌ {A = List Call} [] (calls.Off ∷ []) → ⊥
-script-no e = cc
-
 pub returns-clause-inside : goal.returns-clause-inside
-returns-clause-inside c = λ input tracker worker its at. outside-no (sym its.outside ∙ at)
+returns-clause-inside c = λ input tracker worker its at. cc (sym its.outside ∙ at)
 
 pub returns-clause-unknown : goal.returns-clause-unknown
 returns-clause-unknown c = λ tracker worker seen its. omega (arith, its.known, seen.low)
@@ -38,13 +26,9 @@ idle-next = refl
 
 pub returns-clause-unplayed : goal.returns-clause-unplayed
 returns-clause-unplayed c = λ tracker worker set seen its.
-    let played = subst (λ (s : Setup). IsPlayedBy (setting_in s) (scripts_of idle_input) (actor_of worker.pass)
-    worker.pass.view.seen) set its.played in
     let by : IsPlayedBy (setting_in line_setup) (scripts_of idle_input) 1 (count_by 1 ∷ []) =
-    subst (λ (h : History). IsPlayedBy (setting_in line_setup) (scripts_of idle_input) 1 h) seen.seen_is
-    (subst (λ (a : ℕ). IsPlayedBy (setting_in line_setup) (scripts_of idle_input) a worker.pass.view.seen) seen.low
-    played) in
-    none-no (count_by 1) (sym idle-next ∙ by 0 (count_by 1) refl refl)
+    rw (set, seen.seen_is, seen.low) at its.played in
+    cc (sym idle-next ∙ by 0 (count_by 1) refl refl)
 
 pub returns-clause-uncounted : goal.returns-clause-uncounted
 returns-clause-uncounted c = λ input tracker worker seen one its.
@@ -72,23 +56,17 @@ full view (roles.Finder finder) low seen zeroth part = omega (arith, part.high, 
 pub returns-clause-no_room : goal.returns-clause-no_room
 returns-clause-no_room c = λ tracker worker set seen zeroth its.
     full worker.pass.view worker.role seen.low seen.seen_is zeroth
-    (subst (λ (s : Setup). IsRole switching_input s worker.pass.view worker.pass.spare worker.role) set its.role)
+    (rw set at its.role)
 
 pub returns-clause-caller : goal.returns-clause-caller
 returns-clause-caller c = λ tracker worker mover seen is its.
-    let part = subst (λ (role : Role). IsRole idle_input tracker.setup worker.pass.view worker.pass.spare role) is
-    its.role in
-    omega (arith, part.begun.low, seen.low)
+    let part = rw is at its.role in omega (arith, part.begun.low, seen.low)
 
 pub returns-clause-subscriber : goal.returns-clause-subscriber
 returns-clause-subscriber c = λ tracker worker finder seen is its.
-    let part = subst (λ (role : Role). IsRole idle_input tracker.setup worker.pass.view worker.pass.spare role) is
-    its.role in
-    omega (arith, part.high, seen.low)
+    let part = rw is at its.role in omega (arith, part.high, seen.low)
 
 pub returns-clause-script : goal.returns-clause-script
 returns-clause-script c = λ tracker worker mover seen is none its.
-    let part = subst (λ (role : Role). IsRole switching_input tracker.setup worker.pass.view worker.pass.spare role) is
-    its.role in
-    script-no (sym none ∙ (part.begun.script
-    ∙ ap (λ (a : ℕ). slice_index_or switching_input.scripts a []) seen.low))
+    let part = rw is at its.role in
+    cc (sym none ∙ (part.begun.script ∙ ap (λ (a : ℕ). slice_index_or switching_input.scripts a []) seen.low))

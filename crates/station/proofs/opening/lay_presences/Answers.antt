@@ -1,8 +1,8 @@
-use Rattle.std.proofs.Common.{◌≡◌, ◌+◌, ◌*◌, [], ◌∷◌, rules, arith, sym, ap, ◌∙◌, subst, length, length-append}
+use Rattle.std.proofs.Common.{◌≡◌, ◌+◌, ◌*◌, [], rules, arith, ap, ◌∙◌, length}
 use Rattle.entry_word.specs.declared.visit.Key.TheVariants.{Presence}
 use Rattle.region_plan.specs.Plan.{nodes_of}
-use Rattle.station.specs.Opening.{AreLaid, setup_of}
-use Rattle.station.specs.Setup.{cell_word, IsCellOf}
+use Rattle.station.specs.Opening.{setup_of}
+use Rattle.station.specs.Setup.{IsCellOf}
 use Rattle.station.proofs.Laying.{laid_cell}
 use Rattle.station.proofs.opening.lay_presences.Goals as goal
 
@@ -11,15 +11,11 @@ pub loop-sub-preserved : goal.loop-sub-preserved
 loop-sub-preserved c =
     let setup = setup_of c.args.plan.now c.args.homes.now 0 in
     let key = Presence c.loop-node.node c.loop-sub.sub in
-    let items = c.in_ok-push.ensures.items in
     let was = c.loop-sub.invariant in
     let is_cell : IsCellOf setup key = record { place = search rules; known = search rules } in
-    let at : length c.loop-sub.words.items ≡ cell_word setup key = omega (arith, was.1) in (
-      subst (AreLaid setup) (sym items) (laid_cell c.cell_numbers.ensures.apart is_cell at
-          (c.look-word.ensures.history c.args.homes.now [] c.requires.hold) was.0),
-      ap length items
-          ∙ omega (arith, was.1, length-append c.loop-sub.words.items (c.look-word.result ∷ [])),
-    )
+    let laid = laid_cell c.cell_numbers.ensures.apart is_cell (omega (arith, was.1))
+    (c.look-word.ensures.history c.args.homes.now [] c.requires.hold) c.in_ok-push.ensures.items was.0 in
+    (laid.0, omega (arith, laid.1, was.1))
 
 pub loop-node-init : goal.loop-node-init
 loop-node-init c = (c.requires.laid, omega (arith, c.requires.at))

@@ -1,10 +1,9 @@
-use Rattle.std.proofs.Common.{◌≡◌, ap}
+use Rattle.std.proofs.Common.{ap}
 use Rattle.std.proofs.lemmas.Result.{IfOk-weaker}
 use Rattle.net_reader.specs.Seen.{seen_input}
-use Rattle.region_plan.specs.Plan.{PlanData}
 use Rattle.region_plan.specs.declared.covering.Covering.TheVariants.{Mean}
 use Rattle.report_text.specs.PlanText.{plan_text_of}
-use Rattle.track.specs.Results.{IsMeanPlanText, mean_plan_for, network_of}
+use Rattle.track.specs.Results.{network_of}
 use Rattle.track.proofs.Answering.{network-valid}
 use Rattle.track.proofs.answer.mean_cover.Goals as goal
 
@@ -12,9 +11,7 @@ pub returns : goal.returns
 returns c =
     let contents = seen_input c.args.input.now in
     let sound = network-valid c.requires.valid in
-    IfOk-weaker c.cover.result (λ (plan : PlanData). plan ≡ mean_plan_for contents)
-    (λ (plan : PlanData). IsMeanPlanText contents (plan_text_of plan))
-    (λ plan is. record {
+    IfOk-weaker c.cover.result _ _ (λ plan is. record {
       text_is = ap plan_text_of is;
       reach_is = (c.covered_plan_means.ensures (Mean contents.k) (network_of contents) sound
           c.requires.valid.k_some).reach;

@@ -1,16 +1,14 @@
-use Rattle.std.proofs.Common.{◌≡◌, ◌∙◌, sym, subst, ap}
+use Rattle.std.proofs.Common.{◌≡◌, ◌∙◌, sym, ap}
 use Rattle.std.proofs.lemmas.Result.{IfOk-weaker}
 use Rattle.directory.specs.Orders.{history_of}
 use Rattle.directory.specs.Outcomes.{Outcome, result_of}
 use Rattle.net_reader.specs.Seen.{seen_input}
 use Rattle.region_plan.specs.Matched.{BoundsFinds}
-use Rattle.region_plan.specs.Plan.{PlanData}
-use Rattle.region_plan.specs.Settings.{setting_of}
 use Rattle.report_text.specs.ReportText.{report_of}
 use Rattle.runner.specs.Runs.{IsOutcomeOfRun}
 use Rattle.scripts.specs.Scripts.{scripts_of}
 use Rattle.trail_laws.specs.RightOutcomes.{TellInTurn}
-use Rattle.track.specs.Results.{IsRunReport, in_order, outcome_for, plan_for, setting_for}
+use Rattle.track.specs.Results.{in_order, outcome_for, plan_for, setting_for}
 use Rattle.track.proofs.Answering.{plan-nodes, plan_of_graph}
 use Rattle.track.proofs.Replaying.{report-says, sound-text}
 use Rattle.track.proofs.run.run.Goals as goal
@@ -21,14 +19,9 @@ returns g c =
     let plan = c.in_ok-plan.plan in
     let same : plan ≡ plan_for contents = c.in_ok-plan.ensures.plan
     ∙ plan_of_graph c.plan_of_same_walks.ensures c.requires.valid c.requires.graph in
-    let bounds : BoundsFinds (plan_for contents) =
-    subst (λ (p : PlanData). BoundsFinds p) same c.in_ok-plan.ensures.bounding in
-    IfOk-weaker c.run_workers.result
-    (λ made. IsOutcomeOfRun (setting_of plan contents.homes) (scripts_of contents) (result_of made))
-    (λ made. IsRunReport contents (report_of (result_of made)))
-    (λ made told.
-    let its = subst (λ (p : PlanData). IsOutcomeOfRun (setting_of p contents.homes) (scripts_of contents)
-    (result_of made)) same told in
+    let bounds : BoundsFinds (plan_for contents) = rw same at c.in_ok-plan.ensures.bounding in
+    IfOk-weaker c.run_workers.result _ _ (λ made told.
+    let its : IsOutcomeOfRun (setting_for contents) (scripts_of contents) (result_of made) = rw same at told in
     let turn : TellInTurn (outcome_for (in_order contents its.order)).calls =
     c.lines_are_in_turn.ensures (setting_for contents) (scripts_of contents)
     (history_of (setting_for contents) (scripts_of contents) its.order)

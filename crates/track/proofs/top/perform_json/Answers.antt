@@ -1,7 +1,3 @@
-use Rattle.std.proofs.Common.{List, ℕ, subst}
-use Rattle.std.specs.Prelude.{IfOk}
-use Rattle.track.specs.Bodies.{text_of}
-use Rattle.track.specs.Results.{IsJsonAnswer}
 use Rattle.track.proofs.Ending.{ended-json}
 use Rattle.track.proofs.top.perform_json.Goals as goal
 
@@ -10,5 +6,4 @@ returns-in-Ok-clause-ends g c =
     ended-json c.answer_json.result c.write_answer.result (g.K.Sink.written c.args.sink.now)
     (g.K.Sink.written c.write_answer.new.sink) (g.K.Sink.faults c.args.sink.now)
     (g.K.Sink.faults c.write_answer.new.sink) c.in-Ok.ensures.all
-    (subst (λ (t : List ℕ). IfOk c.answer_json.result (λ answer. IsJsonAnswer t answer.status (text_of answer.body)))
-    c.deref.ensures.value c.answer_json.ensures) c.write_answer.ensures
+    (rw c.deref.ensures.value at c.answer_json.ensures) c.write_answer.ensures

@@ -8,8 +8,7 @@ use Rattle.track.specs.declared.status.Status.TheVariants.{Done, OutOfMemory, Re
 use Rattle.track.proofs.wrong.told_laws.Goals as goal
 
 calm : HasFaulted 0 0 → ⊥
-calm (inl less) = omega (arith, less)
-calm (inr end) = omega (arith, end)
+calm faulted = omega (arith, faulted)
 
 -- with memory, the status is the other one
 with-memory : {status whole : Status} → (status ≡ whole) ⊎ (status ≡ OutOfMemory) → (status ≡ OutOfMemory → ⊥)
@@ -17,15 +16,12 @@ with-memory : {status whole : Status} → (status ≡ whole) ⊎ (status ≡ Out
 with-memory (inl is) enough = is
 with-memory (inr wants) enough = absurd (enough wants)
 
-done-refused : ◌≡◌ {A = Status} Done Refused → ⊥
-done-refused e = cc
-
 pub returns-clause-one : goal.returns-clause-one
 returns-clause-one c = λ law bytes one other s t a b. (law Cover bytes s t one other refl a b).1
 
 pub returns-clause-refused : goal.returns-clause-refused
 returns-clause-refused c = λ law bytes one other a b.
-    done-refused (law Cover bytes Done Refused one other refl a b).0
+    cc (law Cover bytes Done Refused one other refl a b).0
 
 pub returns-clause-done : goal.returns-clause-done
 returns-clause-done c = λ law bytes contents status left written ends short input enough.

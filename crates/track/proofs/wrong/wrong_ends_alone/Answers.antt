@@ -1,25 +1,14 @@
-use Rattle.std.proofs.Common.{◌≡◌, ℕ, List, [], ◌∷◌, ◌++◌, Some, Option, inl, inr, arith}
-use Rattle.outside.specs.Calls.{HasFaulted}
+use Rattle.std.proofs.Common.{◌≡◌, ℕ, List, [], ◌∷◌, ◌++◌, Some, Option, arith}
 use Rattle.track.proofs.wrong.wrong_ends_alone.Goals as goal
 
-calm : HasFaulted 0 0 → ⊥
-calm (inl less) = omega (arith, less)
-calm (inr end) = omega (arith, end)
-
-some-empty : ◌≡◌ {A = Option (List ℕ)} (Some []) (Some (1 ∷ [])) → ⊥
-some-empty e = cc
-
-some-no : ◌≡◌ {A = Option (List ℕ)} (Some (1 ∷ [])) (Some []) → ⊥
-some-no e = cc
-
 pub returns-clause-silent : goal.returns-clause-silent
-returns-clause-silent c = λ r. some-empty r.0
+returns-clause-silent c = λ r. cc r.0
 
 pub returns-clause-read : goal.returns-clause-read
-returns-clause-read c = λ r. some-empty r.2.0
+returns-clause-read c = λ r. cc r.2.0
 
 pub returns-clause-no_fault : goal.returns-clause-no_fault
-returns-clause-no_fault c = λ r. calm r.0.0
+returns-clause-no_fault c = λ r. omega (arith, r.0.0)
 
 other-part : (front back : List ℕ) → ◌≡◌ {A = List ℕ} (1 ∷ []) (front ++ back)
     → ◌≡◌ {A = Option (List ℕ)} (Some (2 ∷ [])) (Some front) → ⊥
@@ -36,13 +25,13 @@ pub returns-clause-write_fault : goal.returns-clause-write_fault
 returns-clause-write_fault c = λ r. let e : ◌≡◌ {A = ℕ} 1 0 = r.1 in omega (arith, e)
 
 pub returns-clause-memory_spoke : goal.returns-clause-memory_spoke
-returns-clause-memory_spoke c = λ r. some-no r.0.0
+returns-clause-memory_spoke c = λ r. cc r.0.0
 
 pub returns-clause-memory_read : goal.returns-clause-memory_read
-returns-clause-memory_read c = λ r. some-empty r.1.0
+returns-clause-memory_read c = λ r. cc r.1.0
 
 pub returns-clause-failed_read : goal.returns-clause-failed_read
-returns-clause-failed_read c = λ r. some-empty r.2.0
+returns-clause-failed_read c = λ r. cc r.2.0
 
 pub returns-clause-refused : goal.returns-clause-refused
 returns-clause-refused c = λ text before now r. r

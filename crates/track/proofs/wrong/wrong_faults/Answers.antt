@@ -1,20 +1,17 @@
-use Rattle.std.proofs.Common.{◌≡◌, ℕ, arith}
+use Rattle.std.proofs.Common.{arith}
 use Rattle.track.proofs.wrong.wrong_faults.Goals as goal
 
-one-no : ◌≡◌ {A = ℕ} 1 0 → ⊥
-one-no e = omega (arith, e)
-
 pub returns-clause-read_failed : goal.returns-clause-read_failed
-returns-clause-read_failed c = λ r. one-no r.0.1
+returns-clause-read_failed c = λ r. omega (arith, r.0.1)
 
 pub returns-clause-too_long : goal.returns-clause-too_long
-returns-clause-too_long c = λ r. one-no r.0.1
+returns-clause-too_long c = λ r. omega (arith, r.0.1)
 
 pub returns-clause-memory_write : goal.returns-clause-memory_write
-returns-clause-memory_write c = λ r. one-no r.0.1
+returns-clause-memory_write c = λ r. omega (arith, r.0.1)
 
 pub returns-clause-memory_read : goal.returns-clause-memory_read
-returns-clause-memory_read c = λ r. one-no r.1.1
+returns-clause-memory_read c = λ r. omega (arith, r.1.1)
 
 pub returns-clause-write_failed : goal.returns-clause-write_failed
-returns-clause-write_failed c = λ r. one-no r.2.1
+returns-clause-write_failed c = λ r. omega (arith, r.2.1)

@@ -1,12 +1,5 @@
-use Rattle.std.proofs.Common.{◌≡◌, ℕ, List, [], ◌∷◌, ◌++◌, Option, Some, None}
+use Rattle.std.proofs.Common.{◌≡◌, ℕ, List, [], ◌∷◌, ◌++◌}
 use Rattle.track.proofs.wrong.wrong_rests.Goals as goal
-
--- known bytes are one list
-same : (one other : List ℕ) → ◌≡◌ {A = Option (List ℕ)} (Some one) (Some other) → one ≡ other
-same one other e = cc
-
-some-no : (bytes : List ℕ) → ◌≡◌ {A = Option (List ℕ)} (Some bytes) None → ⊥
-some-no bytes e = cc
 
 other-end : (front : List ℕ) → ◌≡◌ {A = List ℕ} (1 ∷ []) (front ++ 2 ∷ []) → ⊥
 other-end [] e = cc
@@ -24,13 +17,13 @@ more-end [] e = cc
 more-end (x ∷ front) e = cc
 
 pub returns-clause-other : goal.returns-clause-other
-returns-clause-other c = λ is. other-end is.front (same (1 ∷ []) (is.front ++ 2 ∷ []) is.parts)
+returns-clause-other c = λ is. other-end is.front (cc is.parts)
 
 pub returns-clause-more : goal.returns-clause-more
-returns-clause-more c = λ is. more-end is.front (same [] (is.front ++ 1 ∷ []) is.parts)
+returns-clause-more c = λ is. more-end is.front (cc is.parts)
 
 pub returns-clause-front : goal.returns-clause-front
-returns-clause-front c = λ is. front-end is.front (same (1 ∷ 2 ∷ []) (is.front ++ 1 ∷ []) is.parts)
+returns-clause-front c = λ is. front-end is.front (cc is.parts)
 
 pub returns-clause-unknown : goal.returns-clause-unknown
-returns-clause-unknown c = λ is. some-no [] is.parts
+returns-clause-unknown c = λ is. cc is.parts

@@ -1,6 +1,3 @@
-use Rattle.std.proofs.Common.{subst}
-use Rattle.directory.specs.Finds.{FindCall}
-use Rattle.tracker_calls.specs.Finds.{HasFound}
 use Rattle.tracker_calls.proofs.finds.find_now.Goals as goal
 
 pub returns-in-Ok-walk_on : goal.returns-in-Ok-walk_on
@@ -9,8 +6,7 @@ returns-in-Ok-walk_on c =
     let found = c.in-Ok-walk_on.ensures.found in record {
       find = (
         begun.0,
-        subst (λ (call : FindCall). HasFound c.args.tracker.now.setup c.args.pass.now call c.in-Ok-walk_on.found
-            c.walk_on.new.pass) begun.1 found.0,
+        rw (← begun.1) found.0,
         found.1,
       );
     }

@@ -1,9 +1,7 @@
-use Rattle.std.proofs.Common.{ap, refl, subst, ◌∙◌, arith}
+use Rattle.std.proofs.Common.{ap, refl, ◌∙◌, arith}
 use Rattle.directory.specs.Keys.{key_node}
 use Rattle.station.specs.Setup.{setting_in}
 use Rattle.station.specs.Passes.{PassData}
-use Rattle.station.specs.Walking.{HasLookedOn}
-use Rattle.walk.specs.Walks.{WalkData}
 use Rattle.tracker_calls.proofs.Adding.{tried-none}
 use Rattle.tracker_calls.proofs.Walked.{tried-look, walk-held}
 use Rattle.tracker_calls.proofs.walking.look_when_free.Goals as goal
@@ -27,6 +25,5 @@ tries-preserved g c =
 
 pub returns-in-Ok : goal.returns-in-Ok
 returns-in-Ok g c =
-    let looked = subst (λ (w : WalkData). HasLookedOn c.args.tracker.now.setup c.tries.pass w c.in-Ok._ticket
-    c.visit_walk.new.pass c.visit_walk.new.walk) c.tries.invariant.walk c.in-Ok.ensures.looked in
+    let looked = rw c.tries.invariant.walk at c.in-Ok.ensures.looked in
     record { looked = (c.tries.pass, c.in-Ok._ticket, looked, c.tries.invariant.tried looked.key looked.wanted) }

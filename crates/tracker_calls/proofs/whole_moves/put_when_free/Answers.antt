@@ -1,11 +1,7 @@
-use Rattle.std.proofs.Common.{refl, subst, sym, ap, ◌∙◌, ◌≡◌, ◌≤◌, Some, arith}
+use Rattle.std.proofs.Common.{refl, ap, ◌∙◌, ◌≤◌, arith}
 use Rattle.directory.specs.Keys.{act_node}
-use Rattle.handset.specs.Condition.{HandsetData}
 use Rattle.handset.specs.StepWrites.{due}
-use Rattle.station.specs.Handsets.{IsHandsetOf}
 use Rattle.station.specs.Setup.{setting_in}
-use Rattle.tracker_calls.specs.Added.{HasTried}
-use Rattle.tracker_calls.specs.Moves.{HasStepped}
 use Rattle.tracker_calls.proofs.Adding.{tried-none}
 use Rattle.tracker_calls.proofs.Stepping.{next-visit, own-tried, stepped-tried, tried-put}
 use Rattle.tracker_calls.proofs.whole_moves.put_when_free.Goals as goal
@@ -31,14 +27,9 @@ tries-preserved g c =
     let node = act_node (setting_in setup) next.0.act in
     let tried = tried-put setup c.visit_put.new.pass c.tries.handset c.in_default.field-0 c.requires.plan next.1 next.2
     lost.0 in record {
-      tried = (
-        next.0,
-        subst (λ (h : HandsetData). due (setting_in setup) h ≡ Some next.0) (sym lost.1) next.1,
-        tried,
-      );
+      tried = (next.0, ap (due (setting_in setup)) lost.1 ∙ next.1, tried);
       handset = lost.1 ∙ same;
-      own = subst (IsHandsetOf setup c.visit_put.new.pass.view) (sym (lost.1 ∙ same))
-          (own-tried tried c.requires.handset);
+      own = rw (lost.1 ∙ same) (own-tried tried c.requires.handset);
     }
 
 pub returns-in-Ok : goal.returns-in-Ok
@@ -49,10 +40,6 @@ returns-in-Ok g c =
     let next = c.tries.invariant.tried in
     let made = c.in-Ok.ensures.made in
     let room : 1 ≤ c.tries.pass.spare = omega (arith, c.requires.spare, ap (λ q. q.spare) next.2.is) in
-    let both = subst (λ (h : HandsetData). (stepped : HasStepped setup c.tries.pass h c.in-Ok.ticket
-    c.visit_put.new.pass c.visit_put.new.handset)
-    × HasTried (act_node (setting_in setup) stepped.visit.act) c.args.pass.now c.tries.pass)
-    c.tries.invariant.handset
-    (stepped-tried c.visit_put.new.pass handset c.in-Ok.ticket c.requires.plan next room made.0 made.1 made.2
-    c.in-Ok.ensures.goes_on) in
+    let both = rw c.tries.invariant.handset at (stepped-tried c.visit_put.new.pass handset c.in-Ok.ticket
+    c.requires.plan next room made.0 made.1 made.2 c.in-Ok.ensures.goes_on) in
     record { put = (c.tries.pass, both.0, both.1) }

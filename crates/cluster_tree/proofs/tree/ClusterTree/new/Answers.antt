@@ -16,27 +16,21 @@ pub returns-in_err-weighed-clause-fault : goal.returns-in_err-weighed-clause-fau
 returns-in_err-weighed-clause-fault c =
     err_passed c.from_residual-in_err-weighed.result c.in_err-weighed.field-0.0
     (IsTreeFault c.args.graph.now c.args.members.now.members c.args.leader) c.from_residual-in_err-weighed.ensures.1
-    (is_fault c.args.graph.now c.weights_from.ensures.sound c.args.members.now c.flags_of.ensures.sound c.requires.room
-    c.args.leader c.requires.leader
-    c.in_ok-flags.flags.items c.in_ok-flags.ensures.flags c.in_ok-weights.weights.items
-    (rw c.deref.ensures.value at c.in_ok-weights.ensures.weights)
+    (is_fault c.weights_from.ensures.sound c.flags_of.ensures.sound c.requires.room c.requires.leader
+    c.in_ok-flags.ensures.flags (rw c.deref.ensures.value at c.in_ok-weights.ensures.weights)
     c.in_err-weighed.field-0.0 (rw c.deref-2.ensures.value at c.in_err-weighed.ensures.missing))
 
 pub invariant_of-result : goal.invariant_of-result
 invariant_of-result c =
-    is_kept c.args.graph.now c.weights_from.ensures.sound c.args.members.now c.flags_of.ensures.sound c.requires.room
-    c.args.leader c.requires.leader
-    c.in_ok-flags.flags.items c.in_ok-flags.ensures.flags c.in_ok-weights.weights.items
-    (rw c.deref.ensures.value at c.in_ok-weights.ensures.weights)
-    c.in_ok-weighed.weighed (rw c.deref-2.ensures.value at c.in_ok-weighed.ensures.weighed)
+    is_kept c.weights_from.ensures.sound c.flags_of.ensures.sound c.requires.room c.requires.leader
+    c.in_ok-flags.ensures.flags (rw c.deref.ensures.value at c.in_ok-weights.ensures.weights)
+    (rw c.deref-2.ensures.value at c.in_ok-weighed.ensures.weighed)
     c.greatest_weight-depth.result
     (rw c.deref-3.ensures.value at c.greatest_weight-depth.ensures.bound)
     (rw c.deref-3.ensures.value at c.greatest_weight-depth.ensures.attained)
 
 pub returns-clause-tree : goal.returns-clause-tree
 returns-clause-tree c =
-    is_tree c.args.graph.now c.weights_from.ensures.sound c.args.members.now c.flags_of.ensures.sound c.requires.room
-    c.args.leader c.requires.leader
-    c.in_ok-flags.flags.items c.in_ok-flags.ensures.flags c.in_ok-weights.weights.items
-    (rw c.deref.ensures.value at c.in_ok-weights.ensures.weights)
-    c.in_ok-weighed.weighed (rw c.deref-2.ensures.value at c.in_ok-weighed.ensures.weighed)
+    is_tree c.weights_from.ensures.sound c.flags_of.ensures.sound c.requires.room c.requires.leader
+    c.in_ok-flags.ensures.flags (rw c.deref.ensures.value at c.in_ok-weights.ensures.weights)
+    (rw c.deref-2.ensures.value at c.in_ok-weighed.ensures.weighed)

@@ -1,7 +1,5 @@
-use Rattle.std.proofs.Common.{◌≡◌, ◌++◌, ◌∷◌, [], arith, ◌∙◌, ap, subst, sym}
-use Rattle.directory.specs.Courses.{move_to}
+use Rattle.std.proofs.Common.{◌≡◌, arith, ◌∙◌, ap, subst, sym}
 use Rattle.region_plan.specs.Settings.{setting_of}
-use Rattle.handset.specs.Stands.{StandsForSteps}
 use Rattle.handset.proofs.Begun.{begin-stands}
 use Rattle.handset.specs.Condition.{GoesWith, HandsetData}
 use Rattle.handset.proofs.Going.{goes-begun}
@@ -19,8 +17,7 @@ returns-clause-goes c =
 
 pub returns-clause-stands : goal.returns-clause-stands
 returns-clause-stands c = λ starts steps made stands.
-    subst (λ h. StandsForSteps (setting_of c.args.plan.now starts) h (steps ++ move_to c.args.to ∷ []) made)
-    (sym c.start.ensures)
+    rw c.start.ensures
     (begin-stands (setting_of c.args.plan.now starts) c.args.self.now steps made c.args.to
     (c.levels_after_move.ensures.address (setting_of c.args.plan.now starts)) (c.levels_after_move.ensures.gathered
     (setting_of c.args.plan.now starts))

@@ -1,26 +1,24 @@
-use Rattle.std.proofs.Common.{◌∙◌, ap, subst, sym}
-use Rattle.region_plan.specs.Plan.{nodes_of}
+use Rattle.std.proofs.Common.{◌∙◌, ap, refl, sym}
 use Rattle.handset.specs.Condition.{HandsetData}
-use Rattle.handset.proofs.Going.{IsLate, goes-next, erasing-is-late, purging-by-count}
+use Rattle.handset.proofs.Going.{goes-next, erasing-is-late, purging-by-count}
 use Rattle.handset.proofs.handset.Handset.step.Goals as goal
 
 pub returns-in-Confirming-clause-goes : goal.returns-in-Confirming-clause-goes
 returns-in-Confirming-clause-goes c =
     goes-next c.erasing_from-next.result c.requires.goes
-    (ap (λ (h : HandsetData). h.stage) (sym c.self.view_is) ∙ c.in-Confirming.is) tt
-    (subst (IsLate (nodes_of c.args.plan.now) c.args.self.now.last) (sym c.erasing_from-next.ensures)
-    (erasing-is-late c.args.plan.now c.args.self.now 0)) c.go_on.ensures
+    (ap (λ (h : HandsetData). h.stage) (sym c.self.view_is) ∙ c.in-Confirming.is) refl
+    (rw c.erasing_from-next.ensures (erasing-is-late c.args.plan.now c.args.self.now 0)) c.go_on.ensures
 
 pub returns-in-Erasing-clause-goes : goal.returns-in-Erasing-clause-goes
 returns-in-Erasing-clause-goes c =
     goes-next c.erasing_from-next-in-Erasing.result c.requires.goes
-    (ap (λ (h : HandsetData). h.stage) (sym c.self.view_is) ∙ c.in-Erasing.is) tt
-    (subst (IsLate (nodes_of c.args.plan.now) c.args.self.now.last) (sym c.erasing_from-next-in-Erasing.ensures)
-    (erasing-is-late c.args.plan.now c.args.self.now _)) c.go_on-in-Erasing.ensures
+    (ap (λ (h : HandsetData). h.stage) (sym c.self.view_is) ∙ c.in-Erasing.is) refl
+    (rw c.erasing_from-next-in-Erasing.ensures (erasing-is-late c.args.plan.now c.args.self.now _))
+    c.go_on-in-Erasing.ensures
 
 pub returns-in-Purging-clause-goes : goal.returns-in-Purging-clause-goes
 returns-in-Purging-clause-goes c =
     goes-next c.purging_from-next.result c.requires.goes
-    (ap (λ (h : HandsetData). h.stage) (sym c.self.view_is) ∙ c.in-Purging.is) tt
-    (subst (IsLate (nodes_of c.args.plan.now) c.args.self.now.last) (sym c.purging_from-next.ensures)
-    (purging-by-count c.args.plan.now c.args.self.now _ c.requires.goes.trail)) c.go_on-in-Purging.ensures
+    (ap (λ (h : HandsetData). h.stage) (sym c.self.view_is) ∙ c.in-Purging.is) refl
+    (rw c.purging_from-next.ensures (purging-by-count c.args.plan.now c.args.self.now _ c.requires.goes.trail))
+    c.go_on-in-Purging.ensures

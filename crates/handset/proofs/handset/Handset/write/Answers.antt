@@ -1,10 +1,7 @@
-use Rattle.std.proofs.Common.{◌∙◌, Option, Some, None, refl, suc, subst, sym}
+use Rattle.std.proofs.Common.{◌∙◌, Option, Some, None, refl, subst}
 use Rattle.std.specs.Prelude.{IsSome, OnSome}
-use Rattle.region_plan.specs.Plan.{nodes_of}
 use Rattle.region_plan.specs.Settings.{setting_of}
-use Rattle.handset.specs.Stands.{StandsForSteps}
-use Rattle.handset.proofs.Going.{erasing-is-late, purging-is-late}
-use Rattle.handset.proofs.Made.{made-stands, next-stands, fits-plan, going-on}
+use Rattle.handset.proofs.Made.{made-stands, next-stands}
 use Rattle.handset.proofs.handset.Handset.write.Goals as goal
 
 pub returns-clause-visit : goal.returns-clause-visit
@@ -13,12 +10,10 @@ returns-clause-visit c = λ starts steps made stands. c.step.ensures.exact
 
 pub returns-clause-stands : goal.returns-clause-stands
 returns-clause-stands c = where-some c.step.result (λ some starts steps made stands.
-    subst (λ h. StandsForSteps (setting_of c.args.plan.now starts) h steps (suc made)) (sym c.step.ensures.after)
-    (made-stands (nodes_of c.args.plan.now) steps made c.mark_words.ensures.unpacked
-    (c.levels_after_move.ensures.address (setting_of c.args.plan.now starts))
-    (fits-plan starts c.step.ensures.kept c.requires.goes) (erasing-is-late c.args.plan.now c.args.self.now)
-    (purging-is-late c.args.plan.now c.args.self.now) (going-on c.args.plan.now c.args.self.now
-    (subst IsSome c.step.ensures.exact some)) stands))
+    rw c.step.ensures.after
+    (made-stands starts steps made c.mark_words.ensures.unpacked
+    (c.levels_after_move.ensures.address (setting_of c.args.plan.now starts)) c.step.ensures.kept c.requires.goes
+    (subst IsSome c.step.ensures.exact some) stands))
   where
     where-some : {A : Type 0} {P : Type 0} (o : Option A) → (IsSome o → P) → OnSome o P
     where-some None law = tt

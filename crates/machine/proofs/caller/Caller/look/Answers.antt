@@ -1,5 +1,6 @@
 use Rattle.std.proofs.Common.{arith}
-use Rattle.machine.proofs.Passing.{looked-through, looks-ended, looks-more, may-look, passed-none}
+use Rattle.machine.proofs.Passing.{looked-through, looks-ended, passed-none}
+use Rattle.machine.proofs.Making.{turns-behind, may-follow}
 use Rattle.machine.proofs.caller.Caller.look.Goals as goal
 
 pub looks-init : goal.looks-init
@@ -11,15 +12,15 @@ looks-init g c = record {
 
 pub pass-made-requires-clause-stands : goal.pass-made-requires-clause-stands
 pass-made-requires-clause-stands g c =
-    may-look c.requires.stands c.looks.invariant.passed
+    may-follow c.requires.stands c.looks.invariant.passed
 
 pub look_one-requires-clause-stands : goal.look_one-requires-clause-stands
 look_one-requires-clause-stands g c =
-    may-look c.requires.stands (looks-more c.looks.invariant.passed c.pass-made.ensures.passed)
+    may-follow c.requires.stands (turns-behind c.looks.invariant.passed c.pass-made.ensures.passed)
 
 pub returns-then-made-most-clause-taken : goal.returns-then-made-most-clause-taken
 returns-then-made-most-clause-taken g c = λ history sees place its. (
-  looks-more c.looks.invariant.passed c.pass-made.ensures.passed history sees place its,
+  turns-behind c.looks.invariant.passed c.pass-made.ensures.passed history sees place its,
   λ fewer. absurd (omega (arith, fewer, c.if-made-most.true)),
 )
 
@@ -28,12 +29,12 @@ looks-preserved g c = record {
   few = omega (arith, c.looks-test.true, c.pass-made.ensures.few, c.if-made-most.false);
   passed = λ history sees place its.
       looked-through c.each_visit_is_next.ensures.more place
-      (looks-more c.looks.invariant.passed c.pass-made.ensures.passed history sees place its) c.in-Visited.ensures;
+      (turns-behind c.looks.invariant.passed c.pass-made.ensures.passed history sees place its) c.in-Visited.ensures;
 }
 
 pub returns-in-Finished-clause-taken : goal.returns-in-Finished-clause-taken
 returns-in-Finished-clause-taken g c = λ history sees place its.
-    looks-ended c.args.most place (looks-more c.looks.invariant.passed c.pass-made.ensures.passed history sees place
+    looks-ended c.args.most place (turns-behind c.looks.invariant.passed c.pass-made.ensures.passed history sees place
     its) c.in-Finished.ensures
 
 pub returns-clause-taken : goal.returns-clause-taken

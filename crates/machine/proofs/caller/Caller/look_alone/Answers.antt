@@ -1,11 +1,6 @@
-use Rattle.std.proofs.Common.{◌≡◌, ◌+◌, ◌++◌, ◌<◌, arith, subst}
-use Rattle.std.specs.Prelude.{None}
-use Rattle.directory.specs.Orders.{next}
-use Rattle.net_reader.specs.Seen.{seen_input}
-use Rattle.scripts.specs.Scripts.{scripts_of}
-use Rattle.machine.specs.Callers.{HasPassed}
-use Rattle.machine.specs.Stands.{setting_over}
-use Rattle.machine.proofs.Passing.{looked-through, looks-ended, may-look, passed-none}
+use Rattle.std.proofs.Common.{◌≡◌, ◌+◌, arith}
+use Rattle.machine.proofs.Passing.{looked-through, looks-ended, passed-none}
+use Rattle.machine.proofs.Making.{may-follow}
 use Rattle.machine.proofs.caller.Caller.look_alone.Goals as goal
 
 pub returns-then-most-eq0-clause-taken : goal.returns-then-most-eq0-clause-taken
@@ -16,30 +11,24 @@ returns-then-most-eq0-clause-taken c = λ history sees place its. (
 
 pub returns-then-made-eq1-clause-taken : goal.returns-then-made-eq1-clause-taken
 returns-then-made-eq1-clause-taken c = λ history sees place its. (
-  subst (λ n. HasPassed (seen_input c.args.input.now) c.args.plan.now c.args.cells.now history c.args.actor n
-      c.pass-made.new.self) c.if-made-eq1.true (c.pass-made.ensures.passed history sees place its),
+  rw c.if-made-eq1.true at (c.pass-made.ensures.passed history sees place its),
   λ fewer. absurd (omega (arith, fewer, c.requires.alone)),
 )
 
 pub look_one-requires-clause-stands : goal.look_one-requires-clause-stands
 look_one-requires-clause-stands c =
-    may-look c.requires.stands c.pass-made.ensures.passed
+    may-follow c.requires.stands c.pass-made.ensures.passed
 
 pub returns-in-Visited-clause-taken : goal.returns-in-Visited-clause-taken
 returns-in-Visited-clause-taken c = λ history sees place its.
     let one : c.pass-made.result + 1 ≡ 1 = omega (arith, c.pass-made.ensures.few, c.if-made-eq1.false) in (
-      subst (λ n. HasPassed (seen_input c.args.input.now) c.args.plan.now c.args.cells.now history c.args.actor n
-          c.look_one.new.self) one
-          (looked-through c.each_visit_is_next.ensures.more place (c.pass-made.ensures.passed history sees place its)
-          c.in-Visited.ensures),
+      rw one at (looked-through c.each_visit_is_next.ensures.more place
+          (c.pass-made.ensures.passed history sees place its) c.in-Visited.ensures),
       λ fewer. absurd (omega (arith, fewer, c.requires.alone)),
     )
 
 pub returns-in-Finished-clause-taken : goal.returns-in-Finished-clause-taken
 returns-in-Finished-clause-taken c = λ history sees place its.
     let none : c.pass-made.result ≡ 0 = omega (arith, c.pass-made.ensures.few, c.if-made-eq1.false) in
-    subst (λ n. (made : HasPassed (seen_input c.args.input.now) c.args.plan.now c.args.cells.now history
-    c.args.actor n c.look_one.new.self) × (n < c.args.most
-    → next (setting_over (seen_input c.args.input.now) c.args.plan.now) (scripts_of (seen_input c.args.input.now))
-    (history ++ made.visits) c.args.actor ≡ None)) none
+    rw none at
     (looks-ended c.args.most place (c.pass-made.ensures.passed history sees place its) c.in-Finished.ensures)

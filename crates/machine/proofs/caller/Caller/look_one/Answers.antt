@@ -1,23 +1,19 @@
 use Rattle.std.proofs.Common.{◌≡◌, ◌<◌, ◌∙◌, [], ◌∷◌, ◌++◌, drop, ap, subst, sym, refl, arith, length, get_or, map}
 use Rattle.std.specs.Prelude.{Some, if◌then◌else◌}
 use Rattle.std.proofs.lemmas.List.{length_push}
-use Rattle.directory.specs.Orders.{finds_of}
-use Rattle.scripts.specs.Scripts.{scripts_of}
-use Rattle.machine.specs.Stands.{setting_over}
+use Rattle.scripts.specs.Scripts.{find_of}
+use Rattle.machine.specs.Stands.{setting_over, IsWalking}
 use Rattle.machine.proofs.Beginning.{on-err}
-use Rattle.machine.proofs.Looking.{ok-of, room-left}
-use Rattle.directory.specs.Outcomes.{found_line}
+use Rattle.machine.proofs.Looking.{ok-of, room-left, wanted, scripts-low, place-low, call-at}
 use Rattle.net_reader.specs.Seen.{seen_input}
 use Rattle.region_plan.specs.Plan.{nodes_of}
 use Rattle.walk.specs.Walks.{IsWordBelow}
-use Rattle.machine.specs.Stands.{IsWalking}
 use Rattle.directory.specs.Finds.{at_origin}
-use Rattle.scripts.specs.Scripts.{find_of}
-use Rattle.machine.proofs.Looking.{wanted, script-is, scripts-low, script-searches, place-low, call-at}
 use Rattle.machine.proofs.Looked.{looks, looked-on, looked-up}
 use Rattle.scripts.specs.ScriptLaws.{calls-few, finds-are}
 use Rattle.machine.proofs.caller.Caller.look_one.Goals as goal
 use Rattle.machine.proofs.caller.Caller.look_one.Goals.{After-len}
+use Rattle.machine.specs.ScriptVisits.{script-searches, script-is}
 
 pub look-requires-clause-cell : goal.look-requires-clause-cell
 look-requires-clause-cell c =
@@ -46,7 +42,8 @@ returns-in_default-answer c = λ history sees place its.
 
 script-here : (c : After-len)
     → c.as_slice-script.result.now ≡ get_or (seen_input c.args.input.now).scripts c.args.actor []
-script-here c = script-is c.args.input.now.scripts.items c.args.actor c.requires.low c.index.ensures
+script-here c = script-is c.args.input.now.scripts.items c.args.actor
+    (scripts-low c.args.input.now.scripts.items c.args.actor c.requires.low) c.index.ensures
     c.as_slice-script.ensures.value
 
 low-here : (c : After-len) → c.len.result < length c.as_slice-script.result.now
@@ -69,17 +66,18 @@ unreachable-requires-then-is_err c =
     c.push.ensures.full)
 
 pub walk_at-self-requires : goal.walk_at-self-requires
-walk_at-self-requires c = record {
-  searches = script-searches c.args.plan.now c.args.actor c.requires.together.valid c.requires.together.nodes
-      c.requires.high (scripts-low c.args.input.now.scripts.items c.args.actor c.requires.low)
-      (script-is c.args.input.now.scripts.items c.args.actor c.requires.low c.index.ensures
-      c.as_slice-script.ensures.value) (omega (arith, c.len-3.ensures));
-}
+walk_at-self-requires c =
+    let low = scripts-low c.args.input.now.scripts.items c.args.actor c.requires.low in
+    record {
+      searches = script-searches c.args.plan.now c.args.actor c.requires.together.valid c.requires.together.nodes
+          c.requires.high low (script-is c.args.input.now.scripts.items c.args.actor low c.index.ensures
+          c.as_slice-script.ensures.value) (omega (arith, c.len-3.ensures));
+    }
 
 pub returns : goal.returns
 returns c = λ history sees place its.
     let low = scripts-low c.args.input.now.scripts.items c.args.actor c.requires.low in
-    let script = script-is c.args.input.now.scripts.items c.args.actor c.requires.low c.index.ensures
+    let script = script-is c.args.input.now.scripts.items c.args.actor low c.index.ensures
     c.as_slice-script.ensures.value in
     let count : length c.args.self.now.lines.items ≡ c.len.result = omega (arith, c.len.ensures) in
     let lines : c.push.new.self.items ≡ c.args.self.now.lines.items ++ c.line_of-line.result ∷ [] =
@@ -90,16 +88,13 @@ returns c = λ history sees place its.
     (sym c.next.ensures ∙ c.in-Some-next.is) (c.look.ensures.history c.args.input.now.homes.items history sees.hold)
     c.saw.ensures.call c.saw.ensures.pursuit) (sym c.in-Some-answer.is
     ∙ c.answer.ensures c.args.plan.now c.saw.ensures.goes)
-    (λ call later left. c.line_of-line.ensures ∙ (ap (λ f. found_line c.args.actor f c.in-Some-answer.found
-    c.unwrap_or-first.result c.args.ticket) (call-at (seen_input c.args.input.now) c.args.plan.now c.args.actor
-    c.len.result _ c.requires.high low script (omega (
-      arith,
-      c.len.ensures,
-      ap length script,
-      place-low c.requires.high low its c.in-Some.is,
-    )) (left ∙ ap (λ n. drop n (finds_of (setting_over (seen_input c.args.input.now) c.args.plan.now)
-    (scripts_of (seen_input c.args.input.now)) c.args.actor)) count))
-    ∙ ap (λ f. found_line c.args.actor call c.in-Some-answer.found f c.args.ticket) c.unwrap_or-first.ensures)) lines
+    (λ call later left. rw (
+      c.line_of-line.ensures,
+      call-at (seen_input c.args.input.now) c.args.plan.now c.args.actor c.len.result _ c.requires.high low script
+          (omega (arith, c.len.ensures, ap length script, place-low c.requires.high low its c.in-Some.is))
+          (rw count at left),
+      c.unwrap_or-first.ensures,
+    )) lines
     (omega (arith, c.len-2.ensures, ap length lines, length_push c.args.self.now.lines.items c.line_of-line.result))
     (omega (arith, c.push.ensures.capacity)) refl (subst
     (λ fs. IsWalking c.args.plan.now (drop c.len-2.result fs) at_origin c.walk_at-self.result)

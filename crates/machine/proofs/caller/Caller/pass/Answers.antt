@@ -1,22 +1,16 @@
-use Rattle.std.proofs.Common.{◌≡◌, ◌<◌, ◌∙◌, arith, subst, sym}
-use Rattle.std.specs.Prelude.{Some}
+use Rattle.std.proofs.Common.{◌≡◌, ◌<◌, ◌∙◌, arith, subst}
 use Rattle.net_reader.specs.Seen.{seen_input}
-use Rattle.visit_log.specs.Cells.{word_beside}
-use Rattle.visit_log.specs.Routes.{entry_place, rung_past}
-use Rattle.machine.specs.Climbs.{rung_of}
 use Rattle.walk.specs.Climbs.{IsClimbOf}
 use Rattle.machine.specs.Callers.{HasPassed}
 use Rattle.machine.proofs.ClimbCells.{ahead-cell, ahead-word}
 use Rattle.machine.proofs.Climbing.{past-from}
 use Rattle.machine.proofs.Looking.{scripts-low, sub-known, walks-over}
-use Rattle.machine.proofs.Passing.{LooksAhead, behind, behind-none, behind-some, passed-ahead, passed-none}
+use Rattle.machine.proofs.Passing.{LooksAhead, behind-none, behind-some, passed-ahead, passed-none}
 use Rattle.machine.proofs.caller.Caller.pass.Goals as goal
 
 pub returns-in_default-climb-clause-passed : goal.returns-in_default-climb-clause-passed
 returns-in_default-climb-clause-passed g c = λ history sees place its.
-    subst (λ w. HasPassed (seen_input c.args.input.now) c.args.plan.now c.args.cells.now history c.args.actor 0
-    (record c.args.self.now { walk = w })) c.in-Some.is
-    (passed-none sees its)
+    rw c.in-Some.is at (passed-none sees its)
 
 pub count_ahead-count-requires-clause-known : goal.count_ahead-count-requires-clause-known
 count_ahead-count-requires-clause-known g c =
@@ -50,25 +44,16 @@ returns-then-count-gt0-clause-passed g c = λ history sees place its.
           ahead-cell c.args.cells.now.subs walk.sub c.plan_is_sound.ensures.matched
           (c.climb_past.ensures.each i short).over low;
       empty = λ i short.
-          ahead-word climb walk.sub i sees.goes (subst (λ sub. word_beside c.args.cells.now sub
-          (entry_place plan climb.from (rung_past plan climb.from (rung_of climb) i)) ≡ 0) c.sub.ensures
-          (c.count_ahead-count.ensures.empty i short));
+          ahead-word climb walk.sub i sees.goes (rw c.sub.ensures at (c.count_ahead-count.ensures.empty i short));
     } in
     subst (HasPassed (seen_input c.args.input.now) plan c.args.cells.now history c.args.actor count)
     (behind-some walk c.args.self.now c.args.ticket c.climb_past.result count c.if-count-gt0.true c.resume.ensures.exact
     c.unwrap_or.ensures)
-    (subst (λ k. HasPassed (seen_input c.args.input.now) plan c.args.cells.now history c.args.actor count
-    (behind walk c.args.self.now c.args.ticket k count)) (sym c.climb_past.ensures.exact)
-    (passed-ahead c.own_after.ensures.tickets c.lines_grow.ensures.read c.lines_grow.ensures.finds
-    c.lines_grow.ensures.count c.each_visit_is_next.ensures.more c.args.self.now place ahead
-    (subst (HasPassed (seen_input c.args.input.now) plan c.args.cells.now history c.args.actor 0)
-    (sym (behind-none c.args.self.now c.args.ticket c.in-Some.is at)) (passed-none sees its)) count (omega arith)))
+    (rw c.climb_past.ensures.exact (passed-ahead c.own_after.ensures.tickets c.lines_grow.ensures.read
+    c.lines_grow.ensures.finds c.lines_grow.ensures.count c.each_visit_is_next.ensures.more c.args.self.now place ahead
+    (rw (behind-none c.args.self.now c.args.ticket c.in-Some.is at) (passed-none sees its)) count (omega arith)))
 
 pub returns-else-count-gt0-clause-passed : goal.returns-else-count-gt0-clause-passed
 returns-else-count-gt0-clause-passed g c = λ history sees place its.
     let none : 0 ≡ c.count_ahead-count.result = omega (arith, c.if-count-gt0.false) in
-    subst (λ n. HasPassed (seen_input c.args.input.now) c.args.plan.now c.args.cells.now history c.args.actor n
-    (record c.args.self.now { walk = Some c.in-Some.walk })) none
-    (subst (λ w. HasPassed (seen_input c.args.input.now) c.args.plan.now c.args.cells.now history c.args.actor 0
-    (record c.args.self.now { walk = w })) c.in-Some.is
-    (passed-none sees its))
+    rw (← none) (rw c.in-Some.is at (passed-none sees its))

@@ -1,5 +1,4 @@
-use Rattle.std.proofs.Common.{◌≡◌, ◌+◌, ◌≤◌, ℕ, suc, [], length, map, sym, ap, ◌∙◌, subst, arith, Vec, Global}
-use Rattle.directory.specs.Histories.{History}
+use Rattle.std.proofs.Common.{◌≡◌, ◌≤◌, ℕ, [], length, map, sym, ap, ◌∙◌, subst, arith, Vec, Global, add-one}
 use Rattle.directory.specs.Orders.{after_turn, after_turns, last_turns}
 use Rattle.std.proofs.lemmas.List.{length-map}
 use Rattle.std.proofs.lemmas.List.Sums.{fold-append}
@@ -12,9 +11,7 @@ pub actors-preserved : goal.actors-preserved
 actors-preserved c = record {
   same = same-through c.args.self.now c.actors.self c.finish_actor.new.self c.actors.invariant.same
       c.finish_actor.ensures.same;
-  stands = λ history is. subst (λ n. HasHistory c.finish_actor.new.self (after_turns (setting_at c.args.self.now)
-      (scripts_at c.args.self.now) history (turns_of (setting_at c.args.self.now) (scripts_at c.args.self.now) n)))
-      (let e : suc c.actors.actor ≡ c.actors.actor + 1 = omega arith in e)
+  stands = λ history is. rw (add-one c.actors.actor)
       (turns-following c.args.self.now c.actors.self history c.actors.actor c.actors.invariant.same
       (c.finish_actor.ensures.stands (after_turns (setting_at c.args.self.now) (scripts_at c.args.self.now) history
       (turns_of (setting_at c.args.self.now) (scripts_at c.args.self.now) c.actors.actor))
@@ -30,24 +27,14 @@ count-had actor scripts low high one two =
 
 pub returns-clause-stands : goal.returns-clause-stands
 returns-clause-stands c history is =
-    subst (λ order. HasHistory c.actors.self
-    (after_turns (setting_at c.args.self.now) (scripts_at c.args.self.now)
-    history order))
-    (ap (turns_of (setting_at c.args.self.now) (scripts_at c.args.self.now))
+    subst (λ order. HasHistory c.actors.self (after_turns (setting_at c.args.self.now) (scripts_at c.args.self.now)
+    history order)) (ap (turns_of (setting_at c.args.self.now) (scripts_at c.args.self.now))
     (count-had c.actors.actor c.args.self.now.input.now.scripts c.actors-test.false c.actors.auto.actor-end
     c.len-actor-end.ensures c.args.self.now.input.now.scripts.ok.0) ∙ turns-all c.args.self.now is.together.valid)
     (c.actors.invariant.stands history is)
 
 pub returns-clause-order : goal.returns-clause-order
 returns-clause-order c order is =
-    let reached : History = after_turns (setting_at c.args.self.now) (scripts_at c.args.self.now) [] order in
-    subst (HasHistory c.actors.self)
-    (sym (fold-append (after_turn (setting_at c.args.self.now) (scripts_at c.args.self.now)) [] order
-    (last_turns (setting_at c.args.self.now) (scripts_at c.args.self.now))))
-    (subst (λ later. HasHistory c.actors.self
-    (after_turns (setting_at c.args.self.now) (scripts_at c.args.self.now)
-    reached later))
-    (ap (turns_of (setting_at c.args.self.now) (scripts_at c.args.self.now))
-    (count-had c.actors.actor c.args.self.now.input.now.scripts c.actors-test.false c.actors.auto.actor-end
-    c.len-actor-end.ensures c.args.self.now.input.now.scripts.ok.0) ∙ turns-all c.args.self.now is.together.valid)
-    (c.actors.invariant.stands reached is))
+    subst (HasHistory c.actors.self) (sym (fold-append (after_turn (setting_at c.args.self.now)
+    (scripts_at c.args.self.now)) [] order (last_turns (setting_at c.args.self.now) (scripts_at c.args.self.now))))
+    (returns-clause-stands c _ is)

@@ -1,8 +1,8 @@
-use Rattle.std.proofs.Common.{◌≡◌, ◌+◌, arith, subst}
+use Rattle.std.proofs.Common.{◌≡◌, ◌+◌, arith}
 use Rattle.std.specs.Prelude.{replicate}
 use Rattle.directory.specs.Histories.{History}
 use Rattle.directory.specs.Orders.{after_turns}
-use Rattle.machine.specs.Machines.{HasHistory, scripts_at, setting_at}
+use Rattle.machine.specs.Machines.{scripts_at, setting_at}
 use Rattle.machine.proofs.Finishing.{made-joined, same-through, turns-ended as ended, visits-fewer}
 use Rattle.machine.proofs.machine.Machine.finish_actor.Goals as goal
 
@@ -35,5 +35,4 @@ returns-clause-stands c history is =
     let made = c.stride.ensures.stands reached far.1.stands in
     ended c.turns_are_few.ensures.alike c.args.self.now c.turns.self c.stride.new.self history c.args.actor far.0
     c.turns.invariant.same is (made.1 none).0
-    (subst (λ n. HasHistory c.stride.new.self (after_turns (setting_at c.turns.self) (scripts_at c.turns.self) reached
-    (replicate n c.args.actor))) none made.0.stands)
+    (rw none at made.0.stands)

@@ -1,11 +1,10 @@
-use Rattle.std.proofs.Common.{subst, sym, ◌≡◌, ◌++◌, [], ℕ, List, length, ap, ◌∙◌, arith, length-append}
-use Rattle.std.specs.Prelude.{All, flat_map}
+use Rattle.std.proofs.Common.{List, length, ap, arith, length-append}
+use Rattle.std.specs.Prelude.{flat_map}
 use Rattle.directory.specs.declared.answers.Done.{Done}
-use Rattle.directory.specs.Outcomes.{Outcome, outcome_in}
+use Rattle.directory.specs.Outcomes.{Outcome}
 use Rattle.machine.specs.Machines.{scripts_at, setting_at}
 use Rattle.machine.specs.declared.caller.Caller.{Caller}
 use Rattle.machine.specs.declared.subscriber.Subscriber.{Subscriber}
-use Rattle.trail_laws.specs.RightOutcomes.{IsRightLine, TellInTurn, TellRisingNumbers}
 use Rattle.machine.proofs.RightOutcome.{right-outcome, rising-outcome}
 use Rattle.machine.proofs.Ending.{lines-all, room-for_both}
 use Rattle.machine.proofs.machine.Machine.outcome.Goals as goal
@@ -16,9 +15,6 @@ of_steps some = flat_map (λ (one : Subscriber). one.lines.items) some
 
 abbrev of_finds : List Caller → List Done
 of_finds some = flat_map (λ (one : Caller). one.lines.items) some
-
-ap2 : {A B C : Type 0} (f : A → B → C) (x y : A) (u v : B) → x ≡ y → u ≡ v → f x u ≡ f y v
-ap2 f x y u v p q = ap (λ a. f a u) p ∙ ap (λ b. f y b) q
 
 pub push_steps-requires : goal.push_steps-requires
 push_steps-requires c =
@@ -50,34 +46,29 @@ push_finds-requires c =
 
 pub returns-clause-result : goal.returns-clause-result
 returns-clause-result c history is done =
-    let steps : c.push_steps.new.calls.items ≡ [] ++ of_steps c.args.self.subscribers.items =
-    c.push_steps.ensures.items
-    ∙ ap2 (λ (xs ys : List Done). xs ++ ys) c.args.self.calls.items [] (of_steps c.deref.result.now)
-    (of_steps c.args.self.subscribers.items) is.calls (ap of_steps c.deref.ensures.value) in
-    let finds : c.push_finds.new.calls.items
-    ≡ of_steps c.args.self.subscribers.items ++ of_finds c.args.self.callers.items =
-    c.push_finds.ensures.items ∙ ap2 (λ (xs ys : List Done). xs ++ ys) c.push_steps.new.calls.items
-    (of_steps c.args.self.subscribers.items) (of_finds c.deref-2.result.now) (of_finds c.args.self.callers.items) steps
-    (ap of_finds c.deref-2.ensures.value) in
-    ap2 (λ (calls : List Done) (order : List ℕ). record { calls = calls; order = order }) c.push_finds.new.calls.items
-    (outcome_in (setting_at c.args.self) (scripts_at c.args.self) history).calls c.args.self.order.items
-    (outcome_in (setting_at c.args.self) (scripts_at c.args.self) history).order
-    (finds ∙ lines-all is done) is.order
+    rw (
+      c.push_finds.ensures.items,
+      c.push_steps.ensures.items,
+      is.calls,
+      c.deref.ensures.value,
+      c.deref-2.ensures.value,
+      lines-all is done,
+      is.order,
+    )
 
 pub returns-clause-right : goal.returns-clause-right
 returns-clause-right c history is done =
-    subst (λ lines. All (IsRightLine (setting_at c.args.self) history) lines)
-    (sym (ap (λ (o : Outcome). o.calls) (returns-clause-result c history is done)))
+    rw (ap (λ (o : Outcome). o.calls) (returns-clause-result c history is done))
     (right-outcome c.outcomes_are_right.ensures.lines c.order_of_history.ensures.done c.scripts_are_valid.ensures
     c.plan_is_sound.ensures.matched is done)
 
 pub returns-clause-numbers : goal.returns-clause-numbers
 returns-clause-numbers c history is done =
-    subst TellRisingNumbers (sym (ap (λ (o : Outcome). o.calls) (returns-clause-result c history is done)))
+    rw (ap (λ (o : Outcome). o.calls) (returns-clause-result c history is done))
     (rising-outcome c.outcomes_are_right.ensures.numbers c.order_of_history.ensures.done c.scripts_are_valid.ensures is
     done)
 
 pub returns-clause-in_turn : goal.returns-clause-in_turn
 returns-clause-in_turn c history is done =
-    subst TellInTurn (sym (ap (λ (o : Outcome). o.calls) (returns-clause-result c history is done)))
+    rw (ap (λ (o : Outcome). o.calls) (returns-clause-result c history is done))
     (c.lines_are_in_turn.ensures (setting_at c.args.self) (scripts_at c.args.self) history is.sees.played)

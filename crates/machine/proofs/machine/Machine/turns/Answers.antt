@@ -1,20 +1,16 @@
-use Rattle.std.proofs.Common.{◌≡◌, ◌+◌, ◌-◌, arith, length, refl, subst, sym}
-use Rattle.std.specs.Prelude.{replicate}
-use Rattle.directory.specs.Orders.{after_turns}
-use Rattle.machine.specs.Machines.{HasHistory, HasMade, scripts_at, setting_at}
+use Rattle.std.proofs.Common.{◌≡◌, ◌+◌, ◌-◌, arith, refl, subst}
+use Rattle.machine.specs.Machines.{HasMade}
 use Rattle.machine.proofs.Finishing.{counted-once, made-idle, made-joined, made-none, same-through, turned-once}
 use Rattle.machine.proofs.machine.Machine.turns.Goals as goal
 
 pub returns-then-count-eq1-clause-stands : goal.returns-then-count-eq1-clause-stands
 returns-then-count-eq1-clause-stands c = λ history is.
-    subst (λ n. HasHistory c.stride.new.self (after_turns (setting_at c.args.self.now) (scripts_at c.args.self.now)
-    history (replicate n c.args.actor))) (sym c.if-count-eq1.true)
+    rw c.if-count-eq1.true
     (turned-once c.stride.result c.stride.ensures.few (c.stride.ensures.stands history is)).0
 
 pub returns-then-count-eq1-clause-made : goal.returns-then-count-eq1-clause-made
 returns-then-count-eq1-clause-made c = λ history is.
-    subst (λ n. length (after_turns (setting_at c.args.self.now) (scripts_at c.args.self.now) history
-    (replicate n c.args.actor)) ≡ length history + c.stride.result) (sym c.if-count-eq1.true)
+    rw c.if-count-eq1.true
     (counted-once c.stride.result c.stride.ensures.few (c.stride.ensures.stands history is))
 
 pub turns-init : goal.turns-init
@@ -22,9 +18,7 @@ turns-init c = record {
   same = (refl, refl, refl);
   few = omega arith;
   stands = λ history is.
-      let none : 0 ≡ c.args.count - c.args.count = omega arith in
-      subst (HasMade c.args.self.now c.args.self.now history c.args.actor) none
-      (made-none c.args.actor is);
+      let none : c.args.count - c.args.count ≡ 0 = omega arith in rw none (made-none c.args.actor is);
 }
 
 pub returns-then-made-eq0-clause-stands : goal.returns-then-made-eq0-clause-stands
@@ -56,5 +50,4 @@ turns-preserved c = record {
 pub returns-clause-stands : goal.returns-clause-stands
 returns-clause-stands c = λ history is.
     let all : c.args.count - c.turns.left ≡ c.args.count = omega (arith, c.turns-test.false) in
-    subst (λ n. HasHistory c.turns.self (after_turns (setting_at c.args.self.now) (scripts_at c.args.self.now) history
-    (replicate n c.args.actor))) all (c.turns.invariant.stands history is).stands
+    rw all at (c.turns.invariant.stands history is).stands

@@ -1,5 +1,4 @@
-use Rattle.std.proofs.Common.{◌≡◌, ◌++◌, ap, arith, length, refl, subst, sym, ◌∙◌}
-use Rattle.std.specs.Prelude.{None}
+use Rattle.std.proofs.Common.{ap, arith, length, refl, subst, sym, ◌∙◌}
 use Rattle.std.proofs.lemmas.List.{append-nil}
 use Rattle.directory.specs.Orders.{next}
 use Rattle.machine.specs.Machines.{HasHistory, scripts_at, setting_at}
@@ -50,9 +49,7 @@ returns-clause-stands g c = λ history stands.
         none-left c.visits_are_few.ensures c.each_visit_is_next.ensures.more c.args.actor c.room_for-reach.result
             (next (setting_at c.args.self.now) (scripts_at c.args.self.now) history c.args.actor) stands
             (λ empty. omega (arith, c.room_for-reach.ensures.full empty c.requires.some, tick, c.len-ticket.ensures))
-            refl (λ some. subst (λ h. next (setting_at c.args.self.now) (scripts_at c.args.self.now) h
-            c.args.actor ≡ None) (ap (λ visits. history ++ visits) (no-visits done none) ∙ append-nil history)
-            (taken.1 (omega (arith, some, none)))),
+            refl (λ some. rw (no-visits done none, append-nil) at (taken.1 (omega (arith, some, none)))),
         (c.write-count.ensures.still none, c.log_run.ensures.still none),
       ),
     )

@@ -1,8 +1,5 @@
 use Rattle.std.proofs.Common.{◌+◌, ◌++◌, ap, arith, refl, ◌∙◌}
-use Rattle.net_reader.specs.Seen.{seen_input}
-use Rattle.machine.specs.Subscribers.{IsSubscriber}
-use Rattle.machine.proofs.Making.{made-count, made-none}
-use Rattle.machine.proofs.Many.{makes-more, may-turn}
+use Rattle.machine.proofs.Making.{made-count, made-none, turns-behind, may-follow}
 use Rattle.machine.proofs.Written.{ended, written-more}
 use Rattle.machine.proofs.subscriber.Subscriber.write.Goals as goal
 
@@ -11,21 +8,20 @@ writes-init g c = record {
   few = omega arith;
   still = λ none. refl;
   written = λ history sees place its.
-      made-none c.args.sub (λ later. IsSubscriber (seen_input c.args.input.now) c.args.plan.now later c.args.sub
-      c.args.self.now) sees its;
+      made-none c.args.sub _ sees its;
 }
 
 pub write_plain-made-requires-clause-stands : goal.write_plain-made-requires-clause-stands
 write_plain-made-requires-clause-stands g c =
-    may-turn c.requires.stands c.writes.invariant.written
+    may-follow c.requires.stands c.writes.invariant.written
 
 pub write_one-requires-clause-stands : goal.write_one-requires-clause-stands
 write_one-requires-clause-stands g c =
-    may-turn c.requires.stands (makes-more c.writes.invariant.written c.write_plain-made.ensures.made)
+    may-follow c.requires.stands (turns-behind c.writes.invariant.written c.write_plain-made.ensures.made)
 
 pub returns-then-made-most-clause-taken : goal.returns-then-made-most-clause-taken
 returns-then-made-most-clause-taken g c = λ history sees place its. (
-  makes-more c.writes.invariant.written c.write_plain-made.ensures.made history sees place its,
+  turns-behind c.writes.invariant.written c.write_plain-made.ensures.made history sees place its,
   λ fewer. absurd (omega (arith, fewer, c.if-made-most.true)),
 )
 
@@ -38,21 +34,20 @@ writes-preserved g c = record {
   few = omega (arith, c.writes-test.true, c.write_plain-made.ensures.few, c.if-made-most.false);
   still = λ none. absurd (omega (arith, none));
   written = λ history sees place its.
-      written-more c.each_visit_is_next.ensures.more c.next_is_own.ensures
-      (λ later. IsSubscriber (seen_input c.args.input.now) c.args.plan.now later c.args.sub c.write_one.new.self) place
-      (makes-more c.writes.invariant.written c.write_plain-made.ensures.made history sees place its)
+      written-more c.each_visit_is_next.ensures.more c.next_is_own.ensures _ place
+      (turns-behind c.writes.invariant.written c.write_plain-made.ensures.made history sees place its)
       c.in-Visited.ensures;
 }
 
 pub returns-in-Finished-clause-taken : goal.returns-in-Finished-clause-taken
 returns-in-Finished-clause-taken g c = λ history sees place its.
-    ended c.args.most place (makes-more c.writes.invariant.written c.write_plain-made.ensures.made history sees place
+    ended c.args.most place (turns-behind c.writes.invariant.written c.write_plain-made.ensures.made history sees place
     its) c.in-Finished.ensures
 
 pub returns-in-Finished-clause-still : goal.returns-in-Finished-clause-still
 returns-in-Finished-clause-still g c = λ none.
     let stands = c.requires.stands in
-    let made = makes-more c.writes.invariant.written c.write_plain-made.ensures.made stands.0 stands.1 stands.2
+    let made = turns-behind c.writes.invariant.written c.write_plain-made.ensures.made stands.0 stands.1 stands.2
     stands.3 in
     (c.in-Finished.ensures (stands.0 ++ made.visits) made.sees
     (made-count made

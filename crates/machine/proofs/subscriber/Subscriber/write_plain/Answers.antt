@@ -1,9 +1,7 @@
-use Rattle.std.proofs.Common.{◌≡◌, ◌+◌, ◌-◌, ℕ, false, length, set, get_or, ap, arith, subst, sym, ◌∙◌}
+use Rattle.std.proofs.Common.{◌≡◌, ◌+◌, ◌-◌, ◌<◌, ℕ, false, length, set, ap, arith, subst, ◌∙◌}
 use Rattle.net_reader.specs.Seen.{seen_input}
-use Rattle.visit_log.specs.Cells.{CellData}
 use Rattle.machine.specs.Owed.{HavePut}
-use Rattle.machine.specs.Stands.{AreMade}
-use Rattle.machine.specs.Subscribers.{IsSubscriber, line_after}
+use Rattle.machine.specs.Subscribers.{line_after}
 use Rattle.machine.proofs.Making.{made-none}
 use Rattle.machine.proofs.Putting.{line-there, may-put, plain-put}
 use Rattle.machine.proofs.subscriber.Subscriber.write_plain.Goals as goal
@@ -18,32 +16,26 @@ put_plain-behind-requires-clause-stands c =
     )
 
 pub overflow_sub-last : goal.overflow_sub-last
-overflow_sub-last c = omega (
-  arith,
-  c.len-last.ensures,
-  line-there c.mark_words.ensures.unpacked c.tickets_tell.ensures.visits c.scripts_are_valid.ensures c.requires.together
-      c.requires.low c.requires.stands.3 (omega (
-        arith,
-        c.if-made-gt0.true,
-        c.put_plain-behind.ensures.within,
-        ap length
-            c.as_slice.ensures.value,
-      )),
-)
+overflow_sub-last c =
+    let left : c.args.self.now.made < length c.args.self.now.ahead.items =
+    omega (arith, c.if-made-gt0.true, c.put_plain-behind.ensures.within, ap length c.as_slice.ensures.value) in
+    omega (
+      arith,
+      c.len-last.ensures,
+      line-there c.mark_words.ensures.unpacked c.tickets_tell.ensures.visits
+          c.scripts_are_valid.ensures c.requires.together c.requires.low c.requires.stands.3 left,
+    )
 
 pub index_mut-requires : goal.index_mut-requires
-index_mut-requires c = omega (
-  arith,
-  c.len-last.ensures,
-  line-there c.mark_words.ensures.unpacked c.tickets_tell.ensures.visits c.scripts_are_valid.ensures c.requires.together
-      c.requires.low c.requires.stands.3 (omega (
-        arith,
-        c.if-made-gt0.true,
-        c.put_plain-behind.ensures.within,
-        ap length
-            c.as_slice.ensures.value,
-      )),
-)
+index_mut-requires c =
+    let left : c.args.self.now.made < length c.args.self.now.ahead.items =
+    omega (arith, c.if-made-gt0.true, c.put_plain-behind.ensures.within, ap length c.as_slice.ensures.value) in
+    omega (
+      arith,
+      c.len-last.ensures,
+      line-there c.mark_words.ensures.unpacked c.tickets_tell.ensures.visits
+          c.scripts_are_valid.ensures c.requires.together c.requires.low c.requires.stands.3 left,
+    )
 
 pub returns-then-made-gt0-clause-made : goal.returns-then-made-gt0-clause-made
 returns-then-made-gt0-clause-made c = λ history sees place its.
@@ -58,9 +50,7 @@ returns-then-made-gt0-clause-made c = λ history sees place its.
     c.put_plain-behind.result _ line c.requires.together c.requires.low place sees its c.as_slice.ensures.value come
     c.if-made-gt0.true c.put_plain-behind.ensures.within
     (ap (set old.lines.items (c.len-last.result - 1)) (c.go_on.ensures
-    ∙ ap (λ l. line_after l false (c.args.ticket + count - 1)) c.index_mut.ensures.value)
-    ∙ ap (λ n. set old.lines.items (n - 1) (line_after (get_or old.lines.items (n - 1) line) false
-    (c.args.ticket + count - 1))) size) (omega arith)
+    ∙ ap (λ l. line_after l false (c.args.ticket + count - 1)) c.index_mut.ensures.value) ∙ rw size) (omega arith)
 
 pub returns-else-made-gt0-clause-made : goal.returns-else-made-gt0-clause-made
 returns-else-made-gt0-clause-made c = λ history sees place its.
@@ -73,8 +63,4 @@ returns-else-made-gt0-clause-made c = λ history sees place its.
     let same : c.put_plain-behind.new.cells ≡ c.args.cells.now =
     (subst (λ n. HavePut plan its.handset c.args.cells.now n come.handset c.put_plain-behind.new.cells) none come.put).1
     in
-    subst (λ n. AreMade input plan c.put_plain-behind.new.cells history c.args.sub n
-    (λ later. IsSubscriber input plan later c.args.sub c.args.self.now)) (sym none)
-    (subst (λ (k : CellData). AreMade input plan k history c.args.sub 0
-    (λ later. IsSubscriber input plan later c.args.sub c.args.self.now)) (sym same)
-    (made-none c.args.sub (λ later. IsSubscriber input plan later c.args.sub c.args.self.now) sees its))
+    rw (none, same) (made-none c.args.sub _ sees its)

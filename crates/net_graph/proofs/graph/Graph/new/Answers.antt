@@ -5,9 +5,8 @@ use Rattle.net_graph.proofs.graph.Graph.new.Goals as goal
 pub invariant_of-result : goal.invariant_of-result
 invariant_of-result c =
     let all : c.in_ok-allowed.allowed.items ≡ replicate c.args.n true = search rules in
-    connected c.args.n c.args.edges.now c.in_ok-neighbours.neighbours c.in_ok-neighbours.ensures.nodes
-    c.in_ok-neighbours.ensures.limits
-    c.in_ok-neighbours.ensures.same c.in_ok-allowed.allowed.items all c.in_ok-weights.weights.items
+    connected c.args.edges.now c.in_ok-neighbours.ensures.nodes c.in_ok-neighbours.ensures.limits
+    c.in_ok-neighbours.ensures.same all
     (rw c.deref.ensures.value at c.in_ok-weights.ensures)
     (rw c.deref-2.ensures.value at c.in-None.ensures.none)
 
@@ -16,17 +15,15 @@ returns-in-Some-clause-fault c =
     let weights = rw c.deref.ensures.value at c.in_ok-weights.ensures in
     let apart = rw c.deref-2.ensures.value at c.in-Some.ensures.apart in
     let all : c.in_ok-allowed.allowed.items ≡ replicate c.args.n true = search rules in
-    first_is_apart c.args.n c.args.edges.now c.in_ok-neighbours.neighbours c.in_ok-neighbours.ensures.nodes
-    c.in_ok-neighbours.ensures.limits
-    c.in_ok-neighbours.ensures.same c.in_ok-allowed.allowed.items all c.in_ok-weights.weights.items
-    weights c.in-Some.node (omega (arith, apart.0, weights.count, c.in_ok-neighbours.ensures.nodes)) apart.1
+    first_is_apart c.args.edges.now c.in_ok-neighbours.ensures.nodes c.in_ok-neighbours.ensures.limits
+    c.in_ok-neighbours.ensures.same all weights c.in-Some.node
+    (omega (arith, apart.0, weights.count, c.in_ok-neighbours.ensures.nodes)) apart.1
     (rw c.deref-2.ensures.value at c.in-Some.ensures.first)
 
 pub returns-in-None-clause-graph : goal.returns-in-None-clause-graph
 returns-in-None-clause-graph c =
     let all : c.in_ok-allowed.allowed.items ≡ replicate c.args.n true = search rules in
-    made c.args.n c.args.edges.now c.in_ok-neighbours.neighbours c.in_ok-neighbours.ensures.nodes
-    c.in_ok-neighbours.ensures.limits
-    c.in_ok-neighbours.ensures.same c.in_ok-allowed.allowed.items all c.in_ok-weights.weights.items
+    made c.args.edges.now c.in_ok-neighbours.ensures.nodes c.in_ok-neighbours.ensures.limits
+    c.in_ok-neighbours.ensures.same all
     (rw c.deref.ensures.value at c.in_ok-weights.ensures) c.in_ok-neighbours.ensures.joins
     (rw c.deref-2.ensures.value at c.in-None.ensures.none)

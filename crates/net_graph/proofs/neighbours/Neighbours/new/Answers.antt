@@ -1,6 +1,6 @@
-use Rattle.std.proofs.Common.{◌≡◌, ℕ, List, ◌++◌, length, take, drop, arith, ap, subst, sym, ◌∙◌}
+use Rattle.std.proofs.Common.{◌≡◌, ℕ, ◌++◌, length, take, drop, arith, ap, subst, sym, ◌∙◌}
 use Rattle.net_graph.specs.declared.neighbours.Arc.{Arc}
-use Rattle.net_graph.specs.Notes.{AreCounts, AreRows, HaveRoom, JoinsOther, notes_of}
+use Rattle.net_graph.specs.Notes.{AreCounts, AreRows, JoinsOther, notes_of}
 use Rattle.net_graph.proofs.Rows.{laid_out_limits}
 use Rattle.net_graph.proofs.LayingOut.{all_rows, rows_same_joins, rows_same_walks}
 use Rattle.net_graph.proofs.Placing.{room_made}
@@ -20,10 +20,8 @@ fill_arcs-requires-clause-room c =
       c.in_ok-taken.ensures.len,
       c.in_ok-taken.taken.ok.0,
     ) in
-    subst (λ (xs : List ℕ). HaveRoom (length c.deref_mut-2.result.now) (notes_of c.args.edges.now) xs)
-    (sym c.deref-2.ensures.value)
-    (room_made (notes_of c.args.edges.now) whole (subst (λ (xs : List ℕ). AreCounts (notes_of c.args.edges.now) xs)
-    (sym counts) c.count_arcs.ensures) c.in_ok-starts.ensures)
+    rw c.deref-2.ensures.value (room_made (notes_of c.args.edges.now) whole
+    (subst (AreCounts (notes_of c.args.edges.now)) (sym counts) c.count_arcs.ensures) c.in_ok-starts.ensures)
   where
     counts : c.deref.result.now ≡ c.count_arcs.new.counts
     counts = c.deref.ensures.value
@@ -47,33 +45,18 @@ module _ (c : goal.After-arcs-3-1) where
       take_at c.fill_arcs.new.arcs (drop (length c.fill_arcs.new.arcs) c.in_ok-arcs.arcs.items)
       c.in_ok-arcs.arcs.len (c.fill_arcs.auto.arcs ∙ ap (length {A = Arc}) c.deref_mut-3.ensures.value
       ∙ sym c.in_ok-arcs.arcs.ok.0) in
-      subst (λ (xs : List Arc). AreRows c.args.n (JoinsOther c.args.edges.now) c.in_ok-starts.starts.items xs)
-      (sym arcs_are)
-      (subst (λ (xs : List ℕ). AreRows c.args.n (JoinsOther c.args.edges.now) xs c.fill_arcs.new.arcs)
-      c.deref-2.ensures.value
-      (subst (λ (n : ℕ). AreRows n (JoinsOther c.args.edges.now) c.deref-2.result.now c.fill_arcs.new.arcs) n_is
-      c.fill_arcs.ensures))
+      rw (arcs_are, ← c.deref-2.ensures.value, ← n_is) c.fill_arcs.ensures
 
 pub invariant_of-result : goal.invariant_of-result
 invariant_of-result c =
-    all_rows c.args.n c.args.edges.now c.requires.edges c.in_ok-starts.starts.items
-    (take c.in_ok-arcs.arcs.len (c.fill_arcs.new.arcs ++ drop (length c.fill_arcs.new.arcs) c.in_ok-arcs.arcs.items))
-    c.requires.positive c.requires.few (made c)
+    all_rows c.args.n c.args.edges.now c.requires.edges (made c) c.requires.positive c.requires.few
 
 pub returns-clause-joins : goal.returns-clause-joins
-returns-clause-joins c =
-    rows_same_joins c.args.n c.args.edges.now c.requires.edges c.in_ok-starts.starts.items
-    (take c.in_ok-arcs.arcs.len (c.fill_arcs.new.arcs ++ drop (length c.fill_arcs.new.arcs) c.in_ok-arcs.arcs.items))
-    (made c.before.before)
+returns-clause-joins c = rows_same_joins c.args.n c.args.edges.now c.requires.edges (made c.before.before)
 
 pub returns-clause-same : goal.returns-clause-same
-returns-clause-same c =
-    rows_same_walks c.args.n c.args.edges.now c.requires.edges c.in_ok-starts.starts.items
-    (take c.in_ok-arcs.arcs.len (c.fill_arcs.new.arcs ++ drop (length c.fill_arcs.new.arcs) c.in_ok-arcs.arcs.items))
-    (made c.before.before)
+returns-clause-same c = rows_same_walks c.args.n c.args.edges.now c.requires.edges (made c.before.before)
 
 pub returns-clause-limits : goal.returns-clause-limits
-returns-clause-limits c =
-    laid_out_limits (all_rows c.args.n c.args.edges.now c.requires.edges c.in_ok-starts.starts.items
-    (take c.in_ok-arcs.arcs.len (c.fill_arcs.new.arcs ++ drop (length c.fill_arcs.new.arcs) c.in_ok-arcs.arcs.items))
-    c.requires.positive c.requires.few (made c.before.before))
+returns-clause-limits c = laid_out_limits
+    (all_rows c.args.n c.args.edges.now c.requires.edges (made c.before.before) c.requires.positive c.requires.few)

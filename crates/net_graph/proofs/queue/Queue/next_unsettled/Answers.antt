@@ -6,28 +6,23 @@ use Rattle.net_graph.proofs.queue.Queue.next_unsettled.Goals as goal
 pub bounds-unsettled-node : goal.bounds-unsettled-node
 bounds-unsettled-node c =
     c.requires c.in-Some.field-0.0.0 c.in-Some.field-0.0.1
-    (taken_waited c.args.unsettled.now (heap_items c.args.self.now.heap) (heap_items c.loop-weight.self.heap)
-    (heap_items c.pop.new.self)
-    c.loop-weight.invariant c.in-Some.field-0.0.0 c.in-Some.field-0.0.1 c.in-Some.ensures.permutation)
+    (taken_waited (heap_items c.pop.new.self) c.loop-weight.invariant c.in-Some.field-0.0.0 c.in-Some.field-0.0.1
+    c.in-Some.ensures.permutation)
 
 pub returns-then-unsettled-node-clause-next : goal.returns-then-unsettled-node-clause-next
 returns-then-unsettled-node-clause-next c =
-    next_is c.args.unsettled.now (heap_items c.args.self.now.heap) (heap_items c.loop-weight.self.heap)
-    (heap_items c.pop.new.self)
-    c.loop-weight.invariant c.in-Some.field-0.0.0 c.in-Some.field-0.0.1 c.in-Some.ensures.permutation
-    (record { node = c.in-Some.field-0.0.1; weight = c.in-Some.field-0.0.0 }) refl refl
-    (c.requires c.in-Some.field-0.0.0 c.in-Some.field-0.0.1
-    (taken_waited c.args.unsettled.now (heap_items c.args.self.now.heap) (heap_items c.loop-weight.self.heap)
-    (heap_items c.pop.new.self)
-    c.loop-weight.invariant c.in-Some.field-0.0.0 c.in-Some.field-0.0.1 c.in-Some.ensures.permutation))
+    let weight = c.in-Some.field-0.0.0 in
+    let node = c.in-Some.field-0.0.1 in
+    let rest = heap_items c.pop.new.self in
+    let taken = c.in-Some.ensures.permutation in
+    next_is rest c.loop-weight.invariant weight node taken (record { node = node; weight = weight }) refl refl
+    (c.requires weight node (taken_waited rest c.loop-weight.invariant weight node taken))
     c.if-unsettled-node.true (c.in-Some.ensures.heap_order c.loop-weight.self.ordered).1
 
 pub loop-weight-preserved : goal.loop-weight-preserved
 loop-weight-preserved c =
-    settled_goes c.args.unsettled.now (heap_items c.args.self.now.heap) (heap_items c.loop-weight.self.heap)
-    (heap_items c.pop.new.self)
-    c.loop-weight.invariant c.in-Some.field-0.0.0 c.in-Some.field-0.0.1 c.in-Some.ensures.permutation
-    c.if-unsettled-node.false
+    settled_goes (heap_items c.pop.new.self) c.loop-weight.invariant c.in-Some.field-0.0.0 c.in-Some.field-0.0.1
+    c.in-Some.ensures.permutation c.if-unsettled-node.false
 
 pub returns-clause-none : goal.returns-clause-none
 returns-clause-none c =

@@ -1,6 +1,6 @@
 use Rattle.std.proofs.Common.{refl}
 use Rattle.net_reader.specs.Seen.{seen_line}
-use Rattle.net_reader.proofs.Running.{run-comment, run-plain, run-still, run-wrong}
+use Rattle.net_reader.proofs.Running.{comment-settled, run-plain, run-settled, run-still, wrong-settled}
 use Rattle.net_reader.proofs.line.Line.go_on.Goals as goal
 use Rattle.net_reader.proofs.line.Line.go_on.Goals.{in-Number, in-Word, in-Comment, in-Wrong, in_default}
 
@@ -20,11 +20,11 @@ returns c =
           run-plain line run.result.1 piece w.in-Word.is w.field-is c.split_at.ensures.back run.ensures.plain
           run.ensures.read
       | in-Comment w ↦
-          run-comment line w.rest_of_line.result piece w.in-Comment.is w.field-is c.split_at.ensures.back
-          w.rest_of_line.ensures.inside
+          run-settled comment-settled line w.rest_of_line.result piece w.in-Comment.is w.field-is
+          c.split_at.ensures.back w.rest_of_line.ensures.inside
       | in-Wrong w ↦
-          run-wrong line w.rest_of_line-in-Wrong.result piece w.in-Wrong.is w.field-is c.split_at.ensures.back
-          w.rest_of_line-in-Wrong.ensures.inside
+          run-settled wrong-settled line w.rest_of_line-in-Wrong.result piece w.in-Wrong.is w.field-is
+          c.split_at.ensures.back w.rest_of_line-in-Wrong.ensures.inside
       | in_default w ↦
           run-still line piece refl w.field-is c.split_at.ensures.back
     ]

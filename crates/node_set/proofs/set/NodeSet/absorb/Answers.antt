@@ -1,5 +1,5 @@
-use Rattle.std.proofs.Common.{◌≡◌, ◌++◌, List, ℕ, take, drop, ap, arith, refl, length, sym, ◌∙◌, subst}
-use Rattle.node_set.specs.Nodes.{Nodes, AreWords}
+use Rattle.std.proofs.Common.{◌≡◌, ◌++◌, take, drop, ap, arith, refl, length, sym, ◌∙◌}
+use Rattle.node_set.specs.Nodes.{Nodes}
 use Rattle.node_set.specs.Lanes.{AreWordsJoined}
 use Rattle.node_set.proofs.Words.{words-absorb, absorb_bits}
 use Rattle.node_set.proofs.set.NodeSet.absorb.Goals as goal
@@ -11,10 +11,7 @@ same_room c = ap (λ (s : Nodes). s.room) c.self.view_is
     ∙ (c.requires ∙ sym (ap (λ (s : Nodes). s.room) c.other.view_is))
 
 joined : (c : After-self-1) → AreWordsJoined c.self.inside.words.items c.other.inside.words.items c.lanes_absorb.new.a
-joined c =
-    subst (λ (l : List ℕ). AreWordsJoined l c.other.inside.words.items c.lanes_absorb.new.a) c.deref_mut.ensures.value
-    (subst (λ (l : List ℕ). AreWordsJoined c.deref_mut.result.now l c.lanes_absorb.new.a) c.deref.ensures.value
-    c.lanes_absorb.ensures)
+joined c = rw (c.deref_mut.ensures.value, c.deref.ensures.value) at c.lanes_absorb.ensures
 
 -- the words were written over whole
 written : (c : After-self-1) → take c.self.inside.words.len
@@ -24,10 +21,7 @@ written c =
     ((joined c).enough ∙ sym c.self.inside.words.ok.0)
 
 pub invariant_of-self : goal.invariant_of-self
-invariant_of-self c =
-    let other : AreWords c.self.inside.room c.other.inside.words.items = rw (same_room c) c.other.invariant in
-    subst (λ (l : List ℕ). AreWords c.self.inside.room l) (sym (written c))
-    (words-absorb c.self.invariant other (joined c))
+invariant_of-self c = rw (written c) (words-absorb c.self.invariant (rw (same_room c) c.other.invariant) (joined c))
 
 pub returns : goal.returns
 returns c =

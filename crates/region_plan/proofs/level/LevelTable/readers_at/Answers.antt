@@ -3,43 +3,30 @@ use Rattle.region_plan.proofs.Rows.{read_row, row_order, row_short, starts_long}
 use Rattle.region_plan.proofs.level.LevelTable.readers_at.Goals as goal
 
 pub index-requires : goal.index-requires
-index-requires c =
-    omega (
-      arith,
-      starts_long c.self.inside.phases c.self.inside.homes.items c.args.v c.self.invariant.rows c.self.view_is
-          c.requires,
-      c.self.inside.lists.starts.ok.0,
-    )
+index-requires c = omega (
+  arith,
+  starts_long c.args.v c.self.invariant.rows c.self.view_is c.requires,
+  c.self.inside.lists.starts.ok.0,
+)
 
 pub index-requires-2 : goal.index-requires-2
-index-requires-2 c =
-    omega (
-      arith,
-      starts_long c.self.inside.phases c.self.inside.homes.items c.args.v c.self.invariant.rows c.self.view_is
-          c.requires,
-      c.self.inside.lists.starts.ok.0,
-    )
+index-requires-2 c = omega (
+  arith,
+  starts_long c.args.v c.self.invariant.rows c.self.view_is c.requires,
+  c.self.inside.lists.starts.ok.0,
+)
 
 pub slice_bounds-result-count : goal.slice_bounds-result-count
 slice_bounds-result-count c =
-    row_order c.self.inside.phases c.self.inside.clusters
-    c.self.inside.homes.items
-    c.self.inside.lists.starts.items c.self.inside.lists.readers.items c.args.self.now c.args.v
-    c.index.result.now c.index-2.result.now c.deref.result.now
-    c.self.invariant.rows c.self.view_is c.requires c.index.ensures c.index-2.ensures c.deref.ensures.value
+    row_order c.args.v c.self.invariant.rows c.self.view_is c.requires c.index.ensures c.index-2.ensures
+    c.deref.ensures.value
 
 pub returns-clause-numbers : goal.returns-clause-numbers
 returns-clause-numbers c =
-    read_row c.self.inside.phases c.self.inside.clusters
-    c.self.inside.homes.items
-    c.self.inside.lists.starts.items c.self.inside.lists.readers.items c.args.self.now c.args.v
-    c.index.result.now c.index-2.result.now c.deref.result.now
-    c.self.invariant.rows c.self.view_is c.requires c.index.ensures c.index-2.ensures c.deref.ensures.value
+    read_row c.args.v c.self.invariant.rows c.self.view_is c.requires c.index.ensures c.index-2.ensures
+    c.deref.ensures.value
 
 pub returns-clause-few : goal.returns-clause-few
 returns-clause-few c =
-    row_short c.self.inside.phases c.self.inside.clusters
-    c.self.inside.homes.items
-    c.self.inside.lists.starts.items c.self.inside.lists.readers.items c.args.self.now c.args.v
-    c.index.result.now c.index-2.result.now c.deref.result.now
-    c.self.invariant.rows c.self.view_is c.requires c.index.ensures c.index-2.ensures c.deref.ensures.value
+    row_short c.args.v c.self.invariant.rows c.self.view_is c.requires c.index.ensures c.index-2.ensures
+    c.deref.ensures.value

@@ -1,15 +1,14 @@
-use Rattle.std.proofs.Common.{refl, subst, sym, ap, ◌∙◌, arith}
-use Rattle.std.specs.Prelude.{All}
-use Rattle.distances.specs.Table.{DistanceTable, IsMetric}
+use Rattle.std.proofs.Common.{refl, subst, sym, arith}
+use Rattle.distances.specs.Table.{IsMetric}
 use Rattle.region_plan.specs.Matched.{BoundsFinds}
 use Rattle.region_plan.specs.Plan.{PlanData}
 use Rattle.region_plan.specs.Meanings.{IsCoveredPlan}
-use Rattle.region_plan.specs.Kept.{IsSized, plan_with}
+use Rattle.region_plan.specs.Kept.{plan_with}
 use Rattle.region_plan.proofs.Covered.{reach_near}
 use Rattle.region_plan.proofs.Levels.{plan_built}
 use Rattle.region_plan.proofs.Matching.{plan_bounds}
 use Rattle.region_plan.proofs.plan.Plan.build_by.Goals as goal
-use Rattle.region_plan.proofs.plan.Plan.build_by.Goals.{After-of_levels, After-reach}
+use Rattle.region_plan.proofs.plan.Plan.build_by.Goals.{After-reach}
 
 -- what is made of the levels is the plan of the network over the covering
 abbrev made : (c : After-reach) → PlanData
@@ -21,21 +20,11 @@ made_is c = plan_built c.in_ok-levels.levels c.requires.belongs c.in_ok-copy.ens
     (λ j h. c.in_ok-levels.ensures.levels.each j (omega arith))
 
 made_metric : (c : After-reach) → IsMetric (made c).distances
-made_metric c = subst (λ (t : DistanceTable). IsMetric t) (sym c.in_ok-copy.ensures) c.top_for-top.ensures.metric
+made_metric c = rw c.in_ok-copy.ensures c.top_for-top.ensures.metric
 
 made_bounds : (c : After-reach) → BoundsFinds (made c)
-made_bounds c = plan_bounds c.covering_shape.ensures c.covering_home_means.ensures c.args.graph.now
-    c.graph_is_sound.ensures c.args.covering c.requires.low (made c) (made_metric c) (made_is c)
-
--- and so it is once the rest is dropped
-plan_is : (c : After-of_levels) → IsCoveredPlan c.args.covering c.args.graph.now c.of_levels.result
-plan_is c = plan_built c.in_ok-levels.levels c.requires.belongs c.in_ok-copy.ensures c.trade_off.ensures c.reach.ensures
-    c.of_levels.ensures (omega (arith, c.in_ok-levels.ensures.levels.count_is)) c.top_for-top.ensures.top
-    (λ j h. c.in_ok-levels.ensures.levels.each j (omega arith))
-
-metric_is : (c : After-of_levels) → IsMetric c.of_levels.result.distances
-metric_is c = subst (λ (t : DistanceTable). IsMetric t)
-    (sym (ap (λ (p : PlanData). p.distances) c.of_levels.ensures ∙ c.in_ok-copy.ensures)) c.top_for-top.ensures.metric
+made_bounds c = plan_bounds c.covering_shape.ensures c.covering_home_means.ensures c.graph_is_sound.ensures
+    c.requires.low (made_metric c) (made_is c)
 
 pub of_levels-requires-clause-kept : goal.of_levels-requires-clause-kept
 of_levels-requires-clause-kept c = record {
@@ -45,8 +34,7 @@ of_levels-requires-clause-kept c = record {
   high = omega (arith, c.trade_off.ensures, c.requires.high);
   near = omega (arith, c.reach.ensures, reach_near c.args.covering c.requires.high);
   metric = made_metric c;
-  levels = subst (λ (t : DistanceTable). All (IsSized t.nodes) c.in_ok-levels.levels) (sym c.in_ok-copy.ensures)
-      c.in_ok-levels.ensures.levels.sized;
+  levels = rw c.in_ok-copy.ensures c.in_ok-levels.ensures.levels.sized;
 }
 
 pub of_levels-requires-clause-matched : goal.of_levels-requires-clause-matched
@@ -57,8 +45,8 @@ of_levels-requires-clause-reached c = (made_bounds c).reached
 
 pub returns-clause-plan : goal.returns-clause-plan
 returns-clause-plan c = c.covered_plan_is_one.ensures c.args.covering c.args.graph.now c.of_levels.result
-    c.graph_is_sound.ensures c.requires.low (plan_is c)
+    c.graph_is_sound.ensures c.requires.low
+    (subst (IsCoveredPlan c.args.covering c.args.graph.now) (sym c.of_levels.ensures) (made_is c.before))
 
 pub returns-clause-bounding : goal.returns-clause-bounding
-returns-clause-bounding c = plan_bounds c.covering_shape.ensures c.covering_home_means.ensures c.args.graph.now
-    c.graph_is_sound.ensures c.args.covering c.requires.low c.of_levels.result (metric_is c) (plan_is c)
+returns-clause-bounding c = subst BoundsFinds (sym c.of_levels.ensures) (made_bounds c.before)

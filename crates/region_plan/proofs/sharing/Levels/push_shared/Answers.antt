@@ -1,33 +1,29 @@
-use Rattle.std.proofs.Common.{◌<◌, ◌-◌, List, length, arith, subst, sym}
-use Rattle.std.specs.Prelude.{All}
+use Rattle.std.proofs.Common.{◌<◌, length, arith}
 use Rattle.std.proofs.lemmas.List.Elements.{All-push}
 use Rattle.region_plan.specs.declared.sharing.LevelHead.{LevelHead}
 use Rattle.region_plan.proofs.Shapes.{heads_count, last_within, level_shared}
 use Rattle.region_plan.proofs.sharing.Levels.push_shared.Goals as goal
 
 pub overflow_sub-len : goal.overflow_sub-len
-overflow_sub-len c =
-    omega (
-      arith,
-      heads_count c.self.inside.tables.items c.self.inside.heads.items c.self.view_is,
-      c.len.ensures,
-      c.self.inside.heads.ok.0,
-      c.requires,
-    )
+overflow_sub-len c = omega (
+  arith,
+  heads_count c.self.inside.tables.items c.self.inside.heads.items c.self.view_is,
+  c.len.ensures,
+  c.self.inside.heads.ok.0,
+  c.requires,
+)
 
 pub invariant_of-self-2 : goal.invariant_of-self-2
 invariant_of-self-2 c =
-    subst (λ (hs : List LevelHead). All (λ (h : LevelHead). h.table < length c.self.inside.tables.items) hs)
-    (sym c.in_ok-push.ensures.items)
+    rw c.in_ok-push.ensures.items
     (All-push (λ (h : LevelHead). h.table < length c.self.inside.tables.items) c.self.inside.heads.items
     (record { exponent = c.args.exponent; threshold = c.args.threshold; table = c.index.result.now.table })
     c.self.invariant
-    (last_within c.self.inside.tables.items c.self.inside.heads.items c.push.new.self.items c.args.self.now
-    c.args.exponent c.args.threshold (c.len.result - 1) c.index.result.now c.self.view_is c.requires
+    (last_within c.self.inside.tables.items c.self.inside.heads.items c.self.view_is c.requires
     (omega (arith, c.len.ensures, c.self.inside.heads.ok.0)) c.index.ensures c.self.invariant))
 
 pub returns : goal.returns
 returns c =
-    level_shared c.self.inside.tables.items c.self.inside.heads.items c.push.new.self.items c.args.self.now
-    c.args.exponent c.args.threshold (c.len.result - 1) c.index.result.now c.self.view_is c.requires
-    (omega (arith, c.len.ensures, c.self.inside.heads.ok.0)) c.index.ensures c.in_ok-push.ensures.items
+    level_shared c.self.inside.tables.items c.self.inside.heads.items c.self.view_is c.requires
+    (omega (arith, c.len.ensures, c.self.inside.heads.ok.0)) c.index.ensures c.args.exponent c.args.threshold
+    c.in_ok-push.ensures.items

@@ -1,4 +1,4 @@
-use Rattle.std.proofs.Common.{◌≡◌, ◌∷◌, [], ◌∙◌, ap, sym, subst, List, ℕ, Option, Some, None, IfSome, IfNone}
+use Rattle.std.proofs.Common.{◌≡◌, ◌∷◌, [], ◌∙◌, ap, sym}
 use Rattle.std.specs.Prelude.{decimal}
 use Rattle.outside.specs.Texts.{field}
 use Rattle.report_check.specs.Reading.{word_in}
@@ -17,8 +17,7 @@ returns-clause-some c =
     ≡ word_in c.as_bytes.result.now c.word.new.self.rest.now =
     word-then (32 ∷ []) (decimal c.args.number) c.args.self.now.rest.now c.in_ok-word.ensures.some
     ∙ ap (λ ds. word_in ds c.word.new.self.rest.now) (sym digits) in
-    subst (λ (o : Option (List ℕ)). IfSome c.bytes.result (λ done. o ≡ Some c.bytes.new.self.rest.now)) (sym same)
-    c.bytes.ensures.some
+    rw same c.bytes.ensures.some
 
 pub returns-clause-none : goal.returns-clause-none
 returns-clause-none c =
@@ -27,4 +26,4 @@ returns-clause-none c =
     ≡ word_in c.as_bytes.result.now c.word.new.self.rest.now =
     word-then (32 ∷ []) (decimal c.args.number) c.args.self.now.rest.now c.in_ok-word.ensures.some
     ∙ ap (λ ds. word_in ds c.word.new.self.rest.now) (sym digits) in
-    subst (λ (o : Option (List ℕ)). IfNone c.bytes.result (o ≡ None)) (sym same) c.bytes.ensures.none
+    rw same c.bytes.ensures.none

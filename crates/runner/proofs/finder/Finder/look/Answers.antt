@@ -1,7 +1,5 @@
-use Rattle.std.proofs.Common.{◌+◌, drop, map, subst, sym, ap, ◌∙◌, refl, arith}
-use Rattle.directory.specs.Finds.{answer_of, at_origin}
-use Rattle.machine.specs.Stands.{IsWalking}
-use Rattle.scripts.specs.Scripts.{find_of}
+use Rattle.std.proofs.Common.{sym, ap, ◌∙◌, refl, arith}
+use Rattle.directory.specs.Finds.{answer_of}
 use Rattle.station.specs.TurnLaws.{held-passed}
 use Rattle.runner.proofs.Finding.{done-low, look-room, looked, looked-on, looked-up, lost-look, some-is, walk-known, walking-of}
 use Rattle.runner.proofs.finder.Finder.look.Goals as goal
@@ -54,10 +52,7 @@ returns-then-is_some c = record {
       let found = some-is c.answer.result (sym c.is_some.ensures ∙ c.if-is_some.true) in (
         at.made,
         looked-up _ its at (sym (c.answer.ensures setup.plan on.goes) ∙ found.1) refl refl (omega arith)
-            (subst (λ p. IsWalking p (drop (c.args.self.now.done + 1) (map find_of c.args.self.now.script.items))
-            at_origin c.walk_at-self.result) set.plan_is
-            (subst (λ s. IsWalking c.args.plan.now (drop (c.args.self.now.done + 1) (map find_of s)) at_origin
-            c.walk_at-self.result) c.deref.ensures.value c.walk_at-self.ensures)) set.homes,
+            (rw (set.plan_is, c.deref.ensures.value) at c.walk_at-self.ensures) set.homes,
       );
 }
 

@@ -1,5 +1,6 @@
-use Rattle.std.proofs.Common.{arith, ap, sym, ◌∙◌, ◌≡◌, ◌<◌, ◌≤◌, ◌+◌, ◌==◌, Bool, true, false, ℕ, List, get_or, set, length, take, subst, refl, eq-eqb, ne_eqb, get_or-set_same, get_or-set_other, length-set}
+use Rattle.std.proofs.Common.{arith, ap, sym, ◌∙◌, ◌≡◌, ◌<◌, ◌≤◌, ◌+◌, ℕ, List, get_or, set, length, take, subst, eq-eqb, ne_eqb, get_or-set_same, get_or-set_other, length-set}
 use Rattle.std.specs.Prelude.{slice_index, ◌||◌, if◌then◌else◌}
+use Rattle.std.proofs.Math.Bool.{or-false, or-true}
 use mathlib.Core.Logic.{dite}
 use native.Mathlib.Decide.{ℕ_discrete}
 use Rattle.node_set.specs.Ascending.{has}
@@ -42,18 +43,11 @@ stamped order list old {at} actor k d is near inside all i =
     dite (ℕ_discrete i at)
     (λ e. ap (slice_index (set order at actor)) e ∙ (get_or-set_same order at actor 0 inside
     ∙ sym (ap {B = ℕ} (λ b. if b then actor else old i) (has-taken i k list d near
-    ∙ hit (has i (take k list)) (i == get_or list k d) (eq-eqb i (get_or list k d) (e ∙ is))))))
+    ∙ (ap (λ b. has i (take k list) || b) (eq-eqb i (get_or list k d) (e ∙ is)) ∙ or-true (has i (take k list)))))))
     (λ ne. get_or-set_other order at i actor 0 ne ∙ (all i
     ∙ sym (ap {B = ℕ} (λ b. if b then actor else old i) (has-taken i k list d near
-    ∙ miss (has i (take k list)) (i == get_or list k d) (ne_eqb i (get_or list k d) (λ q. ne (q ∙ sym is)))))))
-  where
-    hit : (a b : Bool) → b ≡ true → (a || b) ≡ true
-    hit true b e = refl
-    hit false b e = e
-
-    miss : (a b : Bool) → b ≡ false → (a || b) ≡ a
-    miss true b e = refl
-    miss false b e = e
+    ∙ (ap (λ b. has i (take k list) || b) (ne_eqb i (get_or list k d) (λ q. ne (q ∙ sym is)))
+    ∙ or-false (has i (take k list)))))))
 
 pub loop-k-preserved : goal.loop-k-preserved
 loop-k-preserved c =

@@ -1,7 +1,7 @@
-use Rattle.std.proofs.Common.{arith, ◌≡◌, ◌∙◌, ℕ, List, refl, sym, ap, subst, All, drop, length}
+use Rattle.std.proofs.Common.{arith, ◌≡◌, ◌∙◌, ℕ, List, refl, sym, ap, subst, drop, length}
 use Rattle.std.proofs.lemmas.List.{take_at}
-use Rattle.station.specs.Passes.{PassData, IsPassOf}
-use Rattle.station.specs.Closing.{ArePresent, HasGathered, HasNoPass, IsOrder}
+use Rattle.station.specs.Passes.{PassData}
+use Rattle.station.specs.Closing.{ArePresent, HasNoPass}
 use Rattle.station.proofs.tracker.Tracker.close.Goals as goal
 
 -- the actors that the tracker counts are those that its setup has, and the passes that were looked through are its own
@@ -39,7 +39,7 @@ returns-in_default-vec-clause-fault c = (
 
 pub stamp_all-requires-clause-of : goal.stamp_all-requires-clause-of
 stamp_all-requires-clause-of c =
-    subst (All (IsPassOf c.args.self)) (sym c.gather-longest.ensures.same) c.requires.of
+    rw c.gather-longest.ensures.same c.requires.of
 
 pub stamp_all-requires-clause-present : goal.stamp_all-requires-clause-present
 stamp_all-requires-clause-present c =
@@ -48,8 +48,7 @@ stamp_all-requires-clause-present c =
 
 pub stamp_all-requires-clause-gathered : goal.stamp_all-requires-clause-gathered
 stamp_all-requires-clause-gathered c =
-    subst (λ (ps : List PassData). HasGathered c.args.self.setup ps c.gather-longest.result.view.seen)
-    (sym c.gather-longest.ensures.same) c.gather-longest.ensures.gathered
+    rw c.gather-longest.ensures.same c.gather-longest.ensures.gathered
 
 pub stamp_all-requires-clause-room : goal.stamp_all-requires-clause-room
 stamp_all-requires-clause-room c =
@@ -63,9 +62,7 @@ returns-clause-order c =
     let size = c.stamp_all.auto.order in
     let whole = take_at c.stamp_all.new.order (drop (length c.stamp_all.new.order) c.in-Ok.order.items)
     c.in-Ok.order.len (omega (arith, order, size, c.in-Ok.order.ok)) in
-    subst (IsOrder c.args.self.setup c.args.passes.items) (sym whole)
-    (subst (λ (ps : List PassData). IsOrder c.args.self.setup ps c.stamp_all.new.order) c.gather-longest.ensures.same
-    c.stamp_all.ensures.order)
+    rw (whole, ← c.gather-longest.ensures.same) c.stamp_all.ensures.order
 
 pub returns-clause-present : goal.returns-clause-present
 returns-clause-present c =

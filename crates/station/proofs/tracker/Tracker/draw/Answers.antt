@@ -1,11 +1,7 @@
-use Rattle.std.proofs.Common.{rules, arith, subst, sym, ap, ◌∙◌, ◌≡◌, ◌%◌, ◌+◌, ◌^◌}
-use Rattle.atomic_table.specs.Table.{Allows, Me, step}
-use mathlib.Core.Option.{none}
+use Rattle.std.proofs.Common.{rules, arith, subst, sym, ap, ◌∙◌, ◌≡◌}
+use Rattle.atomic_table.specs.Table.{Me}
 use Rattle.entry_word.specs.declared.visit.Act.{Act}
-use Rattle.station.specs.Rule.{KeepsRule}
-use Rattle.station.specs.Plays.{Draws, DrawsTicket, view_inside}
-use Rattle.station.specs.Turns.{Logs}
-use Rattle.station.specs.declared.view.TurnEvent.TheVariants.{Won}
+use Rattle.station.specs.Plays.{Draws, view_inside}
 use Rattle.station.specs.declared.view.View.{View}
 use Rattle.station.specs.Visits.{MayDraw}
 use Rattle.station.proofs.Drawing.{draws}
@@ -20,10 +16,7 @@ fetch_add-requires c =
     ap (λ (x : Me Act View). x.0.setup) turn ∙ (c.requires.setup ∙ sym (ap (λ t. t.setup) told)) in (
       search rules,
       omega (arith, c.self.invariant.words),
-      subst (λ k. Allows
-          (KeepsRule k) c.self.inside.table.shared.table_id.slots c.turn.new.seat.id m 0 (λ y. (y + 1) % 2 ^ 64)
-          (DrawsTicket (step c.self.inside.table.shared.table_id.slots 0 1 0 none) m)) e
-          (draws c.same_key_means.ensures _ _ m (subst (λ (v : View). MayDraw v c.args.node c.args.act.now)
+      rw (← e) (draws c.same_key_means.ensures _ _ m (subst (λ (v : View). MayDraw v c.args.node c.args.act.now)
           (sym (ap (λ (x : Me Act View). x.0) turn)) (c.requires.may m.0.turns))),
     )
 
@@ -48,5 +41,4 @@ returns-clause-drawn c =
 
 pub returns-clause-logs : goal.returns-clause-logs
 returns-clause-logs c =
-    subst (λ log. Logs c.args.seat.now.me.0.turns (Won c.args.actor c.args.node) log)
-    (sym (ap (λ (v : View). v.turns) (drawn c).0.view)) c.in_ok-turn.ensures.logs
+    rw (ap (λ (v : View). v.turns) (drawn c).0.view) c.in_ok-turn.ensures.logs

@@ -1,9 +1,5 @@
-use Rattle.std.proofs.Common.{rules, arith, subst, sym, ap, ◌∙◌, ◌≡◌, ◌≤◌, ◌^◌, length}
-use Rattle.atomic_table.specs.Table.{Allows, step}
-use mathlib.Core.Option.{none}
+use Rattle.std.proofs.Common.{rules, arith, sym, ap, ◌∙◌, ◌≡◌, ◌≤◌, ◌^◌, length}
 use Rattle.station.specs.Setup.{setting_in, nodes_in}
-use Rattle.station.specs.Rule.{KeepsRule}
-use Rattle.station.specs.Plays.{Learns}
 use Rattle.station.proofs.Joining.{hears, learns, longer_long}
 use Rattle.station.proofs.tracker.Tracker.learn.Goals as goal
 
@@ -30,13 +26,10 @@ load-requires c =
     ∙ (c.requires.setup ∙ sym (ap (λ t. t.setup) two)) in
     let few : (setting_in m.0.setup).nodes ≤ 2 ^ 16 = omega
     (arith, c.self.invariant.nodes_are, c.self.invariant.few_nodes, ap nodes_in e) in
-    let long = longer_long old.seen note.seen in
-    let slots = c.self.inside.table.shared.table_id.slots in (
+    let long = longer_long old.seen note.seen in (
       search rules,
       omega (arith, c.self.invariant.words),
-      subst (λ k. Allows
-          (KeepsRule k) slots c.join_seat.new.seat.id m 0 (λ y. y) (Learns (step slots 0 0 0 none) m)) e
-          (learns c.front_of_history_is_legal.ensures slots c.join_seat.new.seat.id 0 m few
+      rw (← e) (learns c.front_of_history_is_legal.ensures _ _ 0 m few
           (omega (arith, long, ap (λ q. length q.0.told) joined, ap (λ q. length q.0.seen) joined))
           (omega (arith, long, ap (λ q. length q.0.had) joined, ap (λ q. length q.0.seen) joined))),
     )

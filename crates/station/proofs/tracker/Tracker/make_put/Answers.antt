@@ -1,14 +1,13 @@
-use Rattle.std.proofs.Common.{subst, sym, ap, ◌∙◌, ◌≡◌, ◌<◌, ℕ}
+use Rattle.std.proofs.Common.{refl, subst, sym, ap, ◌∙◌}
 use Rattle.atomic_table.specs.Table.{Me}
 use Rattle.entry_word.specs.declared.visit.Act.{Act}
-use Rattle.directory.specs.Keys.{key_sub, key_node}
-use Rattle.station.specs.Setup.{Setup, setting_in, subs_in}
+use Rattle.station.specs.Setup.{Setup}
 use Rattle.station.specs.Handsets.{Moves}
 use Rattle.station.specs.Plays.{view_outside}
 use Rattle.station.specs.Turns.{Logs}
-use Rattle.station.specs.declared.view.TurnEvent.TheVariants.{GivenBack, Won}
+use Rattle.station.specs.declared.view.TurnEvent.TheVariants.{GivenBack}
 use Rattle.station.specs.declared.view.View.{View}
-use Rattle.station.proofs.Ticketing.{left_put}
+use Rattle.station.proofs.Ticketing.{left_by}
 use Rattle.station.proofs.Putting.{moves}
 use Rattle.station.proofs.tracker.Tracker.make_put.Goals as goal
 
@@ -17,11 +16,9 @@ put_there-requires-clause-moves c =
     let m = c.args.seat.now.me in
     let d = c.in_ok-ticket.ensures.drawn in
     let there : View = c.draw.new.seat.me.0 in
-    let back = sym c.requires.setup in
     subst (λ (s : Setup). Moves s there c.args.node c.args.key there.before c.args.word) c.requires.setup
     (moves m.0.setup there d.earlier c.args.word m.0.low c.args.key
-    (subst (λ (s : Setup). key_sub c.args.key < subs_in s) back c.requires.cell.known)
-    (subst (λ (s : Setup). key_node (setting_in s) c.args.key ≡ c.args.node) back (sym c.requires.node))
+    (rw c.requires.setup c.requires.cell.known) (rw c.requires.setup (sym c.requires.node))
     (ap (λ (v : View). v.seen) d.view) (ap (λ (v : View). v.owes) d.view) (ap (λ (v : View). v.tally) d.view)
     (ap (λ (v : View). v.before) d.view))
 
@@ -32,10 +29,10 @@ returns-clause-made c =
     let put = c.put_there.ensures.done in
     record {
       there = there;
-      won = subst (λ (a : ℕ). Logs c.args.seat.now.me.0.turns (Won a c.args.node) there.turns) (sym c.requires.low)
-          c.in_ok-ticket.ensures.logs;
+      won = rw c.requires.low c.in_ok-ticket.ensures.logs;
       draws = c.in_ok-ticket.ensures.drawn;
-      left = left_put there (ap (λ m. m.0) c.give_back.ensures.left ∙ ap (λ m. view_outside m.0 new.turns) put);
+      left = left_by there (ap (λ m. m.0) c.give_back.ensures.left ∙ ap (λ m. view_outside m.0 new.turns) put) refl
+          refl;
       given_back = subst (λ (m : Me Act View). Logs m.0.turns (GivenBack m.0.low c.args.node) new.turns) put
           c.give_back.ensures.logs;
     }

@@ -1,5 +1,5 @@
 use Rattle.std.proofs.Common.{rules, arith}
-use Rattle.station.proofs.Joining.{notes}
+use Rattle.station.proofs.Forking.{notes}
 use Rattle.station.proofs.tracker.Tracker.note.Goals as goal
 
 pub split_seat-seat-requires : goal.split_seat-seat-requires

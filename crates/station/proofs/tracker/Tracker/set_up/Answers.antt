@@ -1,9 +1,8 @@
-use Rattle.std.proofs.Common.{arith, [], ◌∙◌, sym, ap, refl, subst, length}
+use Rattle.std.proofs.Common.{arith, [], ◌∙◌, sym, ap, refl}
 use Rattle.atomic_table.specs.Table.{Me}
 use Rattle.entry_word.specs.declared.visit.Act.{Act}
 use Rattle.region_plan.specs.Kept.{IsKept}
 use Rattle.station.specs.Setup.{Setup}
-use Rattle.station.specs.Passes.{IsTracker}
 use Rattle.station.specs.Plays.{first_view}
 use Rattle.station.specs.declared.view.View.{View}
 use Rattle.station.proofs.Fresh.{matched_lies}
@@ -14,9 +13,7 @@ invariant_of-tracker c =
     let plan = c.args.plan.now in let homes = c.args.homes.now in let actors = c.args.actors in
     let o = c.in_ok-table.ensures.opened in
     let sound : IsKept plan = c.plan_is_sound.ensures.sound in
-    subst (λ (s : Setup). IsTracker c.in_ok-table.table.shared.table_id s c.nodes.result (length homes) actors
-    c.in_ok-places.places) (sym o.3)
-    record {
+    rw o.3 record {
       words = o.0;
       slots = o.2;
       nodes_are = c.nodes.ensures.count;

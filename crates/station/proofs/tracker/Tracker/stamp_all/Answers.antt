@@ -1,15 +1,15 @@
-use Rattle.std.proofs.Common.{arith, ap, sym, ◌∙◌, ◌≡◌, ◌<◌, ℕ, List, length, refl, subst}
-use Rattle.std.specs.Prelude.{slice_get, slice_index, if◌then◌else◌}
+use Rattle.std.proofs.Common.{arith, ap, sym, ◌∙◌, ◌≡◌, ◌<◌, List, length, refl, subst}
+use Rattle.std.specs.Prelude.{slice_get}
 use Rattle.std.proofs.Math.Seq.{take-length}
 use Rattle.std.proofs.lemmas.Option.{get_or_from_slice_get, slice_get_within}
 use mathlib.Core.Logic.{dite}
 use native.Mathlib.Decide.{ℕ_discrete, dec_le}
-use Rattle.node_set.specs.Ascending.{has}
-use Rattle.directory.specs.Histories.{History, own, tickets}
+use Rattle.directory.specs.Histories.{History, own}
 use Rattle.station.specs.Passes.{PassData, IsNoteOf, IsPassOf, actor_of}
-use Rattle.station.proofs.Ending.{find_pass, heard_whole, order_is, own_there, same_pass, stamp_more, taken}
+use Rattle.station.proofs.Ending.{find_pass, heard_whole, order_is, own_there, stamp_more, taken}
 use Rattle.station.proofs.Ticketing.{tickets-has}
 use Rattle.station.proofs.tracker.Tracker.stamp_all.Goals as goal
+use Rattle.directory.specs.ListLaws.{same_some}
 
 pub hear-requires-clause-of : goal.hear-requires-clause-of
 hear-requires-clause-of c =
@@ -57,19 +57,15 @@ loop-pass-preserved c =
       same = ap (λ n. n.view.seen) c.copy-note.ensures.same ∙ d.same;
       size = c.stamp.ensures.size ∙ d.size;
       visits = λ j p h e. dite (ℕ_discrete j (length left))
-          (λ is. let same = same_pass (sym t.1 ∙ (ap (slice_get all) (sym is) ∙ e)) in
+          (λ is. let same = same_some (sym t.1 ∙ (ap (slice_get all) (sym is) ∙ e)) in
           subst (λ (q : PassData). own (actor_of q) whole ≡ own (actor_of q) q.view.seen) same mine)
           (λ ne. d.visits j p (omega arith) e);
       stamped = λ i j visit p there h e is.
           stamp_more c.loop-pass.order c.stamp.new.order i visit (actor_of pass) whole
           (tickets-has (actor_of pass) i whole there)
-          (subst (λ (a : ℕ). slice_index c.stamp.new.order i ≡ (if has i
-          (tickets a whole) then a else slice_index c.loop-pass.order i)) heard.same.actor
-          (subst (λ (l : History). slice_index c.stamp.new.order i ≡ (if has i (tickets
-          (actor_of c.hear.new.pass) l) then actor_of c.hear.new.pass else slice_index c.loop-pass.order i)) seen
-          (c.stamp.ensures.stamped i)))
+          (rw (← heard.same.actor, ← seen) (c.stamp.ensures.stamped i))
           (λ ne. dite (ℕ_discrete j (length left))
-          (λ at. let same = same_pass (sym t.1 ∙ (ap (slice_get all) (sym at) ∙ e)) in
+          (λ at. let same = same_some (sym t.1 ∙ (ap (slice_get all) (sym at) ∙ e)) in
           absurd (ne (is ∙ ap actor_of (sym same))))
           (λ further. d.stamped i j visit p there (omega arith) e is));
     }

@@ -1,10 +1,11 @@
-use Rattle.std.proofs.Common.{rules, arith, subst, sym, ap, ◌∙◌, ◌≡◌, ◌≢◌, suc, ℕ, ◌-◌, ◌<◌, refl}
+use Rattle.std.proofs.Common.{rules, arith, sym, ap, ◌∙◌, ◌≡◌, ◌≢◌, suc, ℕ, ◌-◌, ◌<◌, refl}
 use Rattle.station.specs.Plays.{view_held}
 use Rattle.station.specs.Setup.{nodes_in}
-use Rattle.station.specs.Turns.{Logs}
-use Rattle.station.specs.declared.view.TurnEvent.TheVariants.{Lost, Won}
 use Rattle.station.proofs.Turning.{turns_at}
 use Rattle.station.proofs.tracker.Tracker.turn.Goals as goal
+
+up : (k : ℕ) → k ≢ 0 → k ≡ suc (k - 1)
+up k ne = omega arith
 
 pub compare_exchange_with-found-requires : goal.compare_exchange_with-found-requires
 compare_exchange_with-found-requires c =
@@ -26,8 +27,7 @@ returns-then-found-eq0-clause-turn c = ((c.compare_exchange_with-found.ensures.2
 
 pub returns-then-found-eq0-clause-logs : goal.returns-then-found-eq0-clause-logs
 returns-then-found-eq0-clause-logs c =
-    let log = c.compare_exchange_with-found.new.seat.me.0.turns in
-    subst (λ (a : ℕ). Logs c.args.seat.now.me.0.turns (Won a c.args.node) log) c.requires.low
+    rw (← c.requires.low)
     ((c.compare_exchange_with-found.ensures.2 c.args.node c.args.act.now c.lock_place-place.ensures.place refl).0
     c.if-found-eq0.true).1
 
@@ -53,20 +53,11 @@ returns-clause-turn c =
             c.args.seat.now.me.1,
           )) some,
     )
-  where
-    up : (k : ℕ) → k ≢ 0 → k ≡ suc (k - 1)
-    up k ne = omega arith
 
 pub returns-clause-logs : goal.returns-clause-logs
 returns-clause-logs c =
     let found = c.compare_exchange_with-found.result in
-    let log = c.compare_exchange_with-found.new.seat.me.0.turns in
-    let old = c.args.seat.now.me.0 in
     let t = (c.compare_exchange_with-found.ensures.2 c.args.node c.args.act.now
     c.lock_place-place.ensures.place refl).1 c.if-found-eq0.false in
     let some : found ≡ suc (found - 1) = up found c.if-found-eq0.false in
-    subst (λ (k : ℕ). Logs old.turns (Lost c.args.actor c.args.node k) log) some
-    (subst (λ (a : ℕ). Logs old.turns (Lost a c.args.node found) log) c.requires.low t.3)
-  where
-    up : (k : ℕ) → k ≢ 0 → k ≡ suc (k - 1)
-    up k ne = omega arith
+    rw (← some, ← c.requires.low) t.3

@@ -1,20 +1,18 @@
-use Rattle.std.proofs.Common.{arith, subst, sym, ap, ◌∙◌, ◌≡◌, ◌<◌, ◌++◌, ◌∷◌, [], length, suc, ℕ, Some}
+use Rattle.std.proofs.Common.{arith, subst, sym, ap, ◌∙◌, ◌≡◌, ◌<◌, [], length, ℕ, Some}
 use Rattle.entry_word.specs.declared.visit.Act.TheVariants.{Put}
 use Rattle.entry_word.specs.declared.visit.Visit.{Visit}
 use Rattle.directory.specs.Histories.{puts_to}
 use Rattle.directory.specs.Keys.{key_node}
-use Rattle.directory.specs.Legal.{IsLegal}
-use Rattle.handset.specs.Condition.{GoesWith}
-use Rattle.handset.specs.Stands.{StandsForSteps}
 use Rattle.region_plan.specs.Settings.{setting_of}
-use Rattle.station.specs.Setup.{Setup, setting_in, subs_in, IsCellOf}
+use Rattle.station.specs.Setup.{Setup, setting_in}
 use Rattle.station.specs.Handsets.{HandsetGoesOn, IsHandsetOf, put_of}
 use Rattle.station.specs.Passes.{PassData}
 use Rattle.station.specs.Visits.{HasVisited, Makes}
 use Rattle.station.specs.declared.view.View.{View}
-use Rattle.station.proofs.Putting.{may_put, handset_after, put_due, write-sub}
+use Rattle.station.proofs.Putting.{may_put, handset_after, put_due}
 use Rattle.station.proofs.Ticketing.{lost_pass, own_few, pass_done, visit_done, pass_is, seen_done}
 use Rattle.station.proofs.tracker.Tracker.visit_put.Goals as goal
+use Rattle.handset.specs.StageLaws.{write-sub}
 
 pub make_put-requires-clause-may : goal.make_put-requires-clause-may
 make_put-requires-clause-may c =
@@ -24,19 +22,14 @@ make_put-requires-clause-may c =
     let node = c.node_of-node.result in
     let told = c.pass.view_is in
     let setup : v.setup ≡ c.args.self.now.setup = ap (λ q. q.view.setup) told ∙ c.requires.of.setup in
-    let back = sym setup in
     let sub : c.args.handset.now.sub ≡ v.low = c.requires.handset.sub ∙ sym (ap (λ q. q.view.low) told) in
     let spare : 0 < c.pass.inside.spare = omega (arith, c.requires.spare, ap (λ q. q.spare) told) in
-    let h : IsHandsetOf c.args.self.now.setup v c.args.handset.now = subst (λ
-    (q : View). IsHandsetOf c.args.self.now.setup q c.args.handset.now) (sym (ap
-    (λ q. q.view) told)) c.requires.handset in
-    let known = c.next_put-key.ensures.cell (subst (λ (s : ℕ). s < subs_in c.args.self.now.setup)
-    (sym h.sub) h.script.known) in
+    let h : IsHandsetOf c.args.self.now.setup v c.args.handset.now = rw (ap (λ q. q.view) told) c.requires.handset in
+    let known = c.next_put-key.ensures.cell (rw h.sub h.script.known) in
     λ log. may_put v word log c.pass.invariant.undrawn c.pass.invariant.unwritten c.pass.invariant.clear
-    (c.node_of-node.ensures.node ∙ ap (λ (s : Setup). key_node (setting_in s) key) back)
-    (own_few c.pass.invariant spare) (subst (λ (s : Setup). IsCellOf s key) back known)
-    (c.next_put-key.ensures.sub ∙ sub) (subst (λ (s : Setup). IsLegal (setting_in s) v.low
-    (v.seen ++ put_of v.low key word ∷ [])) back (c.next_put-key.ensures.legal v h))
+    (rw setup c.node_of-node.ensures.node)
+    (own_few c.pass.invariant spare) (rw setup known) (c.next_put-key.ensures.sub ∙ sub)
+    (rw setup (c.next_put-key.ensures.legal v h))
 
 pub invariant_of-pass-2 : goal.invariant_of-pass-2
 invariant_of-pass-2 c =
@@ -63,18 +56,15 @@ returns c =
     (ap (λ (s : Setup). key_node (setting_in s) key) c.requires.of.setup ∙ sym c.node_of-node.ensures.node) made.won
     made.given_back table seat less in
     let made_count = length (puts_to old.view.low old.view.seen) in
-    let low = subst (λ (s : Setup). old.view.low < subs_in s) (sym c.requires.of.setup) h.script.known in
-    let puts = made.draws.puts low in
+    let puts = made.draws.puts (rw c.requires.of.setup h.script.known) in
     let made_by = λ (own : IsHandsetOf setup old.view c.args.handset.now).
     handset_after c.make_put.new.seat.me.0 key word made.draws.earlier own
     (c.next_put-key.ensures.next old.view own ∙ ap (λ (a : ℕ). Some (put_of a key word)) own.sub)
     (c.next_put-key.ensures.sub ∙ own.sub) visited.same.actor (seen_done old.view made.draws made.left) puts
-    (subst (λ p. GoesWith p c.made.new.self) c.requires.plan c.made.ensures.goes)
+    (rw (← c.requires.plan) c.made.ensures.goes)
     (ap (λ q. q.sub) c.made.ensures.exact ∙ write-sub (setting_of c.args.plan.now []) c.args.handset.now
-    c.args.handset.now.stage) (subst (λ p. StandsForSteps (setting_of p setup.homes) c.made.new.self own.steps
-    (suc made_count)) c.requires.plan (c.made.ensures.stands setup.homes own.steps made_count
-    (subst (λ p. StandsForSteps (setting_of p setup.homes) c.args.handset.now own.steps made_count)
-    (sym c.requires.plan) own.stands))) in
+    c.args.handset.now.stage)
+    (rw (← c.requires.plan) (c.made.ensures.stands setup.homes own.steps made_count (rw c.requires.plan own.stands))) in
     let is_due = λ (P : Visit → Type 0). put_due key word P c.next_put-key.ensures.due h.sub in
     record {
       made = (

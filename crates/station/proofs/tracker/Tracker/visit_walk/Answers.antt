@@ -1,38 +1,42 @@
-use Rattle.std.proofs.Common.{◌≡◌, refl, subst, sym, ap, ◌∙◌, []}
+use Rattle.std.proofs.Common.{◌≡◌, refl, subst, sym, ap, ◌∙◌, [], Option}
 use Rattle.std.specs.Prelude.{Some}
 use Rattle.directory.specs.Finds.{after_word, key_of}
+use Rattle.entry_word.specs.declared.visit.Key.{Key}
+use Rattle.region_plan.specs.Plan.{PlanData}
 use Rattle.region_plan.specs.Matched.{IsMatched}
 use Rattle.region_plan.specs.Settings.{setting_of}
 use Rattle.walk.specs.LookLaws.{cell-wanted}
-use Rattle.walk.specs.Walks.{IsWalkOver, call_of, pursuit_of}
+use Rattle.walk.specs.Walks.{IsWalkOver, WalkData, call_of, pursuit_of}
 use Rattle.station.specs.Setup.{setting_in, subs_in}
 use Rattle.station.proofs.Wanted.{word-seen}
 use Rattle.station.specs.TurnLaws.{held-passed}
 use Rattle.station.proofs.tracker.Tracker.visit_walk.Goals as goal
 
+-- the key that the walk names is the one that it wants of the tracker's plan
+wanted : (walk : WalkData) {plan : PlanData} {key : Key} {named : Option Key} {its : PlanData} → plan ≡ its
+    → named ≡ key_of (call_of walk) (pursuit_of plan walk) → named ≡ Some key
+    → key_of (call_of walk) (pursuit_of its walk) ≡ Some key
+wanted walk {key} same next is =
+    subst (λ p. key_of (call_of walk) (pursuit_of p walk) ≡ Some key) same (sym next ∙ is)
+
 pub visit_look-requires-clause-cell : goal.visit_look-requires-clause-cell
 visit_look-requires-clause-cell c =
     cell-wanted c.args.self.now.setup.plan c.args.walk.now (subs_in c.args.self.now.setup) c.in-Some.key
     (subst IsMatched c.requires.way.plan_is c.plan_is_sound.ensures.matched) c.requires.way.goes c.requires.way.known
-    (subst (λ p. key_of (call_of c.args.walk.now) (pursuit_of p c.args.walk.now) ≡ Some c.in-Some.key)
-    c.requires.way.plan_is
-    (sym c.next.ensures ∙ c.in-Some.is))
+    (wanted c.args.walk.now c.requires.way.plan_is c.next.ensures c.in-Some.is)
 
 pub saw-requires-clause-word : goal.saw-requires-clause-word
 saw-requires-clause-word c =
     let looked = c.in_ok-looked.ensures.looked in
     word-seen c.marks_tell.ensures.marks c.entries_tell.ensures.entries c.front_of_history_is_legal.ensures
     c.requires.way.plan_is c.plan_is_sound.ensures.matched c.requires.way.of.setup looked.0 looked.1
-    c.requires.way.known c.requires.way.goes (subst (λ p. key_of (call_of c.args.walk.now)
-    (pursuit_of p c.args.walk.now) ≡ Some c.in-Some.key) c.requires.way.plan_is (sym c.next.ensures ∙ c.in-Some.is))
+    c.requires.way.known c.requires.way.goes (wanted c.args.walk.now c.requires.way.plan_is c.next.ensures c.in-Some.is)
 
 pub returns-in_err-looked : goal.returns-in_err-looked
 returns-in_err-looked c = record {
   looked = held-passed c.from_residual.result c.in_err-looked.field-0.0 _ _ c.from_residual.ensures.1 (record {
     key = c.in-Some.key;
-    wanted = subst (λ p. key_of (call_of c.args.walk.now) (pursuit_of p c.args.walk.now) ≡ Some c.in-Some.key)
-        c.requires.way.plan_is
-        (sym c.next.ensures ∙ c.in-Some.is);
+    wanted = wanted c.args.walk.now c.requires.way.plan_is c.next.ensures c.in-Some.is;
     lost = c.in_err-looked.ensures.looked;
     same = refl;
   });
@@ -48,9 +52,7 @@ returns c =
     (pursuit_of p c.args.walk.now) c.in_ok-looked.looked.word) c.requires.way.plan_is c.saw.ensures.pursuit in record {
       looked = record {
         key = c.in-Some.key;
-        wanted = subst (λ p. key_of (call_of c.args.walk.now) (pursuit_of p c.args.walk.now) ≡ Some c.in-Some.key)
-            c.requires.way.plan_is
-            (sym c.next.ensures ∙ c.in-Some.is);
+        wanted = wanted c.args.walk.now c.requires.way.plan_is c.next.ensures c.in-Some.is;
         visited = looked.0;
         pursuit = pursuit
             ∙ ap (after_word (setting_in setup) (call_of c.args.walk.now) (pursuit_of setup.plan c.args.walk.now))

@@ -1,12 +1,10 @@
-use Rattle.std.proofs.Common.{◌≡◌, ℕ, suc, ◌+◌, ◌*◌, ◌<◌, [], ◌∷◌, ◌++◌, length, refl, sym, ap, ◌∙◌, subst, inl, inr, arith}
-use Rattle.std.specs.Prelude.{slice_index}
+use Rattle.std.proofs.Common.{◌≡◌, ℕ, suc, ◌+◌, ◌*◌, ◌<◌, [], ◌∷◌, ◌++◌, length, refl, ap, ◌∙◌, inl, inr, arith}
 use Rattle.std.proofs.lemmas.Bool.{cases_lt}
 use Rattle.std.proofs.lemmas.List.{get_or_append_left, get_or_push, length_push}
 use Rattle.region_plan.specs.Plan.{PlanData, home, levels_of}
 use Rattle.visit_log.specs.Homes.{HaveHomes, HomeData, home_place}
 use Rattle.entry_word.specs.declared.visit.Key.TheVariants.{Entry}
-use Rattle.visit_log.proofs.Adding.{same-part}
-use Rattle.visit_log.proofs.Apart.{place-below}
+use Rattle.visit_log.proofs.Apart.{place-below, same-part}
 use Rattle.visit_log.proofs.homes.Homes.push_node.Goals as goal
 
 -- one home more
@@ -24,15 +22,14 @@ home-more {plan} {old} new node level {place} low have levels places is =
       count_is = omega (arith, more);
       places = λ other above high before. elim (cases_lt (other * levels_of plan + above) count) [
         | inl less ↦
-            ap (λ xs. slice_index xs (other * levels_of plan + above)) places
-            ∙ (get_or_append_left old.places (place ∷ []) 0 (other * levels_of plan + above)
-            (omega (arith, less, have.count_is)) ∙ have.places other above high less)
+            rw (
+              places,
+              get_or_append_left old.places (place ∷ []) 0 (other * levels_of plan + above)
+                  (omega (arith, less, have.count_is)),
+            ) (have.places other above high less)
         | inr over ↦
             let both = same-part (levels_of plan) node level other above low high (omega (arith, before, over)) in
-            subst (λ n. slice_index new.places (n * levels_of plan + above) ≡ home_place plan n above) (sym both.0)
-            (subst (λ l. slice_index new.places (node * levels_of plan + l) ≡ home_place plan node l) (sym both.1)
-            (ap (λ xs. slice_index xs count) places
-            ∙ (get_or_push old.places place 0 count (omega (arith, have.count_is)) ∙ is)))
+            rw (both.0, both.1, places, get_or_push old.places place 0 count (omega (arith, have.count_is))) is
       ];
     }
 

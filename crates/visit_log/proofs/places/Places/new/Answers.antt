@@ -1,4 +1,4 @@
-use Rattle.std.proofs.Common.{◌≡◌, ℕ, ◌+◌, ◌*◌, ◌<◌, ◌≤◌, List, [], ◌∷◌, ◌++◌, length, get_or, ap, sym, ◌∙◌, subst, inl, inr, arith}
+use Rattle.std.proofs.Common.{◌≡◌, ℕ, ◌+◌, ◌*◌, ◌<◌, ◌≤◌, List, [], ◌∷◌, ◌++◌, length, get_or, ap, sym, ◌∙◌, inl, inr, arith}
 use Rattle.std.proofs.Math.Nat.{le_antisymm}
 use Rattle.std.proofs.lemmas.Bool.{cases_lt}
 use Rattle.std.proofs.lemmas.List.{get_or_append_left, get_or_push, length_push, take_all}
@@ -24,13 +24,10 @@ more-firsts {plan} {old} {new} {level} {first} kept low have items = record {
   count = omega (arith, have.count, ap length items, length_push old first);
   each = λ k below. elim (cases_lt k level) [
     | inl less ↦
-        ap (λ xs. get_or xs k 0) items
-        ∙ (get_or_append_left old (first ∷ []) 0 k (omega (arith, less, have.count)) ∙ have.each k less)
+        rw (items, get_or_append_left old (first ∷ []) 0 k (omega (arith, less, have.count))) (have.each k less)
     | inr over ↦
         let at : k ≡ level = omega (arith, below, over) in
-        subst (λ n. get_or new n 0 ≡ nodes_of plan + clusters_below plan n) (sym at)
-        (ap (λ xs. get_or xs level 0) items
-        ∙ (get_or_push old first 0 level (omega (arith, have.count)) ∙ have.next))
+        rw (at, items, get_or_push old first 0 level (omega (arith, have.count))) have.next
   ];
   next = omega (arith, have.next, sum_by_more size plan.levels level no_level low);
   few = omega (arith, have.few, (kept.levels level no_level low).clusters, kept.metric.few);
@@ -50,8 +47,7 @@ loop-level-preserved c =
       count = c.push_reserved.new.self.ok.0 ∙ more.count;
       firsts = more.each;
       first = ap (λ n. c.loop-level.first + n) c.clusters-first.ensures ∙ more.next;
-      few = subst (λ n. c.loop-level.first + n ≤ 1024 * (c.loop-level.level + 1 + 1)) (sym c.clusters-first.ensures)
-          more.few;
+      few = rw c.clusters-first.ensures more.few;
       room = c.push_reserved.ensures.capacity ∙ c.loop-level.invariant.room;
     }
 
@@ -65,5 +61,5 @@ returns c =
           (ap (sum_by size) (take_all c.loop-level.level plan.levels (omega (arith, all))));
       few = omega (arith, c.loop-level.invariant.few, all, c.nodes-first.ensures.sound.few);
       levels = sym c.loop-level.firsts.ok.0 ∙ (c.loop-level.invariant.count ∙ all);
-      firsts = λ level low. c.loop-level.invariant.firsts level (subst (λ n. level < n) (sym all) low);
+      firsts = λ level low. c.loop-level.invariant.firsts level (rw all low);
     }

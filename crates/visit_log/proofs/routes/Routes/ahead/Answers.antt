@@ -1,5 +1,4 @@
-use Rattle.std.proofs.Common.{◌≡◌, ℕ, ◌+◌, ◌-◌, ◌<◌, ◌≤◌, List, length, ap, sym, ◌∙◌, arith, take, drop}
-use Rattle.std.specs.Prelude.{slice_index}
+use Rattle.std.proofs.Common.{◌≡◌, ℕ, ◌-◌, ◌<◌, ◌≤◌, List, length, ap, ◌∙◌, arith, take, drop}
 use Rattle.std.proofs.lemmas.List.{get_or-drop, get_or-take, length-drop, length-take-le}
 use Rattle.visit_log.specs.Routes.{RouteData, rung_at, rung_past}
 use Rattle.visit_log.proofs.Going.{goes-along}
@@ -72,10 +71,6 @@ returns-clause-places c = λ plan at i low.
     let row : c.deref.result.now ≡ c.args.self.now.places =
     c.deref.ensures.value ∙ ap (λ (r : RouteData). r.places) c.self.view_is in
     get_or-take (c.span-first.result.1 - c.span-first.result.0) (drop c.span-first.result.0 c.deref.result.now) i 0
-    short
-    ∙ (get_or-drop c.span-first.result.0 c.deref.result.now i 0
-    ∙ (ap (λ xs. slice_index xs (c.span-first.result.0 + i)) row
-    ∙ (ap (λ n. slice_index c.args.self.now.places (n + i)) (ap (λ (p : ℕ × ℕ). p.0) both)
-    ∙ (ap (slice_index c.args.self.now.places) (sym there.1)
-    ∙ place-holds plan c.args.self.now c.args.node at.are at.inside
-    (rung_past plan c.args.node (rung_at c.args.level c.args.index) i) there.0))))
+    short ∙ get_or-drop c.span-first.result.0 c.deref.result.now i 0
+    ∙ rw (row, ap (λ (p : ℕ × ℕ). p.0) both, ← there.1) (place-holds plan c.args.self.now c.args.node at.are at.inside
+    (rung_past plan c.args.node (rung_at c.args.level c.args.index) i) there.0)

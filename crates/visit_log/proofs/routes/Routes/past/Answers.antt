@@ -115,33 +115,22 @@ index-requires-2 c =
       ap (λ (r : RouteData). length r.ways) c.self.view_is,
     )
 
--- a weight, as it is read
-way-read : (routes : RouteData) {v : ℕ} (k : ℕ) {items : List ℕ} → items ≡ routes.ways → k < length routes.ways
-    → v ≡ get_or items k v → v ≡ slice_index routes.ways k
-way-read routes k same short read =
-    reads read same refl short
-
 -- both weights
-record Weighs (plan : PlanData) (routes : RouteData) (node level index count later first : ℕ) : Type 0 where
-  both : later ≡ first + ways_past plan node (rung_at level index) count
-
 weighs : {plan : PlanData} {routes : RouteData} {node : ℕ} (level index : ℕ) {count first later early : ℕ}
     {items : List ℕ} → ComesTo plan routes node (rung_at level index) count
     → first ≡ place_in routes (node * levels_of plan) (rung_at level index) → items ≡ routes.ways
     → later ≡ get_or items (first + count) later → early ≡ get_or items first early
-    → Weighs plan routes node level index count later early
+    → later ≡ early + ways_past plan node (rung_at level index) count
 weighs {plan} {routes} {node} level index {count} {first} on start same read_later read_early =
     let its = going plan routes node (rung_at level index) on.at count on.on in
-    record {
-      both = omega (
-        arith,
-        way-read routes (first + count) same (omega (arith, start, its.before, on.at.are.ways)) read_later,
-        way-read routes first same (omega (arith, start, its.before, on.at.are.ways)) read_early,
-        ap (λ n. slice_index routes.ways (n + count)) start,
-        ap (slice_index routes.ways) start,
-        its.ways,
-      );
-    }
+    omega (
+      arith,
+      reads read_later same refl (omega (arith, start, its.before, on.at.are.ways)),
+      reads read_early same refl (omega (arith, start, its.before, on.at.are.ways)),
+      ap (λ n. slice_index routes.ways (n + count)) start,
+      ap (slice_index routes.ways) start,
+      its.ways,
+    )
 
 pub overflow_sub-result-2 : goal.overflow_sub-result-2
 overflow_sub-result-2 c =
@@ -149,16 +138,13 @@ overflow_sub-result-2 c =
     let on = c.requires.on.1 in
     let its = weighs c.args.level c.args.index on (ap (λ (p : ℕ × ℕ). p.0) (c.span-first.ensures.exact plan on.at))
     (ap (λ (r : RouteData). r.ways) c.self.view_is) c.index-2.ensures c.index-3.ensures in
-    omega (arith, its.both)
+    omega (arith, its)
 
 -- where a climb is, from its parts
 height-is : {level index weight there at ways : ℕ} → level ≡ there → index ≡ at → weight ≡ ways
     → ◌≡◌ {A = Height} (record { level = level; index = index; weight = weight })
     (record { level = there; index = at; weight = ways })
-height-is {level} {index} {weight} {there} {at} l i w =
-    ap (λ n. let r : Height = record { level = n; index = index; weight = weight } in r) l
-    ∙ (ap (λ n. let r : Height = record { level = there; index = n; weight = weight } in r) i
-    ∙ ap (λ n. let r : Height = record { level = there; index = at; weight = n } in r) w)
+height-is l i w = rw (l, i, w)
 
 pub returns : goal.returns
 returns c = λ plan on.
@@ -172,4 +158,4 @@ returns c = λ plan on.
       its.its.there,
       start-read its (ap (λ n. c.args.node * n) (ap (λ (r : RouteData). r.levels) c.self.view_is ∙ on.at.are.levels))
           (ap (λ (r : RouteData). r.starts) c.self.view_is) refl c.index.ensures,
-    )) (omega (arith, ways.both))
+    )) (omega (arith, ways))

@@ -16,14 +16,7 @@ overflow_add-first c =
     let level : ℕ = c.args.level in
     let reader : ℕ = get_or (readers plan level c.args.node) c.loop-index.index 0 in
     let short : c.loop-index.index < length (readers plan level c.args.node) =
-    omega (
-      arith,
-      c.loop-index-test.true,
-      c.loop-index.auto.index-end,
-      c.len.ensures,
-      ap length c.readers-readers.ensures,
-    )
-    in
+    omega (arith, c.loop-index-test.true, c.len.ensures, ap length c.readers-readers.ensures) in
     let held = reader-held plan level c.args.node c.loop-index.index c.plan_is_sound.ensures.matched c.requires.level
     c.requires.node short in
     omega (
@@ -51,13 +44,7 @@ overflow_cast-index c =
 -- the reader is one of those of the node at the level
 short-here : (c : After-reader_weight)
     → c.loop-index.index < length (readers c.args.plan.now c.args.level c.args.node)
-short-here c = omega (
-  arith,
-  c.loop-index-test.true,
-  c.loop-index.auto.index-end,
-  c.len.ensures,
-  ap length c.readers-readers.ensures,
-)
+short-here c = omega (arith, c.loop-index-test.true, c.len.ensures, ap length c.readers-readers.ensures)
 
 -- the way to it is light
 light-here : (c : After-reader_weight) → c.reader_weight.result ≤ 2 ^ 35
@@ -96,14 +83,7 @@ loop-index-preserved c =
     let node : ℕ = c.args.node in
     let index : ℕ = c.loop-index.index in
     let short : index < length (readers plan level node) =
-    omega (
-      arith,
-      c.loop-index-test.true,
-      c.loop-index.auto.index-end,
-      c.len.ensures,
-      ap length c.readers-readers.ensures,
-    )
-    in
+    omega (arith, c.loop-index-test.true, c.len.ensures, ap length c.readers-readers.ensures) in
     let held = reader-held plan level node index c.plan_is_sound.ensures.matched c.requires.level c.requires.node short
     in
     let its = c.loop-index.self-inside in

@@ -23,8 +23,7 @@ returns-clause-exact c = λ plan at.
     let place : c.index.result.now + c.args.index
     ≡ place_in c.args.self.now (c.args.node * levels_of plan) (rung_at c.args.level c.args.index) = omega (arith, first)
     in
-    ap (λ n. (n, c.index-2.result.now)) place
-    ∙ ap (λ n. (place_in c.args.self.now (c.args.node * levels_of plan) (rung_at c.args.level c.args.index), n)) end
+    rw (place, end)
 
 pub returns-clause-order : goal.returns-clause-order
 returns-clause-order c =
