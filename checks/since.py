@@ -6,7 +6,8 @@ A function's answers are of then where a function of its name stood in any crate
 its crate had one of its name. Another one is of then too where the text is much the same: at least
 SHARE (one in three, if none is given) of its runs of four words stand in one that the crates had.
 The heads of lemma files, with their imports, all count as of then. So what a later commit says
-more fully, or proves anew under an old name, is of then as well.
+more fully, or proves anew under an old name, is of then as well; and a new lemma in the place of an
+old one counts as since. It is an estimate, which depends on SHARE.
 """
 import collections
 import os

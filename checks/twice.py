@@ -2,7 +2,8 @@
 """Lists lemmas that two files state with the same words, whatever they call their variables: one
 of them should stand in the specs/ of the lowest crate that both stand on. Run it at the top of the
 repository; it ends with status 1 where it finds some. What is said otherwise it doesn't see: facts
-in another order, or a predicate in place of what it means.
+in another order, a predicate in place of what it means, or a statement that has none of the words
+of SAYS.
 """
 import collections
 import pathlib
