@@ -1,7 +1,7 @@
 use Rattle.std.proofs.Common.{◌∙◌, ◌<◌, ℕ, get_or, length, arith}
 use Rattle.std.proofs.lemmas.List.{take_all}
 use Rattle.region_plan.proofs.Rows.{length-containing}
-use Rattle.region_plan.proofs.Filling.{its_weight, next_free, next_within, one_filled}
+use Rattle.region_plan.proofs.Filling.{its_weight, next_free, next_within, reader_written}
 use Rattle.region_plan.proofs.Gathering.{cluster_counted, one_counted, one_skipped}
 use Rattle.region_plan.proofs.readers.fill_cluster.Goals as goal
 use Rattle.region_plan.proofs.readers.fill_cluster.Goals.{then-v-taken, else-v-taken}
@@ -33,7 +33,7 @@ overflow_add-taken c =
     let m : ℕ = get_or c.nodes-members.result.now c.loop-place.place 0 in
     omega (
       arith,
-      c.loop-place.invariant.filled.within m c.if-v-taken.true,
+      c.loop-place.invariant.filled.numbers.within m c.if-v-taken.true,
       length-containing c.args.clusters.now m,
       c.requires.few,
     )
@@ -50,7 +50,7 @@ loop-place-preserved c = elim c.if-v-taken.branch [
         counted = one_counted c.nodes-members.result.now c.args.taken.now c.loop-place.taken c.loop-place.place
             c.loop-place-test.true c.loop-place.invariant.counted
             (rw c.nodes-members.ensures.members c.nodes-members.ensures.ascending) node;
-        filled = one_filled c.requires.room c.loop-place.auto.taken c.loop-place.invariant.filled
+        filled = reader_written c.requires.room c.loop-place.auto.taken c.loop-place.invariant.filled
             (c.loop-place.auto.readers ∙ c.requires.readers) (c.loop-place.auto.weights ∙ c.requires.weights) m node
             free.0 c.args.number (get_or c.weights-inside.result.now c.loop-place.place 0) free.1
             (its_weight c.args.clusters.now c.args.number c.loop-place.place c.nodes-members.ensures.members

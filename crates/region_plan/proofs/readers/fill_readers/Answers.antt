@@ -1,12 +1,12 @@
 use Rattle.std.proofs.Common.{◌≡◌, ◌∙◌, ap, length, sym, arith}
 use Rattle.std.specs.Prelude.{slice_index}
-use Rattle.region_plan.proofs.Filling.{none_filled, table_made}
+use Rattle.region_plan.proofs.Filling.{none_written, table_made}
 use Rattle.region_plan.proofs.readers.fill_readers.Goals as goal
 
 pub loop-number-init : goal.loop-number-init
 loop-number-init c = record {
   counts = c.requires.none;
-  filled = none_filled c.args.clusters.now c.args.starts.now c.args.taken.now c.args.readers.now c.args.weights.now
+  filled = none_written c.args.clusters.now c.args.starts.now c.args.taken.now c.args.readers.now c.args.weights.now
       c.requires.none;
 }
 
