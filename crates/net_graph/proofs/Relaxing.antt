@@ -61,17 +61,16 @@ module _ (arc : Arc) (x : ℕ) (unsettled : List Bool) (old : List (Option ℕ))
     cause = λ v w here. elim (cases_eq v arc.target) [
       | inl same ↦ inr (record {
         by = arc.weight;
-        arc = subst (λ i. Contains (arc ∷ []) (make_arc i arc.weight)) (sym same) (first arc []);
+        arc = rw same (first arc []);
         waits = ap (among unsettled) same ∙ waits;
         sum = same_Some w (x + arc.weight) (sym here ∙ ap (at_node lowered) same ∙ here_now);
       })
       | inr other ↦ inl (sym (other_now v other) ∙ here)
     ];
     falls = λ v w h. elim (cases_eq v arc.target) [
-      | inl same ↦ subst (λ o. IsAtMost o w) (sym (ap (at_node lowered) same ∙ here_now))
-          (lighter_falls (x + arc.weight) w (at_node old arc.target) lighter
-          (subst (λ i. IsAtMost (at_node old i) w) same h))
-      | inr other ↦ subst (λ o. IsAtMost o w) (sym (other_now v other)) h
+      | inl same ↦ rw (same, here_now)
+          (lighter_falls (x + arc.weight) w (at_node old arc.target) lighter (rw same at h))
+      | inr other ↦ rw (other_now v other) h
     ];
     reached = λ v c has v_waits. elim (first_or_later (make_arc v c) arc [] has) [
       | inl same ↦ subst (λ (a : Arc). IsAtMost (at_node lowered a.target) (x + a.weight)) same
@@ -82,9 +81,8 @@ module _ (arc : Arc) (x : ℕ) (unsettled : List Bool) (old : List (Option ℕ))
         (make_waiting w v) pushed
         (later (make_waiting w v) (make_waiting (x + arc.weight) arc.target) waited has);
     joined = λ v w here. elim (cases_eq v arc.target) [
-      | inl same ↦ inr (subst (λ i. Contains waiting (make_waiting i v))
-          (sym (same_Some w (x + arc.weight) (sym here ∙ ap (at_node lowered) same ∙ here_now)))
-          (subst (λ i. Contains waiting (make_waiting (x + arc.weight) i)) (sym same) joins))
+      | inl same ↦ inr (rw (same, same_Some w (x + arc.weight) (sym here ∙ ap (at_node lowered) same ∙ here_now))
+          joins)
       | inr other ↦ inl (sym (other_now v other) ∙ here)
     ];
     since = λ w v has. elim (first_or_later (make_waiting w v) (make_waiting (x + arc.weight) arc.target) waited
@@ -93,10 +91,7 @@ module _ (arc : Arc) (x : ℕ) (unsettled : List Bool) (old : List (Option ℕ))
           | inl is ↦
               let w_is : x + arc.weight ≡ w = ap (λ (u : Waiting). u.0.0) is in
               let v_is : arc.target ≡ v = ap (λ (u : Waiting). u.0.1) is in
-              inr (
-                omega (arith, in_unsettled, v_is),
-                subst (λ o. IsAtMost o w) (sym (ap (at_node lowered) (sym v_is) ∙ here_now)) (omega (arith, w_is)),
-              )
+              inr (omega (arith, in_unsettled, v_is), rw (← v_is, here_now) (omega (arith, w_is)))
           | inr before ↦ inl before
         ];
   }

@@ -96,8 +96,7 @@ search_begins network allowed root positive count at_root =
     record {
       nodes = count;
       count = length-set (replicate n None) root (Some 0) ∙ length-replicate n None;
-      start = subst (λ c. IsAtMost c 0) (sym (get_or-set_same (replicate n None) root (Some 0) None below))
-          (omega arith);
+      start = rw (get_or-set_same (replicate n None) root (Some 0) None below) (omega arith);
       inner = λ v h. h;
       settled = λ v h k. absurd (true_is_not_false h k);
       sound = λ v w here. let r = only_root n root v here in
@@ -156,24 +155,19 @@ module _ {network : Network} {inside : ℕ → Bool} {root : ℕ} {unsettled : L
           | inl same ↦
               let w_is : best.weight ≡ w = same_Some best.weight w
               (sym lightest.weighs ∙ sym (ap (at_node weights) same) ∙ before) in
-              let from : Joins network.edges best.node v c = subst (λ i. Joins network.edges i v c) same joined in
+              let from : Joins network.edges best.node v c = rw same at joined in
               elim (cases_Bool (among (set unsettled best.node false) v)) [
-                | inl waits ↦ subst (λ i. IsAtMost (at_node new v) (i + c)) w_is
-                    (r.reached v c (of_node.whole v c from) waits)
-                | inr gone ↦ subst (λ o. IsAtMost o (w + c)) (sym (r.kept v gone))
-                    (elim (settled_now unsettled best.node v gone) [
-                      | inl itself ↦ subst (λ o. IsAtMost o (w + c))
-                          (sym (ap (at_node weights) itself ∙ lightest.weighs)) (omega (arith, w_is))
-                      | inr old ↦
-                          let y = so_far.settled v inner old in
-                          subst (λ o. IsAtMost o (w + c)) (sym y.1)
-                          (omega (
-                            arith,
-                            w_is,
-                            so_far.lightest v best.node y.0 best.weight old y.1 lightest.waits
-                                lightest.weighs,
-                          ))
-                    ])
+                | inl waits ↦ rw (← w_is) (r.reached v c (of_node.whole v c from) waits)
+                | inr gone ↦ rw (r.kept v gone) (elim (settled_now unsettled best.node v gone) [
+                  | inl itself ↦ rw (itself, lightest.weighs) (omega (arith, w_is))
+                  | inr old ↦
+                      let y = so_far.settled v inner old in
+                      rw y.1 (omega (
+                        arith,
+                        w_is,
+                        so_far.lightest v best.node y.0 best.weight old y.1 lightest.waits lightest.weighs,
+                      ))
+                ])
               ]
         ]
 
@@ -218,8 +212,7 @@ module _ {network : Network} {inside : ℕ → Bool} {root : ℕ} {unsettled : L
             | inr through ↦
                 let still = unsettled_still unsettled best.node v (among_below unsettled best.node lightest.waits)
                 through.waits in
-                subst (λ i. IsWalkWeight network.edges inside root v i) (sym through.sum)
-                (walk_further network.edges inside root best.node v best.weight through.by
+                rw through.sum (walk_further network.edges inside root best.node v best.weight through.by
                 (so_far.sound best.node best.weight lightest.weighs) (so_far.inner v still.1)
                 (of_node.sound v through.by through.arc))
           ];
@@ -297,13 +290,11 @@ pub queue_begins : {n : ℕ} (allowed : List Bool) (root : ℕ) {waiting : List 
 queue_begins {n} allowed root {waiting} count at_root pushed = record {
   below = λ w v has. let r = only w v has in omega (arith, among_below allowed root at_root, r.1);
   whole = λ v w waits here. let r = only_root n root v here in
-      subst (λ i. Contains waiting (make_waiting i v)) (sym r.1)
-      (subst (λ i. Contains waiting (make_waiting 0 i)) (sym r.0)
-      (Contains-permutation (make_waiting 0 root ∷ []) waiting (make_waiting 0 root) pushed (0, omega arith, refl)));
+      rw (r.0, r.1)
+      (Contains-permutation (make_waiting 0 root ∷ []) waiting (make_waiting 0 root) pushed (0, omega arith, refl));
   light = λ w v has waits. let r = only w v has in
-      subst (λ i. IsAtMost (at_node (set (replicate n None) root (Some 0)) i) w) r.1
-      (subst (λ o. IsAtMost o w) (sym (get_or-set_same (replicate n None) root (Some 0) None
-      (omega (arith, length-replicate {A = Option ℕ} n None, among_below allowed root at_root, count)))) (omega arith));
+      rw (← r.1, get_or-set_same {A = Option ℕ} (replicate n None) root (Some 0) None
+      (omega (arith, length-replicate {A = Option ℕ} n None, among_below allowed root at_root, count))) (omega arith);
 }
   where
     only : (w v : ℕ) → Contains waiting (make_waiting w v) → (0 ≡ w) × (root ≡ v)

@@ -73,8 +73,7 @@ module _ {unsettled : List Bool} {old now : List Waiting} (rest : List Waiting) 
   next_is best node_is weight_is below waits bound = record {
     below = omega (arith, node_is);
     waits = ap (among unsettled) node_is ∙ waits;
-    there = subst (λ i. Contains old (make_waiting i best.node)) (sym weight_is)
-        (subst (λ i. Contains old (make_waiting weight i)) (sym node_is) taken_waited);
+    there = rw (weight_is, node_is) taken_waited;
     lightest = λ w v has v_waits.
         let light : weight ≤ w = no_lighter (make_waiting weight node) now bound (make_waiting w v)
         (so_far.kept w v has v_waits) in
