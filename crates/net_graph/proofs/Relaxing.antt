@@ -104,37 +104,16 @@ relaxed_more : {arcs : List Arc} {arc : Arc} {x : ℕ} {unsettled : List Bool} {
 relaxed_more {arcs} {arc} {x} p q = record {
   count = q.count ∙ p.count;
   kept = λ v settled. q.kept v settled ∙ p.kept v settled;
-  cause = λ v w here. elim (q.cause v w here) [
-    | inl before ↦ elim (p.cause v w before) [
-      | inl first ↦ inl first
-      | inr through ↦ inr (record {
-        by = through.by;
-        waits = through.waits;
-        sum = through.sum;
-        arc = Contains-append_left arcs (arc ∷ []) (make_arc v through.by) through.arc;
-      })
-    ]
-    | inr through ↦ inr (record {
-      by = through.by;
-      waits = through.waits;
-      sum = through.sum;
-      arc = Contains-append_right arcs (arc ∷ []) (make_arc v through.by) through.arc;
-    })
-  ];
+  cause = λ v w here.
+      grind (arith, q.cause v w here, p.cause v w, Contains-append_left arcs (arc ∷ []), Contains-append_right arcs (arc ∷ []));
   falls = λ v w h. q.falls v w (p.falls v w h);
   reached = λ v c has waits. elim (Contains-append_cases arcs (arc ∷ []) (make_arc v c) has) [
     | inl earlier ↦ q.falls v (x + c) (p.reached v c earlier waits)
     | inr last ↦ q.reached v c last waits
   ];
   wait_on = λ w v has. q.wait_on w v (p.wait_on w v has);
-  joined = λ v w here. elim (q.joined v w here) [
-    | inr now ↦ inr now
-    | inl before ↦ elim (p.joined v w before) [ inl first ↦ inl first | inr then ↦ inr (q.wait_on w v then) ]
-  ];
-  since = λ w v has. elim (q.since w v has) [
-    | inr now ↦ inr now
-    | inl before ↦ elim (p.since w v before) [ inl first ↦ inl first | inr then ↦ inr (then.0, q.falls v w then.1) ]
-  ];
+  joined = λ v w here. grind (arith, q.joined v w here, p.joined v w, q.wait_on w v);
+  since = λ w v has. grind (arith, q.since w v has, p.since w v, q.falls v w);
 }
 
 -- one more arc of a list

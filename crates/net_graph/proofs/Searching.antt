@@ -62,8 +62,7 @@ true_is_not_false h k = let both : true ≡ false = sym h ∙ k in cc
 none_there : (n v : ℕ) {w : ℕ} → get_or (replicate n None) v None ≡ Some w → ⊥
 none_there n v {w} here = elim (cases_lt v n) [
   | inl below ↦ none-some w (sym (get_or-replicate n v None None below) ∙ here)
-  | inr past ↦ none-some w (sym (get_or_past (replicate n None) v None
-      (omega (arith, length-replicate {A = Option ℕ} n None))) ∙ here)
+  | inr past ↦ grind (arith, get_or_past, length-replicate)
 ]
 
 -- the beginning, where the root alone has a weight
@@ -112,10 +111,7 @@ search_begins network allowed root positive count at_root =
 -- settling a node
 settled_now : (unsettled : List Bool) (x v : ℕ) → among (set unsettled x false) v ≡ false → (v ≡ x)
     ⊎ (among unsettled v ≡ false)
-settled_now unsettled x v h = elim (cases_eq v x) [
-  | inl same ↦ inl same
-  | inr other ↦ inr (sym (get_or-set_other unsettled x v false false other) ∙ h)
-]
+settled_now unsettled x v h = grind (arith, get_or-set_other)
 
 unsettled_still : (unsettled : List Bool) (x v : ℕ) → x < length unsettled → among (set unsettled x false) v ≡ true
     → (v ≢ x) × (among unsettled v ≡ true)
@@ -176,14 +172,14 @@ module _ {network : Network} {inside : ℕ → Bool} {root : ℕ} {unsettled : L
     lightest_now u v x y is_settled here waits there =
         let before : at_node weights u ≡ Some x = sym (r.kept u is_settled) ∙ here in
         let still = unsettled_still unsettled best.node v (among_below unsettled best.node lightest.waits) waits in
-        let light : x ≤ best.weight = elim (settled_now unsettled best.node u is_settled) [
-          | inl same ↦ omega (
-            arith,
-            same_Some best.weight x
-                (sym lightest.weighs ∙ sym (ap (at_node weights) same) ∙ before),
-          )
-          | inr old ↦ so_far.lightest u best.node x best.weight old before lightest.waits lightest.weighs
-        ] in
+        let light : x ≤ best.weight =
+        grind (
+          arith,
+          settled_now unsettled best.node u is_settled,
+          lightest.weighs,
+          so_far.lightest u best.node x best.weight,
+          lightest.waits,
+        ) in
         elim (r.cause v y there) [
           | inl old ↦ omega (arith, light, lightest.lightest v y still.1 old)
           | inr through ↦ omega (arith, light, through.sum)
@@ -293,8 +289,11 @@ queue_begins {n} allowed root {waiting} count at_root pushed = record {
       rw (r.0, r.1)
       (Contains-permutation (make_waiting 0 root ∷ []) waiting (make_waiting 0 root) pushed (0, omega arith, refl));
   light = λ w v has waits. let r = only w v has in
-      rw (← r.1, get_or-set_same {A = Option ℕ} (replicate n None) root (Some 0) None
-      (omega (arith, length-replicate {A = Option ℕ} n None, among_below allowed root at_root, count))) (omega arith);
+      rw (
+        ← r.1,
+        get_or-set_same {A = Option ℕ} (replicate n None) root (Some 0) None
+            (omega (arith, length-replicate {A = Option ℕ} n None, among_below allowed root at_root, count)),
+      ) (omega arith);
 }
   where
     only : (w v : ℕ) → Contains waiting (make_waiting w v) → (0 ≡ w) × (root ≡ v)
