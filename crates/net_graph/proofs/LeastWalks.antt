@@ -69,11 +69,7 @@ reaches-sound edges inside v (suc k) m u e =
 
 leads_on-true : (goes : ℕ → ℕ → Bool) {m : ℕ} (u to w rest : ℕ) → m ≡ w + rest → goes rest to ≡ true
     → leads_on goes m u u to w ≡ true
-leads_on-true goes {m} u to w rest sum e =
-    let le : nat_le w m ≡ true = grind (arith, nat_tests) in
-    let left : m - w ≡ rest = omega arith in
-    and_from (u == u) (nat_le w m && goes (m - w) to) (eq-eqb u u refl)
-    (and_from (nat_le w m) (goes (m - w) to) le (rw left e))
+leads_on-true goes {m} u to w rest sum e = grind (arith, rest, eq-eqb u u refl)
 
 -- an edge of the list that joins the nodes passes the test
 edge_passes : (edges : List Edge) (goes : ℕ → ℕ → Bool) {m : ℕ} (u x w rest : ℕ) → Joins edges u x w → m ≡ w + rest

@@ -88,17 +88,7 @@ note-row u (note ∷ notes) x has = elim (first_or_later (noted u x) note notes 
 -- what one edge notes
 edge-noted : (edge : Edge) (u v w : ℕ) → Contains (notes_by edge) (note_of u v w)
     → (u ≢ v) × ((edge ≡ make_edge u v w) ⊎ (edge ≡ make_edge v u w))
-edge-noted edge u v w has = elim (cases_eq edge.a edge.b) [
-  | inl same ↦ nothing_there (note_of u v w) (rw (loop-notes edge same) at has)
-  | inr apart ↦ elim (first_or_later (note_of u v w) (note_of edge.a edge.b edge.weight)
-      (note_of edge.b edge.a edge.weight ∷ []) (rw (edge-notes edge apart) at has)) [
-        | inl is ↦ (grind arith, inl (grind arith))
-        | inr last ↦ elim (first_or_later (note_of u v w) (note_of edge.b edge.a edge.weight) [] last) [
-          | inl is ↦ (grind arith, inr (grind arith))
-          | inr none ↦ nothing_there (note_of u v w) none
-        ]
-      ]
-]
+edge-noted edge u v w has = grind (arith, cases_eq edge.a edge.b)
 
 -- ---- the row of a node has the arcs by which it is joined
 

@@ -121,6 +121,4 @@ pub relaxed_next : (arcs : List Arc) (i : ℕ) (d : Arc) {x : ℕ} {unsettled : 
     {waited between waiting : List Waiting} → i < length arcs → IsRelaxed (take i arcs) x unsettled old mid waited
     between → IsRelaxed (get_or arcs i d ∷ []) x unsettled mid new between waiting
     → IsRelaxed (take (i + 1) arcs) x unsettled old new waited waiting
-relaxed_next arcs i d below p q =
-    rw (take_more arcs i d below)
-    (relaxed_more p q)
+relaxed_next arcs i d below p q = grind (arith, take_more arcs i d below, relaxed_more p q)

@@ -1,7 +1,6 @@
 -- Which nodes wait, as the queue goes on.
-use Rattle.std.proofs.Common.{◌≡◌, ◌⊎◌, ℕ, ◌<◌, ◌≤◌, Bool, true, false, List, [], ◌∷◌, length, sym, ◌∙◌, ap, subst, inl, inr, arith, cond, lt-ltb}
-use Rattle.std.specs.Prelude.{Contains, IsPermutation, nat_lt, ◌==◌}
-use Rattle.std.specs.declared.cmp.Ordering.TheVariants.{Less, Equal, Greater}
+use Rattle.std.proofs.Common.{◌≡◌, ◌⊎◌, ℕ, ◌<◌, ◌≤◌, Bool, true, false, List, [], ◌∷◌, length, sym, ◌∙◌, ap, subst, inl, inr, arith}
+use Rattle.std.specs.Prelude.{Contains, IsPermutation}
 use Rattle.std.specs.BinaryHeap.{IsUpperBound}
 use Rattle.std.proofs.lemmas.List.Sorted.{Contains-permutation, IsPermutation-sym}
 use Rattle.net_graph.specs.declared.queue.Candidate.{Candidate}
@@ -18,13 +17,7 @@ pub record StillWait (unsettled : List Bool) (old now : List Waiting) : Type 0 w
   pub fewer : (w v : ℕ) → Contains now (make_waiting w v) → Contains old (make_waiting w v)
 
 no_less : (a b : ℕ) (o : Ordering) → is_lt (ordering_then (nat_cmp b a) o) ≡ false → a ≤ b
-no_less a b o h = elim (cases_lt b a) [
-  | inl less ↦ absurd (
-      let lt : nat_lt b a ≡ true = lt-ltb b a less in
-      let both : true ≡ false = subst (λ t. is_lt (ordering_then (cond t Less (cond (b == a) Equal Greater)) o) ≡ false)
-      lt h in cc)
-  | inr more ↦ more
-]
+no_less a b o h = grind (arith, cases_lt b a)
 
 -- nothing is lighter than the greatest of a queue
 no_lighter : (x : Waiting) (xs : List Waiting) → IsUpperBound lighter_first x xs → (y : Waiting) → Contains xs y
