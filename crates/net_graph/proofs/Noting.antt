@@ -109,13 +109,7 @@ from_edge (edge ∷ edges) note has =
     ]
 
 joined : (edges : List Edge) (u v w : ℕ) → Contains (notes_of edges) (note_of u v w) → JoinsOther edges u v w
-joined edges u v w has =
-    let e = from_edge edges (note_of u v w) has in
-    let is = edge-noted e.0 u v w e.2 in
-    elim is.1 [
-      | inl way ↦ (is.0, inl (subst (Contains edges) way e.1))
-      | inr way ↦ (is.0, inr (subst (Contains edges) way e.1))
-    ]
+joined edges u v w has = grind (arith, from_edge edges (note_of u v w) has, edge-noted)
 
 of_edge : (edges : List Edge) {edge : Edge} (note : Note) → Contains edges edge → Contains (notes_by edge) note
     → Contains (notes_of edges) note
@@ -137,14 +131,7 @@ in_notes edges u v w apart (inr h) = of_edge edges (note_of u v w) h
 -- a node has no more arcs than there are edges
 pub few_arcs : (edges : List Edge) (u : ℕ) → length (row_of u (notes_of edges)) ≤ length edges
 few_arcs [] u = omega arith
-few_arcs (edge ∷ edges) u =
-    omega (
-      arith,
-      ap (length {A = Arc}) (row-cons u edge edges),
-      length-append (row_of u (notes_by edge)) (row_of u (notes_of edges)),
-      few-arcs u edge,
-      few_arcs edges u,
-    )
+few_arcs (edge ∷ edges) u = grind (arith, few_arcs edges u, row-cons, length-append, few-arcs)
 
 pub row_is : (edges : List Edge) (u : ℕ) → AreArcsBy (JoinsOther edges) u (row_of u (notes_of edges))
 row_is edges u v w = (

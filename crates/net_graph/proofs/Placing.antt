@@ -1,5 +1,5 @@
 -- The arcs of each node, while they are counted and written into their places.
-use Rattle.std.proofs.Common.{◌≡◌, ◌≢◌, ℕ, ◌+◌, ◌<◌, List, [], ◌∷◌, ◌++◌, length, get_or, set, take, drop, sym, ◌∙◌, ap, inl, inr, arith, append_assoc}
+use Rattle.std.proofs.Common.{◌≡◌, ◌≢◌, ℕ, ◌+◌, ◌<◌, List, [], ◌∷◌, ◌++◌, length, get_or, set, take, drop, sym, ◌∙◌, ap, arith, append_assoc}
 use Rattle.std.proofs.lemmas.Bool.{cases_eq}
 use Rattle.std.proofs.lemmas.List.{get_or-set_same, get_or-set_other, length-append, length-set, take-append-drop, append-nil}
 use Rattle.std.proofs.Math.Seq.{get_or-append_seam}
@@ -20,32 +20,24 @@ use Rattle.net_graph.specs.RowLaws.{one_filled, place_short}
 
 row-push : {u : ℕ} (notes : List Note) (note : Note) → u ≡ note.from → length (row_of u (notes ++ note ∷ [])) ≡ length
     (row_of u notes) + 1
-row-push {u} notes note is =
-    ap (length {A = Arc}) (row-append u notes (note ∷ [])
-    ∙ ap (λ arcs. row_of u notes ++ arcs) (ap (λ v. row_of v (note ∷ [])) is ∙ row-own note []))
-    ∙ length-append (row_of u notes) (note.arc ∷ [])
+row-push {u} notes note is = grind (arith, row-append, row-own, length-append)
 
 row-passed : {u : ℕ} (notes : List Note) (note : Note) → (u ≡ note.from → ⊥)
     → row_of u (notes ++ note ∷ []) ≡ row_of u notes
-row-passed {u} notes note other =
-    row-append u notes (note ∷ []) ∙ ap (λ arcs. row_of u notes ++ arcs) (row-other note [] other)
-    ∙ append-nil (row_of u notes)
+row-passed {u} notes note other = grind (arith, row-append, row-other, append-nil)
 
 -- one note more is counted
 pub one_counted : (notes : List Note) (note : Note) (counts : List ℕ) → note.from < length counts
     → AreCounts notes counts → AreCounts (notes ++ note ∷ []) (set counts note.from (get_or counts note.from 0 + 1))
-one_counted notes note counts below before v short =
-    let old : v < length counts = omega (arith, short, length-set counts note.from (get_or counts note.from 0 + 1)) in
-    elim (cases_eq v note.from) [
-      | inl same ↦
-          ap (λ u. get_or (set counts note.from (get_or counts note.from 0 + 1)) u 0) same
-          ∙ get_or-set_same counts note.from (get_or counts note.from 0 + 1) 0 below
-          ∙ ap (λ n. n + 1) (ap (λ u. get_or counts u 0) (sym same) ∙ before v old)
-          ∙ sym (row-push notes note same)
-      | inr other ↦
-          get_or-set_other counts note.from v (get_or counts note.from 0 + 1) 0 other ∙ before v old
-          ∙ ap (length {A = Arc}) (sym (row-passed notes note other))
-    ]
+one_counted notes note counts below before v short = grind (
+  arith,
+  length-set counts note.from (get_or counts note.from 0 + 1),
+  cases_eq v note.from,
+  get_or-set_same counts note.from (get_or counts note.from 0 + 1) 0 below,
+  row-push,
+  get_or-set_other,
+  row-passed,
+)
 
 -- the notes of an edge that is no loop, one behind the other
 pub two_more : (edges : List Edge) (i : ℕ) (d : Edge) → i < length edges
@@ -53,11 +45,7 @@ pub two_more : (edges : List Edge) (i : ℕ) (d : Edge) → i < length edges
     ≡ (notes_of (take i edges)
     ++ note_of (get_or edges i d).a (get_or edges i d).b (get_or edges i d).weight ∷ [])
     ++ note_of (get_or edges i d).b (get_or edges i d).a (get_or edges i d).weight ∷ []
-two_more edges i d below apart =
-    let e : Edge = get_or edges i d in
-    notes-push edges i d below
-    ∙ ap (λ xs. notes_of (take i edges) ++ xs) (edge-notes e apart)
-    ∙ sym (append_assoc (notes_of (take i edges)) (note_of e.a e.b e.weight ∷ []) (note_of e.b e.a e.weight ∷ []))
+two_more edges i d below apart = grind (arith, notes-push edges i d below, edge-notes, append_assoc)
 
 pub none_more : (edges : List Edge) (i : ℕ) (d : Edge) → i < length edges
     → (get_or edges i d).a ≡ (get_or edges i d).b → notes_of (take (i + 1) edges) ≡ notes_of (take i edges)
@@ -68,9 +56,7 @@ none_more edges i d below same =
 
 pub room_made : {n : ℕ} (notes : List Note) {counts starts : List ℕ} → length counts ≡ n → AreCounts notes counts
     → AreStarts counts starts → HaveRoom n notes starts
-room_made {n} notes {counts} {starts} whole counted sums = places_made n (λ v. length (row_of v notes)) counts starts
-    whole
-    counted sums
+room_made {n} notes {counts} {starts} whole counted sums = grind (arith, places_made)
 
 -- ---- an edge that is no loop
 

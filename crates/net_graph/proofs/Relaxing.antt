@@ -16,10 +16,7 @@ use Rattle.net_graph.proofs.Elements.{first, first_or_later, later}
 use Rattle.std.proofs.lemmas.Option.{same_Some}
 
 pub among_below : (allowed : List Bool) (v : ℕ) → among allowed v ≡ true → v < length allowed
-among_below allowed v h = elim (cases_lt v (length allowed)) [
-  | inl below ↦ below
-  | inr past ↦ let both : false ≡ true = sym (get_or_past allowed v false past) ∙ h in cc
-]
+among_below allowed v h = grind (arith, cases_lt v (length allowed), get_or_past)
 
 lighter_falls : (through w : ℕ) (weight : Option ℕ) → IsLighter through weight → IsAtMost weight w → through ≤ w
 lighter_falls through w None lighter h = absurd h
@@ -67,11 +64,7 @@ module _ (arc : Arc) (x : ℕ) (unsettled : List Bool) (old : List (Option ℕ))
       })
       | inr other ↦ inl (sym (other_now v other) ∙ here)
     ];
-    falls = λ v w h. elim (cases_eq v arc.target) [
-      | inl same ↦ rw (same, here_now)
-          (lighter_falls (x + arc.weight) w (at_node old arc.target) lighter (rw same at h))
-      | inr other ↦ rw (other_now v other) h
-    ];
+    falls = λ v w h. grind (arith, cases_eq v arc.target, here_now, lighter_falls, other_now);
     reached = λ v c has v_waits. elim (first_or_later (make_arc v c) arc [] has) [
       | inl same ↦ subst (λ (a : Arc). IsAtMost (at_node lowered a.target) (x + a.weight)) same
           (subst (λ o. IsAtMost o (x + arc.weight)) (sym here_now) (omega arith))
@@ -88,10 +81,7 @@ module _ (arc : Arc) (x : ℕ) (unsettled : List Bool) (old : List (Option ℕ))
     since = λ w v has. elim (first_or_later (make_waiting w v) (make_waiting (x + arc.weight) arc.target) waited
         (Contains-permutation waiting (make_waiting (x + arc.weight) arc.target ∷ waited) (make_waiting w v)
         (IsPermutation-sym (make_waiting (x + arc.weight) arc.target ∷ waited) waiting pushed) has)) [
-          | inl is ↦
-              let w_is : x + arc.weight ≡ w = ap (λ (u : Waiting). u.0.0) is in
-              let v_is : arc.target ≡ v = ap (λ (u : Waiting). u.0.1) is in
-              inr (omega (arith, in_unsettled, v_is), rw (← v_is, here_now) (omega (arith, w_is)))
+          | inl is ↦ grind (arith, in_unsettled, here_now)
           | inr before ↦ inl before
         ];
   }
@@ -107,10 +97,7 @@ relaxed_more {arcs} {arc} {x} p q = record {
   cause = λ v w here.
       grind (arith, q.cause v w here, p.cause v w, Contains-append_left arcs (arc ∷ []), Contains-append_right arcs (arc ∷ []));
   falls = λ v w h. q.falls v w (p.falls v w h);
-  reached = λ v c has waits. elim (Contains-append_cases arcs (arc ∷ []) (make_arc v c) has) [
-    | inl earlier ↦ q.falls v (x + c) (p.reached v c earlier waits)
-    | inr last ↦ q.reached v c last waits
-  ];
+  reached = λ v c has waits. grind (arith, Contains-append_cases arcs (arc ∷ []) (make_arc v c) has);
   wait_on = λ w v has. q.wait_on w v (p.wait_on w v has);
   joined = λ v w here. grind (arith, q.joined v w here, p.joined v w, q.wait_on w v);
   since = λ w v has. grind (arith, q.since w v has, p.since w v, q.falls v w);

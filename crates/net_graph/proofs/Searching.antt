@@ -60,10 +60,7 @@ true_is_not_false : {b : Bool} → b ≡ true → b ≡ false → ⊥
 true_is_not_false h k = let both : true ≡ false = sym h ∙ k in cc
 
 none_there : (n v : ℕ) {w : ℕ} → get_or (replicate n None) v None ≡ Some w → ⊥
-none_there n v {w} here = elim (cases_lt v n) [
-  | inl below ↦ none-some w (sym (get_or-replicate n v None None below) ∙ here)
-  | inr past ↦ grind (arith, get_or_past, length-replicate)
-]
+none_there n v {w} here = grind (arith, cases_lt, get_or-replicate, none-some, get_or_past, length-replicate)
 
 -- the beginning, where the root alone has a weight
 only_root : (n root v : ℕ) {w : ℕ} → at_node (set (replicate n None) root (Some 0)) v ≡ Some w → (v ≡ root) × (w ≡ 0)
@@ -116,9 +113,7 @@ settled_now unsettled x v h = grind (arith, get_or-set_other)
 unsettled_still : (unsettled : List Bool) (x v : ℕ) → x < length unsettled → among (set unsettled x false) v ≡ true
     → (v ≢ x) × (among unsettled v ≡ true)
 unsettled_still unsettled x v below h =
-    let other : v ≢ x = λ same. true_is_not_false (sym (ap (among (set unsettled x false)) same) ∙ h)
-    (get_or-set_same unsettled x false false below) in
-    (other, sym (get_or-set_other unsettled x v false false other) ∙ h)
+    grind (arith, get_or-set_same unsettled x false false below, true_is_not_false, get_or-set_other)
 
 count_falls : (unsettled : List Bool) (x : ℕ) → among unsettled x ≡ true
     → unsettled_count (set unsettled x false) + 1 ≡ unsettled_count unsettled
@@ -214,27 +209,15 @@ module _ {network : Network} {inside : ℕ → Bool} {root : ℕ} {unsettled : L
           ];
           closed = closed_now;
           lightest = lightest_now;
-          slack = λ v w here. elim (r.cause v w here) [
-            | inl old ↦ omega (arith, so_far.slack v w old, fallen)
-            | inr through ↦ omega (
-              arith,
-              through.sum,
-              fallen,
-              so_far.slack best.node best.weight lightest.weighs,
-              through_light v through.by through.arc,
-            )
-          ];
-          bounded = λ v w here. elim (r.cause v w here) [
-            | inl old ↦ so_far.bounded v w old
-            | inr through ↦ omega (
-              arith,
-              through.sum,
-              fallen,
-              count_positive next v through.waits,
-              so_far.slack best.node best.weight lightest.weighs,
-              through_light v through.by through.arc,
-            )
-          ];
+          slack = λ v w here.
+              grind (arith, r.cause v w here, so_far.slack best.node best.weight lightest.weighs, through_light);
+          bounded = λ v w here. grind (
+            arith,
+            r.cause v w here,
+            so_far.slack best.node best.weight lightest.weighs,
+            count_positive,
+            through_light,
+          );
         }
 
 -- the queue's next is the lightest
@@ -265,18 +248,9 @@ module _ {unsettled : List Bool} {weights : List (Option ℕ)} {waiting rest : L
         | inl before ↦ omega (arith, length-set unsettled best.node false, queue.below w v (next.fewer w v before))
         | inr now ↦ now.0
       ];
-      whole = λ v w waits here. elim (r.joined v w here) [
-        | inl before ↦
-            let still = unsettled_still unsettled best.node v next.below waits in
-            r.wait_on w v (next.kept w v (queue.whole v w still.1 before) still.1 still.0)
-        | inr now ↦ now
-      ];
-      light = λ w v has waits. elim (r.since w v has) [
-        | inl before ↦
-            let still = unsettled_still unsettled best.node v next.below waits in
-            r.falls v w (queue.light w v (next.fewer w v before) still.1)
-        | inr now ↦ now.1
-      ];
+      whole = λ v w waits here.
+          grind (arith, r.joined v w here, unsettled_still unsettled best.node v next.below waits);
+      light = λ w v has waits. grind (arith, r.since w v has, unsettled_still unsettled best.node v next.below waits);
     }
 
 -- the queue at the beginning

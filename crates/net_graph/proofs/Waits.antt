@@ -1,5 +1,5 @@
 -- Which nodes wait, as the queue goes on.
-use Rattle.std.proofs.Common.{◌≡◌, ◌⊎◌, ℕ, ◌<◌, ◌≤◌, Bool, true, false, List, [], ◌∷◌, length, sym, ◌∙◌, ap, subst, inl, inr, arith}
+use Rattle.std.proofs.Common.{◌≡◌, ◌⊎◌, ℕ, ◌<◌, ◌≤◌, Bool, true, false, List, [], ◌∷◌, length, ◌∙◌, ap, subst, inl, inr, arith}
 use Rattle.std.specs.Prelude.{Contains, IsPermutation}
 use Rattle.std.specs.BinaryHeap.{IsUpperBound}
 use Rattle.std.proofs.lemmas.List.Sorted.{Contains-permutation, IsPermutation-sym}
@@ -52,10 +52,7 @@ module _ {unsettled : List Bool} {old now : List Waiting} (rest : List Waiting) 
   -- a settled node goes
   pub settled_goes : among unsettled node ≡ false → StillWait unsettled old rest
   settled_goes gone = record {
-    kept = λ w v has waits. elim (taken_or_rest w v (so_far.kept w v has waits)) [
-      | inl same ↦ absurd (let both : true ≡ false = sym waits ∙ sym (ap (among unsettled) same) ∙ gone in cc)
-      | inr there ↦ there
-    ];
+    kept = λ w v has waits. grind (arith, so_far.kept w v has waits, taken_or_rest w v (so_far.kept w v has waits));
     fewer = rest_fewer;
   }
 
@@ -71,10 +68,8 @@ module _ {unsettled : List Bool} {old now : List Waiting} (rest : List Waiting) 
         let light : weight ≤ w = no_lighter (make_waiting weight node) now bound (make_waiting w v)
         (so_far.kept w v has v_waits) in
         omega (arith, weight_is);
-    kept = λ w v has v_waits other. elim (taken_or_rest w v (so_far.kept w v has v_waits)) [
-      | inl same ↦ absurd (other (sym same ∙ sym node_is))
-      | inr there ↦ there
-    ];
+    kept = λ w v has v_waits other.
+        grind (arith, so_far.kept w v has v_waits, taken_or_rest w v (so_far.kept w v has v_waits));
     fewer = rest_fewer;
   }
 

@@ -1,3 +1,4 @@
+use Rattle.std.proofs.Common.{arith}
 use Rattle.std.proofs.Common.{◌+◌, length, drop, get_or}
 use Rattle.std.proofs.lemmas.List.{take_all}
 use Rattle.net_graph.specs.declared.edge.Edge.{Edge}
@@ -40,9 +41,7 @@ loop-edge-preserved c =
           (edge_splits edges i no_edge c.loop-edge-test.true w.if-edge.true) c.loop-edge.invariant
           w.put_arc.ensures.taken w.put_arc.ensures.arcs w.put_arc-then-edge.ensures.taken
           w.put_arc-then-edge.ensures.arcs)
-      | else-edge w ↦
-          rw (w.taken-is, w.arcs-is, none_more edges i no_edge c.loop-edge-test.true w.if-edge.false)
-          c.loop-edge.invariant
+      | else-edge w ↦ grind (arith, none_more edges i no_edge c.loop-edge-test.true w.if-edge.false)
     ]
 
 pub returns : goal.returns
