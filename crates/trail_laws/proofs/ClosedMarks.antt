@@ -1,6 +1,6 @@
 -- The marks of a subscriber in closed form: at rest after a course, and in each phase of the move that comes next.
 use Rattle.std.proofs.lemmas.Bool.{or_parts, eqb-true}
-use Rattle.trail_laws.proofs.Links.{stop-inside, IsSound, base-low, renewed-low}
+use Rattle.trail_laws.proofs.Links.{stop-inside, IsSound, base-low, linked-push, renewed-low}
 use Rattle.std.proofs.Common.{◌≡◌, ◌≢◌, ℕ, suc, ◌<◌, ◌≤◌, Bool, true, false, cond, not, ◌==◌, ◌&&◌, ◌||◌, List, [], ◌∷◌, ◌++◌, length, map, drop, fold, refl, sym, ap, ◌∙◌, arith, length-append}
 use Rattle.std.specs.Prelude.{if◌then◌else◌, nat_le}
 use Rattle.std.proofs.lemmas.Bool.Decides.{nat_tests}
@@ -116,6 +116,14 @@ is-next {setting} {course} {node} may = record {
 -- the course after a move
 abbrev pub with_move : Course → Move → Course
 with_move course move = record course { moves = course.moves ++ move ∷ [] }
+
+pub sound-with : {setting : Setting} {course : Course} {move : Move} → IsSound setting course
+    → IsNext setting course move → IsSound setting (with_move course move)
+sound-with {setting} {course} {move} sound next = record {
+  begins = sound.begins;
+  linked = linked-push setting course.start 0 course.moves move (omega (arith, next.number)) next.from
+      (from-inside sound next) next.inside next.moving next.renewed next.weight sound.linked;
+}
 
 pub stop-with : (course : Course) (move : Move) → last_stop (with_move course move) ≡ move.to
 stop-with course move = fold-append (λ node (m : Move). m.to) course.start course.moves (move ∷ [])

@@ -20,8 +20,8 @@ use Rattle.trail_laws.proofs.ClosedMarks.{there}
 use Rattle.trail_laws.proofs.ClosedEntries.{rest_entry}
 use Rattle.trail_laws.proofs.ClosedWrites.{commits-steps, off-steps}
 use Rattle.trail_laws.proofs.Leads.{rest-there}
-use Rattle.trail_laws.proofs.Views.{rest-entries_of, rest-marks_of, sound-opening, sound-script, writes_of}
-use Rattle.trail_laws.proofs.Tells.{rest-stands, stands}
+use Rattle.trail_laws.proofs.Views.{shown, rest-entries_of, rest-marks_of, sound-opening, sound-script, writes_of}
+use Rattle.trail_laws.proofs.Tells.{rest-stands}
 use Rattle.trail_laws.proofs.Holders.{IsOld, rest-some}
 use Rattle.trail_laws.proofs.Laws.{Laws, placed}
 use Rattle.trail_laws.proofs.Lazy.{legal-lazy}
@@ -70,8 +70,8 @@ module _ (laws : Laws) (setting : Setting) (sub : ℕ) (history : History) (low 
   all = omega (arith, ap length all-committed, length-map course.moves commit_by)
 
   stood : standing setting sub history ≡ last_stop course
-  stood = ap (stands (start setting sub)) all-committed ∙ rest-stands course (start setting sub)
-      (start-kept setting (course_at (start setting sub)) (steps_in (puts_to sub history)))
+  stood = rest-stands (shown setting sub history) course
+      (start-kept setting (course_at (start setting sub)) (steps_in (puts_to sub history))) all-committed
 
   off-there : off sub history ≡ course.is_off
   off-there = laws.off_told setting sub history low legal

@@ -1,7 +1,6 @@
 -- Where a subscriber was after so many commits, the number is no lower: so the marks of a trail rise from hop to hop.
 use Rattle.std.proofs.lemmas.Bool.{cases_Bool, cases_cond, eqb-false, cases_eq, cases_lt}
-use Rattle.std.proofs.Common.{◌≡◌, ◌≢◌, ◌⊎◌, inl, inr, ℕ, ◌+◌, ◌-◌, ◌<◌, ◌≤◌, ◌^◌, ◌==◌, Bool, true, false, cond, List, [], ◌∷◌, ◌++◌, length, length-append, map, refl, sym, ap, ◌∙◌, subst, arith, eqb-true}
-use Rattle.std.proofs.lemmas.List.{length-map}
+use Rattle.std.proofs.Common.{◌≡◌, ◌≢◌, ◌⊎◌, inl, inr, ℕ, ◌+◌, ◌-◌, ◌<◌, ◌≤◌, ◌^◌, ◌==◌, Bool, true, false, cond, List, [], ◌∷◌, ◌++◌, length, map, drop, refl, sym, ap, ◌∙◌, subst, arith, eqb-true}
 use Rattle.std.proofs.lemmas.Option.{slice_get_within}
 use Rattle.node_set.specs.Ascending.{has}
 use Rattle.entry_word.specs.declared.mark.PresenceMark.{PresenceMark}
@@ -12,11 +11,12 @@ use Rattle.directory.specs.Histories.{History}
 use Rattle.directory.specs.Legal.{IsLegal}
 use Rattle.directory.specs.Standing.{Commit, commit_by, commits, number}
 use Rattle.trail_laws.specs.Trail.{GoesUp, MarksTell, MarkTells, NumbersGoUp, mark_seen}
-use Rattle.trail_laws.proofs.Links.{AreLinked, IsSound}
-use Rattle.trail_laws.proofs.ClosedMarks.{IsNext, mark_coming, mark_erasing, mark_passing, rest_mark, since_top, there, trail_mark, trail_mark-push}
-use Rattle.trail_laws.proofs.ClosedViews.{Phase, View, coming, passage, clearing, phase_commits, phase_mark, Shown}
+use Rattle.trail_laws.proofs.Links.{AreLinked, IsSound, base-low}
+use Rattle.trail_laws.proofs.ClosedMarks.{IsNext, mark_coming, mark_erasing, mark_passing, rest_mark, since_top, sound-with, stop-with, there, trail_mark, trail_mark-push}
+use Rattle.trail_laws.proofs.ClosedViews.{IsMoving, Phase, View, coming, passage, clearing, Shown}
 use Rattle.trail_laws.proofs.LinkedStops.{last-left, LeavesMark, stop_at}
-use Rattle.trail_laws.proofs.Leads.{trail-count, trail-ends, trail-linked, trail-stops, with-end, with-linked, with-stops}
+use Rattle.trail_laws.proofs.Leads.{low-with, trail-count, trail-ends, trail-linked, trail-stops, trail-with}
+use Rattle.trail_laws.proofs.Tells.{count-told}
 use Rattle.trail_laws.proofs.Laws.{HistoryView, Laws, view}
 use Rattle.trail_laws.proofs.Stops.{stop_after, stop-listed, stops-told}
 
@@ -114,75 +114,51 @@ record HasTrail (setting : Setting) (marks : ℕ → PresenceMark) (begin : ℕ)
   count : length commits ≡ number + length moves
   stops : (j : ℕ) → number ≤ j → stop_at from moves (j - number) ≡ stop_after begin commits j
 
--- the moves from a number on, which end at this node, as all moves do
-trail-of : (setting : Setting) (marks : ℕ → PresenceMark) (from number start last begin : ℕ) (moves all : List Move)
-    (commits : List Commit) → AreLinked setting from number moves → stop_at from moves (length moves) ≡ last
-    → ((i : ℕ) → stop_at from moves i ≡ stop_at start all (number + i)) → number + length moves ≡ length all
-    → start ≡ begin → commits ≡ map commit_by all
-    → ((v p w : ℕ) → v < setting.nodes → marks v ≡ Gone p w → (trail_mark moves v Empty ≡ Gone p w) × (v ≢ last))
-    → HasTrail setting marks begin commits
-trail-of setting marks from number start last begin moves all commits linked ends stops count begins commits_are told =
-    record {
-      from = from;
-      number = number;
-      moves = moves;
-      is = record {
-        linked = linked;
-        gone = λ v p w low h. (told v p w low h).0;
-        ends = λ v p w low h same. (told v p w low h).1 (same ∙ ends);
-      };
-      count = omega (arith, ap length commits_are, length-map all commit_by, count);
-      stops = λ j h.
-          let placed : number + (j - number) ≡ j = omega (arith, h) in
-          stops (j - number) ∙ (ap (stop_at start all) placed
-          ∙ stops-told begin start commits all j begins commits_are);
-    }
-
-short-trail : {setting : Setting} {course : Course} (marks : ℕ → PresenceMark) (begin : ℕ) (commits : List Commit)
-    → IsSound setting course → course.start ≡ begin → commits ≡ map commit_by course.moves
+-- the moves of a course from a number on
+trail-of : {setting : Setting} {course : Course} (marks : ℕ → PresenceMark) (begin : ℕ) (commits : List Commit)
+    (b : ℕ) → IsSound setting course → b ≤ length course.moves → course.start ≡ begin
+    → commits ≡ map commit_by course.moves
     → ((v p w : ℕ) → v < setting.nodes → marks v ≡ Gone p w
-    → (trail_mark (since_top setting course) v Empty ≡ Gone p w) × (v ≢ last_stop course))
+    → (trail_mark (drop b course.moves) v Empty ≡ Gone p w) × (v ≢ last_stop course))
     → HasTrail setting marks begin commits
-short-trail {setting} {course} marks begin commits sound =
-    trail-of setting marks _ _ course.start (last_stop course) begin _ course.moves commits (trail-linked sound)
-    (trail-ends sound) (λ i. trail-stops i sound) (trail-count sound)
+trail-of {course} marks begin commits b sound low begins commits_are told = record {
+  from = stop_at course.start course.moves b;
+  number = b;
+  moves = drop b course.moves;
+  is = record {
+    linked = trail-linked sound b low;
+    gone = λ v p w inside h. (told v p w inside h).0;
+    ends = λ v p w inside h same. (told v p w inside h).1 (same ∙ trail-ends sound b low);
+  };
+  count = omega (arith, count-told course.moves commits_are, trail-count sound b low);
+  stops = λ j h.
+      let placed : b + (j - b) ≡ j = omega (arith, h) in
+      trail-stops sound b low (j - b) ∙ (ap (stop_at course.start course.moves) placed
+      ∙ stops-told begin course.start commits course.moves j begins commits_are);
+}
 
-long-trail : {setting : Setting} {course : Course} {move : Move} (marks : ℕ → PresenceMark) (begin : ℕ)
-    (commits : List Commit) → IsSound setting course → IsNext setting course move → course.start ≡ begin
-    → commits ≡ map commit_by (course.moves ++ move ∷ [])
-    → ((v p w : ℕ) → v < setting.nodes → marks v ≡ Gone p w
-    → (trail_mark (since_top setting course ++ move ∷ []) v Empty ≡ Gone p w) × (v ≢ move.to))
-    → HasTrail setting marks begin commits
-long-trail {setting} {course}
-    {move} marks begin commits sound next = trail-of setting marks _ _ course.start move.to begin _
-    (course.moves ++ move ∷ []) commits (with-linked sound next) (with-end setting course move)
-    (λ i. with-stops move i sound) (omega (
-      arith,
-      length-append course.moves (move ∷ []),
-      length-append (since_top setting course) (move ∷ []),
-      trail-count sound,
-    ))
+-- that of a course with one move more
+long-trail : {setting : Setting} {shown : Shown} {phase : Phase} (h : IsMoving setting shown phase)
+    → shown.commits ≡ map commit_by (h.course.moves ++ h.move ∷ [])
+    → ((v p w : ℕ) → v < setting.nodes → shown.marks v ≡ Gone p w
+    → (trail_mark (since_top setting h.course ++ h.move ∷ []) v Empty ≡ Gone p w) × (v ≢ h.move.to))
+    → HasTrail setting shown.marks shown.from shown.commits
+long-trail {shown} h are told = trail-of shown.marks shown.from shown.commits _ (sound-with h.sound h.next)
+    (low-with h.move h.sound) h.begins are (rw (trail-with h.move h.sound, stop-with h.course h.move) told)
 
 has-trail : {setting : Setting} {shown : Shown} → View setting shown
     → HasTrail setting shown.marks shown.from shown.commits
 has-trail {setting} {shown} (inl h) =
-    short-trail shown.marks shown.from shown.commits h.sound h.begins h.commits_are
+    trail-of shown.marks shown.from shown.commits _ h.sound (base-low setting.top h.sound) h.begins h.commits_are
     (λ v p w low is. rest-gone setting h.course v p w (sym (h.marks_are v low) ∙ is))
-has-trail {setting} {shown} (inr h) = at_phase h.phase h.marks_are h.commits_are
-  where
-    at_phase : (phase : Phase)
-        → ((v : ℕ) → v < setting.nodes → shown.marks v ≡ phase_mark setting h.course h.move phase v)
-        → shown.commits ≡ phase_commits h.course h.move phase → HasTrail setting shown.marks shown.from shown.commits
-    at_phase (coming written) are c =
-        short-trail shown.marks shown.from shown.commits h.sound h.begins c
-        (λ v p w low is. let rest = coming-gone setting h.course h.move v p w (sym (are v low) ∙ is) in
-        (rest.0, rest.1))
-    at_phase passage are c =
-        long-trail shown.marks shown.from shown.commits h.sound h.next h.begins c
-        (λ v p w low is. passing-gone v p w h.next (sym (are v low) ∙ is))
-    at_phase (clearing erased purged) are c =
-        long-trail shown.marks shown.from shown.commits h.sound h.next h.begins c
-        (λ v p w low is. clearing-gone purged v p w h.next (sym (are v low) ∙ is))
+has-trail {setting} {shown} (inr (coming written, h)) =
+    trail-of shown.marks shown.from shown.commits _ h.sound (base-low setting.top h.sound) h.begins h.commits_are
+    (λ v p w low is. let rest = coming-gone setting h.course h.move v p w (sym (h.marks_are v low) ∙ is) in
+    (rest.0, rest.1))
+has-trail (inr (passage, h)) = long-trail h h.commits_are
+    (λ v p w low is. passing-gone v p w h.next (sym (h.marks_are v low) ∙ is))
+has-trail (inr (clearing erased purged, h)) = long-trail h h.commits_are
+    (λ v p w low is. clearing-gone purged v p w h.next (sym (h.marks_are v low) ∙ is))
 
 -- where a subscriber was after so many commits, the number is no lower, and that of a Gone is higher
 pub stop-goes_up : Laws → MarksTell → {setting : Setting} {sub : ℕ} (history : History) → setting.nodes ≤ 2 ^ 16

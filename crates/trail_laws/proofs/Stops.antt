@@ -1,14 +1,14 @@
 -- Where the commits of a subscriber lead, and where each begins.
-use Rattle.trail_laws.proofs.ClosedMarks.{from-inside, IsNext}
+use Rattle.trail_laws.proofs.ClosedMarks.{sound-with}
 use Rattle.std.proofs.Common.{◌⊎◌, true, false, ◌≡◌, inl, inr, ℕ, zero, suc, ◌-◌, ◌<◌, ◌≤◌, List, [], ◌∷◌, ◌++◌, Some, length, map, fold, refl, sym, ap, ◌∙◌, arith}
 use Rattle.std.specs.Prelude.{slice_get, slice_index}
 use Rattle.std.proofs.lemmas.List.{get_or_append_left, length-map, map-append}
 use Rattle.directory.specs.Settings.{Setting}
-use Rattle.directory.specs.Courses.{Course, Move}
+use Rattle.directory.specs.Courses.{Move}
 use Rattle.directory.specs.Standing.{Commit, commit_by}
-use Rattle.trail_laws.proofs.Links.{AreLinked, IsSound, last-inside, linked-push, moves-count}
-use Rattle.trail_laws.proofs.Tells.{stands, stands-moves}
-use Rattle.trail_laws.proofs.ClosedViews.{Shown, View, Phase, clearing, coming, passage, phase_commits}
+use Rattle.trail_laws.proofs.Links.{AreLinked, last-inside, moves-count}
+use Rattle.trail_laws.proofs.Tells.{count-told, stands, stands-moves}
+use Rattle.trail_laws.proofs.ClosedViews.{Shown, View, Phase, IsMoving, clearing, coming, passage}
 use Rattle.trail_laws.proofs.LinkedStops.{stop_at}
 
 -- where a subscriber is after so many of its commits
@@ -63,13 +63,6 @@ left-linked setting from number (m ∷ moves) (f0, f1, f2, f3, f4, f5, f6, f7) z
 left-linked setting from number (m ∷ moves) (f0, f1, f2, f3, f4, f5, f6, f7) (suc i) c h =
     left-linked setting m.to (suc number) moves f7 i c h
 
-course-linked : {setting : Setting} {course : Course} {move : Move} → IsSound setting course
-    → IsNext setting course move → AreLinked setting course.start 0 (course.moves ++ move ∷ [])
-course-linked {setting} {course} {move} sound next =
-    linked-push setting course.start 0 course.moves move (omega (arith, next.number)) next.from
-    (from-inside sound next) next.inside next.moving next.renewed
-    next.weight sound.linked
-
 -- the moves of a view that are committed: all, or all but one
 pub record IsCommitted (setting : Setting) (shown : Shown) : Type 0 where
   pub moves : List Move
@@ -79,41 +72,36 @@ pub record IsCommitted (setting : Setting) (shown : Shown) : Type 0 where
   pub count : length shown.commits ≡ length moves
   pub rest : (shown.moves ≡ moves) ⊎ ((length shown.moves ≡ suc (length moves)) × (shown.off ≡ false))
 
+all-committed : {setting : Setting} {shown : Shown} {phase : Phase} (h : IsMoving setting shown phase)
+    → shown.commits ≡ map commit_by (h.course.moves ++ h.move ∷ []) → IsCommitted setting shown
+all-committed h are = record {
+  moves = h.course.moves ++ h.move ∷ [];
+  begins = rw h.begins at h.sound.begins;
+  linked = rw h.begins at (sound-with h.sound h.next).linked;
+  are = are;
+  count = count-told (h.course.moves ++ h.move ∷ []) are;
+  rest = inl h.moves_are;
+}
+
 pub committed : {setting : Setting} {shown : Shown} → View setting shown → IsCommitted setting shown
-committed {setting} (inl h) = record {
+committed (inl h) = record {
   moves = h.course.moves;
   begins = rw h.begins at h.sound.begins;
   linked = rw h.begins at h.sound.linked;
   are = h.commits_are;
-  count = ap length h.commits_are ∙ length-map h.course.moves commit_by;
+  count = count-told h.course.moves h.commits_are;
   rest = inl h.moves_are;
 }
-committed {setting} {shown} (inr h) = at_phase h.phase h.commits_are
-  where
-    begins : shown.from < setting.nodes
-    begins = rw h.begins at h.sound.begins
-
-    all : shown.commits ≡ map commit_by (h.course.moves ++ h.move ∷ []) → IsCommitted setting shown
-    all c = record {
-      moves = h.course.moves ++ h.move ∷ [];
-      begins = begins;
-      linked = rw h.begins at (course-linked h.sound h.next);
-      are = c;
-      count = ap length c ∙ length-map (h.course.moves ++ h.move ∷ []) commit_by;
-      rest = inl h.moves_are;
-    }
-
-    at_phase : (phase : Phase) → shown.commits ≡ phase_commits h.course h.move phase → IsCommitted setting shown
-    at_phase (coming written) c = record {
-      moves = h.course.moves;
-      begins = begins;
-      linked = rw h.begins at h.sound.linked;
-      are = c;
-      count = ap length c ∙ length-map h.course.moves commit_by;
-      rest = inr (ap length h.moves_are ∙ moves-count h.course h.move, h.off_is);
-    }
-    at_phase passage c = all c
-    at_phase (clearing erased purged) c = all c
+committed (inr (coming written, h)) = record {
+  moves = h.course.moves;
+  begins = rw h.begins at h.sound.begins;
+  linked = rw h.begins at h.sound.linked;
+  are = h.commits_are;
+  count = count-told h.course.moves h.commits_are;
+  rest = inr (ap length h.moves_are ∙ moves-count h.course h.move, h.off_is);
+}
+committed (inr (passage, h)) = all-committed h h.commits_are
+committed (inr (clearing erased purged, h)) = all-committed h h.commits_are
 
 -- at most one move is begun that isn't committed, and none when the subscriber is off
 pub view-counts : {setting : Setting} {shown : Shown} → View setting shown
