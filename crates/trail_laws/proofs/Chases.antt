@@ -132,12 +132,12 @@ module _ (setting : Setting) (marks : ℕ → PresenceMark) where
               (λ metric. omega (
                 arith,
                 weight-step moves left.place left.move left.is_move,
-                left.its_weight,
+                left.link.its_weight,
                 weight-mono moves i left.place late,
               )) (hopped known v left.move.to last _ _ (ap (lead known) gone) (rw gone (more (suc left.place)
               left.move.to (known_with left.move.number known) (omega (arith, enough, late))
-              (omega (arith, left.within)) left.inside left.goes_on
-              (knows-with most left.move.number known knows (omega (arith, left.its_number, left.within, all))))))
+              (omega (arith, left.within)) left.link.inside left.goes_on
+              (knows-with most left.move.number known knows (omega (arith, left.link.its_number, left.within, all))))))
             where
               late : i ≤ left.place
               late = left.last i goes.1 is_stop
@@ -147,7 +147,7 @@ module _ (setting : Setting) (marks : ℕ → PresenceMark) where
 
               rises : above setting marks (number + suc left.place) < above setting marks (number + i)
               rises = above-less setting marks v (number + suc left.place) (number + i) left.move.to inside
-                  (gone ∙ ap (λ n. Gone n left.move.to) (left.its_number
+                  (gone ∙ ap (λ n. Gone n left.move.to) (left.link.its_number
                   ∙ (let e : suc (number + left.place) ≡ number + suc left.place = omega arith in e)))
                   (omega (arith, late))
 

@@ -121,8 +121,12 @@ pub sound-with : {setting : Setting} {course : Course} {move : Move} → IsSound
     → IsNext setting course move → IsSound setting (with_move course move)
 sound-with {setting} {course} {move} sound next = record {
   begins = sound.begins;
-  linked = linked-push setting course.start 0 course.moves move (omega (arith, next.number)) next.from
-      (from-inside sound next) next.inside next.moving next.renewed next.weight sound.linked;
+  linked = linked-push setting course.start 0 course.moves move (record {
+    its_number = omega (arith, next.number);
+    its_from = next.from;
+    its_weight = next.weight ∙ ap (λ n. setting.distance n move.to) next.from;
+    inside = next.inside;
+  }) sound.linked;
 }
 
 pub stop-with : (course : Course) (move : Move) → last_stop (with_move course move) ≡ move.to

@@ -10,7 +10,7 @@ use Rattle.directory.specs.Histories.{History, puts_to}
 use Rattle.directory.specs.Courses.{after_step, after_steps, base, Course, course_at, gathered_weight, highest, MaySteps, Move, move_to, next_move, Step, switch_off, switch_on}
 use Rattle.directory.specs.Legal.{IsLegal}
 use Rattle.directory.specs.Puts.{course_in}
-use Rattle.trail_laws.proofs.Links.{AreLinked, IsSound, base-low, sound-step}
+use Rattle.trail_laws.proofs.Links.{IsSound, base-low, sound-step}
 use Rattle.trail_laws.proofs.ClosedMarks.{base-with}
 use Rattle.trail_laws.proofs.LinkedStops.{weight_from}
 use Rattle.trail_laws.proofs.Prices.{AreLazy, weight-push}
@@ -93,7 +93,6 @@ lazy-none setting some (suc k) level low below = some level below
 pub legal-lazy : {setting : Setting} {sub : ℕ} (history : History)
     → ((i : ℕ) → i ≤ setting.top → 1 ≤ setting.threshold i) → IsLegal setting sub history
     → AreLazy setting (course_in setting sub (puts_to sub history)).moves
-unfolding AreLinked
 legal-lazy {setting} {sub} history some legal =
     lazy-steps setting (course_at (start setting sub)) _ (record { begins = legal.script.begins; linked = tt })
     legal.script.allowed some (lazy-none setting some)

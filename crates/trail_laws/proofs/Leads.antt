@@ -34,19 +34,18 @@ base-order : (setting : Setting) (level low high from number : ℕ) (moves : Lis
     → AreLinked setting from number moves → high ≤ low → low ≤ number → high ≤ number
     → fold (λ l (m : Move). if nat_le setting.top m.renewed then m.number else l) high moves ≤ fold
     (λ l (m : Move). if nat_le level m.renewed then m.number else l) low moves
-unfolding AreLinked
 base-order setting level low high from number [] below linked order l h = order
-base-order setting level low high from number (m ∷ later) below (f0, f1, f2, f3, f4, f5, f6, f7) order l h =
+base-order setting level low high from number (m ∷ later) below (link, linked) order l h =
     elim (cases_Bool (nat_le setting.top m.renewed)) [
       | inl e ↦ elim (cases_Bool (nat_le level m.renewed)) [
-        | inl f ↦ rw (e, f) (base-order setting level m.number m.number m.to (suc number) later below f7
-            (omega arith) (omega (arith, f0)) (omega (arith, f0)))
+        | inl f ↦ rw (e, f) (base-order setting level m.number m.number m.to (suc number) later below linked
+            (omega arith) (omega (arith, link.its_number)) (omega (arith, link.its_number)))
         | inr f ↦ absurd (grind (arith, nat_tests, below))
       ]
       | inr e ↦ elim (cases_Bool (nat_le level m.renewed)) [
-        | inl f ↦ rw (e, f) (base-order setting level m.number high m.to (suc number) later below f7
-            (omega (arith, f0, h)) (omega (arith, f0)) (omega (arith, h)))
-        | inr f ↦ rw (e, f) (base-order setting level low high m.to (suc number) later below f7 order
+        | inl f ↦ rw (e, f) (base-order setting level m.number high m.to (suc number) later below linked
+            (omega (arith, link.its_number, h)) (omega (arith, link.its_number)) (omega (arith, h)))
+        | inr f ↦ rw (e, f) (base-order setting level low high m.to (suc number) later below linked order
             (omega (arith, l)) (omega (arith, h)))
       ]
     ]

@@ -47,7 +47,7 @@ later {setting} {from} {number} {moves} is j w q x low few stops at_w =
         q_is = gone-number _ _ q x (sym left.mark_is ∙ is.gone w q x low at_w)
 
         at_place : (j < number) ⊎ (number ≤ j) → j < q
-        at_place (inl early) = omega (arith, early, q_is, left.its_number)
+        at_place (inl early) = omega (arith, early, q_is, left.link.its_number)
         at_place (inr there) = at_end (cases_eq (j - number) (length moves))
           where
             at_end : ((j - number) ≡ length moves) ⊎ ((j - number) ≢ length moves) → j < q
@@ -56,7 +56,7 @@ later {setting} {from} {number} {moves} is j w q x low few stops at_w =
               arith,
               there,
               q_is,
-              left.its_number,
+              left.link.its_number,
               left.last (j - number) (omega (arith, few, there, other)) (stops there),
             )
 

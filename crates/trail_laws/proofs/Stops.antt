@@ -56,12 +56,11 @@ stops-told begin from commits moves j begins commits_are =
 left-linked : (setting : Setting) (from number : ℕ) (moves : List Move) → AreLinked setting from number moves
     → (i : ℕ) (c : Commit) → slice_get (map commit_by moves) i ≡ Some c
     → stop_after from (map commit_by moves) i ≡ c.from
-unfolding AreLinked
 left-linked setting from number [] linked i c h = cc
-left-linked setting from number (m ∷ moves) (f0, f1, f2, f3, f4, f5, f6, f7) zero c h =
-    let e : commit_by m ≡ c = cc in sym f1 ∙ ap (λ (d : Commit). d.from) e
-left-linked setting from number (m ∷ moves) (f0, f1, f2, f3, f4, f5, f6, f7) (suc i) c h =
-    left-linked setting m.to (suc number) moves f7 i c h
+left-linked setting from number (m ∷ moves) linked zero c h =
+    let e : commit_by m ≡ c = cc in sym linked.0.its_from ∙ ap (λ (d : Commit). d.from) e
+left-linked setting from number (m ∷ moves) linked (suc i) c h =
+    left-linked setting m.to (suc number) moves linked.1 i c h
 
 -- the moves of a view that are committed: all, or all but one
 pub record IsCommitted (setting : Setting) (shown : Shown) : Type 0 where

@@ -50,12 +50,11 @@ slice_get-drop (m ∷ moves) (suc b) i = let e : suc b + i
 pub linked-drop : (setting : Setting) (from number : ℕ) (moves : List Move) (b : ℕ)
     → AreLinked setting from number moves → b ≤ length moves
     → AreLinked setting (stop_at from moves b) (number + b) (drop b moves)
-unfolding AreLinked
 linked-drop setting from number moves zero linked low = let e : number + 0 ≡ number = omega arith in rw e linked
 linked-drop setting from number [] (suc b) linked low = absurd (omega arith)
-linked-drop setting from number (m ∷ later) (suc b) (f0, f1, f2, f3, f4, f5, f6, f7) low =
-    let e : number + suc b ≡ suc number + b = omega arith in rw e
-    (linked-drop setting m.to (suc number) later b f7 (omega arith))
+linked-drop setting from number (m ∷ later) (suc b) linked low =
+    let e : number + suc b ≡ suc number + b = omega arith in
+    rw e (linked-drop setting m.to (suc number) later b linked.1 (omega arith))
 
 pub stop-drop : (from : ℕ) (moves : List Move) (b i : ℕ) → b ≤ length moves
     → stop_at (stop_at from moves b) (drop b moves) i ≡ stop_at from moves (b + i)
@@ -78,16 +77,16 @@ gone-is {setting} shown {course} node more sound are =
     at_left : LeavesMark setting (stop_at course.start course.moves low) (0 + low) (since_top setting course) node Empty
         → MarkIs setting.nodes shown node (trail_mark (since_top setting course) node Empty)
     at_left (inl none) = rw none.0 tt
-    at_left (inr left) = rw left.mark_is (omega (arith, left.its_number), listed, left.inside)
+    at_left (inr left) = rw left.mark_is (omega (arith, left.link.its_number), listed, left.link.inside)
       where
         listed : slice_get shown.commits (left.move.number - 1)
             ≡ Some (record { number = left.move.number; from = node; to = left.move.to })
         listed =
-            let placed : left.move.number - 1 ≡ low + left.place = omega (arith, left.its_number) in
+            let placed : left.move.number - 1 ≡ low + left.place = omega (arith, left.link.its_number) in
             rw (are, placed) (slice_get-left (map commit_by course.moves) more (low + left.place)
             (commit_by left.move) (slice_get-map commit_by course.moves (low + left.place)
             ∙ ap (option_map commit_by) (sym (slice_get-drop course.moves low left.place) ∙ left.is_move))
-            ∙ ap (λ f. Some (record { number = left.move.number; from = f; to = left.move.to })) left.its_from)
+            ∙ ap (λ f. Some (record { number = left.move.number; from = f; to = left.move.to })) left.link.its_from)
 
 -- where all moves are committed there are as many of one as of the other
 pub count-told : {commits : List Commit} (moves : List Move) → commits ≡ map commit_by moves

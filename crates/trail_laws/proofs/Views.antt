@@ -21,7 +21,7 @@ use Rattle.directory.specs.Writes.{Write, mark_at, entry_at, new_address, old_ho
 use Rattle.directory.specs.Standing.{commits, off}
 use Rattle.directory.specs.States.{entry_after, entry_left, mark_after, mark_left, opening_entry, opening_mark, write_commit, write_off, writes_made}
 use Rattle.trail_laws.specs.Trail.{entry_seen, mark_seen}
-use Rattle.trail_laws.proofs.Links.{AreLinked, IsSound, sound-steps}
+use Rattle.trail_laws.proofs.Links.{IsSound, sound-steps}
 use Rattle.trail_laws.proofs.Fronts.{IsFrontOf, nothing_made, is_coming, is_passing, is_erasing, fronts}
 use Rattle.trail_laws.proofs.ClosedMarks.{is-next, rest_mark, marked, trail_mark}
 use Rattle.trail_laws.proofs.ClosedEntries.{rest_entry, entered}
@@ -39,7 +39,6 @@ module _ (setting : Setting) (sub : ℕ) where
 
   pub sound-opening : (steps : List Step) → IsScript setting sub steps
       → IsSound setting (course_at (start setting sub))
-  unfolding AreLinked
   sound-opening steps script = record { begins = script.begins; linked = tt }
 
   pub sound-script : (steps : List Step) → IsScript setting sub steps → IsSound setting (course_of steps)
