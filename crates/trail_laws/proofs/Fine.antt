@@ -56,19 +56,13 @@ pub fine-coming : {setting : Setting} {shown : Shown} {written : List ℕ} (h : 
     → IsFine setting shown level (old_address h.course level)
     (weight_from h.course.moves (base level h.course.moves) + 0)
 fine-coming {setting} {shown} h level below = fine-short setting shown level (old_address h.course level) _
-    (λ lazy. omega (
-      arith,
-      lazy-front setting h.course.moves (h.move ∷ []) level below (rw h.moves_are at lazy),
-    ))
+    (λ lazy. omega (arith, lazy-front setting h.course.moves (h.move ∷ []) level below (rw h.moves_are at lazy)))
     (λ all new. absurd (omega (arith, new, base-low level h.sound, count-told h.course.moves h.commits_are)))
 
 pub fine-new : {setting : Setting} {shown : Shown} {phase : Phase} (h : IsMoving setting shown phase) (level : ℕ)
     (address : Address) → level ≤ setting.top → IsFine setting shown level address 0
 fine-new {setting} {shown} h level address below = fine-short setting shown level address 0
-    (λ lazy. omega (
-      arith,
-      lazy-front setting h.course.moves (h.move ∷ []) level below (rw h.moves_are at lazy),
-    ))
+    (λ lazy. omega (arith, lazy-front setting h.course.moves (h.move ∷ []) level below (rw h.moves_are at lazy)))
     (λ all new. omega arith)
 
 pub fine-coming_new : {setting : Setting} {shown : Shown} {written : List ℕ}
@@ -87,13 +81,7 @@ fine-coming_new {setting} {shown} h level = record {
     stood = rest-stands shown h.course h.begins h.commits_are
 
     longer : length shown.moves ≡ length shown.commits → ⊥
-    longer all = omega (
-      arith,
-      all,
-      begun-count h,
-      h.next.number,
-      count-told h.course.moves h.commits_are,
-    )
+    longer all = omega (arith, all, begun-count h, h.next.number, count-told h.course.moves h.commits_are)
 
     clash : (u : ℕ) → shown.marks (standing_of shown) ≡ Coming (length shown.commits) u → ⊥
     clash u comes =

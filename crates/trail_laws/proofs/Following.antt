@@ -89,11 +89,7 @@ gone-leads : ChaseLaws → {setting : Setting} {sub : ℕ} (seen : History) (kno
 gone-leads laws {setting} {sub} seen known node p to low legal tells = record {
   few = gone-known setting sub seen node p to tells;
   stop = inr (stop-listed (start setting sub) (commits sub seen) p _ tells.0 tells.1);
-  early = omega (
-    arith,
-    gone-known setting sub seen node p to tells,
-    number-few laws.cells seen low legal,
-  );
+  early = omega (arith, gone-known setting sub seen node p to tells, number-few laws.cells seen low legal);
   rises = omega arith;
   fresh = λ q h. unknown p q known h;
 }
@@ -187,13 +183,7 @@ look-rises : ChaseLaws → {setting : Setting} (history : History) (call : FindC
     → Rises behind (marks_chased setting call pursuit (cell setting (before t history) key ∷ words))
 look-rises laws {setting} history call t (chases chase node) key words behind low legal safe tracked wanted more =
     let e : key ≡ Presence node call.sub = cc in
-    subst (λ (k : Key). ((b : Behind) → IsTracked setting call.sub (before (suc t) history) b
-    (after_mark setting chase node (mark_in (cell setting (before t history) k)))
-    → Rises b (marks_chased setting call
-    (after_mark setting chase node (mark_in (cell setting (before t history) k))) words))
-    → Rises behind (mark_in (cell setting (before t history) k) ∷ marks_chased setting call
-    (after_mark setting chase node (mark_in (cell setting (before t history) k))) words)) (sym e)
-    (chase-rises laws history call t chase words low legal tracked safe.1) more
+    rw e (chase-rises laws history call t chase words low legal tracked safe.1 (rw e at more))
 look-rises laws history call t (ended found) key words behind low legal safe tracked wanted more = cc
 look-rises laws {setting} history call t pursuit key words behind low legal safe tracked wanted more =
     subst (λ b. Rises b (marks_chased setting call pursuit (cell setting (before t history) key ∷ words)))

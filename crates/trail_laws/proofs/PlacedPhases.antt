@@ -54,11 +54,7 @@ old-stop {setting} {course} more level sound =
     ap (λ xs. slice_index (course.start ∷ xs) (base level course.moves))
     (map-append (λ (m : Move). m.to) course.moves more)
     ∙ get_or_append_left (course.start ∷ map (λ (m : Move). m.to) course.moves) (map (λ (m : Move). m.to) more) 0
-    (base level course.moves) (omega (
-      arith,
-      length-map course.moves (λ (m : Move). m.to),
-      base-low level sound,
-    ))
+    (base level course.moves) (omega (arith, length-map course.moves (λ (m : Move). m.to), base-low level sound))
 
 new-stop : {setting : Setting} {course : Course} {move : Move} → IsNext setting course move
     → stop_at course.start (course.moves ++ move ∷ []) move.number ≡ move.to

@@ -158,23 +158,18 @@ pub look-good : MarksTell → EntriesTell → {setting : Setting} (seen : Histor
     → IsSafe setting (number call.sub seen) pursuit → key_of call pursuit ≡ Some key
     → IsGood setting call.sub seen (after_word setting call pursuit (cell setting seen key))
 look-good marks entries {setting} seen call at_origin key low inside legal safe wanted =
-    let e : Presence call.from call.sub ≡ key = cc in
-    subst (λ (k : Key). IsGood setting call.sub seen (after_origin setting call (mark_in (cell setting seen k)))) e
-    (origin-good setting seen call (mark_seen setting call.sub seen call.from)
+    let e : key ≡ Presence call.from call.sub = cc in
+    rw e (origin-good setting seen call (mark_seen setting call.sub seen call.from)
     (marks setting call.sub seen low legal call.from inside))
 look-good marks entries {setting} seen call (climbs known weight reader later) key low inside legal safe wanted =
-    let e : Entry reader.level reader.cluster call.sub ≡ key = cc in
-    subst (λ (k : Key). IsGood setting call.sub seen (after_entry setting call known weight reader later
-    (address_in (cell setting seen k)))) e
-    (entry-good setting seen call known weight reader later
+    let e : key ≡ Entry reader.level reader.cluster call.sub = cc in
+    rw e (entry-good setting seen call known weight reader later
     (entry_seen setting call.sub seen reader.level reader.cluster) safe.0 safe.1
     (entries setting call.sub seen low legal reader.level reader.cluster
     (All-head (Low setting) reader later safe.1)))
 look-good marks entries {setting} seen call (chases chase node) key low inside legal safe wanted =
-    let e : Presence node call.sub ≡ key = cc in
-    subst (λ (k : Key). IsGood setting call.sub seen (after_mark setting chase node (mark_in (cell setting seen k))))
-    e
-    (mark-good setting call.sub seen chase node (mark_seen setting call.sub seen node) safe.0
+    let e : key ≡ Presence node call.sub = cc in
+    rw e (mark-good setting call.sub seen chase node (mark_seen setting call.sub seen node) safe.0
     (marks setting call.sub seen low legal node safe.1))
 look-good marks entries seen call (ended found) key low inside legal safe wanted = cc
 

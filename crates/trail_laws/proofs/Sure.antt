@@ -207,10 +207,8 @@ pub first-sure : Used → {setting : Setting} {seen : History} {call : FindCall}
     → IsSure setting call.sub seen call Within (after_word setting call at_origin (cell setting seen key))
 unfolding Affords
 first-sure used {setting} {seen} {call} {Within} key begins low inside legal wanted =
-    let e : Presence call.from call.sub ≡ key = cc in
-    subst (λ (k : Key). IsSure setting call.sub seen call Within
-    (after_origin setting call (mark_in (cell setting seen k)))) e
-    (origin-sure setting seen call Within (mark_seen setting call.sub seen call.from) begins refl
+    let e : key ≡ Presence call.from call.sub = cc in
+    rw e (origin-sure setting seen call Within (mark_seen setting call.sub seen call.from) begins refl
     (used.marks setting call.sub seen low legal call.from inside))
 
 pub look-sure : (setting : Setting) (seen : History) (call : FindCall) (Within : ℕ → Type 0) (pursuit : Pursuit)
@@ -219,15 +217,11 @@ pub look-sure : (setting : Setting) (seen : History) (call : FindCall) (Within :
 unfolding Affords
 look-sure setting seen call Within at_origin key sure wanted = absurd sure
 look-sure setting seen call Within (climbs known weight reader later) key sure wanted =
-    let e : Entry reader.level reader.cluster call.sub ≡ key = cc in
-    subst (λ (k : Key). IsSure setting call.sub seen call Within
-    (after_entry setting call known weight reader later (address_in (cell setting seen k)))) e
-    (entry-sure setting seen call Within known weight reader later
+    let e : key ≡ Entry reader.level reader.cluster call.sub = cc in
+    rw e (entry-sure setting seen call Within known weight reader later
     (entry_seen setting call.sub seen reader.level reader.cluster) sure.0 sure.1)
 look-sure setting seen call Within (chases chase node) key sure wanted =
-    let e : Presence node call.sub ≡ key = cc in
-    subst (λ (k : Key). IsSure setting call.sub seen call Within
-    (after_mark setting chase node (mark_in (cell setting seen k)))) e
-    (mark-sure setting seen call Within chase node (mark_seen setting call.sub seen node) refl sure.0 sure.1
+    let e : key ≡ Presence node call.sub = cc in
+    rw e (mark-sure setting seen call Within chase node (mark_seen setting call.sub seen node) refl sure.0 sure.1
     sure.2 sure.3 sure.4)
 look-sure setting seen call Within (ended found) key sure wanted = cc
