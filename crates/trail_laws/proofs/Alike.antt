@@ -66,14 +66,18 @@ alike-other cells setting sub history visit other = record {
     same : puts_to sub (history ++ visit ∷ []) ≡ puts_to sub history
     same = puts-push_other sub history visit other
 
+-- a mark that answers whatever is known leads nowhere and adds nothing
+abbrev pub AnswersAll : PresenceMark → Type 0
+AnswersAll mark = (known : Option ℕ) → (lead known mark ≡ None) × (answers known mark ≡ true)
+    × (known_after known mark ≡ known)
+
 -- what a switch puts
 pub record IsSwitching (sub : ℕ) (history : History) (visit : Visit) : Type 0 where
   pub node : ℕ
   pub word : ℕ
   pub step : Step
   pub is_put : visit.act ≡ Put (Presence node sub) word
-  pub answers_all : (known : Option ℕ) → (lead known (mark_in word) ≡ None) × (answers known (mark_in word) ≡ true)
-      × (known_after known (mark_in word) ≡ known)
+  pub answers_all : AnswersAll (mark_in word)
   pub begins : mark_step (ends_off (puts_to sub history)) (node_put visit.act) (mark_put visit.act) ≡ Some step
   pub is_switch_step : (setting : Setting) (course : Course) → (mark : PresenceMark)
       × (step_writes setting course step ≡ mark_at (last_stop course) mark ∷ [])
@@ -102,36 +106,30 @@ switching sub history visit put quiet = at_act visit.act refl put is_switching
         its : visit.act ≡ Put (Presence node sub) word
         its = e ∙ ap (λ t. Put (Presence node t) word) (eqb-true s sub p)
 
-        mark_is : mark_put visit.act ≡ mark_in word
-        mark_is = ap mark_put e
+        switched : (mark : PresenceMark) (step : Step) → mark_in word ≡ mark → AnswersAll mark
+            → mark_step (ends_off (puts_to sub history)) (node_put visit.act) mark ≡ Some step
+            → ((setting : Setting) (course : Course) → (its : PresenceMark)
+            × (step_writes setting course step ≡ mark_at (last_stop course) its ∷ []))
+            → commit_of (node_put visit.act) mark ≡ None → IsSwitching sub history visit
+        switched mark step m all begins is_step none = record {
+          node = node;
+          word = word;
+          step = step;
+          is_put = its;
+          answers_all = rw m all;
+          begins = rw (e, m) (rw e at begins);
+          is_switch_step = is_step;
+          no_commit = rw (e, m) (rw e at none);
+        }
 
         at_mark : (mark : PresenceMark) → mark_in word ≡ mark
             → (says_off mark || (ends_off (puts_to sub history) && says_here mark)) ≡ true
             → IsSwitching sub history visit
-        at_mark (Off q) m y = record {
-          node = node;
-          word = word;
-          step = switch_off;
-          is_put = its;
-          answers_all = λ known. (ap (lead known) m, ap (answers known) m, ap (known_after known) m);
-          begins = ap (mark_step (ends_off (puts_to sub history)) (node_put visit.act)) (mark_is ∙ m);
-          is_switch_step = λ setting course. (Off (length course.moves), refl);
-          no_commit = ap (commit_of (node_put visit.act)) (mark_is ∙ m);
-        }
-        at_mark (Here q) m y = record {
-          node = node;
-          word = word;
-          step = switch_on;
-          is_put = its;
-          answers_all = λ known. (ap (lead known) m, ap (answers known) m, ap (known_after known) m);
-          begins = ap (mark_step (ends_off (puts_to sub history)) (node_put visit.act)) (mark_is ∙ m)
-              ∙ ap (λ b. mark_step b (node_put visit.act) (Here q)) was_off;
-          is_switch_step = λ setting course. (Here (length course.moves), refl);
-          no_commit = ap (commit_of (node_put visit.act)) (mark_is ∙ m);
-        }
-          where
-            was_off : ends_off (puts_to sub history) ≡ true
-            was_off = (and_parts (ends_off (puts_to sub history)) true y).0
+        at_mark (Off q) m y = switched (Off q) switch_off m (λ known. (refl, refl, refl)) refl
+            (λ setting course. (Off (length course.moves), refl)) refl
+        at_mark (Here q) m y = switched (Here q) switch_on m (λ known. (refl, refl, refl))
+            (rw (and_parts (ends_off (puts_to sub history)) true y).0)
+            (λ setting course. (Here (length course.moves), refl)) refl
         at_mark mark m y = let clash : false ≡ true = sym (and-false (ends_off (puts_to sub history))) ∙ y in cc
     at_act act e p x = cc
 
@@ -212,11 +210,9 @@ alike-switch marks_left rests {setting} {sub} {history} {visit} low legal legal_
         ∙ ap (λ b. cond b (there course) (trail_mark (since_top setting course) (last_stop course) Empty))
         (eq-eqb (last_stop course) (last_stop course) refl)))
 
-    answered : (known : Option ℕ) → (lead known (there course) ≡ None) × (answers known (there course) ≡ true)
-        × (known_after known (there course) ≡ known)
-    answered known = cond_both course.is_off (Off (length course.moves)) (Here (length course.moves))
-        (λ mark. (lead known mark ≡ None) × (answers known mark ≡ true) × (known_after known mark ≡ known))
-        (λ e. (refl, refl, refl)) (λ e. (refl, refl, refl))
+    answered : AnswersAll (there course)
+    answered = cond_both course.is_off (Off (length course.moves)) (Here (length course.moves)) AnswersAll
+        (λ e known. (refl, refl, refl)) (λ e known. (refl, refl, refl))
 
     after : (key : Key) → cell setting (history ++ visit ∷ []) key
         ≡ word_after key (cell setting history key) (Put (Presence switch.node sub) switch.word)
@@ -225,24 +221,15 @@ alike-switch marks_left rests {setting} {sub} {history} {visit} low legal legal_
 
     at_node : (v : ℕ) (b : Bool) → (v == switch.node) ≡ b
         → AreAlike (mark_seen setting sub history v) (mark_seen setting sub (history ++ visit ∷ []) v)
-    at_node v false e known = alike-same (mark_seen setting sub history v)
-        (mark_seen setting sub (history ++ visit ∷ []) v)
-        (sym (ap mark_in (after (Presence v sub) ∙ ap (λ b. cond (b && sub == sub) switch.word
-        (cell setting history (Presence v sub))) e))) known
-    at_node v true e known =
-        let before_it : mark_seen setting sub history v
-        ≡ there course = ap (mark_seen setting sub history) (eqb-true v switch.node e ∙ at_stop) ∙ there_now in
-        let after_it : mark_seen setting sub (history ++ visit ∷ []) v ≡ mark_in switch.word =
-        ap mark_in (after (Presence v sub) ∙ (ap (λ b. cond (b && sub == sub) switch.word
-        (cell setting history (Presence v sub))) e
-        ∙ ap (λ b. cond b switch.word (cell setting history (Presence v sub))) (eq-eqb sub sub refl))) in (
-          ap (lead known) before_it ∙ ((answered known).0
-              ∙ (sym (switch.answers_all known).0 ∙ sym (ap (lead known) after_it))),
-          ap (answers known) before_it ∙ ((answered known).1
-              ∙ (sym (switch.answers_all known).1 ∙ sym (ap (answers known) after_it))),
-          ap (known_after known) before_it ∙ ((answered known).2
-              ∙ (sym (switch.answers_all known).2 ∙ sym (ap (known_after known) after_it))),
-        )
+    at_node v false e = rw (after (Presence v sub), e) (λ known. (refl, refl, refl))
+    at_node v true e =
+        let before_it : mark_seen setting sub history v ≡ there course =
+        ap (mark_seen setting sub history) (eqb-true v switch.node e ∙ at_stop) ∙ there_now in
+        rw (before_it, after (Presence v sub), e, eq-eqb sub sub refl) (λ known. (
+          (answered known).0 ∙ sym (switch.answers_all known).0,
+          (answered known).1 ∙ sym (switch.answers_all known).1,
+          (answered known).2 ∙ sym (switch.answers_all known).2,
+        ))
 
     same_commits : commits sub (history ++ visit ∷ []) ≡ commits sub history
     same_commits = commits-append sub history (visit ∷ [])

@@ -14,7 +14,7 @@ use Rattle.directory.specs.CallLines.{actor_of, find_of}
 use Rattle.directory.specs.declared.answers.FindLine.{FindLine}
 use Rattle.directory.specs.declared.answers.Done.{Done}
 use Rattle.directory.specs.declared.answers.Found.{Found}
-use Rattle.directory.specs.declared.answers.Found.TheVariants.{At, Off as OffAt, Again}
+use Rattle.directory.specs.declared.answers.Found.TheVariants.{At}
 use Rattle.trail_laws.specs.RightOutcomes.{LinesAreInTurn}
 use Rattle.node_set.specs.SetLaws.{place-rises, place-stays_or_rises}
 
@@ -109,14 +109,12 @@ line-visits : (caller : ℕ) (call : FindCall) (found : Found) (first last : ℕ
     → find_of (found_line caller call found first last) ≡ Some find → (first ≡ find.first) × (last ≡ find.last)
 unfolding first-of last-of
 line-visits caller call (At node number level weight) first last find is = (ap first-of is, ap last-of is)
-line-visits caller call (OffAt node number level weight) first last find is = (ap first-of is, ap last-of is)
-line-visits caller call (Again why weight) first last find is = (ap first-of is, ap last-of is)
+line-visits caller call found first last find is = (ap first-of is, ap last-of is)
 
 actor-found : (caller : ℕ) (call : FindCall) (found : Found) (first last : ℕ)
     → actor_of (found_line caller call found first last) ≡ caller
 actor-found caller call (At node number level weight) first last = refl
-actor-found caller call (OffAt node number level weight) first last = refl
-actor-found caller call (Again why weight) first last = refl
+actor-found caller call found first last = refl
 
 abbrev AreInTurn : Done → Done → Type 0
 AreInTurn one other = (earlier later : FindLine) → find_of one ≡ Some earlier → find_of other ≡ Some later

@@ -7,7 +7,7 @@ use Rattle.std.proofs.lemmas.List.{take_all, take-append-le}
 use Rattle.std.proofs.Math.ListN.{drop_of_length-le}
 use Rattle.directory.specs.Settings.{levels, Setting, start}
 use Rattle.directory.specs.Histories.{History, puts_to}
-use Rattle.directory.specs.Courses.{after_step, after_steps, base, Course, course_at, gathered_weight, highest, MaySteps, Move, move_to, next_move, Step, switch_off, switch_on}
+use Rattle.directory.specs.Courses.{after_step, after_steps, base, Course, course_at, gathered_weight, highest, MaySteps, Move, move_to, next_move, Step}
 use Rattle.directory.specs.Legal.{IsLegal}
 use Rattle.directory.specs.Puts.{course_in}
 use Rattle.trail_laws.proofs.Links.{IsSound, base-low, sound-step}
@@ -73,8 +73,7 @@ lazy-step : {setting : Setting} {course : Course} (step : Step) → IsSound sett
     → AreLazy setting (after_step setting course step).moves
 lazy-step {setting} {course} (move_to node) sound some lazy = lazy-push setting course.moves
     (next_move setting course node) lazy (λ level below. lazy-whole_move node level sound some below)
-lazy-step switch_off sound some lazy = lazy
-lazy-step switch_on sound some lazy = lazy
+lazy-step step sound some lazy = lazy
 
 lazy-steps : (setting : Setting) (course : Course) (steps : List Step) → IsSound setting course
     → MaySteps setting course steps → ((i : ℕ) → i ≤ setting.top → 1 ≤ setting.threshold i)

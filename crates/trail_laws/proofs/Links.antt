@@ -3,7 +3,7 @@ use Rattle.std.proofs.Common.{inl, inr, ◌≡◌, ℕ, suc, ◌+◌, ◌<◌, �
 use Rattle.std.proofs.lemmas.Bool.{cases_Bool}
 use Rattle.std.specs.Prelude.{nat_le, if◌then◌else◌}
 use Rattle.directory.specs.Settings.{Setting}
-use Rattle.directory.specs.Courses.{Step, move_to, switch_off, switch_on, Move, Course, last_stop, base, next_move, after_step, after_steps, MayStep, MaySteps}
+use Rattle.directory.specs.Courses.{Step, move_to, Move, Course, last_stop, base, next_move, after_step, after_steps, MayStep, MaySteps}
 use Rattle.directory.specs.StepLaws.{highest-low}
 
 -- a move after this node and this number
@@ -55,8 +55,7 @@ sound-step {setting} {course} (move_to node) sound may = record {
       (record { its_number = omega arith; its_from = refl; its_weight = refl; inside = may.inside })
       sound.linked;
 }
-sound-step switch_off sound may = record { begins = sound.begins; linked = sound.linked }
-sound-step switch_on sound may = record { begins = sound.begins; linked = sound.linked }
+sound-step step sound may = record { begins = sound.begins; linked = sound.linked }
 
 pub sound-steps : (setting : Setting) (course : Course) (steps : List Step) → IsSound setting course
     → MaySteps setting course steps → IsSound setting (after_steps setting course steps)

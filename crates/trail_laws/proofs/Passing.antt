@@ -9,7 +9,7 @@ use Rattle.std.proofs.lemmas.List.Sums.{fold-append}
 use Rattle.entry_word.specs.declared.visit.Key.{Key}
 use Rattle.entry_word.specs.declared.visit.Visit.{Visit}
 use Rattle.directory.specs.Settings.{Setting, start}
-use Rattle.directory.specs.Courses.{Course, Step, after_step, after_steps, course_at, move_to, next_move, switch_off, switch_on}
+use Rattle.directory.specs.Courses.{Course, Step, after_step, after_steps, course_at, move_to, next_move}
 use Rattle.directory.specs.Keys.{key_sub}
 use Rattle.directory.specs.Histories.{before, cell, History, is_put_for, puts_to, through}
 use Rattle.directory.specs.Legal.{ArePuts, IsLegal}
@@ -100,8 +100,7 @@ moves-kept setting course (move_to node ∷ steps) = omega (
   length-append course.moves (next_move setting course node ∷ []),
   moves-kept setting (after_step setting course (move_to node)) steps,
 )
-moves-kept setting course (switch_off ∷ steps) = moves-kept setting (after_step setting course switch_off) steps
-moves-kept setting course (switch_on ∷ steps) = moves-kept setting (after_step setting course switch_on) steps
+moves-kept setting course (step ∷ steps) = moves-kept setting (after_step setting course step) steps
 
 pub begun-grows : (setting : Setting) (sub t u : ℕ) (history : History) → t ≤ u
     → moves_begun setting sub (take t history) ≤ moves_begun setting sub (take u history)

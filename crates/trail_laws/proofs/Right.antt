@@ -2,26 +2,22 @@
 -- subscriber stands.
 use Rattle.std.proofs.lemmas.Bool.{cond_both}
 use Rattle.std.proofs.Common.{◌≡◌, inl, inr, ℕ, zero, suc, ◌+◌, ◌-◌, ◌*◌, ◌<◌, ◌≤◌, ◌^◌, true, false, List, [], ◌∷◌, ◌++◌, Option, Some, None, length, map, fold, sym, ap, ◌∙◌, subst, arith}
-use Rattle.std.specs.Prelude.{All, filter_map, flat_map, slice_get, slice_index}
+use Rattle.std.specs.Prelude.{All, flat_map, slice_get, slice_index}
 use Rattle.std.proofs.lemmas.Bool.Decides.{nat_tests}
-use Rattle.std.proofs.lemmas.List.Elements.{All-append, All-cons, All-head, All-nil, All-tail}
+use Rattle.std.proofs.lemmas.List.Elements.{All-append, All-map, All-head, All-nil, All-tail}
 use Rattle.std.proofs.lemmas.Option.{slice_get_within}
-use Rattle.entry_word.specs.Marks.{mark_in}
-use Rattle.entry_word.specs.Addresses.{address_in}
 use Rattle.entry_word.specs.declared.address.Address.{Address}
 use Rattle.entry_word.specs.declared.mark.PresenceMark.{PresenceMark}
 use Rattle.entry_word.specs.declared.mark.PresenceMark.TheVariants.{Empty, Here, Gone, Coming, Off}
 use Rattle.entry_word.specs.declared.visit.Key.{Key}
 use Rattle.entry_word.specs.declared.visit.Key.TheVariants.{Presence, Entry}
-use Rattle.directory.specs.Settings.{levels, Setting, start}
+use Rattle.directory.specs.Settings.{levels, Setting}
 use Rattle.directory.specs.Histories.{before, cell, History, through, words_at, words_by}
 use Rattle.directory.specs.Writes.{numbers_from}
 use Rattle.directory.specs.Legal.{IsLegal}
 use Rattle.directory.specs.Finds.{after_entry, after_mark, after_origin, after_word, all_readers, at_origin, Chase, chases, climb, climbs, ended, find, FindCall, hop, is_known, key_of, known_with, Reader, Pursuit, way_in}
 use Rattle.directory.specs.Looks.{AreLooks, last_of, look_by}
-use Rattle.entry_word.specs.declared.visit.Visit.{Visit}
-use Rattle.directory.specs.Puts.{ends_off, mark_put, node_put}
-use Rattle.directory.specs.Standing.{Commit, commit_of, commits, number, off, standing}
+use Rattle.directory.specs.Standing.{commits, number, off, standing}
 use Rattle.directory.specs.Statements.{FrontsAreLegal}
 use Rattle.directory.specs.declared.answers.Found.{Found}
 use Rattle.directory.specs.declared.answers.Found.TheVariants.{At, Off as OffAt, Again}
@@ -76,15 +72,8 @@ low-readers : (setting : Setting) (node first count : ℕ) → first + count ≤
     (setting.readers level node)) (numbers_from first count))
 low-readers setting node first zero h = All-nil (Low setting)
 low-readers setting node first (suc count) h =
-    All-append (Low setting) (map (λ cluster. record { level = first; cluster = cluster })
-    (setting.readers first node)) _ (of_level (setting.readers first node))
-    (low-readers setting node (suc first) count (omega arith))
-  where
-    of_level : (clusters : List ℕ) → All (Low setting)
-        (map (λ cluster. record { level = first; cluster = cluster }) clusters)
-    of_level [] = All-nil (Low setting)
-    of_level (cluster ∷ clusters) = All-cons (Low setting) (record { level = first; cluster = cluster }) _
-        (omega arith) (of_level clusters)
+    All-append (Low setting) _ _ (All-map (Low setting) (λ cluster. record { level = first; cluster = cluster })
+    (setting.readers first node) (λ k d low. omega arith)) (low-readers setting node (suc first) count (omega arith))
 
 pub readers-low : (setting : Setting) (node : ℕ) → All (Low setting) (all_readers setting node)
 readers-low setting node = low-readers setting node 0 (levels setting) (omega arith)
@@ -174,21 +163,11 @@ look-good marks entries {setting} seen call (chases chase node) key low inside l
 look-good marks entries seen call (ended found) key low inside legal safe wanted = cc
 
 -- what is right before a look is right through it
-pub commits-through : (sub actor t : ℕ) (key : Key) (history : History)
-    → slice_get history t ≡ Some (look_by actor key) → commits sub (through t history)
-    ≡ commits sub (before t history)
-commits-through sub actor t key history h = ap (filter_map
-    (λ (v : Visit). commit_of (node_put v.act) (mark_put v.act))) (through-puts sub actor key t history h)
-
 right-through : (setting : Setting) (history : History) (sub actor t : ℕ) (key : Key) (found : Found)
     → slice_get history t ≡ Some (look_by actor key) → RightAt setting sub (before t history) found
     → IsRight setting history sub found t
 right-through setting history sub actor t key (Again why weight) h right = tt
-right-through setting history sub actor t key found h right = (
-  right.0 ∙ sym (ap (fold (λ n (c : Commit). c.to) (start setting sub)) (commits-through sub actor t key history h)),
-  right.1 ∙ sym (ap length (commits-through sub actor t key history h)),
-  ap ends_off (through-puts sub actor key t history h) ∙ right.2,
-)
+right-through setting history sub actor t key found h right = rw (through-puts sub actor key t history h) right
 
 pub last-more : (t u : ℕ) (later : List ℕ) → last_of (t ∷ u ∷ later) ≡ last_of (u ∷ later)
 last-more t u later = ap (λ n. slice_index (t ∷ u ∷ later) n)

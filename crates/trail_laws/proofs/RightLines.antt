@@ -1,7 +1,8 @@
 -- The lines of outcomes are right, since each is made by the looks of a find.
-use Rattle.std.proofs.Common.{◌≡◌, ℕ, zero, suc, ◌<◌, ◌≤◌, ◌^◌, List, [], ◌∷◌, sym, subst, arith}
+use Rattle.std.proofs.Common.{◌≡◌, ℕ, ◌<◌, ◌≤◌, ◌^◌, List, sym, subst, arith}
 use Rattle.std.specs.Prelude.{All, Some, slice_get}
-use Rattle.std.proofs.lemmas.List.Elements.{All-head, All-tail, All-weaker}
+use Rattle.std.proofs.lemmas.Option.{get_or_from_slice_get, slice_get_within}
+use Rattle.std.proofs.lemmas.List.Elements.{All-weaker}
 use Rattle.directory.specs.Settings.{Setting, subs}
 use Rattle.directory.specs.Histories.{History}
 use Rattle.directory.specs.Legal.{IsLegal}
@@ -113,9 +114,7 @@ numbered {setting} {scripts} history valid (OffBy actor from sub node n level we
 numbered history valid (AgainBy actor from sub why weight first last) s p ticket h told = absurd told
 
 at_place : {A : Type 0} (P : A → Type 0) (xs : List A) (i : ℕ) (x : A) → All P xs → slice_get xs i ≡ Some x → P x
-at_place P [] i x all e = cc
-at_place P (y ∷ xs) zero x all e = let same : y ≡ x = cc in subst P same (All-head P y xs all)
-at_place P (y ∷ xs) (suc i) x all e = at_place P xs i x (All-tail P y xs all) e
+at_place P xs i x all e = rw (get_or_from_slice_get xs i x x e) at (all i x (slice_get_within xs i x e))
 
 pub numbers-rise : NumbersNeverFall → OrdersArePlayed → OrdersAreDone → PlayedIsLegal → LinesAreMade → NumbersRise
 numbers-rise fall played done legal made setting scripts order low valid i j one other at_one at_other sub p q earlier
