@@ -234,7 +234,7 @@ pub coming-opens : PassageLaws → {setting : Setting} {sub : ℕ} (history : Hi
 coming-opens laws {setting} {sub} history node p u low inside legal comes reached = at_cases its.3
   where
     its : MarkTells setting sub history node (Coming p u)
-    its = subst (MarkTells setting sub history node) comes (laws.marks setting sub history low legal node inside)
+    its = rw comes at (laws.marks setting sub history low legal node inside)
 
     at_cases : (((p ≡ suc (number sub history)) × (u ≡ standing setting sub history))
         ⊎ ((p ≡ number sub history)
@@ -249,7 +249,7 @@ coming-opens laws {setting} {sub} history node p u low inside legal comes reache
         c = record { number = p; from = u; to = node }
 
         gone : MarkTells setting sub history u (Gone p node)
-        gone = subst (MarkTells setting sub history u) after.2 (laws.marks setting sub history low legal u its.1)
+        gone = rw after.2 at (laws.marks setting sub history low legal u its.1)
 
         last : last_or None (commits sub history) ≡ Some c
         last = last-get (commits sub history) p c reached gone.0 gone.1

@@ -104,117 +104,103 @@ module _ {setting : Setting} {shown : Shown} (level cluster : ℕ) (address : Ad
       at-home (move_address h.move) new.0 h.next.inside new.1 (omega (arith, begun-count h))
       (rw (h.moves_are, ← h.begins) (sym (new-stop h.next))) fine leads
 
-rest-placed : {setting : Setting} {shown : Shown} (h : IsResting setting shown) (level cluster : ℕ)
-    (address : Address) → level ≤ setting.top → IsOld setting h.course level cluster address
-    → IsPlaced setting shown level cluster address
-rest-placed {setting} {shown} h level cluster address below = old-placed level cluster address _ _ _ _
-    (count-told h.course.moves h.commits_are) (rest-stands shown h.course h.begins h.commits_are)
-    (omega (arith, above-few setting shown.marks (base level h.course.moves))) [] h.sound h.begins
-    (h.moves_are ∙ sym (append-nil h.course.moves)) (fine-rest h level _ below)
-    (old-leads 0 0 level h.sound below (rest-leads h))
+-- the number of commits and where they end, once the move under way is committed
+all-count : {setting : Setting} {shown : Shown} {phase : Phase} (h : IsMoving setting shown phase)
+    → shown.commits ≡ map commit_by (h.course.moves ++ h.move ∷ []) → length shown.commits ≡ suc (length h.course.moves)
+all-count h are = count-told (h.course.moves ++ h.move ∷ []) are ∙ moves-count h.course h.move
 
--- ---- while a move is under way
-abbrev pub IsEither : Setting → Course → Move → ℕ → ℕ → Address → Type 0
-IsEither setting course move level cluster address =
-    IsNew setting move level cluster address ⊎ IsOld setting course level cluster address
+module _ {setting : Setting} {shown : Shown} (level cluster : ℕ) (address : Address) (below : level ≤ setting.top) where
+  abbrev pub IsEither : {phase : Phase} → IsMoving setting shown phase → Type 0
+  IsEither h = IsNew setting h.move level cluster address ⊎ IsOld setting h.course level cluster address
 
-coming-placed : {setting : Setting} {shown : Shown} {written : List ℕ} (h : IsMoving setting shown (coming written))
-    (level cluster : ℕ) (address : Address) → level ≤ setting.top
-    → IsEither setting h.course h.move level cluster address → IsPlaced setting shown level cluster address
-coming-placed {setting} {shown} h level cluster address below (inr old) = old-placed level cluster address _ _
-    (1 + above setting shown.marks (base level h.course.moves)) _
-    (count-told h.course.moves h.commits_are) (rest-stands shown h.course h.begins h.commits_are)
-    (omega (
-      arith,
-      above-but_one setting shown.marks (base level h.course.moves) h.move.to _ _ h.next.inside
-          (coming-at_to h),
-    )) (h.move ∷ []) h.sound h.begins h.moves_are (fine-coming h level below)
-    (old-leads 1 0 level h.sound below (coming-leads h)) old
-coming-placed {setting} {shown} h level cluster address below (inl new) = move-placed level cluster address _ _ 1 _
-    (count-told h.course.moves h.commits_are) (rest-stands shown h.course h.begins h.commits_are)
-    (omega (arith, h.next.inside)) h (fine-coming_new h level) (coming-back h) new
+  rest-placed : (h : IsResting setting shown) → IsOld setting h.course level cluster address
+      → IsPlaced setting shown level cluster address
+  rest-placed h = old-placed level cluster address _ _ _ _
+      (count-told h.course.moves h.commits_are) (rest-stands shown h.course h.begins h.commits_are)
+      (omega (arith, above-few setting shown.marks (base level h.course.moves))) [] h.sound h.begins
+      (h.moves_are ∙ sym (append-nil h.course.moves)) (fine-rest h level _ below)
+      (old-leads 0 0 level h.sound below (rest-leads h))
 
--- once it is committed
-module _ {setting : Setting} {shown : Shown} {phase : Phase} (h : IsMoving setting shown phase) where
-  all-count : shown.commits ≡ map commit_by (h.course.moves ++ h.move ∷ [])
-      → length shown.commits ≡ suc (length h.course.moves)
-  all-count are = count-told (h.course.moves ++ h.move ∷ []) are ∙ moves-count h.course h.move
+  coming-placed : {written : List ℕ} (h : IsMoving setting shown (coming written)) → IsEither h
+      → IsPlaced setting shown level cluster address
+  coming-placed h (inr old) = old-placed level cluster address _ _
+      (1 + above setting shown.marks (base level h.course.moves)) _ (count-told h.course.moves h.commits_are)
+      (rest-stands shown h.course h.begins h.commits_are) (omega (
+        arith,
+        above-but_one setting shown.marks
+            (base level h.course.moves) h.move.to _ _ h.next.inside (coming-at_to h),
+      )) (h.move ∷ []) h.sound h.begins
+      h.moves_are (fine-coming h level below) (old-leads 1 0 level h.sound below (coming-leads h)) old
+  coming-placed h (inl new) = move-placed level cluster address _ _ 1 _
+      (count-told h.course.moves h.commits_are) (rest-stands shown h.course h.begins h.commits_are)
+      (omega (arith, h.next.inside)) h (fine-coming_new h level) (coming-back h) new
 
-passing-placed : {setting : Setting} {shown : Shown} (h : IsMoving setting shown passage)
-    (level cluster : ℕ) (address : Address) → level ≤ setting.top
-    → IsEither setting h.course h.move level cluster address → IsPlaced setting shown level cluster address
-passing-placed {setting} {shown} h level cluster address below (inr old) = old-placed level cluster address _ _
-    (1 + above setting shown.marks (base level h.course.moves)) _
-    (all-count h h.commits_are) (next-stands h h.commits_are)
-    (omega (
-      arith,
-      above-but_one setting shown.marks (base level h.course.moves) h.move.to _ _ h.next.inside
-          (passing-at_to h),
-    )) (h.move ∷ []) h.sound h.begins h.moves_are (fine-passing h level _ _
-    (λ metric lazy. omega (arith, lazy-front setting h.course.moves (h.move ∷ []) level below lazy)))
-    (old-leads 1 (2 * setting.distance h.move.from h.move.to) level h.sound below (passage-leads h)) old
-passing-placed {setting} {shown} h level cluster address below (inl new) = move-placed level cluster address _ _ 2 _
-    (all-count h h.commits_are) (next-stands h h.commits_are)
-    (two-inside h.move.to h.move.from h.next.inside (from-inside h.sound h.next) h.next.moving) h
-    (fine-passing h level _ _ (λ metric lazy. omega (
-      arith,
-      lazy-front setting h.course.moves (h.move ∷ []) level below lazy,
-      metric.both_ways h.move.to h.move.from h.next.inside (from-inside h.sound h.next),
-    ))) (λ known knows. passage-new h known) new
-  where
-    two-inside : (a b : ℕ) → a < setting.nodes → b < setting.nodes → a ≢ b → 2 ≤ setting.nodes
-    two-inside a b low other apart = omega (arith, low, other, apart)
+  passing-placed : (h : IsMoving setting shown passage) → IsEither h
+      → IsPlaced setting shown level cluster address
+  passing-placed h (inr old) = old-placed level cluster address _ _
+      (1 + above setting shown.marks (base level h.course.moves)) _ (all-count h h.commits_are)
+      (next-stands h h.commits_are) (omega (
+        arith,
+        above-but_one setting shown.marks (base level h.course.moves)
+            h.move.to _ _ h.next.inside (passing-at_to h),
+      )) (h.move ∷ []) h.sound h.begins h.moves_are
+      (fine-passing h level _ _
+      (λ metric lazy. omega (arith, lazy-front setting h.course.moves (h.move ∷ []) level below lazy)))
+      (old-leads 1 (2 * setting.distance h.move.from h.move.to) level h.sound below (passage-leads h)) old
+  passing-placed h (inl new) = move-placed level cluster address _ _ 2 _ (all-count h h.commits_are)
+      (next-stands h h.commits_are)
+      (two-inside h.move.to h.move.from h.next.inside (from-inside h.sound h.next) h.next.moving) h
+      (fine-passing h level _ _ (λ metric lazy. omega (
+        arith,
+        lazy-front setting h.course.moves (h.move ∷ []) level below lazy,
+        metric.both_ways h.move.to h.move.from h.next.inside (from-inside h.sound h.next),
+      ))) (λ known knows. passage-new h known) new
+    where
+      two-inside : (a b : ℕ) → a < setting.nodes → b < setting.nodes → a ≢ b → 2 ≤ setting.nodes
+      two-inside a b low other apart = omega (arith, low, other, apart)
 
--- where the new node holds the subscriber, its address needs no hop
-new-placed : {setting : Setting} {shown : Shown} {erased purged : List ℕ}
-    (h : IsMoving setting shown (clearing erased purged)) (level cluster : ℕ) (address : Address)
-    → level ≤ setting.top → IsNew setting h.move level cluster address → IsPlaced setting shown level cluster address
-new-placed {setting} {shown} h level cluster address below = move-placed level cluster address _ _ 0 0
-    (all-count h h.commits_are) (next-stands h h.commits_are) (omega arith) h (fine-new h level _ below)
-    (λ known knows. arrived setting shown.marks known h.move.to h.move.to 0 0 refl
-    (ap (answers known) (clearing-here h)))
+  -- where the new node holds the subscriber, its address needs no hop
+  new-placed : {erased purged : List ℕ} (h : IsMoving setting shown (clearing erased purged))
+      → IsNew setting h.move level cluster address → IsPlaced setting shown level cluster address
+  new-placed h = move-placed level cluster address _ _ 0 0
+      (all-count h h.commits_are) (next-stands h h.commits_are) (omega arith) h (fine-new h level _ below)
+      (λ known knows. arrived setting shown.marks known h.move.to h.move.to 0 0 refl
+      (ap (answers known) (clearing-here h)))
 
-clearing-placed : {setting : Setting} {shown : Shown} {erased purged : List ℕ}
-    (h : IsMoving setting shown (clearing erased purged)) (level cluster : ℕ) (address : Address) → level ≤ setting.top
-    → purged ≡ [] → IsEither setting h.course h.move level cluster address
-    → IsPlaced setting shown level cluster address
-clearing-placed {setting} {shown} h level cluster address below none (inr old) =
-    old-placed level cluster address _ _ _ _ (all-count h h.commits_are) (next-stands h h.commits_are)
-    (omega (arith, above-few setting shown.marks (base level h.course.moves))) (h.move ∷ []) h.sound h.begins
-    h.moves_are (fine-clearing h level below) (λ known knows.
-    clearing-leads h none _ _ known (base-top level h.sound below)
-    (omega (arith, base-low level h.sound, moves-count h.course h.move)) (old-inside level h.sound)
-    (old-stop (h.move ∷ []) level h.sound) knows) old
-clearing-placed h level cluster address below none (inl new) = new-placed h level cluster address below new
+  clearing-placed : {erased purged : List ℕ} (h : IsMoving setting shown (clearing erased purged)) → purged ≡ []
+      → IsEither h → IsPlaced setting shown level cluster address
+  clearing-placed h none (inr old) = old-placed level cluster address _ _ _ _
+      (all-count h h.commits_are) (next-stands h h.commits_are)
+      (omega (arith, above-few setting shown.marks (base level h.course.moves))) (h.move ∷ []) h.sound h.begins
+      h.moves_are (fine-clearing h level below) (λ known knows.
+      clearing-leads h none _ _ known (base-top level h.sound below)
+      (omega (arith, base-low level h.sound, moves-count h.course h.move)) (old-inside level h.sound)
+      (old-stop (h.move ∷ []) level h.sound) knows) old
+  clearing-placed h none (inl new) = new-placed h new
 
--- so it is for each address of a view
-either : {setting : Setting} {shown : Shown} {phase : Phase} (h : IsMoving setting shown phase) (written : List ℕ)
-    (level cluster : ℕ) (address : Address)
-    → entry_written setting h.course h.move written level cluster ≡ Some address
-    → IsEither setting h.course h.move level cluster address
-either {setting} h written level cluster address e =
-    elim (written-some setting h.course h.move written level cluster address e) [
-      | inl new ↦ inl new.0
-      | inr old ↦ inr old.0
-    ]
+  -- an entry of a move under way is either
+  either : {phase : Phase} (h : IsMoving setting shown phase) (written : List ℕ)
+      → entry_written setting h.course h.move written level cluster ≡ Some address → IsEither h
+  either h written e = elim (written-some setting h.course h.move written level cluster address e) [
+    | inl new ↦ inl new.0
+    | inr old ↦ inr old.0
+  ]
 
-pub entry-placed : {setting : Setting} {shown : Shown} (level cluster : ℕ) (address : Address) → level ≤ setting.top
-    → View setting shown → shown.entries level cluster ≡ Some address
-    → IsPlaced setting shown level cluster address
-entry-placed {setting} level cluster address below (inl h) is_some = rest-placed h level cluster address below
-    (rest-some setting h.course level cluster address (sym (h.entries_are level cluster below) ∙ is_some))
-entry-placed level cluster address below (inr (coming written, h)) is_some = coming-placed h level cluster address below
-    (either h written level cluster address (sym (h.entries_are level cluster below) ∙ is_some))
-entry-placed level cluster address below (inr (passage, h)) is_some = passing-placed h level cluster address below
-    (either h (renewed_levels h.move) level cluster address (sym (h.entries_are level cluster below) ∙ is_some))
-entry-placed {setting} level cluster address below (inr (clearing erased purged, h)) is_some =
-    elim h.is_phase.in_order [
-      | inl none ↦ clearing-placed h level cluster address below none
-          (either h (renewed_levels h.move) level cluster address (erased-some setting h.course h.move
-          (renewed_levels h.move) erased level cluster address e).1)
-      | inr whole ↦ new-placed h level cluster address below (only-new setting h.course h.move level cluster address
-          below whole.1 (rw whole.0 at e))
-    ]
-  where
-    e : entry_erased setting h.course h.move (renewed_levels h.move) erased level cluster ≡ Some address
-    e = sym (h.entries_are level cluster below) ∙ is_some
+  -- so it is for each address of a view
+  pub entry-placed : View setting shown → shown.entries level cluster ≡ Some address
+      → IsPlaced setting shown level cluster address
+  entry-placed (inl h) e =
+      rest-placed h (rest-some setting h.course level cluster address (sym (h.entries_are level cluster below) ∙ e))
+  entry-placed (inr (coming written, h)) e =
+      coming-placed h (either h written (sym (h.entries_are level cluster below) ∙ e))
+  entry-placed (inr (passage, h)) e =
+      passing-placed h (either h (renewed_levels h.move) (sym (h.entries_are level cluster below) ∙ e))
+  entry-placed (inr (clearing erased purged, h)) e = elim h.is_phase.in_order [
+    | inl none ↦ clearing-placed h none (either h (renewed_levels h.move) (erased-some setting h.course h.move
+        (renewed_levels h.move) erased level cluster address entry).1)
+    | inr whole ↦ new-placed h (only-new setting h.course h.move level cluster address below whole.1
+        (rw whole.0 at entry))
+  ]
+    where
+      entry : entry_erased setting h.course h.move (renewed_levels h.move) erased level cluster ≡ Some address
+      entry = sym (h.entries_are level cluster below) ∙ e

@@ -1,6 +1,6 @@
 -- Where a subscriber was after so many commits, the number is no lower: so the marks of a trail rise from hop to hop.
 use Rattle.std.proofs.lemmas.Bool.{cases_Bool, cases_cond, eqb-false, cases_eq, cases_lt}
-use Rattle.std.proofs.Common.{◌≡◌, ◌≢◌, ◌⊎◌, inl, inr, ℕ, ◌+◌, ◌-◌, ◌<◌, ◌≤◌, ◌^◌, ◌==◌, Bool, true, false, cond, List, [], ◌∷◌, ◌++◌, length, map, drop, refl, sym, ap, ◌∙◌, subst, arith, eqb-true}
+use Rattle.std.proofs.Common.{◌≡◌, ◌≢◌, inl, inr, ℕ, ◌+◌, ◌-◌, ◌<◌, ◌≤◌, ◌^◌, ◌==◌, Bool, true, false, cond, List, [], ◌∷◌, ◌++◌, length, map, drop, refl, sym, ap, ◌∙◌, arith, eqb-true}
 use Rattle.std.proofs.lemmas.Option.{slice_get_within}
 use Rattle.node_set.specs.Ascending.{has}
 use Rattle.entry_word.specs.declared.mark.PresenceMark.{PresenceMark}
@@ -26,12 +26,6 @@ record IsTrailOf (setting : Setting) (marks : ℕ → PresenceMark) (from number
   gone : (v p w : ℕ) → v < setting.nodes → marks v ≡ Gone p w → trail_mark moves v Empty ≡ Gone p w
   ends : (v p w : ℕ) → v < setting.nodes → marks v ≡ Gone p w → v ≢ stop_at from moves (length moves)
 
-gone-number : (a b c d : ℕ) → Gone a b ≡ Gone c d → a ≡ c
-gone-number a b c d h = cc
-
-not-empty : (p w : ℕ) (mark : PresenceMark) → mark ≡ Empty → mark ≡ Gone p w → ⊥
-not-empty p w mark none h = let clash : Empty ≡ Gone p w = sym none ∙ h in cc
-
 -- a Gone where these moves had stopped is that of a later move
 later : {setting : Setting} {marks : ℕ → PresenceMark} {from number : ℕ} {moves : List Move}
     → IsTrailOf setting marks from number moves → (j w q x : ℕ) → w < setting.nodes
@@ -40,25 +34,23 @@ later {setting} {from} {number} {moves} is j w q x low few stops at_w =
     at_left (last-left setting from number moves w Empty is.linked)
   where
     at_left : LeavesMark setting from number moves w Empty → j < q
-    at_left (inl none) = absurd (not-empty q x (trail_mark moves w Empty) none.0 (is.gone w q x low at_w))
-    at_left (inr left) = at_place (cases_lt j number)
+    at_left (inl none) = let clash : Empty ≡ Gone q x = sym none.0 ∙ is.gone w q x low at_w in cc
+    at_left (inr left) = elim (cases_lt j number) [
+      | inl early ↦ omega (arith, early, q_is, left.link.its_number)
+      | inr there ↦ elim (cases_eq (j - number) (length moves)) [
+        | inl end ↦ absurd (is.ends w q x low at_w (sym (stops there) ∙ ap (stop_at from moves) end))
+        | inr other ↦ omega (
+          arith,
+          q_is,
+          left.link.its_number,
+          left.last (j - number) (omega (arith, few, there, other)) (stops there),
+        )
+      ]
+    ]
       where
         q_is : left.move.number ≡ q
-        q_is = gone-number _ _ q x (sym left.mark_is ∙ is.gone w q x low at_w)
-
-        at_place : (j < number) ⊎ (number ≤ j) → j < q
-        at_place (inl early) = omega (arith, early, q_is, left.link.its_number)
-        at_place (inr there) = at_end (cases_eq (j - number) (length moves))
-          where
-            at_end : ((j - number) ≡ length moves) ⊎ ((j - number) ≢ length moves) → j < q
-            at_end (inl end) = absurd (is.ends w q x low at_w (sym (stops there) ∙ ap (stop_at from moves) end))
-            at_end (inr other) = omega (
-              arith,
-              there,
-              q_is,
-              left.link.its_number,
-              left.last (j - number) (omega (arith, few, there, other)) (stops there),
-            )
+        q_is =
+            let both : Gone left.move.number left.move.to ≡ Gone q x = sym left.mark_is ∙ is.gone w q x low at_w in cc
 
 -- at rest, and in each phase of a move
 there-not : (course : Course) (p w : ℕ) → there course ≡ Gone p w → ⊥
@@ -173,22 +165,15 @@ stop-goes_up laws tells {setting} {sub} history low legal j w few stop inside =
     trail = has-trail (view laws history low legal)
 
     at_mark : (mark : PresenceMark) → mark_seen setting sub history w ≡ mark
-        → MarkTells setting sub history w (mark_seen setting sub history w) → GoesUp j mark
+        → MarkTells setting sub history w mark → GoesUp j mark
     at_mark Empty e told = tt
-    at_mark (Here q) e told =
-        let h : MarkTells setting sub history w (Here q) = subst (MarkTells setting sub history w) e told in
-        omega (arith, few, h.1)
-    at_mark (Off q) e told =
-        let h : MarkTells setting sub history w (Off q) = subst (MarkTells setting sub history w) e told in
-        omega (arith, few, h.1)
     at_mark (Gone q x) e told =
         later trail.is j w q x inside (omega (arith, few, trail.count)) (λ h. trail.stops j h ∙ stop) e
-    at_mark (Coming q u) e told =
-        let h : MarkTells setting sub history w (Coming q u) = subst (MarkTells setting sub history w) e told in
-        elim h.3 [
-          | inl before ↦ omega (arith, few, before.0)
-          | inr behind ↦ omega (arith, few, behind.0)
-        ]
+    at_mark (Coming q u) e told = elim told.3 [
+      | inl before ↦ omega (arith, few, before.0)
+      | inr behind ↦ omega (arith, few, behind.0)
+    ]
+    at_mark mark e told = omega (arith, few, told.1)
 
 pub numbers-go_up : Laws → MarksTell → NumbersGoUp
 numbers-go_up laws tells setting sub history low legal node p to inside is =
@@ -196,7 +181,7 @@ numbers-go_up laws tells setting sub history low legal node p to inside is =
     (stop-listed (start setting sub) (commits sub history) p _ its.0 its.1) its.2
   where
     its : MarkTells setting sub history node (Gone p to)
-    its = subst (MarkTells setting sub history node) is (tells setting sub history low legal node inside)
+    its = rw is at (tells setting sub history low legal node inside)
 
     few : p ≤ number sub history
     few = omega (arith, its.0, slice_get_within (commits sub history) (p - 1) _ its.1)

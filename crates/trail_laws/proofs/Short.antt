@@ -1,5 +1,5 @@
 -- The laws of near levels and of short ways after every legal history.
-use Rattle.std.proofs.Common.{◌≡◌, ◌⊎◌, inl, inr, ℕ, suc, ◌+◌, ◌*◌, ◌≤◌, Some, None, refl, sym, ap, ◌∙◌, subst, arith}
+use Rattle.std.proofs.Common.{◌≡◌, ◌⊎◌, inl, inr, ℕ, suc, ◌+◌, ◌*◌, ◌≤◌, Some, None, refl, sym, ap, ◌∙◌, arith}
 use Rattle.std.proofs.lemmas.Bool.Decides.{nat_tests}
 use Rattle.entry_word.specs.declared.mark.PresenceMark.TheVariants.{Gone, Coming}
 use Rattle.directory.specs.Standing.{number, standing}
@@ -37,9 +37,7 @@ addresses-short by_phase cover tell setting sub history low metric some legal le
     is_some knows opens =
     let there = by_phase setting sub history low metric some legal level cluster address known below is_some knows in
     let its : EntryTells setting sub history level cluster (Some address) =
-    subst (EntryTells setting sub history level cluster) is_some
-    (tell setting sub history low legal level cluster below)
-    in (
+    rw is_some at (tell setting sub history low legal level cluster below) in (
       there.0,
       there.1,
       there.2,
@@ -73,7 +71,7 @@ comings-short laws marks setting sub history low metric legal node p u pass insi
     )
   where
     tells : MarkTells setting sub history node (Coming p u)
-    tells = subst (MarkTells setting sub history node) comes (marks setting sub history low legal node inside)
+    tells = rw comes at (marks setting sub history low legal node inside)
 
     at_cases : (((p ≡ suc (number sub history)) × (u ≡ standing setting sub history))
         ⊎ ((p ≡ number sub history) × (node ≡ standing setting sub history)
