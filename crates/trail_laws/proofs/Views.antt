@@ -22,11 +22,11 @@ use Rattle.directory.specs.Standing.{commits, off}
 use Rattle.directory.specs.States.{entry_after, entry_left, mark_after, mark_left, opening_entry, opening_mark, write_commit, write_off, writes_made}
 use Rattle.trail_laws.specs.Trail.{entry_seen, mark_seen}
 use Rattle.trail_laws.proofs.Links.{IsSound, sound-steps}
-use Rattle.trail_laws.proofs.Fronts.{IsFrontOf, nothing_made, is_coming, is_passing, is_erasing, fronts}
+use Rattle.trail_laws.proofs.Fronts.{fronts}
 use Rattle.trail_laws.proofs.ClosedMarks.{is-next, rest_mark, marked, trail_mark}
 use Rattle.trail_laws.proofs.ClosedEntries.{rest_entry, entered}
 use Rattle.trail_laws.proofs.ClosedViews.{clearing, coming, IsCleared, IsPhase, old_levels, passage, Phase, purge_nodes, purged_nodes, renewed_levels, Shown, View}
-use Rattle.trail_laws.proofs.ClosedWrites.{commits-steps, entries-steps, erasures, leaves, Leaves, marks-steps, off-steps, phase_writes, purges, whole-writes, whole_phase}
+use Rattle.trail_laws.proofs.ClosedWrites.{commits-steps, entries-steps, erasures, leaves, Leaves, marks-steps, off-steps, phase_writes, purges, whole-writes}
 use Rattle.directory.specs.StepLaws.{writes-more, start-kept}
 
 module _ (setting : Setting) (sub : ℕ) where
@@ -172,69 +172,48 @@ module _ {setting : Setting} {sub : ℕ} {before : List Step} {node : ℕ} (scri
       left : Leaves setting its_course its_move phase
       left = leaves setting its_course its_move phase
 
-  cleared : (e p : ℕ) → (p ≡ 0) ⊎ (take e (erasures setting its_course (old_levels setting its_course its_move))
-      ≡ erasures setting its_course (old_levels setting its_course its_move))
-      → IsCleared setting its_course its_move (take e (old_levels setting its_course its_move))
-      (take p (purged_nodes setting its_course its_move))
+  abbrev pub its_old : List ℕ
+  its_old = old_levels setting its_course its_move
+
+  abbrev pub its_purged : List ℕ
+  its_purged = purged_nodes setting its_course its_move
+
+  cleared : (e p : ℕ) → (p ≡ 0) ⊎ (take e (erasures setting its_course its_old) ≡ erasures setting its_course its_old)
+      → IsCleared setting its_course its_move (take e its_old) (take p its_purged)
   cleared e p in_order = record {
-    stays = not-taken node p (purged_nodes setting its_course its_move)
-        (new-stays setting its_course its_move may.inside);
-    kept = λ level. not-taken level e (old_levels setting its_course its_move);
+    stays = not-taken node p its_purged (new-stays setting its_course its_move may.inside);
+    kept = λ level. not-taken level e its_old;
     in_order = at_order in_order (its_move.renewed == setting.top) refl;
   }
     where
-      at_order : (p ≡ 0) ⊎ (take e (erasures setting its_course (old_levels setting its_course its_move))
-          ≡ erasures setting its_course (old_levels setting its_course its_move)) → (b : Bool)
-          → (its_move.renewed == setting.top) ≡ b → (take p (purged_nodes setting its_course its_move) ≡ [])
-          ⊎ ((take e (old_levels setting its_course its_move) ≡ old_levels setting its_course its_move)
-          × ((its_move.renewed == setting.top) ≡ true))
-      at_order (inl none) b t = inl (ap (λ k. take k (purged_nodes setting its_course its_move)) none)
+      at_order : (p ≡ 0) ⊎ (take e (erasures setting its_course its_old) ≡ erasures setting its_course its_old)
+          → (b : Bool) → (its_move.renewed == setting.top) ≡ b → (take p its_purged ≡ [])
+          ⊎ ((take e its_old ≡ its_old) × ((its_move.renewed == setting.top) ≡ true))
+      at_order (inl none) b t = inl (rw none)
       at_order (inr whole) false t =
           inl (ap (λ b. take p (cond b (purge_nodes setting its_course its_move) [])) t ∙ take-nil p)
       at_order (inr whole) true t = inr (
-        take_all e (old_levels setting its_course its_move) (omega (
+        take_all e its_old (omega (
           arith,
           ap length whole,
-          length-take e (erasures setting its_course (old_levels setting its_course its_move)),
-          length-map (old_levels setting its_course its_move)
-              (λ level. entry_at level (old_home setting its_course level) None),
+          length-take e (erasures setting its_course its_old),
+          length-map its_old (λ level. entry_at level (old_home setting its_course level) None),
         )),
         t,
       )
 
   amid-move : (made : ℕ) → 1 ≤ made → Goal (take made (move_writes setting its_course its_move))
   unfolding phase_writes
-  amid-move made some = subst Goal (sym (ap (take made) (whole-writes setting its_course its_move)))
-      (at_front (fronts (mark_at its_move.to (Coming its_move.number its_move.from))
-      (mark_at its_move.from (Gone its_move.number its_move.to)) (mark_at its_move.to (Here its_move.number)) addresses
-      (erasures setting its_course (old_levels setting its_course its_move))
-      (purges (purged_nodes setting its_course its_move)) made))
-    where
-      addresses : List Write
-      addresses = map (new_address setting its_move) (renewed_levels its_move)
-
-      whole : List Write
-      whole = phase_writes setting its_course its_move (whole_phase setting its_course its_move)
-
-      made-some : (k : ℕ) → 1 ≤ k → take k whole ≡ [] → ⊥
-      made-some zero h e = omega arith
-      made-some (suc k) h e = cc
-
-      at_front : IsFrontOf (mark_at its_move.to (Coming its_move.number its_move.from))
-          (mark_at its_move.from (Gone its_move.number its_move.to)) (mark_at its_move.to (Here its_move.number))
-          addresses (erasures setting its_course (old_levels setting its_course its_move))
-          (purges (purged_nodes setting its_course its_move)) (take made whole) → Goal (take made whole)
-      at_front (nothing_made same) = absurd (made-some made some same)
-      at_front (is_coming j few same) = rw (same, take-map (new_address setting its_move) j (renewed_levels its_move))
-          (in-phase (coming (take j (renewed_levels its_move))) tt)
-      at_front (is_passing same) = rw same (in-phase passage tt)
-      at_front (is_erasing e p in_order same) = rw (
-        same,
-        take-map _ e (old_levels setting its_course its_move),
-        take-map _ p (purged_nodes setting its_course its_move),
-      )
-          (in-phase (clearing (take e (old_levels setting its_course its_move))
-          (take p (purged_nodes setting its_course its_move))) (cleared e p in_order))
+  amid-move zero some = absurd (omega arith)
+  amid-move (suc made) some = subst Goal (sym (ap (take (suc made)) (whole-writes setting its_course its_move)))
+      (fronts (mark_at its_move.to (Coming its_move.number its_move.from))
+      (mark_at its_move.from (Gone its_move.number its_move.to)) (mark_at its_move.to (Here its_move.number))
+      (map (new_address setting its_move) (renewed_levels its_move)) (erasures setting its_course its_old)
+      (purges its_purged) Goal
+      (λ j. rw (take-map (new_address setting its_move) j (renewed_levels its_move))
+      (in-phase (coming (take j (renewed_levels its_move))) tt)) (in-phase passage tt)
+      (λ e p in_order. rw (take-map _ e its_old, take-map _ p its_purged)
+      (in-phase (clearing (take e its_old) (take p its_purged)) (cleared e p in_order))) made)
 
 -- so it is amid each step
 amid-view : {setting : Setting} {sub : ℕ} (before under : List Step) (made : ℕ)
