@@ -182,29 +182,22 @@ pub coming-opens : PassageLaws → {setting : Setting} {sub : ℕ} (history : Hi
     → setting.nodes ≤ 2 ^ 16 → node < setting.nodes → IsLegal setting sub history
     → mark_seen setting sub history node ≡ Coming p u → p ≡ number sub history
     → passage setting sub history ≡ setting.distance u node
-coming-opens laws {setting} {sub} history node p u low inside legal comes reached = at_cases its.3
+coming-opens laws {setting} {sub} history node p u low inside legal comes reached = elim its.3 [
+  | inl before ↦ absurd (omega (arith, before.0, reached))
+  | inr after ↦
+      let gone : MarkTells setting sub history u (Gone p node) =
+      rw after.2 at (laws.marks setting sub history low legal u its.1) in
+      ap (passage_of setting (puts_to sub history))
+      (last-get (commits sub history) (p - 1) None c (omega (arith, reached, gone.0)) gone.1)
+      ∙ rw (not_yet (list_any (confirmed c) (puts_to sub history)) refl)
+]
   where
     its : MarkTells setting sub history node (Coming p u)
     its = rw comes at (laws.marks setting sub history low legal node inside)
 
-    at_cases : (((p ≡ suc (number sub history)) × (u ≡ standing setting sub history))
-        ⊎ ((p ≡ number sub history)
-        × (node ≡ standing setting sub history)
-        × (mark_seen setting sub history u ≡ Gone p node)))
-        → passage setting sub history ≡ setting.distance u node
-    at_cases (inl before) = absurd (omega (arith, before.0, reached))
-    at_cases (inr after) = ap (passage_of setting (puts_to sub history)) last
-        ∙ ap (λ b. cond b 0 (setting.distance u node)) (not_yet (list_any (confirmed c) (puts_to sub history)) refl)
-      where
-        c : Commit
-        c = record { number = p; from = u; to = node }
+    c : Commit
+    c = record { number = p; from = u; to = node }
 
-        gone : MarkTells setting sub history u (Gone p node)
-        gone = rw after.2 at (laws.marks setting sub history low legal u its.1)
-
-        last : last_or None (commits sub history) ≡ Some c
-        last = last-get (commits sub history) (p - 1) None c (omega (arith, reached, gone.0)) gone.1
-
-        not_yet : (b : Bool) → list_any (confirmed c) (puts_to sub history) ≡ b → b ≡ false
-        not_yet false e = refl
-        not_yet true e = absurd ((past-all laws c history low inside legal e).1 u comes)
+    not_yet : (b : Bool) → list_any (confirmed c) (puts_to sub history) ≡ b → b ≡ false
+    not_yet false e = refl
+    not_yet true e = absurd ((past-all laws c history low inside legal e).1 u comes)
