@@ -48,23 +48,17 @@ pub behind-later : {setting : Setting} {sub : ℕ} (t u : ℕ) (history : Histor
     {node : ℕ}
     → t ≤ u → IsBehind setting sub (before t history) behind known node
     → IsBehind setting sub (before u history) behind known node
-behind-later {setting} {sub} t u history {behind} {node} h is = record {
+behind-later {setting} {sub} t u history {behind} h is = record {
   few = omega (arith, is.few, number-grows sub t u history h);
-  stop = at_stop is.stop;
+  stop = elim is.stop [
+    | inl none ↦ inl none
+    | inr stop ↦ inr (rw (commits-grow sub t u history h).1
+        (stop-kept (start setting sub) (commits sub (before t history)) _ behind.place is.few ∙ stop))
+  ];
   early = omega (arith, is.early, begun-grows setting sub t u history h);
   rises = is.rises;
   fresh = is.fresh;
 }
-  where
-    at_stop : (behind.place ≡ 0)
-        ⊎ (stop_after (start setting sub) (commits sub (before t history)) behind.place ≡ node)
-        → (behind.place ≡ 0)
-        ⊎ (stop_after (start setting sub) (commits sub (before u history)) behind.place ≡ node)
-    at_stop (inl none) = inl none
-    at_stop (inr stop) =
-        let more = commits-grow sub t u history h in
-        inr (ap (λ (cs : List Commit). stop_after (start setting sub) cs behind.place) more.1
-        ∙ (stop-kept (start setting sub) (commits sub (before t history)) more.0 behind.place is.few ∙ stop))
 
 -- what is known at a pursuit
 abbrev pub IsTracked : Setting → ℕ → History → Behind → Pursuit → Type 0

@@ -61,13 +61,11 @@ zero-up setting sub seen node mark tells = omega arith
 fits-up : ChaseLaws → {setting : Setting} {sub : ℕ} {seen : History} {behind : Behind} {known : Option ℕ} {node : ℕ}
     → setting.nodes ≤ 2 ^ 16 → IsLegal setting sub seen → node < setting.nodes
     → IsBehind setting sub seen behind known node → GoesUp behind.place (mark_seen setting sub seen node)
-fits-up laws {setting} {sub} {seen} {behind} {node} low legal inside is = at_stop is.stop
-  where
-    at_stop : (behind.place ≡ 0) ⊎ (stop_after (start setting sub) (commits sub seen) behind.place ≡ node)
-        → GoesUp behind.place (mark_seen setting sub seen node)
-    at_stop (inl none) = rw none (zero-up setting sub seen node (mark_seen setting sub seen node)
-        (laws.marks setting sub seen low legal node inside))
-    at_stop (inr stop) = stop-goes_up laws.cells laws.marks seen low legal behind.place node is.few stop inside
+fits-up laws {setting} {sub} {seen} {behind} {node} low legal inside is = elim is.stop [
+  | inl none ↦ rw none
+      (zero-up setting sub seen node _ (laws.marks setting sub seen low legal node inside))
+  | inr stop ↦ stop-goes_up laws.cells laws.marks seen low legal behind.place node is.few stop inside
+]
 
 fits-begun : ChaseLaws → {setting : Setting} {sub : ℕ} (seen : History) (n node : ℕ) (mark : PresenceMark)
     → setting.nodes ≤ 2 ^ 16 → IsLegal setting sub seen → n ≤ moves_begun setting sub seen

@@ -180,27 +180,23 @@ all-in-turn : (f : ℕ → List Done) (x k : ℕ) → ((a i : ℕ) (y : Done) �
     → slice_get (flat_map f (numbers_from x k)) j ≡ Some other → actor_of one ≡ actor_of other → AreInTurn one other
 all-in-turn f x zero each order i j one other le at_one at_other same = cc
 all-in-turn f x (suc k) each order i j one other le at_one at_other same =
-    at_parts (append-at (f x) (flat_map f (numbers_from (suc x) k)) i one at_one)
-    (append-at (f x) (flat_map f (numbers_from (suc x) k)) j other at_other)
-    (λ m n low a b. all-in-turn f (suc x) k (λ c i y h. each c i y (omega (arith, h)))
-    (λ c i j y z h. order c i j y z (omega (arith, h))) m n one other low a b same)
-  where
-    rest : List Done
-    rest = flat_map f (numbers_from (suc x) k)
-
-    at_parts : (slice_get (f x) i ≡ Some one) ⊎ ((m : ℕ) × (i ≡ length (f x) + m) × (slice_get rest m ≡ Some one))
-        → (slice_get (f x) j ≡ Some other) ⊎ ((n : ℕ) × (j ≡ length (f x) + n) × (slice_get rest n ≡ Some other))
-        → ((m n : ℕ) → m < n → slice_get rest m ≡ Some one → slice_get rest n ≡ Some other → AreInTurn one other)
-        → AreInTurn one other
-    at_parts (inl a) (inl b) later = order x i j one other (omega arith) le a b
-    at_parts (inl a) (inr b) later = absurd (omega (
-      arith,
-      same,
-      each x i one (omega arith) a,
-      block-above f (suc x) k (λ c i y h. each c i y (omega (arith, h))) b.0 other b.2,
-    ))
-    at_parts (inr a) (inl b) later = absurd (omega (arith, le, a.1, slice_get_within (f x) j other b))
-    at_parts (inr a) (inr b) later = later a.0 b.0 (omega (arith, le, a.1, b.1)) a.2 b.2
+    elim (append-at (f x) (flat_map f (numbers_from (suc x) k)) i one at_one) [
+      | inl a ↦ elim (append-at (f x) (flat_map f (numbers_from (suc x) k)) j other at_other) [
+        | inl b ↦ order x i j one other (omega arith) le a b
+        | inr b ↦ absurd (omega (
+          arith,
+          same,
+          each x i one (omega arith) a,
+          block-above f (suc x) k (λ c i y h. each c i y (omega (arith, h))) b.0 other b.2,
+        ))
+      ]
+      | inr a ↦ elim (append-at (f x) (flat_map f (numbers_from (suc x) k)) j other at_other) [
+        | inl b ↦ absurd (omega (arith, le, a.1, slice_get_within (f x) j other b))
+        | inr b ↦ all-in-turn f (suc x) k (λ c i y h. each c i y (omega (arith, h)))
+            (λ c i j y z h. order c i j y z (omega (arith, h))) a.0 b.0 one other (omega (arith, le, a.1, b.1)) a.2 b.2
+            same
+      ]
+    ]
 
 -- the lines of subscribers tell of no find
 step-untold : (setting : Setting) (sub : ℕ) (course : Course) (step : Step) (seen : List ℕ) (find : FindLine)
@@ -208,25 +204,27 @@ step-untold : (setting : Setting) (sub : ℕ) (course : Course) (step : Step) (s
 step-untold setting sub course (move_to node) seen find told = cc
 step-untold setting sub course step seen find told = cc
 
-steps-untold : (setting : Setting) (sub : ℕ) (course : Course) (steps : List Step) (seen : List ℕ) (i : ℕ)
-    (line : Done) (find : FindLine) → slice_get (step_lines setting sub course steps seen) i ≡ Some line
+abbrev AreUntold : List Done → Type 0
+AreUntold lines = (i : ℕ) (line : Done) (find : FindLine) → slice_get lines i ≡ Some line
     → find_of line ≡ Some find → ⊥
+
+steps-untold : (setting : Setting) (sub : ℕ) (course : Course) (steps : List Step) (seen : List ℕ)
+    → AreUntold (step_lines setting sub course steps seen)
 unfolding step_lines
-steps-untold setting sub course [] seen i line find at told = cc
-steps-untold setting sub course (step ∷ steps) seen zero line find at told =
+steps-untold setting sub course [] seen i line find is told = cc
+steps-untold setting sub course (step ∷ steps) seen zero line find is told =
     let first : List ℕ = take (length (step_writes setting course step)) seen in
     let same : step_line setting sub course step first ≡ line = cc in
     step-untold setting sub course step first find (rw same told)
-steps-untold setting sub course (step ∷ steps) seen (suc i) line find at told =
+steps-untold setting sub course (step ∷ steps) seen (suc i) line find is told =
     steps-untold setting sub (after_step setting course step) steps
-    (drop (length (step_writes setting course step)) seen) i line find at told
+    (drop (length (step_writes setting course step)) seen) i line find is told
 
-subs-untold : (setting : Setting) (scripts : Scripts) (history : History) (some : List ℕ) (i : ℕ) (line : Done)
-    (find : FindLine) → slice_get (flat_map (sub_lines setting scripts history) some) i ≡ Some line
-    → find_of line ≡ Some find → ⊥
-subs-untold setting scripts history [] i line find at told = cc
-subs-untold setting scripts history (sub ∷ some) i line find at told = elim
-    (append-at (sub_lines setting scripts history sub) (flat_map (sub_lines setting scripts history) some) i line at) [
+subs-untold : (setting : Setting) (scripts : Scripts) (history : History) (some : List ℕ)
+    → AreUntold (flat_map (sub_lines setting scripts history) some)
+subs-untold setting scripts history [] i line find is told = cc
+subs-untold setting scripts history (sub ∷ some) i line find is told = elim
+    (append-at (sub_lines setting scripts history sub) (flat_map (sub_lines setting scripts history) some) i line is) [
       | inl here ↦ steps-untold setting sub (course_at (start setting sub)) (steps_of scripts sub)
           (tickets sub history) i line find here told
       | inr there ↦ subs-untold setting scripts history some there.0 line find there.2 told
@@ -236,20 +234,19 @@ subs-untold setting scripts history (sub ∷ some) i line find at told = elim
 pub outcome-in-turn : FindsFollow → CallersCount → TicketsAscend → LinesAreInTurn
 outcome-in-turn follow count ascend setting scripts history played i j one other le at_one at_other same
     earlier later is_earlier is_later =
-    at_parts (append-at steps finds i one at_one) (append-at steps finds j other at_other)
+    elim (append-at steps finds i one at_one) [
+      | inl a ↦ absurd (subs-untold setting scripts history _ i one earlier a is_earlier)
+      | inr a ↦ elim (append-at steps finds j other at_other) [
+        | inl b ↦ absurd (subs-untold setting scripts history _ j other later b is_later)
+        | inr b ↦ all-in-turn (caller_lines setting scripts history) (subs setting) (length scripts.finds)
+            (λ actor k line high. line-of-caller setting scripts history actor k line)
+            (λ actor m n x y high. caller-in-turn follow count ascend setting scripts history played actor m n x y high)
+            a.0 b.0 one other (omega (arith, le, a.1, b.1)) a.2 b.2 same earlier later is_earlier is_later
+      ]
+    ]
   where
     steps : List Done
     steps = flat_map (sub_lines setting scripts history) (numbers_from 0 (subs setting))
 
     finds : List Done
     finds = flat_map (caller_lines setting scripts history) (numbers_from (subs setting) (length scripts.finds))
-
-    at_parts : (slice_get steps i ≡ Some one) ⊎ ((m : ℕ) × (i ≡ length steps + m) × (slice_get finds m ≡ Some one))
-        → (slice_get steps j ≡ Some other) ⊎ ((n : ℕ) × (j ≡ length steps + n) × (slice_get finds n ≡ Some other))
-        → (earlier.last < later.first) × (later.first ≤ later.last)
-    at_parts (inl a) b = absurd (subs-untold setting scripts history _ i one earlier a is_earlier)
-    at_parts (inr a) (inl b) = absurd (subs-untold setting scripts history _ j other later b is_later)
-    at_parts (inr a) (inr b) = all-in-turn (caller_lines setting scripts history) (subs setting) (length scripts.finds)
-        (λ actor k line high. line-of-caller setting scripts history actor k line)
-        (λ actor m n x y high. caller-in-turn follow count ascend setting scripts history played actor m n x y high)
-        a.0 b.0 one other (omega (arith, le, a.1, b.1)) a.2 b.2 same earlier later is_earlier is_later
