@@ -97,28 +97,20 @@ coming-leads : ChaseLaws → {setting : Setting} {sub : ℕ} {seen : History} {b
     → is_known p known ≡ false → IsBehind setting sub seen (after_coming behind p) known from
 unfolding HistoryView
 coming-leads laws {setting} {sub} {seen} {node} p from low legal tells is new = record {
-  few = (led tells.3).0;
-  stop = inr (led tells.3).1;
+  few = omega (arith, tells.3);
+  stop = inr (elim tells.3 [
+    | inl early ↦
+        let e : p - 1 ≡ length (commits sub seen) = omega (arith, early.0) in
+        rw e (stop-last (start setting sub) (commits sub seen) ∙ sym early.1)
+    | inr late ↦
+        let gone : MarkTells setting sub seen from (Gone p node) =
+        rw late.2 at (laws.marks setting sub seen low legal from tells.1) in
+        stop-left (view laws.cells seen low legal) (p - 1) _ gone.1
+  ]);
   early = omega (arith, tells.0);
   rises = is.fresh p new;
   fresh = is.fresh;
 }
-  where
-    led : ((p ≡ suc (number sub seen)) × (from ≡ standing setting sub seen))
-        ⊎ ((p ≡ number sub seen) × (node ≡ standing setting sub seen) × (mark_seen setting sub seen from ≡ Gone p node))
-        → (p - 1 ≤ number sub seen) × (stop_after (start setting sub) (commits sub seen) (p - 1) ≡ from)
-    led (inl early) =
-        let e : p - 1 ≡ length (commits sub seen) = omega (arith, early.0) in (
-          omega (arith, early.0),
-          ap (stop_after (start setting sub) (commits sub seen)) e
-              ∙ (stop-last (start setting sub) (commits sub seen) ∙ sym early.1),
-        )
-    led (inr late) =
-        let gone : MarkTells setting sub seen from (Gone p node) = subst (MarkTells setting sub seen from) late.2
-        (laws.marks setting sub seen low legal from tells.1) in (
-          omega (arith, late.0),
-          stop-left (view laws.cells seen low legal) (p - 1) _ gone.1,
-        )
 
 -- one look of a chase
 module _ (laws : ChaseLaws) {setting : Setting} (history : History) (call : FindCall) (t : ℕ) (chase : Chase)
@@ -136,8 +128,7 @@ module _ (laws : ChaseLaws) {setting : Setting} (history : History) (call : Find
       → IsBehind setting call.sub (before t history) b known to
       → Later (hop setting known level weight left node to)
       → Rises b (marks_chased setting call (hop setting known level weight left node to) words)
-  hop-rises known level weight zero to b its more = subst (Rises b)
-      (sym (ended-so (Again Chased weight))) (none-rise b)
+  hop-rises known level weight zero to b its more = rw (ended-so (Again Chased weight)) (none-rise b)
   hop-rises known level weight (suc left) to b its more = more b (behind-later t (suc t) history (omega arith) its)
 
   continues : (mark : PresenceMark) → MarkTells setting call.sub (before t history) node mark
