@@ -8,7 +8,7 @@ use Rattle.entry_word.specs.declared.mark.PresenceMark.TheVariants.{Empty, Here,
 use Rattle.directory.specs.Settings.{Setting, start}
 use Rattle.directory.specs.Histories.{before, History}
 use Rattle.directory.specs.Finds.{after_word, at_origin, chases, climbs, ended, FindCall, is_known, Pursuit}
-use Rattle.directory.specs.Standing.{Commit, commits, number}
+use Rattle.directory.specs.Standing.{commits, number}
 use Rattle.trail_laws.specs.Trail.{GoesUp}
 use Rattle.trail_laws.specs.Phases.{moves_begun}
 use Rattle.trail_laws.specs.Chased.{FollowOn, GoesBack, gone_number, mark_chased, marks_chased}

@@ -1,7 +1,7 @@
 -- How the marks of a chase follow one another, by the looks of a find: what a Gone or a Coming tells of the node where
 -- it leads holds at every later look.
 use Rattle.std.proofs.lemmas.Bool.{cases_Bool}
-use Rattle.std.proofs.Common.{◌≡◌, ◌⊎◌, inl, inr, ℕ, zero, suc, ◌-◌, ◌<◌, ◌≤◌, ◌^◌, max, true, false, List, [], ◌∷◌, ◌++◌, Option, Some, None, length, refl, sym, ap, ◌∙◌, subst, arith}
+use Rattle.std.proofs.Common.{◌≡◌, inl, inr, ℕ, zero, suc, ◌-◌, ◌<◌, ◌≤◌, ◌^◌, max, true, false, List, [], ◌∷◌, Option, Some, None, length, refl, sym, ◌∙◌, arith}
 use Rattle.std.specs.Prelude.{flat_map}
 use Rattle.std.proofs.lemmas.Bool.Decides.{nat_tests}
 use Rattle.entry_word.specs.declared.mark.PresenceMark.{PresenceMark}
@@ -9,11 +9,11 @@ use Rattle.entry_word.specs.declared.mark.PresenceMark.TheVariants.{Empty, Here,
 use Rattle.entry_word.specs.declared.visit.Key.{Key}
 use Rattle.entry_word.specs.declared.visit.Key.TheVariants.{Presence}
 use Rattle.directory.specs.Settings.{Setting, start}
-use Rattle.directory.specs.Histories.{before, cell, History, words_at, words_by}
+use Rattle.directory.specs.Histories.{before, cell, History, words_at}
 use Rattle.directory.specs.Legal.{IsLegal}
 use Rattle.directory.specs.Finds.{after_mark, after_word, at_origin, Chase, chases, ended, FindCall, hop, is_known, key_of, known_with, Pursuit}
 use Rattle.directory.specs.Looks.{AreLooks}
-use Rattle.directory.specs.Standing.{commits, number, off, standing}
+use Rattle.directory.specs.Standing.{commits, number, off}
 use Rattle.directory.specs.Statements.{FrontsAreLegal}
 use Rattle.directory.specs.declared.answers.Found.{Found}
 use Rattle.directory.specs.declared.answers.Found.TheVariants.{At, Off as OffAt, Again}
@@ -22,7 +22,7 @@ use Rattle.trail_laws.specs.Trail.{EntriesTell, GoesUp, mark_seen, MarksTell, Ma
 use Rattle.trail_laws.specs.Phases.{moves_begun}
 use Rattle.trail_laws.specs.Chased.{ChasesRise, marks_chased}
 use Rattle.trail_laws.proofs.Laws.{HistoryView, Laws, view}
-use Rattle.trail_laws.proofs.Stops.{off-counts, stop_after, stop-last, stop-left, stop-listed, view-counts}
+use Rattle.trail_laws.proofs.Stops.{off-counts, stop-last, stop-left, stop-listed, view-counts}
 use Rattle.trail_laws.proofs.Passing.{front-legal, number-grows}
 use Rattle.trail_laws.proofs.Rising.{stop-goes_up}
 use Rattle.trail_laws.proofs.Right.{good-safe, gone-known, IsSafe, look-good, safe-later}
@@ -174,8 +174,7 @@ look-rises laws {setting} history call t (chases chase node) key words behind lo
     rw e (chase-rises laws history call t chase words low legal tracked safe.1 (rw e at more))
 look-rises laws history call t (ended found) key words behind low legal safe tracked wanted more = cc
 look-rises laws {setting} history call t pursuit key words behind low legal safe tracked wanted more =
-    subst (λ b. Rises b (marks_chased setting call pursuit (cell setting (before t history) key ∷ words)))
-    (sym tracked) (more nothing (tracked-nothing setting call.sub (before (suc t) history) _))
+    rw tracked (more nothing (tracked-nothing setting call.sub (before (suc t) history) _))
 
 tracked-later : (setting : Setting) (sub t u : ℕ) (history : History) (behind : Behind) (pursuit : Pursuit) → t ≤ u
     → IsTracked setting sub (before t history) behind pursuit → IsTracked setting sub (before u history) behind pursuit
@@ -196,37 +195,24 @@ looks-rise laws history actor call low inside legal [] earliest pursuit behind s
     none-rise behind
 looks-rise laws {setting} history actor call low inside legal (t ∷ later) earliest pursuit behind safe tracked
     (first, (key, wanted, is_look, rest)) =
-    subst (Rises behind) (sym read) (look-rises laws history call t pursuit key
+    rw is_look (look-rises laws history call t pursuit key
     (flat_map (words_at setting history) later) behind low legal_now safe_now
     (tracked-later setting call.sub earliest t history behind pursuit first tracked) wanted
     (λ b its. looks-rise laws history actor call low inside legal later (suc t) next b safe_next its rest))
   where
-    word : ℕ
-    word = cell setting (before t history) key
-
     next : Pursuit
     next = after_word setting call pursuit (cell setting (before t history) key)
-
-    read : marks_chased setting call pursuit (flat_map (words_at setting history) (t ∷ later))
-        ≡ marks_chased setting call pursuit
-        (cell setting (before t history) key ∷ flat_map (words_at setting history) later)
-    read = ap (λ o. marks_chased setting call pursuit (words_by setting (before t history) o
-        ++ flat_map (words_at setting history) later)) is_look
 
     legal_now : IsLegal setting call.sub (before t history)
     legal_now = front-legal laws.fronts setting call.sub history t low legal
 
     safe_now : IsSafe setting (number call.sub (before t history)) pursuit
-    safe_now = safe-later setting (number call.sub (before earliest history)) (number call.sub (before t history))
-        pursuit (number-grows call.sub earliest t history first) safe
+    safe_now = safe-later setting _ _ pursuit (number-grows call.sub earliest t history first) safe
 
-    safe_next : IsSafe setting (number call.sub (before (suc t) history))
-        (after_word setting call pursuit (cell setting (before t history) key))
-    safe_next = safe-later setting (number call.sub (before t history)) (number call.sub (before (suc t) history))
-        (after_word setting call pursuit (cell setting (before t history) key))
-        (number-grows call.sub t (suc t) history (omega arith)) (good-safe setting call.sub (before t history)
-        (after_word setting call pursuit (cell setting (before t history) key)) (look-good laws.marks laws.entries
-        (before t history) call pursuit key low inside legal_now safe_now wanted))
+    safe_next : IsSafe setting (number call.sub (before (suc t) history)) next
+    safe_next = safe-later setting _ _ next (number-grows call.sub t (suc t) history (omega arith))
+        (good-safe setting call.sub (before t history) next (look-good laws.marks laws.entries (before t history) call
+        pursuit key low inside legal_now safe_now wanted))
 
 pub chases-rise : ChaseLaws → ChasesRise
 chases-rise laws setting history actor call tickets low inside legal looks =

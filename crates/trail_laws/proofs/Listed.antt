@@ -1,5 +1,5 @@
 -- Whom a census lists: what the mark of a subscriber at its node says.
-use Rattle.std.proofs.Common.{◌≡◌, ℕ, true, false, sym, ap, ◌∙◌, subst, inl, inr}
+use Rattle.std.proofs.Common.{◌≡◌, ℕ, true, false, sym, ap, ◌∙◌, inl, inr}
 use Rattle.entry_word.specs.Marks.{says_here}
 use Rattle.entry_word.specs.declared.mark.PresenceMark.{PresenceMark}
 use Rattle.entry_word.specs.declared.mark.PresenceMark.TheVariants.{Here, Off}
@@ -7,7 +7,7 @@ use Rattle.directory.specs.Settings.{Setting}
 use Rattle.directory.specs.Histories.{History}
 use Rattle.directory.specs.Legal.{IsLegal}
 use Rattle.directory.specs.Orders.{history_of}
-use Rattle.directory.specs.Standing.{number, off}
+use Rattle.directory.specs.Standing.{number}
 use Rattle.directory.specs.Statements.{DoneIsRest, OrdersAreDone, OrdersArePlayed, PlayedIsLegal, CensusIsMark}
 use Rattle.trail_laws.specs.Censuses.{CensusesEndRight, IsOnAt, ListedStandThere, RestingAreListed}
 use Rattle.trail_laws.specs.Phases.{RestIsSettled}
@@ -23,21 +23,15 @@ listed-stand says tells setting sub history node low below legal h =
     here-tells setting sub history node (mark_seen setting sub history node)
     (sym (says setting history node sub legal.script.known) ∙ h) (tells setting sub history low legal node below)
 
--- an Off where the subscriber stands says that it is off
-off-tells : (setting : Setting) (sub : ℕ) (history : History) (node p : ℕ)
-    → MarkTells setting sub history node (mark_seen setting sub history node)
-    → mark_seen setting sub history node ≡ Off p → off sub history ≡ true
-off-tells setting sub history node p tells is = (subst (MarkTells setting sub history node) is tells).2
-
 pub resting-listed : CensusIsMark → MarksTell → RestIsSettled → RestingAreListed
 resting-listed says tells rests setting sub history node low below legal rest on =
     says setting history node sub legal.script.known
     ∙ elim (rests setting sub history low legal rest).2 [
       | inl here ↦ ap says_here (ap (mark_seen setting sub history) on.0 ∙ here)
       | inr is_off ↦
-          let clash : off sub history ≡ true = off-tells setting sub history node (number sub history)
-          (tells setting sub history low legal node below) (ap (mark_seen setting sub history) on.0 ∙ is_off) in
-          let same : true ≡ false = sym clash ∙ on.1 in cc
+          let told : MarkTells setting sub history node (Off (number sub history)) =
+          rw (ap (mark_seen setting sub history) on.0 ∙ is_off) at (tells setting sub history low legal node below) in
+          let clash : true ≡ false = sym told.2 ∙ on.1 in cc
     ]
 
 pub end-right : ListedStandThere → RestingAreListed → DoneIsRest → OrdersArePlayed → OrdersAreDone → PlayedIsLegal

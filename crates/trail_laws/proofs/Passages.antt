@@ -1,5 +1,5 @@
 -- While a Coming stands whose move is committed, the passage of that move is open.
-use Rattle.std.proofs.Common.{◌≡◌, ◌⊎◌, inl, inr, ℕ, zero, suc, ◌-◌, ◌<◌, ◌≤◌, ◌^◌, Bool, true, false, cond, ◌==◌, ◌&&◌, List, [], ◌∷◌, ◌++◌, Option, Some, None, length, take, refl, sym, ap, ◌∙◌, subst, arith, length-append}
+use Rattle.std.proofs.Common.{◌≡◌, ◌⊎◌, inl, inr, ℕ, zero, suc, ◌-◌, ◌<◌, ◌≤◌, ◌^◌, Bool, true, false, ◌==◌, ◌&&◌, List, [], ◌∷◌, ◌++◌, Option, Some, None, length, take, refl, sym, ap, ◌∙◌, subst, arith, length-append}
 use Rattle.std.specs.Prelude.{slice_get}
 use Rattle.std.specs.List.{cons_option, last_or, list_any}
 use Rattle.std.proofs.lemmas.Bool.{and_parts, cases_Bool, eqb-false, eqb-true, eq-eqb, ne_eqb}
@@ -18,7 +18,7 @@ use Rattle.directory.specs.Histories.{cell, History, is_put_for, puts_to, word_a
 use Rattle.directory.specs.Courses.{after_step, after_steps, course_at, next_move}
 use Rattle.directory.specs.Puts.{course_in, mark_put, mark_step, node_put, steps_from, steps_in}
 use Rattle.directory.specs.Legal.{IsLegal}
-use Rattle.directory.specs.Standing.{Commit, commits, confirms, number, passage, passage_of, standing}
+use Rattle.directory.specs.Standing.{Commit, commits, confirms, number, passage, passage_of}
 use Rattle.directory.specs.StepLaws.{by_fronts, steps-append, take-more, puts-push_other, puts-push_own}
 use Rattle.directory.specs.Statements.{CellsOfPuts, CommitsAreMoves, FrontsAreLegal}
 use Rattle.trail_laws.specs.Trail.{mark_seen, MarksTell, MarkTells}

@@ -1,6 +1,6 @@
 -- A quiet find has its answer: what it stands on stays while no visit of a move is made.
 use Rattle.std.proofs.lemmas.Bool.{cases_Bool, cases_eq, or_cases, eqb-true, cases_lt}
-use Rattle.std.proofs.Common.{◌≡◌, ◌⊎◌, inl, inr, ℕ, zero, suc, ◌+◌, ◌-◌, ◌*◌, ◌<◌, ◌≤◌, ◌^◌, true, false, ◌==◌, List, [], ◌∷◌, ◌++◌, Option, Some, None, map, fold, refl, sym, ap, ◌∙◌, subst, arith}
+use Rattle.std.proofs.Common.{◌≡◌, ◌⊎◌, inl, inr, ℕ, zero, suc, ◌+◌, ◌-◌, ◌*◌, ◌<◌, ◌≤◌, ◌^◌, true, false, ◌==◌, List, [], ◌∷◌, ◌++◌, Option, Some, None, map, fold, refl, sym, ap, ◌∙◌, arith}
 use Rattle.std.specs.Prelude.{All, flat_map, is_some}
 use Rattle.std.proofs.lemmas.List.Elements.{All-head, All-tail}
 use Rattle.std.proofs.lemmas.Option.{slice_get_within}
@@ -47,8 +47,7 @@ module _ (used : Used) {setting : Setting} (history : History) (actor : ℕ) (ca
       → fold (after_word setting call) pursuit (flat_map (words_at setting history) later) ≡ ended found
       → IsAnswered found × Within (found_weight found)
   unfolding AreLooks
-  sure-looks [] t pursuit sure looks quiet ends =
-      subst (IsSure setting call.sub (before t history) call Within) ends sure
+  sure-looks [] t pursuit sure looks quiet ends = rw ends at sure
   sure-looks (u ∷ later) t pursuit sure (first, (key, wanted, is_look, rest)) quiet ends =
       sure-looks later u (after_word setting call pursuit (cell setting (before u history) key))
       (look-sure setting (before u history) call Within pursuit key waited wanted) rest

@@ -1,7 +1,7 @@
 -- The answers of finds are right: what is known grows with the commits, and the mark that answers says where the
 -- subscriber stands.
 use Rattle.std.proofs.lemmas.Bool.{cond_both}
-use Rattle.std.proofs.Common.{◌≡◌, inl, inr, ℕ, zero, suc, ◌+◌, ◌-◌, ◌*◌, ◌<◌, ◌≤◌, ◌^◌, true, false, List, [], ◌∷◌, ◌++◌, Option, Some, None, length, map, fold, sym, ap, ◌∙◌, subst, arith}
+use Rattle.std.proofs.Common.{◌≡◌, inl, inr, ℕ, zero, suc, ◌+◌, ◌-◌, ◌*◌, ◌<◌, ◌≤◌, ◌^◌, true, false, List, [], ◌∷◌, ◌++◌, Option, Some, None, length, map, fold, sym, ap, ◌∙◌, arith}
 use Rattle.std.specs.Prelude.{All, flat_map, slice_get, slice_index}
 use Rattle.std.proofs.lemmas.Bool.Decides.{nat_tests}
 use Rattle.std.proofs.lemmas.List.Elements.{All-append, All-map, All-head, All-nil, All-tail}
@@ -200,14 +200,12 @@ module _ (marks : MarksTell) (entries : EntriesTell) (fronts : FrontsAreLegal) {
       → IsRight setting history call.sub found (last_of (t ∷ later))
   unfolding AreLooks
   right-looks [] t key pursuit is_look good looks ends =
-      right-through setting history call.sub actor t key found is_look
-      (subst (IsGood setting call.sub (before t history)) ends good)
+      right-through setting history call.sub actor t key found is_look (rw ends at good)
   right-looks (u ∷ later) t key pursuit is_look good (first, (next, wanted, its_look, rest)) ends =
-      subst (IsRight setting history call.sub found) (sym (last-more t u later))
-      (right-looks later u next (after_word setting call pursuit (cell setting (before u history) next)) its_look
-      (next-good u pursuit next (safe-later setting (number call.sub (before t history)) _ pursuit
-      (number-grows call.sub t u history (omega (arith, first)))
-      (good-safe setting call.sub (before t history) pursuit good)) wanted)
+      rw (last-more t u later) (right-looks later u next
+      (after_word setting call pursuit (cell setting (before u history) next)) its_look
+      (next-good u pursuit next (safe-later setting _ _ pursuit (number-grows call.sub t u history
+      (omega (arith, first))) (good-safe setting call.sub (before t history) pursuit good)) wanted)
       rest (sym (read-one setting history actor u next call pursuit later its_look) ∙ ends))
 
   first-right : (tickets : List ℕ) → AreLooks setting history actor call 0 at_origin tickets

@@ -1,7 +1,7 @@
 -- The laws of near levels and of short ways after every legal history.
-use Rattle.std.proofs.Common.{◌≡◌, ◌⊎◌, inl, inr, ℕ, suc, ◌+◌, ◌*◌, ◌≤◌, Some, None, refl, sym, ap, ◌∙◌, arith}
+use Rattle.std.proofs.Common.{◌≡◌, ◌⊎◌, inl, inr, ℕ, suc, ◌≤◌, Some, None, refl, sym, ap, ◌∙◌, arith}
 use Rattle.std.proofs.lemmas.Bool.Decides.{nat_tests}
-use Rattle.entry_word.specs.declared.mark.PresenceMark.TheVariants.{Gone, Coming}
+use Rattle.entry_word.specs.declared.mark.PresenceMark.TheVariants.{Coming}
 use Rattle.directory.specs.Standing.{number, standing}
 use Rattle.trail_laws.specs.Trail.{EntriesTell, EntryTells, mark_seen, MarksTell, MarkTells}
 use Rattle.trail_laws.specs.Phases.{AddressesLeadByPhase, PhasesCover}

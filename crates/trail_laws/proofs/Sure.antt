@@ -3,7 +3,7 @@ use Rattle.std.proofs.lemmas.Bool.{cond_both}
 use Rattle.std.proofs.Common.{◌≡◌, ℕ, zero, suc, ◌+◌, ◌*◌, ◌<◌, ◌≤◌, ◌^◌, Bool, true, false, cond, List, [], ◌∷◌, Option, Some, None, length, refl, sym, ap, ◌∙◌, subst, arith}
 use Rattle.entry_word.specs.declared.address.Address.{Address}
 use Rattle.entry_word.specs.declared.mark.PresenceMark.{PresenceMark}
-use Rattle.entry_word.specs.declared.mark.PresenceMark.TheVariants.{Empty, Here, Gone, Coming, Off}
+use Rattle.entry_word.specs.declared.mark.PresenceMark.TheVariants.{Empty, Gone, Coming}
 use Rattle.entry_word.specs.declared.visit.Key.{Key}
 use Rattle.entry_word.specs.declared.visit.Key.TheVariants.{Presence, Entry}
 use Rattle.directory.specs.Settings.{Setting}
@@ -120,15 +120,11 @@ module _ (setting : Setting) (seen : History) (call : FindCall) (Within : ℕ �
   origin-sure : (mark : PresenceMark) → Begins setting seen call Within
       → mark_seen setting call.sub seen call.from ≡ mark → MarkTells setting call.sub seen call.from mark
       → IsSureOf (after_origin setting call mark)
-  origin-sure Empty begins same tells = climb-sure None 0 (all_readers setting call.from) tt (begins.climbing
-      (λ p from e. let clash : Empty ≡ Coming p from = sym same ∙ e in cc)
-      (λ p e. let clash : Empty ≡ Here p = sym same ∙ e in cc)
-      (λ p e. let clash : Empty ≡ Off p = sym same ∙ e in cc))
+  origin-sure Empty begins same tells = climb-sure None 0 (all_readers setting call.from) tt
+      (begins.climbing (λ p from e. cc) (λ p e. cc) (λ p e. cc))
   origin-sure (Gone q to) begins same tells = climb-sure (Some q) 0 (all_readers setting call.from)
-      (gone-known setting call.sub seen call.from q to tells) (begins.climbing
-      (λ p from e. let clash : Gone q to ≡ Coming p from = sym same ∙ e in cc)
-      (λ p e. let clash : Gone q to ≡ Here p = sym same ∙ e in cc)
-      (λ p e. let clash : Gone q to ≡ Off p = sym same ∙ e in cc))
+      (gone-known setting call.sub seen call.from q to tells)
+      (begins.climbing (λ p from e. cc) (λ p e. cc) (λ p e. cc))
   origin-sure (Coming q from) begins same tells =
       let there = begins.chasing q from same in
       (there.0, there.1, omega (arith, there.2), there.3, there.4)
