@@ -1,5 +1,5 @@
 -- The entries of a subscriber in closed form: at rest after a course, and in each phase of the move that comes next.
-use Rattle.std.proofs.Common.{◌≡◌, ℕ, suc, Bool, true, false, cond, not, ◌==◌, ◌&&◌, ◌||◌, List, [], ◌∷◌, ◌++◌, Option, Some, None, length, map, fold, refl, sym, ap, ◌∙◌, arith}
+use Rattle.std.proofs.Common.{◌≡◌, ℕ, Bool, true, false, cond, not, ◌==◌, ◌&&◌, ◌||◌, List, [], ◌∷◌, ◌++◌, Option, Some, None, map, fold, refl, sym, ap, ◌∙◌, arith}
 use Rattle.std.specs.Prelude.{nat_le, slice_index}
 use Rattle.std.proofs.lemmas.Bool.{eqb-true, eq-eqb}
 use Rattle.std.proofs.lemmas.List.{get_or_append_left, get_or_at, length-map, map-append}
@@ -58,34 +58,35 @@ entered-levels at new level cluster entry (l ∷ levels) =
         ∙ twice (has level levels) (cluster == at level)
     at_test false e = refl
 
+-- the stop where the address of a level was made, whatever moves come behind, and that of a move
+pub old-stop : {setting : Setting} {course : Course} (more : List Move) (level : ℕ) → IsSound setting course
+    → slice_index (course.start ∷ map (λ (m : Move). m.to) (course.moves ++ more)) (base level course.moves)
+    ≡ address_node course level
+old-stop {setting} {course} more level sound =
+    ap (λ xs. slice_index (course.start ∷ xs) (base level course.moves))
+    (map-append (λ (m : Move). m.to) course.moves more)
+    ∙ get_or_append_left (course.start ∷ map (λ (m : Move). m.to) course.moves) (map (λ (m : Move). m.to) more) 0
+    (base level course.moves) (omega (arith, length-map course.moves (λ (m : Move). m.to), base-low level sound))
+
+pub new-stop : {setting : Setting} {course : Course} {move : Move} → IsNext setting course move
+    → stop (with_move course move) move.number ≡ move.to
+new-stop {course} {move} next =
+    ap (λ xs. slice_index (course.start ∷ xs) move.number) (map-append (λ (m : Move). m.to) course.moves (move ∷ []))
+    ∙ get_or_at (course.start ∷ map (λ (m : Move). m.to) course.moves) move.to [] 0 move.number
+    (omega (arith, length-map course.moves (λ (m : Move). m.to), next.number))
+
 -- the address of a level after a move
 pub address-with : {setting : Setting} {course : Course} {move : Move} (level : ℕ) → IsSound setting course
     → IsNext setting course move
     → address_node (with_move course move) level ≡ cond (nat_le level move.renewed) move.to
     (address_node course level)
-address-with {setting} {course} {move} level sound next = ap (stop (with_move course move))
-    (base-with level course move)
-    ∙ at_test (nat_le level move.renewed)
+address-with {course} {move} level sound next =
+    ap (stop (with_move course move)) (base-with level course move) ∙ at_test (nat_le level move.renewed)
   where
-    stops : List ℕ
-    stops = course.start ∷ map (λ (m : Move). m.to) course.moves
-
-    longer : course.start ∷ map (λ (m : Move). m.to) (course.moves ++ move ∷ []) ≡ stops ++ move.to ∷ []
-    longer = ap (λ xs. course.start ∷ xs) (map-append (λ (m : Move). m.to) course.moves (move ∷ []))
-
-    count : length stops ≡ suc (length course.moves)
-    count = omega (arith, length-map course.moves (λ (m : Move). m.to))
-
     at_test : (b : Bool) → stop (with_move course move) (cond b move.number (base level course.moves))
         ≡ cond b move.to (address_node course level)
-    at_test true = ap (λ xs. slice_index xs move.number) longer
-        ∙ get_or_at stops move.to [] 0 move.number (omega (arith, next.number, count))
-    at_test false =
-        let same : slice_index (stops ++ move.to ∷ []) (base level course.moves)
-        ≡ slice_index stops (base level course.moves) =
-        get_or_append_left stops (move.to ∷ []) 0 (base level course.moves)
-        (omega (arith, count, base-low level sound)) in
-        ap (λ xs. slice_index xs (base level course.moves)) longer ∙ same
+    at_test true = new-stop next
+    at_test false = old-stop (move ∷ []) level sound
 
 -- when a move has made all its writes its subscriber rests again
 pub entries-rest : {setting : Setting} {course : Course} {move : Move} (written erased : List ℕ) (level cluster : ℕ)

@@ -1,18 +1,19 @@
 -- Which addresses an entry has: the old one of its level, or that of the move under way.
 use Rattle.std.proofs.lemmas.Option.{cond_some}
-use Rattle.std.proofs.lemmas.Bool.{cases_Bool, and_from, and_parts, eqb-true}
-use Rattle.std.proofs.Common.{◌≡◌, ◌⊎◌, inl, inr, ℕ, suc, ◌≤◌, true, false, ◌==◌, ◌&&◌, not, List, Some, None, sym, ap, ◌∙◌, arith}
+use Rattle.std.proofs.lemmas.Bool.{cases_Bool, and_parts, eqb-true}
+use Rattle.std.proofs.Common.{◌≡◌, ◌⊎◌, inl, inr, ℕ, ◌≤◌, true, false, ◌==◌, ◌&&◌, List, Some, None, sym, ◌∙◌, arith}
 use Rattle.std.specs.Prelude.{nat_le}
 use Rattle.std.proofs.lemmas.Bool.Decides.{nat_tests}
 use Rattle.node_set.specs.Ascending.{has}
-use Rattle.node_set.specs.SetLaws.{has-passing}
 use Rattle.entry_word.specs.declared.address.Address.{Address}
 use Rattle.directory.specs.Settings.{Setting}
 use Rattle.directory.specs.Courses.{Move, Course, address_node, base}
 use Rattle.directory.specs.Writes.{old_home}
-use Rattle.trail_laws.proofs.ClosedEntries.{entry_erased, entry_written, new_entry, rest_entry}
+use Rattle.trail_laws.proofs.ClosedEntries.{address-with, entry_erased, entry_written, new_entry, rest_entry}
 use Rattle.trail_laws.proofs.ClosedViews.{old_levels, renewed_levels}
-use Rattle.trail_laws.proofs.ClosedWrites.{in-levels}
+use Rattle.trail_laws.proofs.ClosedWrites.{whole-entries}
+use Rattle.trail_laws.proofs.ClosedMarks.{base-with, IsNext, with_move}
+use Rattle.trail_laws.proofs.Links.{IsSound}
 
 -- the address that a level had before the move, and the one that the move writes
 abbrev pub old_address : Course → ℕ → Address
@@ -64,45 +65,16 @@ erased-some setting course move written erased level cluster address h =
     ]
 
 -- when all old addresses are erased at all levels, only the new one is left
-pub only-new : (setting : Setting) (course : Course) (move : Move) (level cluster : ℕ) (address : Address)
-    → level ≤ setting.top → (move.renewed == setting.top) ≡ true
+pub only-new : {setting : Setting} {course : Course} {move : Move} (level cluster : ℕ) (address : Address)
+    → IsSound setting course → IsNext setting course move → level ≤ setting.top
+    → (move.renewed == setting.top) ≡ true
     → entry_erased setting course move (renewed_levels move) (old_levels setting course move) level cluster
     ≡ Some address → IsNew setting move level cluster address
-unfolding IsOld
-only-new setting course move level cluster address low top h = at_written
-    (written-some setting course move (renewed_levels move) level cluster address parts.1)
-  where
-    parts : ((has level (old_levels setting course move) && cluster == old_home setting course level) ≡ false)
-        × (entry_written setting course move (renewed_levels move) level cluster ≡ Some address)
-    parts = erased-some setting course move (renewed_levels move)
-        (old_levels setting course move) level cluster address h
-
-    at_top : level ≤ move.renewed
-    at_top = let same : move.renewed ≡ setting.top = eqb-true move.renewed setting.top top in omega (arith, same, low)
-
-    at_written : (IsNew setting move level cluster address × (has level (renewed_levels move) ≡ true))
-        ⊎ (IsOld setting course level cluster address ×
-        ((has level (renewed_levels move) && cluster == setting.home level move.to) ≡ false))
-        → IsNew setting move level cluster address
-    at_written (inl new) = new.0
-    at_written (inr old) = absurd clash
-      where
-        written : has level (renewed_levels move) ≡ true
-        written = in-levels level move ∙ (let e : nat_le level move.renewed
-            ≡ true = grind (arith, nat_tests, at_top) in e)
-
-        other : (cluster == setting.home level move.to) ≡ false
-        other = ap (λ b. b && cluster == setting.home level move.to) (sym written) ∙ old.1
-
-        moved : (old_home setting course level == setting.home level move.to) ≡ false
-        moved = ap (λ n. n == setting.home level move.to)
-            (sym (eqb-true cluster (old_home setting course level) old.0.1)) ∙ other
-
-        listed : has level (old_levels setting course move) ≡ true
-        listed = has-passing (λ l. not (old_home setting course l == setting.home l move.to)) level 0
-            (suc move.renewed) (omega arith) (omega (arith, at_top)) ∙ ap not moved
-
-        clash : ⊥
-        clash = let both : (has level (old_levels setting course move) && cluster == old_home setting course level)
-            ≡ true = and_from (has level (old_levels setting course move))
-            (cluster == old_home setting course level) listed old.0.1 in cc
+unfolding IsOld IsNew
+only-new {setting} {course} {move} level cluster address sound next low top h =
+    let at_top : nat_le level move.renewed ≡ true =
+    grind (arith, nat_tests, low, eqb-true move.renewed setting.top top) in
+    let its : (address ≡ old_address (with_move course move) level)
+    × ((cluster == setting.home level (address_node (with_move course move) level)) ≡ true) =
+    rest-some setting (with_move course move) level cluster address (sym (whole-entries level cluster sound next) ∙ h)
+    in rw (address-with level sound next, base-with level course move, at_top) at its

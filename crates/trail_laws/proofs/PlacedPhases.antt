@@ -1,9 +1,8 @@
 -- What an address tells, and where the marks lead from its node: at rest, and in each phase of a move.
-use Rattle.trail_laws.proofs.ClosedMarks.{from-inside, IsNext}
+use Rattle.trail_laws.proofs.ClosedMarks.{from-inside}
 use Rattle.std.proofs.Common.{◌==◌, ◌≡◌, ◌≢◌, ◌⊎◌, inl, inr, ℕ, suc, ◌+◌, ◌<◌, ◌≤◌, true, List, [], ◌∷◌, ◌++◌, Option, length, map, refl, sym, ap, ◌∙◌, arith, length-append, ◌*◌, Some}
-use Rattle.std.specs.Prelude.{slice_index}
 use Rattle.std.proofs.lemmas.Bool.{eqb-true}
-use Rattle.std.proofs.lemmas.List.{append-nil, get_or_append_left, get_or_at, length-map, map-append}
+use Rattle.std.proofs.lemmas.List.{append-nil}
 use Rattle.node_set.specs.SetLaws.{length-passing_all}
 use Rattle.entry_word.specs.declared.mark.PresenceMark.{PresenceMark}
 use Rattle.entry_word.specs.declared.mark.PresenceMark.TheVariants.{Coming}
@@ -21,7 +20,7 @@ use Rattle.trail_laws.proofs.Tells.{begun-count, count-told, next-stands, rest-s
 use Rattle.trail_laws.proofs.Fine.{fine-clearing, fine-coming, fine-coming_new, fine-new, fine-passing, fine-rest, IsFine}
 use Rattle.trail_laws.proofs.Prices.{lazy-front}
 use Rattle.trail_laws.proofs.Leads.{base-top, clearing-here, clearing-leads, coming-at_to, coming-back, coming-leads, old-leads, passage-leads, passage-new, passing-at_to, rest-leads}
-use Rattle.trail_laws.proofs.ClosedEntries.{entry_erased, entry_written}
+use Rattle.trail_laws.proofs.ClosedEntries.{entry_erased, entry_written, new-stop, old-stop}
 use Rattle.trail_laws.proofs.ClosedViews.{clearing, coming, IsMoving, IsResting, passage, Phase, renewed_levels, Shown, View}
 
 -- what an address of a view tells
@@ -47,21 +46,6 @@ above-but_one : (setting : Setting) (marks : ℕ → PresenceMark) (q x p from :
     → marks x ≡ Coming p from → suc (above setting marks q) ≤ setting.nodes
 above-but_one setting marks q x p from low comes = some-out (λ v. gone_above q (marks v)) x setting.nodes low
     (ap (gone_above q) comes)
-
-old-stop : {setting : Setting} {course : Course} (more : List Move) (level : ℕ) → IsSound setting course
-    → stop_at course.start (course.moves ++ more) (base level course.moves) ≡ address_node course level
-old-stop {setting} {course} more level sound =
-    ap (λ xs. slice_index (course.start ∷ xs) (base level course.moves))
-    (map-append (λ (m : Move). m.to) course.moves more)
-    ∙ get_or_append_left (course.start ∷ map (λ (m : Move). m.to) course.moves) (map (λ (m : Move). m.to) more) 0
-    (base level course.moves) (omega (arith, length-map course.moves (λ (m : Move). m.to), base-low level sound))
-
-new-stop : {setting : Setting} {course : Course} {move : Move} → IsNext setting course move
-    → stop_at course.start (course.moves ++ move ∷ []) move.number ≡ move.to
-new-stop {course} {move} next =
-    ap (λ xs. slice_index (course.start ∷ xs) move.number) (map-append (λ (m : Move). m.to) course.moves (move ∷ []))
-    ∙ get_or_at (course.start ∷ map (λ (m : Move). m.to) course.moves) move.to [] 0 move.number
-    (omega (arith, length-map course.moves (λ (m : Move). m.to), next.number))
 
 -- ---- an address at its home, from whose node the marks lead to where the subscriber stands
 module _ {setting : Setting} {shown : Shown} (level cluster : ℕ) (address : Address) (number last hops way : ℕ)
@@ -198,7 +182,7 @@ module _ {setting : Setting} {shown : Shown} (level cluster : ℕ) (address : Ad
   entry-placed (inr (clearing erased purged, h)) e = elim h.is_phase.in_order [
     | inl none ↦ clearing-placed h none (either h (renewed_levels h.move) (erased-some setting h.course h.move
         (renewed_levels h.move) erased level cluster address entry).1)
-    | inr whole ↦ new-placed h (only-new setting h.course h.move level cluster address below whole.1
+    | inr whole ↦ new-placed h (only-new level cluster address h.sound h.next below whole.1
         (rw whole.0 at entry))
   ]
     where
