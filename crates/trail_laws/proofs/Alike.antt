@@ -1,16 +1,16 @@
 -- What isn't a visit of a move changes nothing that leads a find: a switch turns a Here into an Off, or back, where the
 -- subscriber rests.
-use Rattle.std.proofs.Common.{inl, inr, ◌≡◌, ℕ, zero, suc, ◌<◌, ◌≤◌, ◌^◌, Bool, true, false, cond, not, ◌==◌, ◌&&◌, ◌||◌, List, [], ◌∷◌, ◌++◌, Option, Some, None, length, map, take, fold, refl, sym, ap, ◌∙◌, subst, arith}
+use Rattle.std.proofs.Common.{inl, inr, ◌≡◌, ℕ, zero, suc, ◌≤◌, ◌^◌, Bool, true, false, cond, not, ◌==◌, ◌&&◌, ◌||◌, List, [], ◌∷◌, ◌++◌, Option, Some, None, length, map, take, fold, refl, sym, ap, ◌∙◌, subst, arith}
 use Rattle.std.proofs.lemmas.Bool.{cases_Bool, cond_both, and_parts, eqb-true, eq-eqb}
 use Rattle.std.proofs.Math.Bool.{and-false}
 use Rattle.std.specs.Prelude.{filter_map, slice_get}
 use Rattle.std.specs.List.{cons_option}
-use Rattle.std.proofs.lemmas.List.{append-nil, length-map, take_all}
+use Rattle.std.proofs.lemmas.List.{append-nil}
 use Rattle.std.proofs.lemmas.List.Sums.{fold-append}
 use Rattle.entry_word.specs.Marks.{mark_in, says_here, says_off}
 use Rattle.entry_word.specs.Addresses.{address_in}
 use Rattle.entry_word.specs.declared.mark.PresenceMark.{PresenceMark}
-use Rattle.entry_word.specs.declared.mark.PresenceMark.TheVariants.{Empty, Here, Off}
+use Rattle.entry_word.specs.declared.mark.PresenceMark.TheVariants.{Here, Off}
 use Rattle.entry_word.specs.declared.visit.Key.{Key}
 use Rattle.entry_word.specs.declared.visit.Key.TheVariants.{Presence, Entry}
 use Rattle.entry_word.specs.declared.visit.Act.{Act}
@@ -23,15 +23,15 @@ use Rattle.directory.specs.Writes.{visit_of, visits, writes, step_writes, mark_a
 use Rattle.directory.specs.Puts.{course_in, ends_off, is_of_move, mark_put, mark_step, node_put, steps_from, steps_in}
 use Rattle.directory.specs.Legal.{ArePuts, IsLegal}
 use Rattle.directory.specs.Standing.{Commit, commit_of, commits, number, standing}
-use Rattle.directory.specs.States.{mark_left, writes_made}
 use Rattle.directory.specs.Parts.{known_after, lead}
 use Rattle.directory.specs.StepLaws.{steps-append, visits_in, visits-append, puts-push_other, puts-push_own}
 use Rattle.directory.specs.Statements.{CellsOfPuts, MarksAreLeft, StepsBeginAtRest}
 use Rattle.trail_laws.specs.Trail.{answers, entry_seen, IsLed, mark_seen}
-use Rattle.trail_laws.proofs.Links.{stop-inside}
 use Rattle.trail_laws.proofs.Passing.{cell-kept}
-use Rattle.trail_laws.proofs.ClosedMarks.{since_top, there, trail_mark}
-use Rattle.trail_laws.proofs.Views.{rest-marks_of, sound-script}
+use Rattle.trail_laws.proofs.ClosedMarks.{there}
+use Rattle.trail_laws.proofs.Views.{mark-there}
+use Rattle.std.proofs.Math.ListN.{drop_of_length-le}
+use Rattle.trail_laws.specs.Phases.{IsAtRest}
 use Rattle.directory.specs.HistoryLaws.{commits-append}
 
 -- two marks lead and answer alike
@@ -147,6 +147,17 @@ get-next (x ∷ xs) (y ∷ ys) zs visit h same =
     (omega (arith, same))
 
 -- a switch is put where the subscriber rests
+pub switch-rests : StepsBeginAtRest → {setting : Setting} {sub : ℕ} {history : History} {visit : Visit}
+    → setting.nodes ≤ 2 ^ 16 → IsLegal setting sub history → IsLegal setting sub (history ++ visit ∷ [])
+    → is_put_for sub visit.act ≡ true → IsSwitching sub history visit → IsAtRest setting sub history
+switch-rests rests {setting} {sub} {history} {visit} low legal legal_more put switch = drop_of_length-le
+    (visits setting sub (steps_in (puts_to sub history))) {i = length (puts_to sub history)}
+    (omega (
+      arith,
+      rests setting sub (puts_to sub history) visit switch.step low legal
+          (rw (puts-push_own sub history visit put) at legal_more) switch.begins,
+    ))
+
 pub alike-switch : MarksAreLeft → StepsBeginAtRest → {setting : Setting} {sub : ℕ} {history : History} {visit : Visit}
     → setting.nodes ≤ 2 ^ 16 → IsLegal setting sub history → IsLegal setting sub (history ++ visit ∷ [])
     → is_put_for sub visit.act ≡ true → IsSwitching sub history visit
@@ -191,24 +202,8 @@ alike-switch marks_left rests {setting} {sub} {history} {visit} low legal legal_
         let same : visit_of sub (mark_at (last_stop course) its.0) ≡ visit = cc in
         sym (ap node_put switch.is_put) ∙ sym (ap (λ (v : Visit). node_put v.act) same)
 
-    all_made : writes_made setting sub puts ≡ writes setting (course_at (start setting sub)) (steps_in puts)
-    all_made = take_all (length puts) (writes setting (course_at (start setting sub)) (steps_in puts))
-        (omega (
-          arith,
-          done,
-          length-map (writes setting (course_at (start setting sub)) (steps_in puts))
-              (visit_of sub),
-        ))
-
-    inside : last_stop course < setting.nodes
-    inside = stop-inside (sound-script setting sub (steps_in puts) legal.script)
-
     there_now : mark_seen setting sub history (last_stop course) ≡ there course
-    there_now = marks_left setting sub history low legal (last_stop course)
-        ∙ (ap (λ ws. mark_left setting sub ws (last_stop course)) all_made
-        ∙ (rest-marks_of setting sub (steps_in puts) (last_stop course) legal.script inside
-        ∙ ap (λ b. cond b (there course) (trail_mark (since_top setting course) (last_stop course) Empty))
-        (eq-eqb (last_stop course) (last_stop course) refl)))
+    there_now = mark-there setting sub history (switch-rests rests low legal legal_more put switch) marks_left low legal
 
     answered : AnswersAll (there course)
     answered = cond_both course.is_off (Off (length course.moves)) (Here (length course.moves)) AnswersAll

@@ -6,24 +6,25 @@ use Rattle.std.proofs.lemmas.Bool.{cond_both, eq-eqb, lt-ltb, or_parts}
 use Rattle.std.proofs.Math.Bool.{and-false}
 use Rattle.node_set.specs.Ascending.{has}
 use Rattle.node_set.specs.SetLaws.{has-passing}
-use Rattle.std.proofs.lemmas.List.{append-nil, length-map, length-take, take-map, take_all}
+use Rattle.std.proofs.lemmas.List.{append-nil, length-drop, length-map, length-take, take-map, take_all}
 use Rattle.std.proofs.lemmas.List.Sums.{fold-append}
 use Rattle.std.proofs.lemmas.List.Elements.{filter_map-append}
 use Rattle.entry_word.specs.declared.mark.PresenceMark.TheVariants.{Here, Gone, Coming}
 use Rattle.directory.specs.Settings.{Setting, start, subs}
 use Rattle.directory.specs.Legal.{IsLegal, IsScript}
 use Rattle.directory.specs.Histories.{History, puts_to}
-use Rattle.directory.specs.Puts.{course_in}
+use Rattle.directory.specs.Puts.{course_in, steps_in}
+use Rattle.trail_laws.specs.Phases.{IsAtRest}
 use Rattle.directory.specs.Amid.{IsAmid}
 use Rattle.directory.specs.Statements.{CommitsAreTold, EntriesAreLeft, LegalIsAmid, MarksAreLeft, OffIsTold}
-use Rattle.directory.specs.Courses.{Step, move_to, Move, Course, course_at, next_move, after_step, after_steps, MayMove, MayStep, MaySteps}
-use Rattle.directory.specs.Writes.{Write, mark_at, entry_at, new_address, old_home, move_writes, trail, writes}
+use Rattle.directory.specs.Courses.{last_stop, Step, move_to, Move, Course, course_at, next_move, after_step, after_steps, MayMove, MayStep, MaySteps}
+use Rattle.directory.specs.Writes.{Write, mark_at, entry_at, new_address, old_home, move_writes, trail, visit_of, visits, writes}
 use Rattle.directory.specs.Standing.{commits, off}
 use Rattle.directory.specs.States.{entry_after, entry_left, mark_after, mark_left, opening_entry, opening_mark, write_commit, write_off, writes_made}
 use Rattle.trail_laws.specs.Trail.{entry_seen, mark_seen}
-use Rattle.trail_laws.proofs.Links.{IsSound, sound-steps}
+use Rattle.trail_laws.proofs.Links.{IsSound, sound-steps, stop-inside}
 use Rattle.trail_laws.proofs.Fronts.{fronts}
-use Rattle.trail_laws.proofs.ClosedMarks.{is-next, rest_mark, marked, trail_mark}
+use Rattle.trail_laws.proofs.ClosedMarks.{there, is-next, rest_mark, marked, trail_mark}
 use Rattle.trail_laws.proofs.ClosedEntries.{rest_entry, entered}
 use Rattle.trail_laws.proofs.ClosedViews.{clearing, coming, IsCleared, IsPhase, old_levels, passage, Phase, purge_nodes, purged_nodes, renewed_levels, Shown, View}
 use Rattle.trail_laws.proofs.ClosedWrites.{commits-steps, entries-steps, erasures, leaves, Leaves, marks-steps, off-steps, phase_writes, purges, whole-writes}
@@ -94,6 +95,27 @@ module _ (setting : Setting) (sub : ℕ) where
     off_is = off-steps setting (course_at (start setting sub)) steps (sound-opening steps script) script.allowed;
     moves_are = refl;
   })
+
+-- a subscriber that rests has made all writes of its steps, and its mark stands where its course ends
+module _ (setting : Setting) (sub : ℕ) (history : History) (rest : IsAtRest setting sub history) where
+  pub all-made : writes_made setting sub (puts_to sub history) ≡ writes_of setting sub (steps_in (puts_to sub history))
+  all-made = take_all (length (puts_to sub history)) (writes_of setting sub (steps_in (puts_to sub history))) (omega (
+    arith,
+    length-drop (length (puts_to sub history)) (visits setting sub (steps_in (puts_to sub history))),
+    ap length rest,
+    length-map (writes_of setting sub (steps_in (puts_to sub history))) (visit_of sub),
+  ))
+
+  pub mark-there : MarksAreLeft → setting.nodes ≤ 2 ^ 16 → IsLegal setting sub history
+      → mark_seen setting sub history (last_stop (course_in setting sub (puts_to sub history)))
+      ≡ there (course_in setting sub (puts_to sub history))
+  mark-there marks low legal =
+      let course = course_in setting sub (puts_to sub history) in
+      marks setting sub history low legal (last_stop course)
+      ∙ (ap (λ ws. mark_left setting sub ws (last_stop course)) all-made
+      ∙ (rest-marks_of setting sub (steps_in (puts_to sub history)) (last_stop course) legal.script
+      (stop-inside (sound-script setting sub (steps_in (puts_to sub history)) legal.script))
+      ∙ rw (eq-eqb (last_stop course) (last_stop course) refl)))
 
 -- the steps before one may be made, and then that one
 pub may-before : (setting : Setting) (course : Course) (before : List Step) (step : Step)
