@@ -9,48 +9,16 @@ use Rattle.directory.specs.Settings.{Setting, start}
 use Rattle.directory.specs.Courses.{Course, Move, last_stop}
 use Rattle.directory.specs.Histories.{History}
 use Rattle.directory.specs.Legal.{IsLegal}
-use Rattle.directory.specs.Standing.{Commit, commit_by, commits, number}
+use Rattle.directory.specs.Standing.{commit_by, commits, number}
 use Rattle.trail_laws.specs.Trail.{GoesUp, MarksTell, MarkTells, NumbersGoUp, mark_seen}
 use Rattle.trail_laws.proofs.Links.{AreLinked, IsSound, base-low}
 use Rattle.trail_laws.proofs.ClosedMarks.{IsNext, mark_coming, mark_erasing, mark_passing, rest_mark, since_top, sound-with, stop-with, there, trail_mark, trail_mark-push}
 use Rattle.trail_laws.proofs.ClosedViews.{IsMoving, Phase, View, coming, passage, clearing, Shown}
-use Rattle.trail_laws.proofs.LinkedStops.{last-left, LeavesMark, stop_at}
+use Rattle.trail_laws.proofs.LinkedStops.{last-left, stop_at}
 use Rattle.trail_laws.proofs.Leads.{low-with, trail-count, trail-ends, trail-linked, trail-stops, trail-with}
 use Rattle.trail_laws.proofs.Tells.{count-told}
 use Rattle.trail_laws.proofs.Laws.{HistoryView, Laws, view}
 use Rattle.trail_laws.proofs.Stops.{stop_after, stop-listed, stops-told}
-
--- each Gone is that of the last of these moves that left its node, and there is none where they end
-record IsTrailOf (setting : Setting) (marks : ℕ → PresenceMark) (from number : ℕ) (moves : List Move) : Type 0 where
-  linked : AreLinked setting from number moves
-  gone : (v p w : ℕ) → v < setting.nodes → marks v ≡ Gone p w → trail_mark moves v Empty ≡ Gone p w
-  ends : (v p w : ℕ) → v < setting.nodes → marks v ≡ Gone p w → v ≢ stop_at from moves (length moves)
-
--- a Gone where these moves had stopped is that of a later move
-later : {setting : Setting} {marks : ℕ → PresenceMark} {from number : ℕ} {moves : List Move}
-    → IsTrailOf setting marks from number moves → (j w q x : ℕ) → w < setting.nodes
-    → j ≤ number + length moves → (number ≤ j → stop_at from moves (j - number) ≡ w) → marks w ≡ Gone q x → j < q
-later {setting} {from} {number} {moves} is j w q x low few stops at_w =
-    at_left (last-left setting from number moves w Empty is.linked)
-  where
-    at_left : LeavesMark setting from number moves w Empty → j < q
-    at_left (inl none) = let clash : Empty ≡ Gone q x = sym none.0 ∙ is.gone w q x low at_w in cc
-    at_left (inr left) = elim (cases_lt j number) [
-      | inl early ↦ omega (arith, early, q_is, left.link.its_number)
-      | inr there ↦ elim (cases_eq (j - number) (length moves)) [
-        | inl end ↦ absurd (is.ends w q x low at_w (sym (stops there) ∙ ap (stop_at from moves) end))
-        | inr other ↦ omega (
-          arith,
-          q_is,
-          left.link.its_number,
-          left.last (j - number) (omega (arith, few, there, other)) (stops there),
-        )
-      ]
-    ]
-      where
-        q_is : left.move.number ≡ q
-        q_is =
-            let both : Gone left.move.number left.move.to ≡ Gone q x = sym left.mark_is ∙ is.gone w q x low at_w in cc
 
 -- at rest, and in each phase of a move
 there-not : (course : Course) (p w : ℕ) → there course ≡ Gone p w → ⊥
@@ -97,54 +65,77 @@ clearing-gone {setting} {course} {move} purged v p w next h = at_purged (has v p
     at_purged false true g = cc
     at_purged false false g = passing-gone v p w next g
 
+-- each Gone is that of the last of these moves that left its node, and there is none at this node
+abbrev AreLast : Setting → (ℕ → PresenceMark) → List Move → ℕ → Type 0
+AreLast setting marks moves end = (v p w : ℕ) → v < setting.nodes → marks v ≡ Gone p w
+    → (trail_mark moves v Empty ≡ Gone p w) × (v ≢ end)
+
 -- the trail of a view, which ends the commits
-record HasTrail (setting : Setting) (marks : ℕ → PresenceMark) (begin : ℕ) (commits : List Commit) : Type 0 where
+record HasTrail (setting : Setting) (shown : Shown) : Type 0 where
   from : ℕ
   number : ℕ
   moves : List Move
-  is : IsTrailOf setting marks from number moves
-  count : length commits ≡ number + length moves
-  stops : (j : ℕ) → number ≤ j → stop_at from moves (j - number) ≡ stop_after begin commits j
+  linked : AreLinked setting from number moves
+  last : AreLast setting shown.marks moves (stop_at from moves (length moves))
+  count : length shown.commits ≡ number + length moves
+  stops : (j : ℕ) → number ≤ j → stop_at from moves (j - number) ≡ stop_after shown.from shown.commits j
+
+-- a Gone where the subscriber had stopped is that of a later move
+later : {setting : Setting} {shown : Shown} (trail : HasTrail setting shown) (j w q x : ℕ) → w < setting.nodes
+    → j ≤ length shown.commits → stop_after shown.from shown.commits j ≡ w → shown.marks w ≡ Gone q x → j < q
+later {setting} trail j w q x low few stop at_w =
+    let gone = trail.last w q x low at_w in
+    elim (last-left setting trail.from trail.number trail.moves w Empty trail.linked) [
+      | inl none ↦ let clash : Empty ≡ Gone q x = sym none.0 ∙ gone.0 in cc
+      | inr left ↦
+          let both : Gone left.move.number left.move.to ≡ Gone q x = sym left.mark_is ∙ gone.0 in
+          let q_is : left.move.number ≡ q = cc in
+          elim (cases_lt j trail.number) [
+            | inl early ↦ omega (arith, early, q_is, left.link.its_number)
+            | inr there ↦ elim (cases_eq (j - trail.number) (length trail.moves)) [
+              | inl end ↦ absurd
+                  (gone.1 (sym (trail.stops j there ∙ stop) ∙ ap (stop_at trail.from trail.moves) end))
+              | inr other ↦ omega (
+                arith,
+                q_is,
+                left.link.its_number,
+                left.last (j - trail.number) (omega (arith, few, trail.count, there, other))
+                    (trail.stops j there ∙ stop),
+              )
+            ]
+          ]
+    ]
 
 -- the moves of a course from a number on
-trail-of : {setting : Setting} {course : Course} (marks : ℕ → PresenceMark) (begin : ℕ) (commits : List Commit)
-    (b : ℕ) → IsSound setting course → b ≤ length course.moves → course.start ≡ begin
-    → commits ≡ map commit_by course.moves
-    → ((v p w : ℕ) → v < setting.nodes → marks v ≡ Gone p w
-    → (trail_mark (drop b course.moves) v Empty ≡ Gone p w) × (v ≢ last_stop course))
-    → HasTrail setting marks begin commits
-trail-of {course} marks begin commits b sound low begins commits_are told = record {
+trail-of : {setting : Setting} (shown : Shown) {course : Course} (b : ℕ) → IsSound setting course
+    → b ≤ length course.moves → course.start ≡ shown.from → shown.commits ≡ map commit_by course.moves
+    → AreLast setting shown.marks (drop b course.moves) (last_stop course) → HasTrail setting shown
+trail-of shown {course} b sound low begins are told = record {
   from = stop_at course.start course.moves b;
   number = b;
   moves = drop b course.moves;
-  is = record {
-    linked = trail-linked sound b low;
-    gone = λ v p w inside h. (told v p w inside h).0;
-    ends = λ v p w inside h same. (told v p w inside h).1 (same ∙ trail-ends sound b low);
-  };
-  count = omega (arith, count-told course.moves commits_are, trail-count sound b low);
+  linked = trail-linked sound b low;
+  last = rw (trail-ends sound b low) told;
+  count = omega (arith, count-told course.moves are, trail-count sound b low);
   stops = λ j h.
       let placed : b + (j - b) ≡ j = omega (arith, h) in
       trail-stops sound b low (j - b) ∙ (ap (stop_at course.start course.moves) placed
-      ∙ stops-told begin course.start commits course.moves j begins commits_are);
+      ∙ stops-told shown.from course.start shown.commits course.moves j begins are);
 }
 
 -- that of a course with one move more
 long-trail : {setting : Setting} {shown : Shown} {phase : Phase} (h : IsMoving setting shown phase)
     → shown.commits ≡ map commit_by (h.course.moves ++ h.move ∷ [])
-    → ((v p w : ℕ) → v < setting.nodes → shown.marks v ≡ Gone p w
-    → (trail_mark (since_top setting h.course ++ h.move ∷ []) v Empty ≡ Gone p w) × (v ≢ h.move.to))
-    → HasTrail setting shown.marks shown.from shown.commits
-long-trail {shown} h are told = trail-of shown.marks shown.from shown.commits _ (sound-with h.sound h.next)
-    (low-with h.move h.sound) h.begins are (rw (trail-with h.move h.sound, stop-with h.course h.move) told)
+    → AreLast setting shown.marks (since_top setting h.course ++ h.move ∷ []) h.move.to → HasTrail setting shown
+long-trail {shown} h are told = trail-of shown _ (sound-with h.sound h.next) (low-with h.move h.sound) h.begins are
+    (rw (trail-with h.move h.sound, stop-with h.course h.move) told)
 
-has-trail : {setting : Setting} {shown : Shown} → View setting shown
-    → HasTrail setting shown.marks shown.from shown.commits
+has-trail : {setting : Setting} {shown : Shown} → View setting shown → HasTrail setting shown
 has-trail {setting} {shown} (inl h) =
-    trail-of shown.marks shown.from shown.commits _ h.sound (base-low setting.top h.sound) h.begins h.commits_are
+    trail-of shown _ h.sound (base-low setting.top h.sound) h.begins h.commits_are
     (λ v p w low is. rest-gone setting h.course v p w (sym (h.marks_are v low) ∙ is))
 has-trail {setting} {shown} (inr (coming written, h)) =
-    trail-of shown.marks shown.from shown.commits _ h.sound (base-low setting.top h.sound) h.begins h.commits_are
+    trail-of shown _ h.sound (base-low setting.top h.sound) h.begins h.commits_are
     (λ v p w low is. let rest = coming-gone setting h.course h.move v p w (sym (h.marks_are v low) ∙ is) in
     (rest.0, rest.1))
 has-trail (inr (passage, h)) = long-trail h h.commits_are
@@ -161,18 +152,11 @@ unfolding HistoryView
 stop-goes_up laws tells {setting} {sub} history low legal j w few stop inside =
     at_mark (mark_seen setting sub history w) refl (tells setting sub history low legal w inside)
   where
-    trail : HasTrail setting (mark_seen setting sub history) (start setting sub) (commits sub history)
-    trail = has-trail (view laws history low legal)
-
     at_mark : (mark : PresenceMark) → mark_seen setting sub history w ≡ mark
         → MarkTells setting sub history w mark → GoesUp j mark
     at_mark Empty e told = tt
-    at_mark (Gone q x) e told =
-        later trail.is j w q x inside (omega (arith, few, trail.count)) (λ h. trail.stops j h ∙ stop) e
-    at_mark (Coming q u) e told = elim told.3 [
-      | inl before ↦ omega (arith, few, before.0)
-      | inr behind ↦ omega (arith, few, behind.0)
-    ]
+    at_mark (Gone q x) e told = later (has-trail (view laws history low legal)) j w q x inside few stop e
+    at_mark (Coming q u) e told = omega (arith, few, told.3)
     at_mark mark e told = omega (arith, few, told.1)
 
 pub numbers-go_up : Laws → MarksTell → NumbersGoUp
