@@ -1,7 +1,7 @@
 -- What a legal history is at its fronts: they are legal, numbers only grow, and a look changes nothing.
 use Rattle.std.proofs.Math.Seq.{take-nil}
 use Rattle.std.proofs.Common.{inl, inr, ◌<◌, ◌≡◌, ℕ, zero, suc, ◌+◌, ◌-◌, ◌≤◌, ◌^◌, Bool, false, List, [], ◌∷◌, ◌++◌, Some, length, take, filter, refl, sym, ap, ◌∙◌, subst, arith, length-append}
-use Rattle.std.proofs.lemmas.Bool.{cases_Bool}
+use Rattle.std.proofs.lemmas.Bool.{cases_Bool, cases_eq}
 use Rattle.std.specs.Prelude.{slice_get}
 use Rattle.std.proofs.lemmas.List.{append-nil, length-take}
 use Rattle.std.proofs.lemmas.List.Elements.{filter-append}
@@ -36,8 +36,7 @@ pub front-legal : FrontsAreLegal → (setting : Setting) (sub : ℕ) (history : 
 front-legal fronts setting sub history t low legal =
     let same : puts_to sub (take t history) ≡ take (length (puts_to sub (take t history)))
     (puts_to sub history) = filter-front (λ (v : Visit). is_put_for sub v.act) t history in
-    subst (ArePuts setting sub) (sym same)
-    (fronts setting sub (puts_to sub history) (length (puts_to sub (take t history))) low
+    rw same (fronts setting sub (puts_to sub history) (length (puts_to sub (take t history))) low
     (omega (arith, ap length same, length-take (length (puts_to sub (take t history))) (puts_to sub history)))
     legal)
 
@@ -46,26 +45,20 @@ module _ (fronts : FrontsAreLegal) {setting : Setting} {sub : ℕ} (history : Hi
     (low : setting.nodes ≤ 2 ^ 16) (legal : IsLegal setting sub history)
     (one : (seen : History) (visit : Visit) → IsLegal setting sub seen → IsLegal setting sub (seen ++ visit ∷ [])
     → is_of_move sub seen visit.act ≡ false → P seen → P (seen ++ visit ∷ [])) where
-  quiet-steps : (k t : ℕ) → k + t ≤ length history
-      → ((u : ℕ) → t ≤ u → u < k + t → moves_at sub history u ≡ false) → P (before t history)
-      → P (before (k + t) history)
-  quiet-steps zero t within quiet now = let e : 0 + t ≡ t = omega arith in rw e now
-  quiet-steps (suc k) t within quiet now =
-      let found = slice_get-within history (k + t) (omega (arith, within)) in
-      let more : before (suc (k + t)) history ≡ before (k + t) history ++ found.0 ∷ [] =
-      take-more history (k + t) found.0 found.1 in
-      let e : suc k + t ≡ suc (k + t) = omega arith in
-      subst P (sym (ap (λ n. before n history) e ∙ more))
-      (one (before (k + t) history) found.0 (front-legal fronts setting sub history (k + t) low legal)
-      (subst (IsLegal setting sub) more (front-legal fronts setting sub history (suc (k + t)) low legal))
-      (sym (ap (λ o. moves_by sub (before (k + t) history) o) found.1) ∙ quiet (k + t) (omega arith) (omega arith))
-      (quiet-steps k t (omega (arith, within)) (λ u h g. quiet u h (omega (arith, g))) now))
-
   pub while-quiet : (t u : ℕ) → t ≤ u → u ≤ length history
       → ((x : ℕ) → t ≤ x → x < u → moves_at sub history x ≡ false) → P (before t history) → P (before u history)
-  while-quiet t u order within quiet now =
-      let e : (u - t) + t ≡ u = omega (arith, order) in
-      rw e at (quiet-steps (u - t) t (omega (arith, within, e)) (λ x h g. quiet x h (omega (arith, g, e))) now)
+  while-quiet t zero order within quiet now = let e : t ≡ 0 = omega arith in rw e at now
+  while-quiet t (suc u) order within quiet now = elim (cases_eq t (suc u)) [
+    | inl same ↦ rw same at now
+    | inr apart ↦
+        let found = slice_get-within history u (omega arith) in
+        let more : before (suc u) history ≡ before u history ++ found.0 ∷ [] =
+        take-more history u found.0 found.1 in
+        rw more (one (before u history) found.0 (front-legal fronts setting sub history u low legal)
+        (rw more at (front-legal fronts setting sub history (suc u) low legal))
+        (sym (ap (λ o. moves_by sub (before u history) o) found.1) ∙ quiet u (omega arith) (omega arith))
+        (while-quiet t u (omega arith) (omega arith) (λ x h g. quiet x h (omega arith)) now))
+  ]
 
 take-further : (k t : ℕ) (xs : History) → (rest : History) × (take (k + t) xs ≡ take t xs ++ rest)
 take-further k zero xs = (take (k + 0) xs, refl)
