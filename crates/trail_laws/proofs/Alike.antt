@@ -1,9 +1,9 @@
 -- What isn't a visit of a move changes nothing that leads a find: a switch turns a Here into an Off, or back, where the
 -- subscriber rests.
-use Rattle.std.proofs.Common.{inl, inr, ◌≡◌, ℕ, zero, suc, ◌≤◌, ◌^◌, Bool, true, false, cond, not, ◌==◌, ◌&&◌, ◌||◌, List, [], ◌∷◌, ◌++◌, Option, Some, None, length, map, take, fold, refl, sym, ap, ◌∙◌, subst, arith}
+use Rattle.std.proofs.Common.{inl, inr, ◌≡◌, ℕ, zero, suc, ◌≤◌, ◌^◌, Bool, true, false, not, ◌==◌, ◌&&◌, ◌||◌, List, [], ◌∷◌, ◌++◌, Option, Some, None, length, map, take, fold, refl, sym, ap, ◌∙◌, subst, arith}
 use Rattle.std.proofs.lemmas.Bool.{cases_Bool, cond_both, and_parts, eqb-true, eq-eqb}
 use Rattle.std.proofs.Math.Bool.{and-false}
-use Rattle.std.specs.Prelude.{filter_map, slice_get}
+use Rattle.std.specs.Prelude.{slice_get}
 use Rattle.std.specs.List.{cons_option}
 use Rattle.std.proofs.lemmas.List.{append-nil}
 use Rattle.std.proofs.lemmas.List.Sums.{fold-append}
@@ -39,9 +39,6 @@ abbrev pub AreAlike : PresenceMark → PresenceMark → Type 0
 AreAlike one other = (known : Option ℕ) → (lead known one ≡ lead known other)
     × (answers known one ≡ answers known other) × (known_after known one ≡ known_after known other)
 
-pub alike-same : (one other : PresenceMark) → one ≡ other → AreAlike one other
-alike-same one other e known = (ap (lead known) e, ap (answers known) e, ap (known_after known) e)
-
 -- two histories lead a find alike
 pub record IsAlike (setting : Setting) (sub : ℕ) (one other : History) : Type 0 where
   pub marks : (v : ℕ) → AreAlike (mark_seen setting sub one v) (mark_seen setting sub other v)
@@ -54,17 +51,12 @@ pub record IsAlike (setting : Setting) (sub : ℕ) (one other : History) : Type 
 pub alike-other : CellsOfPuts → (setting : Setting) (sub : ℕ) (history : History) (visit : Visit)
     → is_put_for sub visit.act ≡ false → IsAlike setting sub history (history ++ visit ∷ [])
 alike-other cells setting sub history visit other = record {
-  marks = λ v. alike-same (mark_seen setting sub history v) (mark_seen setting sub (history ++ visit ∷ []) v)
-      (ap mark_in (sym (cell-kept cells setting sub history visit (Presence v sub) refl other)));
+  marks = λ v. rw (cell-kept cells setting sub history visit (Presence v sub) refl other) (λ known. (refl, refl, refl));
   entries = λ level cluster. ap address_in
       (cell-kept cells setting sub history visit (Entry level cluster sub) refl other);
-  stands = ap (λ puts. fold (λ n (c : Commit). c.to) (start setting sub)
-      (filter_map (λ (v : Visit). commit_of (node_put v.act) (mark_put v.act)) puts)) same;
-  count = ap (λ puts. length (filter_map (λ (v : Visit). commit_of (node_put v.act) (mark_put v.act)) puts)) same;
+  stands = rw (puts-push_other sub history visit other);
+  count = rw (puts-push_other sub history visit other);
 }
-  where
-    same : puts_to sub (history ++ visit ∷ []) ≡ puts_to sub history
-    same = puts-push_other sub history visit other
 
 -- a mark that answers whatever is known leads nowhere and adds nothing
 abbrev pub AnswersAll : PresenceMark → Type 0
@@ -227,10 +219,8 @@ alike-switch marks_left rests {setting} {sub} {history} {visit} low legal legal_
         ))
 
     same_commits : commits sub (history ++ visit ∷ []) ≡ commits sub history
-    same_commits = commits-append sub history (visit ∷ [])
-        ∙ (ap (λ b. commits sub history ++ filter_map (λ (v : Visit). commit_of (node_put v.act) (mark_put v.act))
-        (cond b (visit ∷ []) [])) put
-        ∙ (ap (λ o. commits sub history ++ cons_option o []) switch.no_commit ∙ append-nil (commits sub history)))
+    same_commits = rw (commits-append sub history (visit ∷ []), put, switch.no_commit)
+        (append-nil (commits sub history))
 
 -- so it is for each visit that is none of a move
 pub alike-step : CellsOfPuts → MarksAreLeft → StepsBeginAtRest

@@ -47,8 +47,7 @@ entered-levels at new level cluster entry (l ∷ levels) =
   where
     twice : (h k : Bool) → cond (h && k) new (cond k new entry) ≡ cond k new entry
     twice true true = refl
-    twice true false = refl
-    twice false k = refl
+    twice h k = refl
 
     at_test : (b : Bool) → (level == l) ≡ b → cond (has level levels && cluster == at level) new
         (cond (b && cluster == at l) new entry) ≡ cond ((b || has level levels) && cluster == at level) new entry
@@ -109,14 +108,10 @@ entries-rest {setting} {course} {move} written erased level cluster sound next a
 
     renewed : (x y z : Bool) → (x ≡ true → y ≡ z) → (y ≡ true → z ≡ true → x ≡ true)
         → cond (not x && y) None (cond z (new_entry move) (cond y its None)) ≡ cond z (new_entry move) None
-    renewed true true true f g = refl
     renewed true true false f g = let e : true ≡ false = f refl in cc
     renewed true false true f g = let e : false ≡ true = f refl in cc
-    renewed true false false f g = refl
     renewed false true true f g = let e : false ≡ true = g refl refl in cc
-    renewed false true false f g = refl
-    renewed false false true f g = refl
-    renewed false false false f g = refl
+    renewed x y z f g = refl
 
     at_test : (b : Bool)
         → cond ((b && not (old == new)) && cluster == old) None

@@ -64,9 +64,7 @@ marked-purges v mark (node ∷ nodes) = marked-purges v (cond (v == node) Empty 
   where
     at_test : (a b : Bool) → cond b Empty (cond a Empty mark) ≡ cond (a || b) Empty mark
     at_test true true = refl
-    at_test true false = refl
-    at_test false true = refl
-    at_test false false = refl
+    at_test a b = refl
 
 -- the trail with one more move
 pub trail_mark-push : (moves : List Move) (move : Move) (v : ℕ) (mark : PresenceMark)
@@ -157,27 +155,19 @@ trail-has {setting} {course} move v sound =
     ∙ has-append v (map (λ (m : Move). m.from) (since_top setting course)) (move.from ∷ []))
 
 -- a renewal of the top level leaves the new node alone
-purged-rest : (a b f : Bool) (here gone coming its mark : PresenceMark) → (f ≡ false → mark ≡ Empty)
+purged-rest : (f a b : Bool) (here gone coming its mark : PresenceMark) → (f ≡ false → mark ≡ Empty)
     → cond ((f || (b || false)) && not a) Empty (cond a here (cond b gone (cond a coming (cond b its mark))))
     ≡ cond a here Empty
-purged-rest true true f here gone coming its mark h = at_f f
-  where
-    at_f : (f : Bool) → cond ((f || true) && false) Empty here ≡ here
-    at_f true = refl
-    at_f false = refl
-purged-rest true false true here gone coming its mark h = refl
-purged-rest true false false here gone coming its mark h = refl
-purged-rest false true true here gone coming its mark h = refl
-purged-rest false true false here gone coming its mark h = refl
-purged-rest false false true here gone coming its mark h = refl
 purged-rest false false false here gone coming its mark h = h refl
+purged-rest false true true here gone coming its mark h = refl
+purged-rest true true b here gone coming its mark h = refl
+purged-rest f a b here gone coming its mark h = refl
 
 -- another move adds the node that it left to the trail
 added-rest : (a b : Bool) (here gone coming its mark : PresenceMark)
     → cond a here (cond b gone (cond a coming (cond b its mark))) ≡ cond a here (cond b gone mark)
-added-rest true b here gone coming its mark = refl
 added-rest false true here gone coming its mark = refl
-added-rest false false here gone coming its mark = refl
+added-rest a b here gone coming its mark = refl
 
 -- when a move has made all its writes its subscriber rests again
 pub marks-rest : {setting : Setting} {course : Course} {move : Move} (purged : List ℕ) (v : ℕ)
@@ -214,7 +204,7 @@ marks-rest {setting} {course} {move} purged v sound next whole none =
         ))
         in
         rw (none_since, whole e, trail-has move v sound)
-        (purged-rest (v == move.to) (v == move.from) (has v (map (λ (m : Move). m.from) since)) (Here move.number)
+        (purged-rest (has v (map (λ (m : Move). m.from) since)) (v == move.to) (v == move.from) (Here move.number)
         (Gone move.number move.to) (Coming move.number move.from) (there course) (trail_mark since v Empty)
         (trail_mark-none since v Empty) ∙ ap (cond (v == move.to) (Here move.number)) refl)
     at_top false e =

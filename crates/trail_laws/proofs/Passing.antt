@@ -1,6 +1,6 @@
 -- What a legal history is at its fronts: they are legal, numbers only grow, and a look changes nothing.
 use Rattle.std.proofs.Math.Seq.{take-nil}
-use Rattle.std.proofs.Common.{inl, inr, ◌<◌, ◌≡◌, ℕ, zero, suc, ◌+◌, ◌-◌, ◌≤◌, ◌^◌, Bool, false, List, [], ◌∷◌, ◌++◌, Some, length, take, filter, refl, sym, ap, ◌∙◌, subst, arith, length-append}
+use Rattle.std.proofs.Common.{inl, inr, ◌<◌, ◌≡◌, ℕ, zero, suc, ◌+◌, ◌-◌, ◌≤◌, ◌^◌, Bool, false, List, [], ◌∷◌, ◌++◌, Some, length, take, filter, refl, sym, ap, ◌∙◌, arith, length-append}
 use Rattle.std.proofs.lemmas.Bool.{cases_Bool, cases_eq}
 use Rattle.std.specs.Prelude.{slice_get}
 use Rattle.std.proofs.lemmas.List.{append-nil, length-take}
@@ -12,7 +12,7 @@ use Rattle.directory.specs.Settings.{Setting, start}
 use Rattle.directory.specs.Courses.{Course, Step, after_step, after_steps, course_at, move_to, next_move}
 use Rattle.directory.specs.Keys.{key_sub}
 use Rattle.directory.specs.Histories.{before, cell, History, is_put_for, puts_to, through}
-use Rattle.directory.specs.Legal.{ArePuts, IsLegal}
+use Rattle.directory.specs.Legal.{IsLegal}
 use Rattle.directory.specs.Looks.{look_by, moves_at, moves_by}
 use Rattle.directory.specs.Puts.{course_in, ends_off, is_of_move, steps_from, steps_in}
 use Rattle.directory.specs.Standing.{Commit, commits, number}
