@@ -4,10 +4,10 @@ use Rattle.std.proofs.Common.{◌≡◌, ◌⊎◌, inl, inr, ℕ, ◌-◌, ◌�
 use Rattle.std.specs.Prelude.{filter_map}
 use Rattle.node_set.specs.Ascending.{IsAscending, IsBelowAll}
 use Rattle.entry_word.specs.declared.mark.PresenceMark.{PresenceMark}
-use Rattle.entry_word.specs.declared.mark.PresenceMark.TheVariants.{Empty, Here, Gone, Coming, Off}
+use Rattle.entry_word.specs.declared.mark.PresenceMark.TheVariants.{Here, Gone, Coming, Off}
 use Rattle.directory.specs.Settings.{Setting, start}
 use Rattle.directory.specs.Histories.{before, History}
-use Rattle.directory.specs.Finds.{after_word, at_origin, chases, climbs, ended, FindCall, is_known, Pursuit}
+use Rattle.directory.specs.Finds.{after_word, chases, ended, FindCall, is_known, Pursuit}
 use Rattle.directory.specs.Standing.{commits, number}
 use Rattle.trail_laws.specs.Trail.{GoesUp}
 use Rattle.trail_laws.specs.Phases.{moves_begun}
@@ -62,25 +62,21 @@ behind-later {setting} {sub} t u history {behind} h is = record {
 
 -- what is known at a pursuit
 abbrev pub IsTracked : Setting → ℕ → History → Behind → Pursuit → Type 0
-IsTracked setting sub seen behind at_origin = behind ≡ nothing
-IsTracked setting sub seen behind (climbs known weight reader later) = behind ≡ nothing
 IsTracked setting sub seen behind (chases chase node) = IsBehind setting sub seen behind chase.known node
 IsTracked setting sub seen behind (ended found) = Unit {0}
+IsTracked setting sub seen behind pursuit = behind ≡ nothing
 
 pub tracked-nothing : (setting : Setting) (sub : ℕ) (seen : History) (pursuit : Pursuit)
     → IsTracked setting sub seen nothing pursuit
-tracked-nothing setting sub seen at_origin = refl
-tracked-nothing setting sub seen (climbs known weight reader later) = refl
 tracked-nothing setting sub seen (chases chase node) = behind-nothing setting sub seen chase.known node
 tracked-nothing setting sub seen (ended found) = tt
+tracked-nothing setting sub seen pursuit = refl
 
 -- a mark fits what is behind it
 abbrev pub IsBegun : ℕ → PresenceMark → Type 0
-IsBegun n Empty = Unit {0}
-IsBegun n (Here q) = Unit {0}
-IsBegun n (Gone q to) = Unit {0}
 IsBegun n (Coming q from) = n ≤ q
 IsBegun n (Off q) = n ≤ q
+IsBegun n mark = Unit {0}
 
 abbrev pub HeadFits : ℕ → ℕ → List PresenceMark → Type 0
 HeadFits place begun [] = Unit {0}
@@ -113,11 +109,9 @@ abbrev pub after_coming : Behind → ℕ → Behind
 after_coming behind p = record { place = p - 1; begun = p; gone = behind.gone }
 
 abbrev pub Continues : Behind → PresenceMark → List PresenceMark → Type 0
-Continues behind Empty later = later ≡ []
-Continues behind (Here q) later = later ≡ []
 Continues behind (Gone q to) later = Rises (after_gone q) later
 Continues behind (Coming q from) later = Rises (after_coming behind q) later
-Continues behind (Off q) later = later ≡ []
+Continues behind mark later = later ≡ []
 
 pub one-more : (behind : Behind) (mark : PresenceMark) (later : List PresenceMark) → behind.gone ≤ behind.place
     → GoesUp behind.place mark → IsBegun behind.begun mark → Continues behind mark later
