@@ -91,8 +91,8 @@ switching sub history visit put quiet = at_act visit.act refl put is_switching
     at_act : (act : Act) → visit.act ≡ act → is_put_for sub act ≡ true
         → (says_off (mark_put act) || (ends_off (puts_to sub history) && says_here (mark_put act))) ≡ true
         → IsSwitching sub history visit
-    at_act (Put (Entry level cluster s) word) e p x = let none : (ends_off (puts_to sub history) && false)
-        ≡ true = x in let clash : false ≡ true = sym (and-false (ends_off (puts_to sub history))) ∙ none in cc
+    at_act (Put (Entry level cluster s) word) e p x =
+        let clash : false ≡ true = sym (and-false (ends_off (puts_to sub history))) ∙ x in cc
     at_act (Put (Presence node s) word) e p x = at_mark (mark_in word) refl x
       where
         its : visit.act ≡ Put (Presence node sub) word
@@ -127,16 +127,12 @@ switching sub history visit put quiet = at_act visit.act refl put is_switching
 
 get-next : (xs ys zs : List Visit) (visit : Visit) → xs ++ visit ∷ [] ≡ take (length (xs ++ visit ∷ [])) (ys ++ zs)
     → length xs ≡ length ys → slice_get zs 0 ≡ Some visit
-get-next [] [] zs visit h same = at_first zs h
-  where
-    at_first : (zs : List Visit) → visit ∷ [] ≡ take 1 zs → slice_get zs 0 ≡ Some visit
-    at_first [] g = cc
-    at_first (z ∷ zs) g = cc
-get-next [] (y ∷ ys) zs visit h same = absurd (omega (arith, same))
-get-next (x ∷ xs) [] zs visit h same = absurd (omega (arith, same))
+get-next [] [] [] visit h same = cc
+get-next [] [] (z ∷ zs) visit h same = cc
 get-next (x ∷ xs) (y ∷ ys) zs visit h same =
     let tails : xs ++ visit ∷ [] ≡ take (length (xs ++ visit ∷ [])) (ys ++ zs) = cc in get-next xs ys zs visit tails
     (omega (arith, same))
+get-next xs ys zs visit h same = absurd (omega (arith, same))
 
 -- a switch is put where the subscriber rests
 pub switch-rests : StepsBeginAtRest → {setting : Setting} {sub : ℕ} {history : History} {visit : Visit}

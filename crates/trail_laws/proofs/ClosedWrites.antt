@@ -228,8 +228,7 @@ entries-steps {setting} {course} steps level cluster =
         ap (entered level cluster (rest_entry setting course level cluster)) (whole-writes setting course move)
         ∙ ((leaves setting course move (whole_phase setting course move)).entries level cluster
         ∙ whole-entries level cluster sound (is-next may))
-    one course switch_off sound may = refl
-    one course switch_on sound may = refl
+    one course step sound may = refl
 
 pub commits-steps : (setting : Setting) (course : Course) (steps : List Step)
     → map commit_by course.moves ++ filter_map write_commit (writes setting course steps)
@@ -250,8 +249,7 @@ commits-steps setting course (step ∷ steps) =
         let move : Move = next_move setting course node in
         ap (λ ws. map commit_by course.moves ++ filter_map write_commit ws) (whole-writes setting course move)
         ∙ (leaves setting course move (whole_phase setting course move)).commits
-    one switch_off = append-nil (map commit_by course.moves)
-    one switch_on = append-nil (map commit_by course.moves)
+    one step = append-nil (map commit_by course.moves)
 
 pub off-steps : (setting : Setting) (course : Course) (steps : List Step) → IsSound setting course
     → MaySteps setting course steps
@@ -266,5 +264,4 @@ off-steps setting = fold-steps (λ o write. write_off write) setting (λ (c : Co
         let move : Move = next_move setting course node in
         ap (fold (λ o write. write_off write) course.is_off) (whole-writes setting course move)
         ∙ ((leaves setting course move (whole_phase setting course move)).on course.is_off ∙ sym may.is_on)
-    one course switch_off sound may = refl
-    one course switch_on sound may = refl
+    one course step sound may = refl

@@ -1,5 +1,5 @@
 -- While a Coming stands whose move is committed, the passage of that move is open.
-use Rattle.std.proofs.Common.{◌≡◌, ◌⊎◌, inl, inr, ℕ, zero, suc, ◌-◌, ◌<◌, ◌≤◌, ◌^◌, Bool, true, false, ◌==◌, ◌&&◌, List, [], ◌∷◌, ◌++◌, Option, Some, None, length, take, refl, sym, ap, ◌∙◌, subst, arith, length-append}
+use Rattle.std.proofs.Common.{◌≡◌, ◌⊎◌, inl, inr, ℕ, zero, suc, ◌-◌, ◌<◌, ◌≤◌, ◌^◌, Bool, true, false, ◌==◌, ◌&&◌, List, [], ◌∷◌, ◌++◌, Option, Some, None, length, take, refl, sym, ap, ◌∙◌, arith, length-append}
 use Rattle.std.specs.Prelude.{slice_get}
 use Rattle.std.specs.List.{cons_option, last_or, list_any}
 use Rattle.std.proofs.lemmas.Bool.{and_parts, cases_Bool, eqb-false, eqb-true, eq-eqb, ne_eqb}
@@ -164,12 +164,9 @@ past-step laws {setting} {sub} c history visit low inside legal legal_more past 
 past-all : PassageLaws → {setting : Setting} {sub : ℕ} (c : Commit) (history : History) → setting.nodes ≤ 2 ^ 16
     → c.to < setting.nodes → IsLegal setting sub history → IsPast setting sub c history
 past-all laws {setting} {sub} c history low inside legal =
-    by_fronts (IsPast setting sub c) history none (λ t visit found past. past-step laws c (take t history) visit low
-    inside (front-legal laws.fronts setting sub history t low legal) (subst (IsLegal setting sub)
-    (take-more history t visit found) (front-legal laws.fronts setting sub history (suc t) low legal)) past)
-  where
-    none : IsPast setting sub c []
-    none any = cc
+    by_fronts (IsPast setting sub c) history (λ any. cc) (λ t visit found past. past-step laws c (take t history) visit
+    low inside (front-legal laws.fronts setting sub history t low legal) (rw (take-more history t visit found) at
+    (front-legal laws.fronts setting sub history (suc t) low legal)) past)
 
 last-get : (xs : List Commit) (n : ℕ) (o : Option Commit) (c : Commit) → suc n ≡ length xs
     → slice_get xs n ≡ Some c → last_or o xs ≡ Some c
