@@ -162,21 +162,13 @@ played-own setting scripts history sub below played =
         → own sub (take t history) ≡ take (length (own sub (take t history))) (script_visits setting scripts sub)
         → (b : Bool) → (visit.actor == sub) ≡ b → own sub (take t history ++ visit ∷ [])
         ≡ take (length (own sub (take t history ++ visit ∷ []))) (script_visits setting scripts sub)
-    step t visit h so_far true e =
-        let pushed : own sub (take t history ++ visit ∷ [])
-        ≡ own sub (take t history) ++ visit ∷ [] = own-push sub (take t history) visit
-        ∙ ap (λ b. own sub (take t history) ++ cond b (visit ∷ []) []) e in
-        let mine : visit.actor ≡ sub = eqb-true visit.actor sub e in
-        let its_next : next setting scripts (take t history) sub
-        ≡ Some visit = ap (λ a. next setting scripts (take t history) a) (sym mine) ∙ played t visit h in
-        subst (λ (xs : History). xs ≡ take (length xs) (script_visits setting scripts sub)) (sym pushed)
+    step t visit h so_far true e = rw (own-push sub (take t history) visit, e)
         (front-push (script_visits setting scripts sub) (own sub (take t history)) visit
-        (sym (next-sub setting scripts (take t history) sub below) ∙ its_next) so_far)
+        (sym (next-sub setting scripts (take t history) sub below)
+        ∙ (ap (λ a. next setting scripts (take t history) a) (sym (eqb-true visit.actor sub e)) ∙ played t visit h))
+        so_far)
     step t visit h so_far false e =
-        let kept : own sub (take t history ++ visit ∷ [])
-        ≡ own sub (take t history) = own-push sub (take t history) visit
-        ∙ (ap (λ b. own sub (take t history) ++ cond b (visit ∷ []) []) e ∙ append-nil _) in
-        subst (λ (xs : History). xs ≡ take (length xs) (script_visits setting scripts sub)) (sym kept) so_far
+        rw (own-push sub (take t history) visit, e, append-nil (own sub (take t history))) so_far
 
 -- so it is legal for each subscriber
 pub played-legal : MarksUnpack → PlayedIsLegal

@@ -18,9 +18,10 @@ use Rattle.directory.specs.Orders.{actors, Scripts, finds_of, script_visits, cal
 use Rattle.directory.proofs.HistoryLaws.{words-push}
 use Rattle.directory.specs.Statements.{OrdersAreDone, HistoriesAreOrdered, OrdersAreOwn, TurnsAreFew}
 use Rattle.directory.specs.StepLaws.{by_fronts, own-push}
-use Rattle.directory.proofs.NextLaws.{kept_by_play, next-actor, played-of_play, played-push, turn-some}
-use Rattle.directory.proofs.CallerLaws.{caller-few, caller-look, read_left}
-use Rattle.directory.specs.HistoryLaws.{next-sub, next-caller, turn-none}
+use Rattle.directory.proofs.NextLaws.{after_turns-done, kept_by_play, next-actor, played-of_play, played-push, turn-some}
+use Rattle.directory.proofs.CallerLaws.{caller-look, read_left}
+use Rattle.directory.proofs.UnderWay.{under_way}
+use Rattle.directory.specs.HistoryLaws.{next-sub, next-caller, tickets-count, turn-none}
 
 -- an actor that isn't done has made fewer visits than it may
 pub next-few : TurnsAreFew
@@ -40,7 +41,8 @@ next-few setting scripts history actor visit played h =
     wanting (key, wanted, is_look) high =
         omega (
           arith,
-          caller-few setting scripts history actor high played,
+          (under_way setting scripts history actor high played).few,
+          tickets-count actor history,
           read_left setting (caller_in setting scripts history actor)
               (caller_in setting scripts history actor).calls 0 key refl wanted,
         )
@@ -176,17 +178,11 @@ all-done setting scripts order actor =
       | inr high ↦ stranger-done setting scripts (history_of setting scripts order) actor high
     ]
 
-all-idle : (setting : Setting) (scripts : Scripts) (history : History) (idle : List ℕ)
-    → ((actor : ℕ) → IsDone setting scripts history actor) → after_turns setting scripts history idle ≡ history
-all-idle setting scripts history [] done = refl
-all-idle setting scripts history (actor ∷ idle) done = rw (turn-none setting scripts history actor (done actor))
-    (all-idle setting scripts history idle done)
-
 -- more turns after the end change nothing
 pub history-longer : (setting : Setting) (scripts : Scripts) (order more : List ℕ)
     → after_turns setting scripts (history_of setting scripts order) more ≡ history_of setting scripts order
-history-longer setting scripts order more = all-idle setting scripts (history_of setting scripts order) more
-    (all-done setting scripts order)
+history-longer setting scripts order more = after_turns-done setting scripts
+    (history_of setting scripts order) more (λ k d low. all-done setting scripts order _)
 
 -- an order that names the actor of each of its visits, or one that is done, is its own
 own-order : (setting : Setting) (scripts : Scripts) (history : History) → IsPlayed setting scripts history
@@ -213,4 +209,5 @@ completed setting scripts history played =
 -- the order of the actors of a history that is played to its end gives that history again
 pub same-again : OrdersAreOwn
 same-again setting scripts history played done =
-    completed setting scripts history played ∙ all-idle setting scripts history (last_turns setting scripts) done
+    completed setting scripts history played ∙ after_turns-done setting scripts history
+    (last_turns setting scripts) (λ k d low. done _)

@@ -1,7 +1,7 @@
 -- How far a caller is before a ticket: what it has looked at for its find, and that each find that was answered before
 -- has its looks.
-use Rattle.std.proofs.Common.{◌≡◌, ℕ, suc, ◌-◌, ◌<◌, ◌≤◌, Bool, true, false, ◌==◌, List, [], ◌∷◌, ◌++◌, Option, Some, None, length, map, take, drop, fold, refl, sym, ap, ◌∙◌, subst, arith, append_assoc, length-append}
-use Rattle.std.specs.Prelude.{slice_get, flat_map, All}
+use Rattle.std.proofs.Common.{◌≡◌, ℕ, suc, ◌-◌, ◌<◌, ◌≤◌, Bool, true, false, ◌==◌, ◌+◌, List, [], ◌∷◌, ◌++◌, Option, Some, None, length, map, take, drop, fold, refl, sym, ap, ◌∙◌, subst, arith, append_assoc, length-append}
+use Rattle.std.specs.Prelude.{slice_get, flat_map, sum_by, All}
 use Rattle.std.proofs.lemmas.Bool.{eqb-true}
 use Rattle.std.proofs.lemmas.List.{append-nil, map-append, length_push, length-drop, length-take-le, take_all, take-append-le, drop-append-le}
 use Rattle.std.proofs.lemmas.List.Sums.{fold-append}
@@ -12,13 +12,14 @@ use Rattle.entry_word.specs.declared.visit.Key.{Key}
 use Rattle.entry_word.specs.declared.visit.Visit.{Visit}
 use Rattle.directory.specs.Settings.{Setting, subs}
 use Rattle.directory.specs.Histories.{History, before, cell, tickets_from, tickets, words_of, words_by, words_at, words_after, words_read}
-use Rattle.directory.specs.Finds.{FindCall, Pursuit, at_origin, after_word, key_of, answer_of}
+use Rattle.directory.specs.Finds.{FindCall, Pursuit, at_origin, after_word, key_of, answer_of, most_looks}
+use Rattle.directory.proofs.FindLaws.{looks-fall}
 use Rattle.directory.specs.Looks.{look_by, AreLooks, IsFind}
 use Rattle.directory.specs.Orders.{Scripts, finds_of, Answer, Caller, with_pursuit, read_by, caller_in, key_in, next_key, next, IsPlayed}
 use Rattle.directory.specs.Outcomes.{FollowEachOther}
 use Rattle.directory.specs.declared.answers.Found.{Found}
 use Rattle.directory.proofs.HistoryLaws.{words-push}
-use Rattle.directory.proofs.CallerLaws.{caller-look, caller-push}
+use Rattle.directory.proofs.CallerLaws.{caller-look, caller-push, left_at_origin, left_of}
 use Rattle.directory.proofs.TicketLaws.{tickets-push}
 use Rattle.directory.specs.StepLaws.{by_fronts}
 use Rattle.directory.specs.LookLaws.{pursuit_after, pursuit-step, answer-ends}
@@ -120,6 +121,8 @@ pub record IsUnderWay (setting : Setting) (history : History) (actor : ℕ) (fin
     (now : ℕ) (caller : Caller) : Type 0 where
   pub count : caller.next ≡ length ticketed
   pub low : caller.first ≤ caller.next
+  pub few : length ticketed + left_of setting caller.calls caller.pursuit
+      ≤ sum_by (λ (call : FindCall). most_looks setting call.from) finds
   pub done : All (IsAnswered setting history actor ticketed) caller.answers
   pub script : finds ≡ map (λ (answer : Answer). answer.call) caller.answers ++ caller.calls
   pub current : (call : FindCall) (later : List FindCall) → caller.calls ≡ call ∷ later
@@ -187,12 +190,24 @@ look_more setting history actor finds ticketed now caller call later key far cal
     counted : suc caller.next ≡ length (ticketed ++ now ∷ [])
     counted = omega (arith, far.count, length_push ticketed now)
 
+    -- the look leaves fewer
+    fewer : left_of setting (call ∷ later) caller.pursuit ≡ left_of setting caller.calls caller.pursuit
+    fewer = ap (λ cs. left_of setting cs caller.pursuit) (sym calls)
+
     at_answer : (o : Option Found) → answer_of pursuit ≡ o
         → IsUnderWay setting history actor finds (ticketed ++ now ∷ []) (suc now)
         (with_pursuit caller call later pursuit o)
     at_answer None e = record {
       count = counted;
       low = omega (arith, far.low);
+      few = rw calls (omega (
+        arith,
+        far.few,
+        fewer,
+        length_push ticketed now,
+        looks-fall setting call caller.pursuit
+            (cell setting (before now history) key) key wanted,
+      ));
       done = answered-more setting history actor ticketed (now ∷ []) caller.answers far.done;
       script = far.script;
       current = λ c l same. let its : call ∷ later ≡ c ∷ l = sym calls ∙ same in let is_call : call ≡ c = cc in
@@ -205,6 +220,15 @@ look_more setting history actor finds ticketed now caller call later key far cal
     at_answer (Some found) e = record {
       count = counted;
       low = omega arith;
+      few = omega (
+        arith,
+        far.few,
+        fewer,
+        length_push ticketed now,
+        left_at_origin setting later,
+        looks-fall setting
+            call caller.pursuit (cell setting (before now history) key) key wanted,
+      );
       done = All-append (IsAnswered setting history actor (ticketed ++ now ∷ [])) caller.answers (mine ∷ [])
           (answered-more setting history actor ticketed (now ∷ []) caller.answers far.done)
           (All-cons (IsAnswered setting history actor (ticketed ++ now ∷ [])) mine [] is_mine
@@ -254,6 +278,7 @@ under_way setting scripts history actor high played =
     (record {
       count = refl;
       low = omega arith;
+      few = omega (arith, left_at_origin setting (finds_of setting scripts actor));
       done = All-nil
           (IsAnswered setting history actor []);
       script = refl;
@@ -276,6 +301,7 @@ under_way setting scripts history actor high played =
         (record {
           count = far.count;
           low = far.low;
+          few = far.few;
           done = far.done;
           script = far.script;
           current = λ call later same. later_than (omega (arith, length_push (take t history) visit))
