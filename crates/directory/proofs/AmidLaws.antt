@@ -1,15 +1,15 @@
 -- How far legal puts are with the steps that they begin.
 use Rattle.std.proofs.Common.{◌≡◌, ℕ, suc, ◌-◌, ◌<◌, ◌≤◌, false, List, [], ◌∷◌, ◌++◌, length, map, take, sym, ap, ◌∙◌, arith, append_assoc, length-append, inl, inr, ◌⊎◌}
 use Rattle.std.specs.List.{cons_option}
+use Rattle.std.proofs.Math.Seq.{take-nil}
 use Rattle.std.proofs.lemmas.List.{append-nil, take_all, take-append-le, take-map, length_push, length-take, map-append}
 use Rattle.entry_word.specs.Marks.{MarksUnpack}
-use Rattle.entry_word.specs.declared.visit.Visit.{Visit}
 use Rattle.directory.specs.Settings.{Setting, start}
 use Rattle.directory.specs.Courses.{Step, Course, course_at, after_step, after_steps, MaySteps}
 use Rattle.directory.specs.Writes.{Write, visit_of, step_writes, writes, visits}
 use Rattle.directory.specs.Puts.{steps_from, steps_in}
 use Rattle.directory.specs.Statements.{LegalIsAmid, StepsBeginAtRest}
-use Rattle.directory.proofs.StepLaws.{IsCourse, course-after, one-begun, begun, next-decided, nothing-taken}
+use Rattle.directory.proofs.StepLaws.{IsCourse, course-after, one-begun, begun, next-decided}
 use Rattle.directory.specs.StepLaws.{steps-append, take-append, visits_in, take-more}
 use Rattle.std.proofs.lemmas.Bool.{cases_lt}
 
@@ -89,11 +89,11 @@ amid unpacks setting sub course steps k sound may = record {
   before = [];
   under = [];
   made = 0;
-  shown = ap (steps_from course.is_off) (nothing-taken {A = Visit} k);
+  shown = ap (steps_from course.is_off) (take-nil k);
   one = omega arith;
   some = omega arith;
   few = omega arith;
-  front = nothing-taken {A = Write} k;
+  front = take-nil k;
 }
 
 pub legal-amid : MarksUnpack → LegalIsAmid

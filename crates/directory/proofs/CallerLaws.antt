@@ -1,20 +1,16 @@
 -- The looks of callers: each own visit reads one word, and no caller makes more than the most.
-use Rattle.std.proofs.Common.{◌≡◌, ℕ, ◌+◌, ◌<◌, ◌≤◌, Bool, true, false, cond, ◌==◌, List, [], ◌∷◌, ◌++◌, Option, Some, None, length, take, refl, sym, ap, ◌∙◌, subst, arith}
-use Rattle.std.specs.Prelude.{slice_get, sum_by, option_map}
-use Rattle.std.proofs.lemmas.Bool.{eqb-true}
-use Rattle.std.proofs.lemmas.List.{append-nil, length_push}
+use Rattle.std.proofs.Common.{◌≡◌, ℕ, ◌+◌, ◌<◌, ◌≤◌, List, [], ◌∷◌, ◌++◌, Option, Some, None, refl, sym, ◌∙◌, subst, arith}
+use Rattle.std.specs.Prelude.{sum_by, option_map}
 use Rattle.std.proofs.lemmas.List.Sums.{fold-append, sum_by-cons}
 use Rattle.entry_word.specs.declared.visit.Key.{Key}
 use Rattle.entry_word.specs.declared.visit.Visit.{Visit}
 use Rattle.directory.specs.Settings.{Setting, subs}
-use Rattle.directory.specs.Histories.{History, cell, own, words_of, words_after, words_read}
+use Rattle.directory.specs.Histories.{History}
 use Rattle.directory.specs.Finds.{FindCall, Pursuit, at_origin, after_word, answer_of, most_looks, looks_left}
 use Rattle.directory.specs.Looks.{look_by}
-use Rattle.directory.specs.Orders.{Scripts, finds_of, Caller, caller_at, with_pursuit, read_by, after_read, caller_after, caller_in, key_in, next_key, next, IsPlayed}
+use Rattle.directory.specs.Orders.{Scripts, Caller, caller_at, with_pursuit, read_by, after_read, caller_after, caller_in, key_in, next_key, next}
 use Rattle.directory.specs.declared.answers.Found.{Found}
-use Rattle.directory.proofs.HistoryLaws.{words-push}
 use Rattle.directory.proofs.FindLaws.{looks-fall}
-use Rattle.directory.specs.StepLaws.{by_fronts, own-push}
 use Rattle.directory.specs.HistoryLaws.{next-caller}
 
 -- the most looks that a caller still makes

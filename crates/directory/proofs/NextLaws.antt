@@ -3,7 +3,7 @@ use Rattle.std.proofs.Common.{◌≡◌, ℕ, zero, suc, ◌<◌, Bool, true, fa
 use Rattle.std.specs.Prelude.{slice_get, option_map, option_to_list, All}
 use Rattle.std.proofs.lemmas.Bool.{eqb-true, ne_eqb, cases_lt}
 use Rattle.std.proofs.lemmas.List.{append-nil, take_all, take-append-le, length_push}
-use Rattle.std.proofs.lemmas.Option.{slice_get_within}
+use Rattle.std.proofs.lemmas.Option.{slice_get-map, slice_get_within}
 use Rattle.std.proofs.lemmas.List.Elements.{All-head, All-tail}
 use Rattle.entry_word.specs.declared.visit.Key.{Key}
 use Rattle.entry_word.specs.declared.visit.Act.TheVariants.{Look}
@@ -18,7 +18,7 @@ use Rattle.directory.proofs.StepLaws.{script-legal}
 use Rattle.entry_word.specs.Marks.{MarksUnpack}
 use Rattle.directory.specs.Statements.{OrdersArePlayed, OwnPutsAlone, ScriptsInOrder, PlayedIsLegal, MoreIsPlayed}
 use Rattle.directory.specs.StepLaws.{by_fronts, own-push, puts-push, take-more}
-use Rattle.directory.specs.ListLaws.{slice_get-right}
+use Rattle.directory.specs.ListLaws.{option_map-some, slice_get-right}
 use Rattle.directory.specs.HistoryLaws.{next-sub, next-caller, none-played, turn-none}
 
 -- a subscriber's write is a put for itself alone
@@ -31,11 +31,9 @@ IsOwn sub s visit = (visit.actor ≡ sub) × (is_put_for s visit.act ≡ (sub ==
 
 slice_get-of_map : (sub s : ℕ) (writes : List Write) (i : ℕ) (visit : Visit)
     → slice_get (map (visit_of sub) writes) i ≡ Some visit → IsOwn sub s visit
-slice_get-of_map sub s [] i visit h = cc
-slice_get-of_map sub s (write ∷ writes) zero visit h =
-    let e : visit_of sub write ≡ visit = cc in
-    subst (λ (v : Visit). (v.actor ≡ sub) × (is_put_for s v.act ≡ (sub == s))) e (refl, write-puts sub s write)
-slice_get-of_map sub s (write ∷ writes) (suc i) visit h = slice_get-of_map sub s writes i visit h
+slice_get-of_map sub s writes i visit h =
+    let its = option_map-some (visit_of sub) (slice_get writes i) visit (sym (slice_get-map (visit_of sub) writes i) ∙ h)
+    in rw (← its.1) (refl, write-puts sub s its.0)
 
 pub look-next : (actor : ℕ) (wanted : Option Key) (visit : Visit) → option_map (look_by actor) wanted ≡ Some visit
     → (key : Key) × (visit ≡ record { actor = actor; act = Look key })

@@ -2,6 +2,7 @@
 use Rattle.std.proofs.Common.{◌≡◌, ℕ, zero, suc, ◌-◌, ◌≤◌, Bool, true, false, cond, List, [], ◌∷◌, ◌++◌, Some, None, length, map, take, fold, refl, sym, ap, ◌∙◌, subst, arith, append_assoc, length-append}
 use Rattle.std.specs.Prelude.{slice_index, filter_map, All}
 use Rattle.std.specs.List.{cons_option}
+use Rattle.std.proofs.Math.Seq.{take-nil}
 use Rattle.std.proofs.lemmas.List.{append-nil, length-take-le, length-map}
 use Rattle.std.proofs.lemmas.List.Elements.{All-cons, All-head, All-map, All-nil, All-tail, All-take, filter_map-append}
 use Rattle.entry_word.specs.declared.mark.PresenceMark.TheVariants.{Here, Gone, Coming}
@@ -13,7 +14,7 @@ use Rattle.directory.specs.Puts.{steps_in, course_in}
 use Rattle.directory.specs.Standing.{Commit, commit_by, commits, number}
 use Rattle.directory.specs.States.{write_commit}
 use Rattle.directory.proofs.StateLaws.{commits-told}
-use Rattle.directory.proofs.StepLaws.{all-ends, nothing-taken}
+use Rattle.directory.proofs.StepLaws.{all-ends}
 use Rattle.entry_word.specs.Marks.{MarksUnpack}
 use Rattle.directory.specs.Statements.{CommitsAreMoves, StandsAtStop}
 use Rattle.directory.specs.StepLaws.{take-append, start-kept}
@@ -107,7 +108,7 @@ committed setting course [] k = record {
   count = 0;
   few = omega arith;
   listed = ap (filter_map write_commit)
-      (nothing-taken {A = Write} k);
+      (take-nil k);
 }
 committed setting course (move_to node ∷ steps) k = moved
     (committed setting (after_step setting course (move_to node)) steps (k - length mine))

@@ -1,8 +1,9 @@
 -- How far a caller is before a ticket: what it has looked at for its find, and that each find that was answered before
 -- has its looks.
-use Rattle.std.proofs.Common.{◌≡◌, ℕ, suc, ◌-◌, ◌<◌, ◌≤◌, Bool, true, false, ◌==◌, ◌+◌, List, [], ◌∷◌, ◌++◌, Option, Some, None, length, map, take, drop, fold, refl, sym, ap, ◌∙◌, subst, arith, append_assoc, length-append}
+use Rattle.std.proofs.Common.{◌≡◌, ℕ, suc, ◌-◌, ◌<◌, ◌≤◌, Bool, true, false, ◌==◌, ◌+◌, List, [], ◌∷◌, ◌++◌, Option, Some, None, length, map, take, drop, refl, sym, ap, ◌∙◌, subst, arith, append_assoc, length-append}
 use Rattle.std.specs.Prelude.{slice_get, flat_map, sum_by, All}
 use Rattle.std.proofs.lemmas.Bool.{eqb-true}
+use Rattle.std.proofs.lemmas.Grind.{flat_map-append}
 use Rattle.std.proofs.lemmas.List.{append-nil, map-append, length_push, length-drop, length-take-le, take_all, take-append-le, drop-append-le}
 use Rattle.std.proofs.lemmas.List.Sums.{fold-append}
 use Rattle.std.proofs.Math.ListN.{drop_of_length-le}
@@ -11,7 +12,7 @@ use Rattle.std.proofs.lemmas.Option.{slice_get_within}
 use Rattle.entry_word.specs.declared.visit.Key.{Key}
 use Rattle.entry_word.specs.declared.visit.Visit.{Visit}
 use Rattle.directory.specs.Settings.{Setting, subs}
-use Rattle.directory.specs.Histories.{History, before, cell, tickets_from, tickets, words_of, words_by, words_at, words_after, words_read}
+use Rattle.directory.specs.Histories.{History, before, cell, tickets_from, tickets, words_of, words_at, words_after, words_read}
 use Rattle.directory.specs.Finds.{FindCall, Pursuit, at_origin, after_word, key_of, answer_of, most_looks}
 use Rattle.directory.proofs.FindLaws.{looks-fall}
 use Rattle.directory.specs.Looks.{look_by, AreLooks, IsFind}
@@ -28,29 +29,15 @@ abbrev pub after_last : ℕ → List ℕ → ℕ
 after_last earliest [] = earliest
 after_last earliest (ticket ∷ later) = after_last (suc ticket) later
 
-words_at-look : (setting : Setting) (history : History) (actor ticket : ℕ) (key : Key)
-    → slice_get history ticket ≡ Some (look_by actor key)
-    → words_at setting history ticket ≡ cell setting (before ticket history) key ∷ []
-words_at-look setting history actor ticket key h = ap (words_by setting (before ticket history)) h
-
-flat_map-push : {A B : Type 0} (f : A → List B) (xs : List A) (x : A)
-    → flat_map f (xs ++ x ∷ []) ≡ flat_map f xs ++ f x
-flat_map-push f [] x = append-nil (f x)
-flat_map-push f (y ∷ xs) x = ap (λ zs. f y ++ zs) (flat_map-push f xs x)
-    ∙ sym (append_assoc (f y) (flat_map f xs) (f x))
-
 pursuit-push : (setting : Setting) (history : History) (actor : ℕ) (call : FindCall) (pursuit : Pursuit)
-    (sofar : List ℕ)
-    (ticket : ℕ) (key : Key) → slice_get history ticket ≡ Some (look_by actor key)
+    (sofar : List ℕ) (ticket : ℕ) (key : Key) → slice_get history ticket ≡ Some (look_by actor key)
     → pursuit_after setting history call pursuit (sofar ++ ticket ∷ [])
     ≡ after_word setting call (pursuit_after setting history call pursuit sofar)
     (cell setting (before ticket history) key)
 pursuit-push setting history actor call pursuit sofar ticket key h =
-    ap (fold (after_word setting call) pursuit) (flat_map-push (words_at setting history) sofar ticket
-    ∙ ap (λ ws. flat_map (words_at setting history) sofar ++ ws)
-    (words_at-look setting history actor ticket key h))
-    ∙ fold-append (after_word setting call) pursuit (flat_map (words_at setting history) sofar)
-    (cell setting (before ticket history) key ∷ [])
+    rw (flat_map-append (words_at setting history) sofar (ticket ∷ []), h)
+    (fold-append (after_word setting call) pursuit (flat_map (words_at setting history) sofar)
+    (cell setting (before ticket history) key ∷ []))
 
 -- one look more
 looks-push : (setting : Setting) (history : History) (actor : ℕ) (call : FindCall) (sofar : List ℕ) (earliest : ℕ)
