@@ -7,7 +7,7 @@ use Rattle.std.proofs.lemmas.List.{drop-append-le, get_or_append_left, get_or_at
 use Rattle.node_set.specs.Ascending.{has, sift}
 use Rattle.entry_word.specs.declared.mark.PresenceMark.TheVariants.{Empty, Here, Gone}
 use Rattle.directory.specs.Settings.{Setting}
-use Rattle.directory.specs.Writes.{mark_at, entry_at, numbers_from, new_address, old_home, erasure_writes, purge_writes, trail, step_writes}
+use Rattle.directory.specs.Writes.{mark_at, entry_at, numbers_from, new_address, old_home, erasure_writes, purge_writes, trail}
 use Rattle.directory.specs.Courses.{Step, move_to, Move, Course, course_at, stop, base, address_node, gathered_weight, next_move, after_step, after_steps}
 use Rattle.directory.proofs.HistoryLaws.{base-after}
 use Rattle.directory.specs.StepLaws.{highest-low}
@@ -135,28 +135,17 @@ pub move-short : MovesAreShort
 move-short setting course node =
     let move : Move = next_move setting course node in
     let low : move.renewed ≤ setting.top = highest-low _ setting.top in
-    let one : length (map (new_address setting move) (numbers_from 0 (suc move.renewed))) ≤ suc move.renewed =
+    let levels : List ℕ = numbers_from 0 (suc move.renewed) in
+    let moved : ℕ → Bool = λ level. not (old_home setting course level == setting.home level move.to) in
     omega (
       arith,
-      length-map (numbers_from 0 (suc move.renewed)) (new_address setting move),
+      length-map levels (new_address setting move),
       length-passing-le (λ p. true) 0 (suc move.renewed),
-    ) in
-    let two : length (erasure_writes setting course move) ≤ suc move.renewed =
-    omega (
-      arith,
-      length-map (sift (λ level. not (old_home setting course level == setting.home level move.to)) 0
-          (suc move.renewed)) (λ level. entry_at level (old_home setting course level) None),
-      length-passing-le (λ level. not (old_home setting course level == setting.home level move.to)) 0
-          (suc move.renewed),
-    ) in
-    let three : length (purge_writes setting course move) ≤ setting.nodes = purging-short setting course move in
-    let ends : length (erasure_writes setting course move ++ purge_writes setting course move)
-    ≡ length (erasure_writes setting course move) + length (purge_writes setting course move) = length-append
-    (erasure_writes setting course move) (purge_writes setting course move) in
-    let all : length (step_writes setting course (move_to node))
-    ≡ suc (length (map (new_address setting move) (numbers_from 0 (suc move.renewed))) + suc
-    (suc (length (erasure_writes setting course move ++ purge_writes setting course move)))) =
-    ap suc (length-append (map (new_address setting move) (numbers_from 0 (suc move.renewed)))
-    (mark_at move.from (Gone move.number move.to) ∷
-    (mark_at move.to (Here move.number) ∷ (erasure_writes setting course move ++ purge_writes setting course move)))) in
-    omega (arith, low, one, two, three, ends, all)
+      length-map (sift moved 0 (suc move.renewed)) (λ level. entry_at level (old_home setting course level) None),
+      length-passing-le moved 0 (suc move.renewed),
+      purging-short setting course move,
+      length-append (erasure_writes setting course move) (purge_writes setting course move),
+      length-append (map (new_address setting move) levels) (mark_at move.from (Gone move.number move.to) ∷
+          (mark_at move.to (Here move.number)
+          ∷ (erasure_writes setting course move ++ purge_writes setting course move))),
+    )

@@ -1,12 +1,10 @@
 -- The next visits of actors, and histories in which each visit was its actor's next one.
-use Rattle.std.proofs.Common.{◌≡◌, ℕ, zero, suc, ◌+◌, ◌<◌, Bool, true, false, cond, ◌==◌, List, [], ◌∷◌, ◌++◌, Option, Some, None, length, take, map, refl, sym, ap, ◌∙◌, subst, arith, inl, inr}
-use Rattle.std.specs.Prelude.{slice_get, option_map, option_to_list, All}
+use Rattle.std.proofs.Common.{◌≡◌, ℕ, suc, ◌+◌, ◌<◌, Bool, true, false, ◌==◌, List, [], ◌∷◌, ◌++◌, Option, Some, None, length, take, map, refl, sym, ap, ◌∙◌, subst, arith, inl, inr}
+use Rattle.std.specs.Prelude.{slice_get, option_to_list, All}
 use Rattle.std.proofs.lemmas.Bool.{eqb-true, ne_eqb, cases_lt}
 use Rattle.std.proofs.lemmas.List.{append-nil, take_all, take-append-le, length_push}
 use Rattle.std.proofs.lemmas.Option.{slice_get-map, slice_get_within}
 use Rattle.std.proofs.lemmas.List.Elements.{All-head, All-tail}
-use Rattle.entry_word.specs.declared.visit.Key.{Key}
-use Rattle.entry_word.specs.declared.visit.Act.TheVariants.{Look}
 use Rattle.entry_word.specs.declared.visit.Visit.{Visit}
 use Rattle.directory.specs.Settings.{Setting, subs}
 use Rattle.directory.specs.Histories.{History, is_put_for, puts_to, own}
@@ -91,8 +89,11 @@ played-push setting scripts history actor visit e played ticket found h =
           slice_get_within (history ++ visit ∷ []) ticket found h in
           let same : ticket ≡ length history + 0 = omega (arith, length_push history visit) in
           let is_found : visit ≡ found = same_some (sym (slice_get-right history (visit ∷ []) ticket 0 same) ∙ h) in
-          rw (take-append-le ticket history (visit ∷ []) (omega arith), take_all ticket history (omega arith),
-          ← is_found) (ap (next setting scripts history) (next-actor setting scripts history actor visit e) ∙ e)
+          rw (
+            take-append-le ticket history (visit ∷ []) (omega arith),
+            take_all ticket history (omega arith),
+            ← is_found,
+          ) (ap (next setting scripts history) (next-actor setting scripts history actor visit e) ∙ e)
     ]
 
 -- each visit of the history of an order was its actor's next one

@@ -1,7 +1,7 @@
 -- The histories of orders: turns of actors until they are done, and orders of the actors of histories.
-use Rattle.std.proofs.Common.{◌≡◌, ℕ, zero, suc, ◌+◌, ◌-◌, ◌<◌, ◌≤◌, Bool, true, false, cond, ◌==◌, List, [], ◌∷◌, ◌++◌, Option, Some, None, length, take, map, fold, refl, sym, ap, ◌∙◌, subst, arith, inl, inr, ◌⊎◌, ◌||◌}
+use Rattle.std.proofs.Common.{◌≡◌, ℕ, zero, suc, ◌+◌, ◌-◌, ◌<◌, ◌≤◌, true, false, cond, ◌==◌, List, [], ◌∷◌, ◌++◌, Option, Some, None, length, take, map, fold, refl, sym, ap, ◌∙◌, subst, arith, inl, inr, ◌⊎◌}
 use Rattle.std.specs.Prelude.{sum_by, flat_map, replicate, option_map}
-use Rattle.std.proofs.lemmas.Bool.{eqb-true, lt-ltb, le-ltb, ne_eqb, eq-eqb, cases_lt}
+use Rattle.std.proofs.lemmas.Bool.{eqb-true, or_cases, lt-ltb, le-ltb, ne_eqb, eq-eqb, cases_lt}
 use Rattle.std.proofs.lemmas.List.{append-nil, length_push, get_or_past, map-append}
 use Rattle.std.proofs.lemmas.List.Sums.{fold-append}
 use Rattle.std.proofs.lemmas.Option.{slice_get_within}
@@ -59,16 +59,10 @@ next-kept setting scripts history actor visit e =
 pub done-kept : (setting : Setting) (scripts : Scripts) (actor : ℕ) (order : List ℕ) (history : History)
     → IsDone setting scripts history actor → IsDone setting scripts (after_turns setting scripts history order) actor
 done-kept setting scripts actor order history done = kept_by_play setting scripts
-    (λ h. IsDone setting scripts h actor) more order history done
-  where
-    more : (h : History) (other : ℕ) (visit : Visit) → next setting scripts h other ≡ Some visit
-        → IsDone setting scripts h actor → IsDone setting scripts (h ++ visit ∷ []) actor
-    more h other visit e now = next-kept setting scripts h actor visit (ne_eqb visit.actor actor (λ same. clash same))
-        ∙ now
-      where
-        clash : visit.actor ≡ actor → ⊥
-        clash same = let its : other ≡ actor = sym (next-actor setting scripts h other visit e)
-            ∙ same in let both : Some visit ≡ None = sym e ∙ (ap (λ a. next setting scripts h a) its ∙ now) in cc
+    (λ h. IsDone setting scripts h actor) (λ h other visit e now.
+    next-kept setting scripts h actor visit (ne_eqb visit.actor actor (λ same.
+    let its : other ≡ actor = sym (next-actor setting scripts h other visit e) ∙ same in
+    let both : Some visit ≡ None = sym e ∙ (ap (next setting scripts h) its ∙ now) in cc)) ∙ now) order history done
 
 -- after so many turns an actor is done, or has made a visit at each
 abbrev IsCounted : Setting → Scripts → ℕ → ℕ → History → History → Type 0
@@ -134,21 +128,12 @@ done-each setting scripts actor [] history inside played = cc
 done-each setting scripts actor (first ∷ others) history inside played =
     rw (after_turns-append setting scripts history (replicate (most_turns setting scripts first) first)
     (turns_of setting scripts others))
-    (at_test (actor == first) refl inside (done-each setting scripts actor others))
-  where
-    behind : History
-    behind = after_turns setting scripts history (replicate (most_turns setting scripts first) first)
-
-    at_test : (b : Bool) → (actor == first) ≡ b → (b || has actor others) ≡ true
-        → ((h : History) → has actor others ≡ true → IsPlayed setting scripts h
-        → IsDone setting scripts (after_turns setting scripts h (turns_of setting scripts others)) actor)
-        → IsDone setting scripts (after_turns setting scripts behind (turns_of setting scripts others)) actor
-    at_test true e h later = done-kept setting scripts actor (turns_of setting scripts others) behind
-        (subst (λ a. IsDone setting scripts (after_turns setting scripts history
-        (replicate (most_turns setting scripts a) a)) actor) (eqb-true actor first e)
-        (done-after setting scripts actor history played))
-    at_test false e h later = later behind h (played-kept setting scripts
-        (replicate (most_turns setting scripts first) first) history played)
+    (elim (or_cases (actor == first) (has actor others) inside) [
+      | inl e ↦ done-kept setting scripts actor (turns_of setting scripts others) _
+          (rw (← eqb-true actor first e) (done-after setting scripts actor history played))
+      | inr later ↦ done-each setting scripts actor others _ later
+          (played-kept setting scripts (replicate (most_turns setting scripts first) first) history played)
+    ])
 
 -- one who is no actor has no visit
 stranger-done : (setting : Setting) (scripts : Scripts) (history : History) (actor : ℕ)

@@ -160,20 +160,14 @@ committed setting course (move_to node ∷ steps) k = moved
 
         none_more : k - length mine ≡ 0
         none_more = omega (arith, early, longer)
-committed setting course (step ∷ steps) k = switched
-    (committed setting (after_step setting course step) steps (k - 1))
-  where
-    switched : AreCommitted setting (after_step setting course step) steps (k - 1)
-        → AreCommitted setting course (step ∷ steps) k
-    switched later = record {
+committed setting course (step ∷ steps) k =
+    let later = committed setting (after_step setting course step) steps (k - 1) in
+    record {
       count = later.count;
       few = later.few;
       listed = parted setting course step steps k
-          ∙ (ap (λ cs. cs ++ filter_map write_commit (take (k - 1)
-          (writes setting (after_step setting course step) steps)))
-          (none-listed (take k (step_writes setting course step))
-          (All-take IsNoCommit k _ (All-cons IsNoCommit _ [] refl (All-nil IsNoCommit))))
-          ∙ later.listed);
+          ∙ rw (none-listed (take k (step_writes setting course step))
+          (All-take IsNoCommit k _ (All-cons IsNoCommit _ [] refl (All-nil IsNoCommit)))) later.listed;
     }
 
 -- the commits of a legal history are the first moves of its course
