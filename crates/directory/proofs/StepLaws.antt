@@ -1,10 +1,11 @@
 -- Steps: more of them add writes at the end, puts show which were begun, and a front of legal puts is legal.
-use Rattle.std.proofs.Common.{◌≡◌, ℕ, zero, suc, ◌+◌, ◌-◌, ◌<◌, ◌≤◌, ◌^◌, false, List, [], ◌∷◌, ◌++◌, Some, None, length, map, take, fold, refl, sym, ap, ◌∙◌, subst, arith, length-append, ◌==◌}
+use Rattle.std.proofs.Common.{◌≡◌, ℕ, zero, suc, ◌+◌, ◌-◌, ◌<◌, ◌≤◌, ◌^◌, false, List, [], ◌∷◌, ◌++◌, Some, None, length, map, take, fold, refl, sym, ap, ◌∙◌, subst, arith, length-append, ◌==◌, append_assoc, inl, inr, ◌⊎◌}
 use Rattle.std.specs.Prelude.{slice_get, All}
 use Rattle.std.proofs.Math.Seq.{take-nil}
+use Rattle.std.proofs.lemmas.Bool.{cases_lt}
 use Rattle.std.proofs.lemmas.List.Elements.{All-append, All-cons, All-head, All-map, All-nil, All-tail, All-take}
 use Rattle.directory.proofs.Tests.{both_ways}
-use Rattle.std.proofs.lemmas.List.{take_all, map-append}
+use Rattle.std.proofs.lemmas.List.{append-nil, length-map, map-append, take-append-le, take-map, take_all, take_at}
 use Rattle.std.proofs.lemmas.List.Sums.{fold-append}
 use Rattle.entry_word.specs.Marks.{says_off, IsSmallMark, MarksUnpack}
 use Rattle.entry_word.specs.declared.mark.PresenceMark.{PresenceMark}
@@ -129,36 +130,119 @@ one-begun unpacks setting sub course switch_off k later sound may =
 one-begun unpacks setting sub course switch_on k later sound may =
     rw (take-nil {A = Visit} k, read-mark unpacks (Here (length course.moves)) sound.few, may)
 
-pub begun : MarksUnpack → (setting : Setting) (sub : ℕ) (course : Course) (steps : List Step) (k : ℕ)
-    → IsCourse setting course → MaySteps setting course steps → AreBegun setting sub course steps k
+-- how far the first visits of steps are
+pub record AreAmid (setting : Setting) (sub : ℕ) (course : Course) (steps : List Step) (k : ℕ) : Type 0 where
+  pub before : List Step
+  pub under : List Step
+  pub made : ℕ
+  pub shown : steps_from course.is_off (take k (visits_in setting sub course steps)) ≡ before ++ under
+  pub one : length under ≤ 1
+  pub some : length under ≤ made
+  pub few : made ≤ length (writes setting (after_steps setting course before) under)
+  pub later : List Step
+  pub whole : steps ≡ (before ++ under) ++ later
+  pub enough : take k (writes setting course (before ++ under)) ≡ take k (writes setting course steps)
+  pub front : take k (writes setting course steps) ≡ writes setting course before ++ take made
+      (writes setting (after_steps setting course before) under)
+
+pub amid : MarksUnpack → (setting : Setting) (sub : ℕ) (course : Course) (steps : List Step) (k : ℕ)
+    → IsCourse setting course → MaySteps setting course steps
+    → AreAmid setting sub course steps k
 unfolding writes steps_from MaySteps
-begun unpacks setting sub course (step ∷ steps) (suc k) sound may =
-    more (begun unpacks setting sub (after_step setting course step) steps (suc k - length mine)
+amid unpacks setting sub course (step ∷ steps) (suc k) sound may = at_cases (cases_lt (length mine) (suc k))
+    (amid unpacks setting sub (after_step setting course step) steps (suc k - length mine)
     (course-after setting course step sound may.0) may.1)
   where
-    mine : List Visit
-    mine = map (visit_of sub) (step_writes setting course step)
+    mine : List Write
+    mine = step_writes setting course step
 
-    parted : (xs : List Step) → take (suc k) (visits_in setting sub course (step ∷ xs))
-        ≡ take (suc k) mine ++ take (suc k - length mine) (visits_in setting sub (after_step setting course step) xs)
-    parted xs = ap (take (suc k)) (map-append (visit_of sub) (step_writes setting course step)
-        (writes setting (after_step setting course step) xs))
-        ∙ take-append (suc k) mine (visits_in setting sub (after_step setting course step) xs)
+    rest : List Write
+    rest = writes setting (after_step setting course step) steps
 
-    more : AreBegun setting sub (after_step setting course step) steps (suc k - length mine)
-        → AreBegun setting sub course (step ∷ steps) (suc k)
-    more later = record {
-      count = suc later.count;
-      few = omega (arith, later.few);
-      shown = ap (steps_from course.is_off) (parted steps)
-          ∙ (one-begun unpacks setting sub course step k
-          (take (suc k - length mine) (visits_in setting sub (after_step setting course step) steps)) sound may.0
-          ∙ ap (λ xs. step ∷ xs) later.shown);
-      enough = parted steps ∙ (ap (λ vs. take (suc k) mine ++ vs) later.enough
-          ∙ sym (parted (take later.count steps)));
+    parted : take (suc k) (visits_in setting sub course (step ∷ steps))
+        ≡ take (suc k) (map (visit_of sub) mine) ++ take (suc k - length mine) (map (visit_of sub) rest)
+    parted = rw (
+      map-append (visit_of sub) mine rest,
+      take-append (suc k) (map (visit_of sub) mine) (map (visit_of sub) rest),
+      length-map mine (visit_of sub),
+    )
+
+    shows : steps_from course.is_off (take (suc k) (visits_in setting sub course (step ∷ steps)))
+        ≡ step ∷ steps_from (after_step setting course step).is_off
+        (take (suc k - length mine) (visits_in setting sub (after_step setting course step) steps))
+    shows = ap (steps_from course.is_off) parted ∙ one-begun unpacks setting sub course step k
+        (take (suc k - length mine) (map (visit_of sub) rest)) sound may.0
+
+    cut : suc k ≤ length mine → take (suc k) (mine ++ rest) ≡ take (suc k) (mine ++ [])
+    cut low = take-append-le (suc k) mine rest low ∙ ap (take (suc k)) (sym (append-nil mine))
+
+    at_cases : (length mine < suc k) ⊎ (suc k ≤ length mine)
+        → AreAmid setting sub (after_step setting course step) steps (suc k - length mine)
+        → AreAmid setting sub course (step ∷ steps) (suc k)
+    at_cases (inr low) far = record {
+      before = [];
+      under = step ∷ [];
+      made = suc k;
+      shown = shows ∙ ap (λ n. step ∷ steps_from (after_step setting course step).is_off
+          (take n (visits_in setting sub (after_step setting course step) steps)))
+          (let e : suc k - length mine ≡ 0 = omega arith in e);
+      one = omega arith;
+      some = omega arith;
+      few = omega (arith, length-append mine (writes setting (after_step setting course step) []));
+      later = steps;
+      whole = refl;
+      enough = sym (cut low);
+      front = cut low;
     }
+    at_cases (inl high) far = record {
+      before = step ∷ far.before;
+      under = far.under;
+      made = far.made;
+      shown = shows ∙ ap (λ xs. step ∷ xs) far.shown;
+      one = far.one;
+      some = far.some;
+      few = far.few;
+      later = far.later;
+      whole = ap (λ xs. step ∷ xs) far.whole;
+      enough = take-append (suc k) mine _
+          ∙ (ap (λ ws. take (suc k) mine ++ ws) far.enough ∙ sym (take-append (suc k) mine rest));
+      front = take-append (suc k) mine rest
+          ∙ (ap (λ ws. ws ++ take (suc k - length mine) rest) (take_all (suc k) mine (omega (arith, high)))
+          ∙ (ap (λ ws. mine ++ ws) far.front ∙ sym (append_assoc mine
+          (writes setting (after_step setting course step) far.before)
+          (take far.made (writes setting (after_steps setting (after_step setting course step) far.before)
+          far.under)))));
+    }
+amid unpacks setting sub course steps k sound may = record {
+  before = [];
+  under = [];
+  made = 0;
+  shown = ap (steps_from course.is_off) (take-nil k);
+  one = omega arith;
+  some = omega arith;
+  few = omega arith;
+  later = steps;
+  whole = refl;
+  enough = refl;
+  front = take-nil k;
+}
+
+-- so they show a front of the steps
+pub begun : MarksUnpack → (setting : Setting) (sub : ℕ) (course : Course) (steps : List Step) (k : ℕ)
+    → IsCourse setting course → MaySteps setting course steps → AreBegun setting sub course steps k
 begun unpacks setting sub course steps k sound may =
-    record { count = 0; few = omega arith; shown = ap (steps_from course.is_off) (take-nil k); enough = refl }
+    let far = amid unpacks setting sub course steps k sound may in
+    let shown : List Step = far.before ++ far.under in
+    let taken : take (length shown) steps ≡ shown =
+    ap (take (length shown)) far.whole ∙ take_at shown far.later (length shown) refl in
+    record {
+      count = length shown;
+      few = omega (arith, ap length far.whole, length-append shown far.later);
+      shown = far.shown ∙ sym taken;
+      enough = take-map (visit_of sub) k (writes setting course steps)
+          ∙ (ap (map (visit_of sub)) (sym far.enough ∙ ap (λ xs. take k (writes setting course xs)) (sym taken))
+          ∙ sym (take-map (visit_of sub) k (writes setting course (take (length shown) steps))));
+    }
 
 -- a front has as many as it has
 front-taken : {A : Type 0} (n : ℕ) (ys : List A) → take n ys ≡ take (length (take n ys)) ys
