@@ -149,9 +149,45 @@ pub amid : MarksUnpack → (setting : Setting) (sub : ℕ) (course : Course) (st
     → IsCourse setting course → MaySteps setting course steps
     → AreAmid setting sub course steps k
 unfolding writes steps_from MaySteps
-amid unpacks setting sub course (step ∷ steps) (suc k) sound may = at_cases (cases_lt (length mine) (suc k))
-    (amid unpacks setting sub (after_step setting course step) steps (suc k - length mine)
-    (course-after setting course step sound may.0) may.1)
+amid unpacks setting sub course (step ∷ steps) (suc k) sound may = elim (cases_lt (length mine) (suc k)) [
+  | inr low ↦ record {
+    before = [];
+    under = step ∷ [];
+    made = suc k;
+    shown = shows ∙ ap (λ n. step ∷ steps_from (after_step setting course step).is_off
+        (take n (visits_in setting sub (after_step setting course step) steps)))
+        (let e : suc k - length mine ≡ 0 = omega arith in e);
+    one = omega arith;
+    some = omega arith;
+    few = omega (arith, length-append mine (writes setting (after_step setting course step) []));
+    later = steps;
+    whole = refl;
+    enough = sym (cut low);
+    front = cut low;
+  }
+  | inl high ↦
+      let far = amid unpacks setting sub (after_step setting course step) steps (suc k - length mine)
+      (course-after setting course step sound may.0) may.1 in
+      record {
+        before = step ∷ far.before;
+        under = far.under;
+        made = far.made;
+        shown = shows ∙ ap (λ xs. step ∷ xs) far.shown;
+        one = far.one;
+        some = far.some;
+        few = far.few;
+        later = far.later;
+        whole = ap (λ xs. step ∷ xs) far.whole;
+        enough = take-append (suc k) mine _
+            ∙ (ap (λ ws. take (suc k) mine ++ ws) far.enough ∙ sym (take-append (suc k) mine rest));
+        front = take-append (suc k) mine rest
+            ∙ (ap (λ ws. ws ++ take (suc k - length mine) rest) (take_all (suc k) mine (omega (arith, high)))
+            ∙ (ap (λ ws. mine ++ ws) far.front ∙ sym (append_assoc mine
+            (writes setting (after_step setting course step) far.before)
+            (take far.made (writes setting (after_steps setting (after_step setting course step) far.before)
+            far.under)))));
+      }
+]
   where
     mine : List Write
     mine = step_writes setting course step
@@ -175,44 +211,6 @@ amid unpacks setting sub course (step ∷ steps) (suc k) sound may = at_cases (c
 
     cut : suc k ≤ length mine → take (suc k) (mine ++ rest) ≡ take (suc k) (mine ++ [])
     cut low = take-append-le (suc k) mine rest low ∙ ap (take (suc k)) (sym (append-nil mine))
-
-    at_cases : (length mine < suc k) ⊎ (suc k ≤ length mine)
-        → AreAmid setting sub (after_step setting course step) steps (suc k - length mine)
-        → AreAmid setting sub course (step ∷ steps) (suc k)
-    at_cases (inr low) far = record {
-      before = [];
-      under = step ∷ [];
-      made = suc k;
-      shown = shows ∙ ap (λ n. step ∷ steps_from (after_step setting course step).is_off
-          (take n (visits_in setting sub (after_step setting course step) steps)))
-          (let e : suc k - length mine ≡ 0 = omega arith in e);
-      one = omega arith;
-      some = omega arith;
-      few = omega (arith, length-append mine (writes setting (after_step setting course step) []));
-      later = steps;
-      whole = refl;
-      enough = sym (cut low);
-      front = cut low;
-    }
-    at_cases (inl high) far = record {
-      before = step ∷ far.before;
-      under = far.under;
-      made = far.made;
-      shown = shows ∙ ap (λ xs. step ∷ xs) far.shown;
-      one = far.one;
-      some = far.some;
-      few = far.few;
-      later = far.later;
-      whole = ap (λ xs. step ∷ xs) far.whole;
-      enough = take-append (suc k) mine _
-          ∙ (ap (λ ws. take (suc k) mine ++ ws) far.enough ∙ sym (take-append (suc k) mine rest));
-      front = take-append (suc k) mine rest
-          ∙ (ap (λ ws. ws ++ take (suc k - length mine) rest) (take_all (suc k) mine (omega (arith, high)))
-          ∙ (ap (λ ws. mine ++ ws) far.front ∙ sym (append_assoc mine
-          (writes setting (after_step setting course step) far.before)
-          (take far.made (writes setting (after_steps setting (after_step setting course step) far.before)
-          far.under)))));
-    }
 amid unpacks setting sub course steps k sound may = record {
   before = [];
   under = [];

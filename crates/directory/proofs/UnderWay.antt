@@ -58,8 +58,7 @@ looks-push setting history actor call (t ∷ sofar) earliest pursuit ticket key
         its_look,
         looks-push setting history actor call sofar (suc t)
             (after_word setting call pursuit (cell setting (before t history) k)) ticket key rest low
-            (subst (λ (s : Pursuit). key_of call s ≡ Some key)
-            (pursuit-step setting history actor call pursuit t k sofar its_look) wanted) is_look,
+            (rw (pursuit-step setting history actor call pursuit t k sofar its_look) at wanted) is_look,
       ),
     )
 
@@ -138,8 +137,7 @@ answered-more setting history actor ticketed more answers =
     (λ answer h. record {
       within = omega (arith, h.within, length-append ticketed more);
       order = h.order;
-      find = subst (IsFind setting history actor answer.call answer.found)
-          (sym (seen-more ticketed more answer h.order h.within)) h.find;
+      find = rw (seen-more ticketed more answer h.order h.within) h.find;
     }) answers
 
 -- one look more of a caller
@@ -168,7 +166,7 @@ look_more setting history actor finds ticketed now caller call later key far cal
     pushed : IsAt setting history actor call (suc now) pursuit (drop caller.first ticketed ++ now ∷ [])
     pushed = record {
       looks = looks-push setting history actor call (drop caller.first ticketed) 0 at_origin now key so_far.looks
-          so_far.low (subst (λ (s : Pursuit). key_of call s ≡ Some key) (sym so_far.reads) wanted) is_look;
+          so_far.low (rw so_far.reads wanted) is_look;
       reads = pursuit-push setting history actor call at_origin (drop caller.first ticketed) now key is_look
           ∙ ap (λ s. after_word setting call s (cell setting (before now history) key)) so_far.reads;
       low = omega (arith, after_last-push 0 (drop caller.first ticketed) now);
@@ -198,9 +196,7 @@ look_more setting history actor finds ticketed now caller call later key far cal
       done = answered-more setting history actor ticketed (now ∷ []) caller.answers far.done;
       script = far.script;
       current = λ c l same. let its : call ∷ later ≡ c ∷ l = sym calls ∙ same in let is_call : call ≡ c = cc in
-          subst (λ (x : FindCall). IsAt setting history actor x (suc now) pursuit
-          (drop caller.first (ticketed ++ now ∷ []))) is_call
-          (subst (λ seen. IsAt setting history actor call (suc now) pursuit seen) (sym longer) pushed);
+          rw (longer, ← is_call) pushed;
       follow = far.follow;
       ends = far.ends;
     }
@@ -223,8 +219,7 @@ look_more setting history actor finds ticketed now caller call later key far cal
       script = far.script ∙ (ap (λ cs. map (λ (a : Answer). a.call) caller.answers ++ cs) calls
           ∙ (sym (append_assoc (map (λ (a : Answer). a.call) caller.answers) (call ∷ []) later)
           ∙ ap (λ cs. cs ++ later) (sym (map-append (λ (a : Answer). a.call) caller.answers (mine ∷ [])))));
-      current = λ c l same. subst (λ seen. IsAt setting history actor c (suc now) at_origin seen) (sym none_left)
-          (record { looks = tt; reads = refl; low = omega arith });
+      current = λ c l same. rw none_left (record { looks = tt; reads = refl; low = omega arith });
       follow = follow-push 0 caller.answers mine far.follow far.ends far.low;
       ends = omega (arith, end_place-push 0 caller.answers mine);
     }
@@ -247,8 +242,7 @@ look_more setting history actor finds ticketed now caller call later key far cal
         is_mine = record {
           within = omega (arith, counted);
           order = far.low;
-          find = subst (λ seen. IsFind setting history actor call found seen) (sym all_seen)
-              (record { looks = pushed.looks; answer = pushed.reads ∙ answer-ends pursuit found e });
+          find = rw all_seen (record { looks = pushed.looks; answer = pushed.reads ∙ answer-ends pursuit found e });
         }
 
         none_left : drop (suc caller.next) (ticketed ++ now ∷ []) ≡ []
@@ -334,6 +328,5 @@ under_way setting scripts history actor high played =
             at_calls (call ∷ later) same k =
                 look_more setting history actor (finds_of setting scripts actor)
                 (tickets actor (take t history)) t caller call later key
-                (subst (λ n. IsUnderWay setting history actor (finds_of setting scripts actor)
-                (tickets actor (take t history)) n caller) here far) same k (h ∙ ap Some is_look)
+                (rw here at far) same k (h ∙ ap Some is_look)
                 (answer_of (after_word setting call caller.pursuit (cell setting (before t history) key))) refl
