@@ -1,14 +1,14 @@
 -- How far legal puts are with the steps that they begin.
 use Rattle.std.proofs.Common.{◌≡◌, suc, false, [], ◌∷◌, ◌++◌, length, take, sym, ap, ◌∙◌, arith, inl, inr}
 use Rattle.std.specs.List.{cons_option}
-use Rattle.std.proofs.lemmas.List.{length_push, length-take}
+use Rattle.std.proofs.lemmas.List.{length_push, length-take, length-append}
 use Rattle.entry_word.specs.Marks.{MarksUnpack}
 use Rattle.directory.specs.Settings.{start}
 use Rattle.directory.specs.Courses.{course_at}
 use Rattle.directory.specs.Writes.{visits}
 use Rattle.directory.specs.Puts.{steps_from, steps_in}
 use Rattle.directory.specs.Statements.{LegalIsAmid, StepsBeginAtRest}
-use Rattle.directory.proofs.StepLaws.{amid, begun, next-decided}
+use Rattle.directory.proofs.StepLaws.{amid, next-decided}
 use Rattle.directory.specs.StepLaws.{steps-append, take-more}
 use Rattle.std.proofs.lemmas.Bool.{cases_lt}
 
@@ -39,12 +39,13 @@ begins-at_rest unpacks setting sub puts visit step low legal legal_more begins =
           steps-append false puts (visit ∷ []) ∙ ap (λ o. steps_in puts ++ cons_option o []) begins in
           let due : puts ++ visit ∷ [] ≡ take (suc (length puts)) whole = ap (λ xs. xs ++ visit ∷ []) legal.front
           ∙ sym (take-more whole (length puts) visit (next-decided setting sub puts visit left legal_more)) in
-          let first = begun unpacks setting sub (course_at (start setting sub)) (steps_in puts) (suc (length puts))
+          let far = amid unpacks setting sub (course_at (start setting sub)) (steps_in puts) (suc (length puts))
           (record { low = low; inside = legal.script.begins; few = omega arith }) legal.script.allowed in
           absurd (omega (
             arith,
-            ap length (sym longer ∙ (ap (steps_from false) due ∙ first.shown)),
+            ap length (sym longer ∙ (ap (steps_from false) due ∙ far.shown)),
             length_push (steps_in puts) step,
-            length-take first.count (steps_in puts),
+            ap length far.whole,
+            length-append (far.before ++ far.under) far.later,
           ))
     ]

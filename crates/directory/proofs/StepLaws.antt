@@ -1,5 +1,5 @@
 -- Steps: more of them add writes at the end, puts show which were begun, and a front of legal puts is legal.
-use Rattle.std.proofs.Common.{◌≡◌, ℕ, zero, suc, ◌+◌, ◌-◌, ◌<◌, ◌≤◌, ◌^◌, false, List, [], ◌∷◌, ◌++◌, Some, None, length, map, take, fold, refl, sym, ap, ◌∙◌, subst, arith, length-append, ◌==◌, append_assoc, inl, inr, ◌⊎◌}
+use Rattle.std.proofs.Common.{◌≡◌, ℕ, zero, suc, ◌+◌, ◌-◌, ◌<◌, ◌≤◌, ◌^◌, false, List, [], ◌∷◌, ◌++◌, Some, None, length, map, take, fold, refl, sym, ap, ◌∙◌, subst, arith, length-append, ◌==◌, append_assoc, inl, inr}
 use Rattle.std.specs.Prelude.{slice_get, All}
 use Rattle.std.proofs.Math.Seq.{take-nil}
 use Rattle.std.proofs.lemmas.Bool.{cases_lt}
@@ -79,13 +79,6 @@ plain-after unpacks setting sub course move few low =
     (plain-mark unpacks sub move.from (Gone move.number move.to) (few, low) refl refl)
     (plain-mark unpacks sub move.to (Here move.number) few refl refl) (λ level cluster. (refl, refl))
     (λ node. (refl, refl)))
-
--- the steps that the first k visits of some steps begin: they show just these, and are visits of these
-pub record AreBegun (setting : Setting) (sub : ℕ) (course : Course) (steps : List Step) (k : ℕ) : Type 0 where
-  pub count : ℕ
-  pub few : count ≤ length steps
-  pub shown : steps_from course.is_off (take k (visits_in setting sub course steps)) ≡ take count steps
-  pub enough : take k (visits_in setting sub course steps) ≡ take k (visits_in setting sub course (take count steps))
 
 -- what is known of a course
 pub record IsCourse (setting : Setting) (course : Course) : Type 0 where
@@ -225,23 +218,6 @@ amid unpacks setting sub course steps k sound may = record {
   front = take-nil k;
 }
 
--- so they show a front of the steps
-pub begun : MarksUnpack → (setting : Setting) (sub : ℕ) (course : Course) (steps : List Step) (k : ℕ)
-    → IsCourse setting course → MaySteps setting course steps → AreBegun setting sub course steps k
-begun unpacks setting sub course steps k sound may =
-    let far = amid unpacks setting sub course steps k sound may in
-    let shown : List Step = far.before ++ far.under in
-    let taken : take (length shown) steps ≡ shown =
-    ap (take (length shown)) far.whole ∙ take_at shown far.later (length shown) refl in
-    record {
-      count = length shown;
-      few = omega (arith, ap length far.whole, length-append shown far.later);
-      shown = far.shown ∙ sym taken;
-      enough = take-map (visit_of sub) k (writes setting course steps)
-          ∙ (ap (map (visit_of sub)) (sym far.enough ∙ ap (λ xs. take k (writes setting course xs)) (sym taken))
-          ∙ sym (take-map (visit_of sub) k (writes setting course (take (length shown) steps))));
-    }
-
 -- a front has as many as it has
 front-taken : {A : Type 0} (n : ℕ) (ys : List A) → take n ys ≡ take (length (take n ys)) ys
 front-taken zero ys = refl
@@ -258,15 +234,21 @@ take-both (suc m) (suc n) (x ∷ xs) h = ap (λ zs. x ∷ zs) (take-both m n xs 
 pub script-legal : MarksUnpack → ScriptsAreLegal
 script-legal unpacks setting sub steps k low script =
     let course = course_at (start setting sub) in
-    let sound : IsCourse setting course = record { low = low; inside = script.begins; few = omega arith } in
-    let first = begun unpacks setting sub course steps k sound script.allowed in
+    let far = amid unpacks setting sub course steps k
+    (record { low = low; inside = script.begins; few = omega arith }) script.allowed in
+    let shown : List Step = far.before ++ far.under in
+    let taken : take (length shown) steps ≡ shown =
+    ap (take (length shown)) far.whole ∙ take_at shown far.later (length shown) refl in
+    let same : take k (visits setting sub steps) ≡ take k (visits setting sub shown) =
+    take-map (visit_of sub) k (writes setting course steps) ∙ (ap (map (visit_of sub)) (sym far.enough)
+    ∙ sym (take-map (visit_of sub) k (writes setting course shown))) in
     record {
       script = record {
         known = script.known;
         begins = script.begins;
-        allowed = rw first.shown (may-take setting course steps first.count script.allowed);
+        allowed = rw (far.shown, ← taken) (may-take setting course steps (length shown) script.allowed);
       };
-      front = rw (first.shown, first.enough) (front-taken k (visits setting sub (take first.count steps)));
+      front = rw (far.shown, same) (front-taken k (visits setting sub shown));
     }
 
 -- a front of legal puts is legal
