@@ -80,17 +80,8 @@ laid_cell law {setup} {key = key} known at is grown o = laid_push grown o
     (λ other inside e. rw (← law setup.plan (subs_in setup) key other known inside
     (same_number (nodes_in setup) _ _ (sym at ∙ e))) is)
 
-none_below : (n : ℕ) → suc n < 1 → ⊥
-none_below n h = omega arith
-
 pub first_laid : (setup : Setup) → AreLaid setup (0 ∷ [])
-first_laid setup =
-    record {
-      ticket = λ h. refl;
-      locks = λ node known h. absurd (none_below _ h);
-      tallies = λ node known h. absurd (none_below _ h);
-      cells = λ key known h. absurd (none_below _ h);
-    }
+first_laid setup = grind arith
 
 counted : {w : ℕ} (n : ℕ) {c d : ℕ} (l : ℕ) → w ≡ 1 + 2 * n + (n + c) * l → c ≡ d → w ≡ suc (2 * n + (n + d) * l)
 counted n l is e = is ∙ (ap (λ (k : ℕ). 1 + 2 * n + (n + k) * l) e ∙ omega arith)
@@ -99,10 +90,9 @@ pub opening_of : (plan : PlanData) (homes : List ℕ) {words : List ℕ} → Are
     → length words ≡ 1 + 2 * nodes_of plan + (nodes_of plan + clusters_below plan (levels_of plan)) * length homes
     → (actors : ℕ) → AreOpening (setup_of plan homes actors) words
 opening_of plan homes o at actors =
-    record {
-      laid = record { ticket = o.ticket; locks = o.locks; tallies = o.tallies; cells = o.cells };
-      size = counted (nodes_of plan) (length homes) at (ap (sum_by (λ l. length l.clusters)) (take-length plan.levels));
-    }
+    let clusters = ap (sum_by (λ l. length l.clusters)) (take-length plan.levels) in
+    let size = counted (nodes_of plan) (length homes) at clusters in
+    assumption
 
 -- who starts at a node
 

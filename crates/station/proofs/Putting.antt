@@ -251,17 +251,10 @@ pub may_put : (view : View) {node : ℕ} {key : Key} (word : ℕ) (log : List Tu
     → length (own view.low view.seen) < 2 ^ 56 → IsCellOf view.setup key → key_sub key ≡ view.low
     → IsLegal (setting_in view.setup) view.low (view.seen ++ put_of view.low key word ∷ [])
     → MayDraw (view_inside view node (Put key word) log) node (Put key word)
-may_put view word log undrawn unwritten clear at few cell mine legal = record {
-  inside = refl;
-  intended = refl;
-  undrawn = undrawn;
-  unwritten = unwritten;
-  clear = clear;
-  at = sym at;
-  few = few;
-  cell = λ other e. subst (λ (k : Key). IsCellOf view.setup k) (same_some e) cell;
-  may = (mine, legal);
-}
+may_put view {node} {key} word log undrawn unwritten clear at few cell mine legal =
+    let there = sym at in
+    let each : (other : Key) → Some key ≡ Some other → IsCellOf view.setup other = λ other e. rw (← same_some e) cell in
+    assumption
 
 -- what holds of a put of the subscriber holds of the one that is due
 pub put_due : {o : Option Visit} {sub low : ℕ} (key : Key) (word : ℕ) (P : Visit → Type 0)

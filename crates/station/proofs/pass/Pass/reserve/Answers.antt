@@ -16,16 +16,6 @@ invariant_of-self-then-self-visits c =
     ap (λ q. own q.view.low q.view.seen) (sym told) ∙ ap (λ (a : ℕ). own a seen) p.low in
     let few : length (own actor seen) + c.args.visits ≤ 2 ^ 56 = subst
     (λ l. length l + c.args.visits ≤ 2 ^ 56) mine c.requires.few in
-    record {
-      slots = p.slots;
-      low = p.low;
-      high = p.high;
-      real = p.real;
-      undrawn = p.undrawn;
-      unwritten = p.unwritten;
-      clear = p.clear;
-      seen_is = p.seen_is;
-      tickets_are = items ∙ p.tickets_are;
-      room_is = omega (arith, c.in_ok-reserve.ensures.ok, c.reserve.new.self.ok);
-      few = omega (arith, few, count, ap length items);
-    }
+    let tickets_are = items ∙ p.tickets_are in
+    let longer = ap length items in
+    search (arith, c.in_ok-reserve.ensures.ok, c.reserve.new.self.ok)
