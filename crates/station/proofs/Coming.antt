@@ -15,47 +15,17 @@ use Rattle.station.specs.Views.{StandsForActor}
 use Rattle.station.specs.declared.view.TurnEvent.{TurnEvent}
 use Rattle.station.specs.declared.view.TurnEvent.TheVariants.{Won, GivenBack, Lost}
 use Rattle.station.specs.declared.view.View.{View}
-use Rattle.station.proofs.Logging.{lock-back, lock-back_else, lock-push, lock-won, lock-won_else}
+use Rattle.std.proofs.lemmas.Bool.Decides.{nat_tests}
+use Rattle.station.proofs.Logging.{lock-push}
 use Rattle.station.proofs.Steps.{same_view}
 use Rattle.station.proofs.Timing.{its_seat, other_seat, some-mine}
 
--- the parts of an event, as numbers
-kind : TurnEvent → ℕ
-kind (Won actor node) = 0
-kind (GivenBack actor node) = 1
-kind (Lost actor node word) = 2
-
-node_in : TurnEvent → ℕ
-node_in (Won actor node) = node
-node_in (GivenBack actor node) = node
-node_in (Lost actor node word) = node
-
-word_in : TurnEvent → ℕ
-word_in (Lost actor node word) = word
-word_in event = 0
-
-abbrev event_of : ℕ → ℕ → ℕ → ℕ → TurnEvent
-event_of zero actor node word = Won actor node
-event_of (suc zero) actor node word = GivenBack actor node
-event_of (suc (suc n)) actor node word = Lost actor node word
-
-of_parts : (x : TurnEvent) → event_of (kind x) (event_actor x) (node_in x) (word_in x) ≡ x
-unfolding kind node_in word_in
-of_parts (Won actor node) = refl
-of_parts (GivenBack actor node) = refl
-of_parts (Lost actor node word) = refl
-
 -- two events are the same, or not
 same_event : (x y : TurnEvent) → (x ≡ y) ⊎ (x ≢ y)
-same_event x y = dite (ℕ_discrete (kind x) (kind y))
-    (λ k. dite (ℕ_discrete (event_actor x) (event_actor y))
-    (λ a. dite (ℕ_discrete (node_in x) (node_in y))
-    (λ n. dite (ℕ_discrete (word_in x) (word_in y))
-    (λ w. inl (sym (of_parts x) ∙ ((λ i. event_of (k i) (a i) (n i) (w i)) ∙ of_parts y)))
-    (λ ne. inr (λ q. ne (ap word_in q))))
-    (λ ne. inr (λ q. ne (ap node_in q))))
-    (λ ne. inr (λ q. ne (ap event_actor q))))
-    (λ ne. inr (λ q. ne (ap kind q)))
+same_event (Won actor node) (Won other at) = grind arith
+same_event (GivenBack actor node) (GivenBack other at) = grind arith
+same_event (Lost actor node word) (Lost other at found) = grind arith
+same_event x y = inr (λ q. cc)
 
 -- an event stands in a log behind these, or doesn't
 logged_or : (log earlier : List TurnEvent) (event : TurnEvent)
@@ -123,44 +93,29 @@ front-has (x ∷ front) rest (e ∷ earlier) event later mine none is =
 abbrev IsForeign : ℕ → ℕ → Type 0
 IsForeign actor word = (word ≢ 0) × (word ≢ suc actor)
 
--- an actor's event leaves the turn that is another's, and brings about none that is
+-- an actor's event leaves a turn that is another's before it, or behind it
 event-keeps : {actor : ℕ} (node : ℕ) (log : List TurnEvent) (event : TurnEvent) → event_actor event ≡ actor
-    → IsInTurn log event → IsForeign actor (lock_in log node) → lock_in (log ++ event ∷ []) node ≡ lock_in log node
-event-keeps node log (Won a at) mine may foreign = dite (ℕ_discrete at node)
-    (λ e. absurd (foreign.0 (ap (lock_in log) (sym e) ∙ may)))
-    (λ ne. lock-won_else log a at node ne)
-event-keeps node log (GivenBack a at) mine may foreign = dite (ℕ_discrete at node)
-    (λ e. absurd (foreign.1 (ap (lock_in log) (sym e) ∙ (may ∙ ap suc mine))))
-    (λ ne. lock-back_else log a at node ne)
+    → IsInTurn log event
+    → IsForeign actor (lock_in log node) ⊎ IsForeign actor (lock_in (log ++ event ∷ []) node)
+    → lock_in (log ++ event ∷ []) node ≡ lock_in log node
 event-keeps node log (Lost a at word) mine may foreign = lock-push log (Lost a at word) node
-
-event-kept : {actor : ℕ} (node : ℕ) (log : List TurnEvent) (event : TurnEvent) → event_actor event ≡ actor
-    → IsForeign actor (lock_in (log ++ event ∷ []) node) → lock_in (log ++ event ∷ []) node ≡ lock_in log node
-event-kept node log (Won a at) mine foreign = dite (ℕ_discrete at node)
-    (λ e. absurd (foreign.1 (ap (lock_in (log ++ Won a at ∷ [])) (sym e) ∙ (lock-won log a at ∙ ap suc mine))))
-    (λ ne. lock-won_else log a at node ne)
-event-kept node log (GivenBack a at) mine foreign = dite (ℕ_discrete at node)
-    (λ e. absurd (foreign.0 (ap (lock_in (log ++ GivenBack a at ∷ [])) (sym e) ∙ lock-back log a at)))
-    (λ ne. lock-back_else log a at node ne)
-event-kept node log (Lost a at word) mine foreign = lock-push log (Lost a at word) node
+event-keeps node log event mine may foreign = grind (arith, nat_tests, lock-push log event node)
 
 -- so do all its events
 events-keep : (actor node : ℕ) (log more : List TurnEvent) → AreOf actor more → IsLog (log ++ more)
-    → IsForeign actor (lock_in log node) → lock_in (log ++ more) node ≡ lock_in log node
+    → IsForeign actor (lock_in log node) ⊎ IsForeign actor (lock_in (log ++ more) node)
+    → lock_in (log ++ more) node ≡ lock_in log node
 events-keep actor node log [] of valid foreign = ap (λ l. lock_in l node) (append-nil log)
 events-keep actor node log (event ∷ later) of valid foreign =
     let split : (log ++ event ∷ []) ++ later ≡ log ++ event ∷ later = append_assoc log (event ∷ []) later in
-    let one = event-keeps node log event of.0 (valid log event later refl) foreign in
-    rw (← split)
-    (events-keep actor node (log ++ event ∷ []) later of.1 (rw split valid) (rw one foreign) ∙ one)
-
-events-kept : (actor node : ℕ) (log more : List TurnEvent) → AreOf actor more
-    → IsForeign actor (lock_in (log ++ more) node) → lock_in (log ++ more) node ≡ lock_in log node
-events-kept actor node log [] of foreign = ap (λ l. lock_in l node) (append-nil log)
-events-kept actor node log (event ∷ later) of foreign =
-    let split : (log ++ event ∷ []) ++ later ≡ log ++ event ∷ later = append_assoc log (event ∷ []) later in
-    let rest = events-kept actor node (log ++ event ∷ []) later of.1 (rw split foreign) in
-    rw (← split) (rest ∙ event-kept node log event of.0 (rw (← rest, split) foreign))
+    let one = event-keeps node log event of.0 (valid log event later refl) in
+    let rest = events-keep actor node (log ++ event ∷ []) later of.1 (rw split valid) in
+    rw (← split) (⊎_elim
+    (λ (f : IsForeign actor (lock_in log node)). rest (inl (rw (one (inl f)) f)) ∙ one (inl f))
+    (λ (f : IsForeign actor (lock_in (log ++ event ∷ later) node)).
+    let same = rest (inr (rw split f)) in
+    same ∙ one (inr (rw (← same, split) f)))
+    foreign)
 
 module _ (setup : Setup) (old new : State Act View) (seat : ℕ) (was : KeepsRule setup old) (is : KeepsRule setup new)
     (s : IsStepOf seat old new) where
@@ -215,7 +170,7 @@ module _ (setup : Setup) (old new : State Act View) (seat : ℕ) (was : KeepsRul
       ∙ (sym (is.lock_words node there.known) ∙ there.lock) in
       let foreign : IsForeign s.before.low (lock_in (earlier ++ more) node) =
       ((λ e. absurd (omega (arith, word, e))), (λ e. ne (omega (arith, word, e)))) in
-      sym (events-kept s.before.low node earlier more own foreign) ∙ word
+      sym (events-keep s.before.low node earlier more own (subst IsLog log is.in_turn) (inr foreign)) ∙ word
 
   others_out : (earlier more : List TurnEvent) (actor node : ℕ) → is.turns ≡ earlier ++ more
       → AreOf s.before.low more → actor ≡ s.before.low → (lock_in earlier node ≢ 0 → lock_in earlier node ≡ suc actor)
@@ -233,7 +188,7 @@ module _ (setup : Setup) (old new : State Act View) (seat : ℕ) (was : KeepsRul
       ((λ e. may.1 (sym may.0 ∙ e)), (λ e. may.2 (sym may.0 ∙ (e ∙ ap suc (sym mine))))) in
       let here : slice_index new.words (lock_word node) ≡ word = is.lock_words node known
       ∙ (ap (λ l. lock_in l node) log
-      ∙ (events-keep s.before.low node earlier more own (subst IsLog log is.in_turn) foreign ∙ may.0)) in
+      ∙ (events-keep s.before.low node earlier more own (subst IsLog log is.in_turn) (inl foreign) ∙ may.0)) in
       let b = word - 1 in
       let is_suc : word ≡ suc b = omega (arith, may.1) in
       let held = is.locks node b known (here ∙ is_suc) in

@@ -34,14 +34,12 @@ front-of_longer xs ys zs f g short =
 -- a visit of another adds nothing, and a visit of one's own adds itself
 pub own-other : (actor : ℕ) (history : List Visit) (visit : Visit) → visit.actor ≢ actor
     → own actor (history ++ visit ∷ []) ≡ own actor history
-own-other actor history visit other = own-append actor history (visit ∷ [])
-    ∙ (ap (λ b. own actor history ++ cond b (visit ∷ []) []) (ne_eqb visit.actor actor other)
-    ∙ append-nil (own actor history))
+own-other actor history visit other =
+    rw (own-append actor history (visit ∷ []), ne_eqb visit.actor actor other, append-nil)
 
 pub own-mine : {actor : ℕ} (history : List Visit) (visit : Visit) → visit.actor ≡ actor
     → own actor (history ++ visit ∷ []) ≡ own actor history ++ visit ∷ []
-own-mine {actor} history visit mine = own-append actor history (visit ∷ [])
-    ∙ ap (λ b. own actor history ++ cond b (visit ∷ []) []) (eq-eqb visit.actor actor mine)
+own-mine {actor} history visit mine = rw (own-append actor history (visit ∷ []), eq-eqb visit.actor actor mine)
 
 first-nil : (ps qs : List Visit) → ps ++ qs ≡ [] → ps ≡ []
 first-nil [] qs e = refl

@@ -1,6 +1,5 @@
 -- The log of turns, as it goes on by one event more.
-use Rattle.std.proofs.Common.{◌≡◌, ◌≢◌, ◌⊎◌, ℕ, suc, ◌≤◌, eq-eqb, ne_eqb, cond, List, [], ◌∷◌, ◌++◌, get_or, length, drop, set, refl, sym, ap, ◌∙◌, subst, inl, inr, ⊎_elim, arith, append_assoc, length-append}
-use Rattle.std.specs.Prelude.{if◌then◌else◌}
+use Rattle.std.proofs.Common.{◌≡◌, ◌≢◌, ◌⊎◌, ℕ, suc, ◌≤◌, eq-eqb, ne_eqb, List, [], ◌∷◌, ◌++◌, get_or, length, drop, set, refl, sym, ap, ◌∙◌, subst, inl, inr, ⊎_elim, arith, append_assoc, length-append}
 use Rattle.std.proofs.lemmas.List.{append-nil}
 use Rattle.std.proofs.lemmas.List.Sums.{fold-append}
 use mathlib.Core.Option.{some}
@@ -50,34 +49,28 @@ pub lock-push : (log : List TurnEvent) (event : TurnEvent) (node : ℕ)
 lock-push log event node = fold-append (lock_after node) 0 log (event ∷ [])
 
 pub lock-won : (log : List TurnEvent) (actor node : ℕ) → lock_in (log ++ Won actor node ∷ []) node ≡ suc actor
-lock-won log actor node = lock-push log (Won actor node) node
-    ∙ ap {B = ℕ} (λ b. if b then suc actor else lock_in log node) (eq-eqb node node refl)
+lock-won log actor node = rw (lock-push log (Won actor node) node, eq-eqb node node refl)
 
 pub lock-won_else : (log : List TurnEvent) (actor x y : ℕ) → x ≢ y
     → lock_in (log ++ Won actor x ∷ []) y ≡ lock_in log y
-lock-won_else log actor x y ne = lock-push log (Won actor x) y
-    ∙ ap {B = ℕ} (λ b. if b then suc actor else lock_in log y) (ne_eqb x y ne)
+lock-won_else log actor x y ne = rw (lock-push log (Won actor x) y, ne_eqb x y ne)
 
 pub lock-back : (log : List TurnEvent) (actor node : ℕ) → lock_in (log ++ GivenBack actor node ∷ []) node ≡ 0
-lock-back log actor node = lock-push log (GivenBack actor node) node
-    ∙ ap {B = ℕ} (λ b. if b then 0 else lock_in log node) (eq-eqb node node refl)
+lock-back log actor node = rw (lock-push log (GivenBack actor node) node, eq-eqb node node refl)
 
 pub lock-back_else : (log : List TurnEvent) (actor x y : ℕ) → x ≢ y
     → lock_in (log ++ GivenBack actor x ∷ []) y ≡ lock_in log y
-lock-back_else log actor x y ne = lock-push log (GivenBack actor x) y
-    ∙ ap {B = ℕ} (λ b. if b then 0 else lock_in log y) (ne_eqb x y ne)
+lock-back_else log actor x y ne = rw (lock-push log (GivenBack actor x) y, ne_eqb x y ne)
 
 -- the events of an actor after one more
 by-mine : {actor : ℕ} (log : List TurnEvent) (event : TurnEvent) → event_actor event ≡ actor
     → events_of actor (log ++ event ∷ []) ≡ events_of actor log ++ event ∷ []
-by-mine {actor} log event mine = events-append actor log (event ∷ [])
-    ∙ ap (λ b. events_of actor log ++ cond b (event ∷ []) []) (eq-eqb (event_actor event) actor mine)
+by-mine {actor} log event mine = rw (events-append actor log (event ∷ []), eq-eqb (event_actor event) actor mine)
 
 by-other : (actor : ℕ) (log : List TurnEvent) (event : TurnEvent) → event_actor event ≢ actor
     → events_of actor (log ++ event ∷ []) ≡ events_of actor log
-by-other actor log event other = events-append actor log (event ∷ [])
-    ∙ (ap (λ b. events_of actor log ++ cond b (event ∷ []) []) (ne_eqb (event_actor event) actor other)
-    ∙ append-nil (events_of actor log))
+by-other actor log event other =
+    rw (events-append actor log (event ∷ []), ne_eqb (event_actor event) actor other, append-nil)
 
 -- a view that has logged the same, and lost the same, and stands for no others
 pub logged-same : {log : List TurnEvent} {v : View} (w : View) → w.turns ≡ v.turns → w.lost ≡ v.lost

@@ -1,6 +1,9 @@
 -- An event comes into the log behind all that was logged before its step.
-use Rattle.std.proofs.Common.{◌≡◌, ◌≢◌, ◌⊎◌, ℕ, suc, ◌<◌, ◌≤◌, ◌==◌, eq-eqb, ne_eqb, Bool, true, false, cond, List, [], ◌∷◌, ◌++◌, get_or, length, drop, set, refl, sym, ap, ◌∙◌, subst, inl, inr, ⊎_elim, arith, append_assoc, length-append, Some}
-use Rattle.std.proofs.lemmas.List.{append-nil}
+use Rattle.std.proofs.Common.{◌≡◌, ◌≢◌, ◌⊎◌, ℕ, ◌<◌, List, [], ◌∷◌, ◌++◌, get_or, length, drop, refl, sym, ap, ◌∙◌, subst, inl, inr, ⊎_elim, arith, append_assoc, length-append, None}
+use Rattle.std.specs.List.{last_or}
+use Rattle.std.proofs.lemmas.List.{append-nil, append_cancel_left}
+use Rattle.std.proofs.lemmas.Bool.Decides.{nat_tests}
+use Rattle.directory.specs.ListLaws.{last_or-push, same_some}
 use mathlib.Core.Logic.{dite}
 use native.Mathlib.Decide.{ℕ_discrete, dec_le}
 use lib.ListN.{get_elem?}
@@ -28,35 +31,13 @@ module _ {A : Type 0} where
       (ends xs))
 
   same_last : (xs : List A) (x : A) (ys : List A) (y : A) → xs ++ x ∷ [] ≡ ys ++ y ∷ [] → y ≡ x
-  same_last xs x ys y e = ⊎_elim
-      (λ (t : (ys ≡ xs) × (y ≡ x)). t.1)
-      (λ (t : (rest : List A) × (xs ≡ ys ++ y ∷ rest)). absurd (omega (
-        arith,
-        ap length e,
-        ap length t.1,
-        length-append xs (x ∷ []),
-        length-append ys (y ∷ []),
-        length-append ys (y ∷ t.0),
-      )))
-      (last_or_there xs x ys y [] e)
-
-  cancel : (xs ys zs : List A) → xs ++ ys ≡ xs ++ zs → ys ≡ zs
-  cancel [] ys zs e = e
-  cancel (x ∷ xs) ys zs e = cancel xs ys zs (ap (drop 1) e)
+  same_last xs x ys y e =
+      same_some (sym (last_or-push None ys y) ∙ (ap (last_or None) (sym e) ∙ last_or-push None xs x))
 
 -- where an actor has no event, neither the first is one nor a later
 none-first : (actor : ℕ) (event : TurnEvent) (later : List TurnEvent) → events_of actor (event ∷ later) ≡ []
     → (event_actor event ≢ actor) × (events_of actor later ≡ [])
-none-first actor event later e = go (event_actor event == actor) refl e
-  where
-    go : (b : Bool) → (event_actor event == actor) ≡ b
-        → cond b (event ∷ events_of actor later) (events_of actor later) ≡ []
-        → (event_actor event ≢ actor) × (events_of actor later ≡ [])
-    go true is f = absurd (omega (arith, ap length f))
-    go false is f = (
-      (λ same. Rattle.std.proofs.Common.true≢false (sym (eq-eqb (event_actor event) actor same) ∙ is)),
-      f,
-    )
+none-first actor event later e = grind (arith, nat_tests)
 
 -- there is its own event in a log that has it
 pub some-mine : {actor : ℕ} (earlier : List TurnEvent) (event : TurnEvent) (later : List TurnEvent)
@@ -195,9 +176,10 @@ module _ (setup : Setup) (old new : State Act View) (seat : ℕ) (was : KeepsRul
       let split : (actor : ℕ) → events_of actor had ++ events_of actor rest ≡ events_of actor is.turns =
       λ actor. sym (events-append actor had rest) ∙ ap (events_of actor) (sym log_first.1) in
       log_first.1 ∙ ap (λ l. had ++ l) (just-one s.before.low rest
-      (λ actor ne. cancel (events_of actor had) (events_of actor rest) []
+      (λ actor ne. append_cancel_left (events_of actor had) (events_of actor rest) []
       (split actor ∙ (others_same actor ne ∙ sym (append-nil (events_of actor had)))))
-      (cancel (events_of s.before.low had) (events_of s.before.low rest) (event ∷ []) (split s.before.low ∙ own_then)))
+      (append_cancel_left (events_of s.before.low had) (events_of s.before.low rest) (event ∷ [])
+      (split s.before.low ∙ own_then)))
 
   -- and comes behind all that was there
   moment : was.turns ≡ s.before.turns ++ logs.later
