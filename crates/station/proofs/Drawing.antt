@@ -1,5 +1,5 @@
 -- A ticket is drawn.
-use Rattle.std.proofs.Common.{◌≡◌, ℕ, suc, ◌+◌, ◌%◌, ◌^◌, ◌<◌, ◌≤◌, true≢false, [], ◌∷◌, ◌++◌, length, set, drop, refl, sym, ap, ◌∙◌, subst, inl, inr, arith, Some, get_or-set_other, get_or-set_same, length-set, length-append}
+use Rattle.std.proofs.Common.{◌≡◌, ℕ, suc, ◌+◌, ◌%◌, ◌^◌, ◌<◌, ◌≤◌, true≢false, [], ◌∷◌, ◌++◌, length, set, drop, refl, sym, ap, ◌∙◌, inl, inr, arith, Some, get_or-set_other, get_or-set_same, length-set, length-append}
 use Rattle.std.specs.Prelude.{slice_index}
 use mathlib.Core.Option.{none}
 use mathlib.Core.Logic.{dite}
@@ -155,11 +155,7 @@ grows law {s} id {x} {new} {v} {act} o me may is =
     }
   where
     few_more : (xs : History) (y : Visit) (zs : History) → zs ≡ xs ++ y ∷ [] → length xs < 2 ^ 56 → length zs ≤ 2 ^ 56
-    few_more xs y zs e h = subst (λ (l : History). length l ≤ 2 ^ 56) (sym e) (up (length xs) (length
-        (xs ++ y ∷ [])) (2 ^ 56) (length-append xs (y ∷ [])) h)
-      where
-        up : (a b c : ℕ) → b ≡ a + 1 → a < c → b ≤ c
-        up a b c e h = omega arith
+    few_more xs y zs e h = omega (arith, ap length e, length-append xs (y ∷ []))
 
 pub draws : SameKey → (n id : ℕ) {x : ℕ} (m : Seat) {act : Act} → MayDraw m.0 x act
     → Allows (KeepsRule m.0.setup) n id m 0 (λ y. (y + 1) % 2 ^ 64) (DrawsTicket (step n 0 1 0 none) m)
