@@ -87,7 +87,7 @@ pub resound : {setup : Setup} {ws : List ℕ} (new : List ℕ) {history : Histor
     → slice_index new (cell_word setup key) ≡ slice_index ws (cell_word setup key))
     → IsSoundView setup new later owner k
     (record v { seen = seen; told = told; had = had; unwritten = unwritten; owes = owes })
-resound new later {owes} was has goes_on beside still kept lock tally cell =
+resound new later {unwritten} {owes} was has goes_on beside still kept lock tally cell =
     record {
       setup_is = was.setup_is;
       has = has;
@@ -98,20 +98,13 @@ resound new later {owes} was has goes_on beside still kept lock tally cell =
             alone = h.alone;
             lock = lock node is ∙ h.lock;
             drawn = λ drawn. let d = h.drawn drawn in
-                record {
-                  earlier = d.earlier;
-                  visit = d.visit;
-                  begins = goes_on (d.earlier ++ d.visit ∷ []) d.begins;
-                  mine = d.mine;
-                  meant = d.meant;
-                  at = d.at;
-                  count = d.count;
-                  last = beside node is d.last;
-                  put = λ key put. d.put key (kept key put);
-                  word = λ key put. d.word key (kept key put);
-                  moves = λ due. d.moves (still due);
-                  tally = λ due. d.tally (still due);
-                };
+                let begins = goes_on (d.earlier ++ d.visit ∷ []) d.begins in
+                let last = beside node is d.last in
+                let put = λ (key : Key) (is : unwritten ≡ Some key). d.put key (kept key is) in
+                let word = λ (key : Key) (is : unwritten ≡ Some key). d.word key (kept key is) in
+                let moves = λ (due : owes ≡ true). d.moves (still due) in
+                let counted = λ (due : owes ≡ true). d.tally (still due) in
+                search;
             owed = λ due. h.owed (still due);
             tally = λ due. tally node is due ∙ h.tally (still due);
           };

@@ -1,5 +1,6 @@
 -- How the passes of all actors tell the order of all tickets.
-use Rattle.std.proofs.Common.{◌≡◌, ◌≢◌, ℕ, zero, suc, ◌+◌, ◌≤◌, ◌==◌, eq-eqb, ne_eqb, List, [], ◌∷◌, ◌++◌, length, map, take, drop, refl, sym, ap, ◌∙◌, arith, Option, Some, append_assoc, length-append}
+use Rattle.std.proofs.Common.{◌≡◌, ◌≢◌, ℕ, zero, suc, ◌+◌, ◌≤◌, ◌==◌, List, [], ◌∷◌, ◌++◌, length, map, take, drop, refl, sym, ap, ◌∙◌, arith, Option, Some, append_assoc, length-append}
+use Rattle.std.proofs.lemmas.Bool.Decides.{nat_tests}
 use Rattle.std.proofs.Math.Seq.{take-append_seam}
 use Rattle.std.proofs.lemmas.List.{take-append-drop}
 use Rattle.std.proofs.lemmas.Option.{slice_get_within}
@@ -66,9 +67,7 @@ pub stamp_more : (old new : List ℕ) (i : ℕ) (visit : Visit) (actor : ℕ) (h
     → has i (tickets actor history) ≡ (visit.actor == actor)
     → slice_index new i ≡ (if has i (tickets actor history) then actor else slice_index old i)
     → (visit.actor ≢ actor → slice_index old i ≡ visit.actor) → slice_index new i ≡ visit.actor
-stamp_more old new i visit actor history told is other = dite (ℕ_discrete visit.actor actor)
-    (λ e. is ∙ (ap (λ b. if b then actor else slice_index old i) (told ∙ eq-eqb visit.actor actor e) ∙ sym e))
-    (λ ne. is ∙ (ap (λ b. if b then actor else slice_index old i) (told ∙ ne_eqb visit.actor actor ne) ∙ other ne))
+stamp_more old new i visit actor history told is other = grind (arith, nat_tests)
 
 -- the pass that is taken from the end of those that are left
 pub taken : (all : List PassData) {before : List PassData} (left : List PassData) (o : Option PassData)

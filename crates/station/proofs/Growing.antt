@@ -1,6 +1,8 @@
 -- A ticket is drawn: the history has one visit more.
 use Rattle.std.proofs.Common.{◌≡◌, ◌≢◌, ◌⊎◌, ℕ, zero, suc, ◌+◌, ◌*◌, ◌%◌, ◌^◌, ◌<◌, ◌≤◌, ◌==◌, eq-eqb, ne_eqb, Bool, true, false, not, cond, [], ◌∷◌, ◌++◌, length, drop, refl, sym, ap, ◌∙◌, inl, inr, arith}
 use Rattle.std.specs.Prelude.{if◌then◌else◌}
+use Rattle.std.proofs.lemmas.Bool.Decides.{nat_tests}
+use Rattle.std.proofs.lemmas.List.{drop_all}
 use Rattle.std.proofs.lemmas.List.Elements.{filter-append}
 use Rattle.std.proofs.lemmas.List.Sums.{fold-append}
 use mathlib.Core.Logic.{dite}
@@ -41,9 +43,7 @@ here-same law setting history node sub (Put (Presence at other) word) (inr calm)
     was key = says_here (mark_in (cell setting history key))
 
     alike : (a b : Bool) → (if a then not b else b) ≡ false → b ≡ a
-    alike true true e = refl
-    alike true false e = sym e
-    alike false b e = e
+    alike a b e = grind arith
 
     go : (b : Bool) → same_key (Presence node sub) (Presence at other) ≡ b
         → says_here (mark_in (if b then word else cell setting history (Presence node sub)))
@@ -80,11 +80,7 @@ at-push setting node zero history visit away none-there =
     filter-append (λ (v : Visit). act_node setting v.act == node) history (visit ∷ [])
     ∙ (ap (λ l. l ++ visits_at setting node (visit ∷ [])) none-there
     ∙ ap (λ b. cond b (visit ∷ []) []) (ne_eqb (act_node setting visit.act) node away))
-at-push setting node (suc count) [] visit away none-there = nothing count
-  where
-    nothing : (k : ℕ) → visits_at setting node (drop k []) ≡ []
-    nothing zero = refl
-    nothing (suc k) = refl
+at-push setting node (suc count) [] visit away none-there = rw (drop_all {X = Visit} count [] (omega arith))
 at-push setting node (suc count) (first ∷ later) visit away none-there = at-push setting node count later visit
     away none-there
 
@@ -95,12 +91,7 @@ total_own (suc count) history = total_own count history + length (own count hist
 
 own-first : (actor : ℕ) (visit : Visit) (later : History)
     → length (own actor (visit ∷ later)) ≡ cond (visit.actor == actor) 1 0 + length (own actor later)
-own-first actor visit later = go (visit.actor == actor)
-  where
-    go : (b : Bool) → length (cond b (visit ∷ own actor later) (own actor later)) ≡ cond b 1 0 + length
-        (own actor later)
-    go true = omega arith
-    go false = omega arith
+own-first actor visit later = grind (arith, nat_tests)
 
 total-first : (count : ℕ) (visit : Visit) (later : History) → visit.actor < count
     → suc (total_own count later) ≤ total_own count (visit ∷ later)
@@ -139,11 +130,8 @@ total-most (suc count) most history all = omega (arith, total-most count most hi
 
 pub few_visits : (count : ℕ) (history : History) → count ≤ 128 → ((actor : ℕ) → count ≤ actor → own actor history ≡ [])
     → ((actor : ℕ) → length (own actor history) ≤ 2 ^ 56) → length history ≤ 2 ^ 63
-few_visits count history few all most = bound count (omega
-    (arith, length-total count history all, total-most count (2 ^ 56) history most))
-  where
-    bound : (k : ℕ) → length history ≤ count * 2 ^ 56 → length history ≤ 2 ^ 63
-    bound k h = omega arith
+few_visits count history few all most =
+    omega (arith, length-total count history all, total-most count (2 ^ 56) history most)
 
 pub no_wrap : (n : ℕ) → n ≤ 2 ^ 63 → (n + 1) % 2 ^ 64 ≡ suc n
 no_wrap n h = omega arith

@@ -1,6 +1,7 @@
 -- A seat takes another in.
 use Rattle.std.proofs.Common.{◌≡◌, ℕ, ◌^◌, ◌<◌, ◌≤◌, Bool, true, false, List, length, refl, sym, ap, ◌∙◌, arith, None, lt-ltb, le-ltb}
 use Rattle.std.specs.Prelude.{nat_lt, if◌then◌else◌}
+use Rattle.std.proofs.lemmas.Bool.Decides.{nat_tests}
 use mathlib.Core.Option.{none}
 use mathlib.Core.Logic.{dite}
 use native.Mathlib.Decide.{dec_le}
@@ -52,9 +53,7 @@ longer-own actor one other history f g same = dite (dec_le (length other) (lengt
 
 pub longer_long : (one other : History)
     → (length one ≤ length (longer one other)) × (length other ≤ length (longer one other))
-longer_long one other = dite (dec_le (length other) (length one))
-    (λ h. rw (longer_one one other h) (omega arith, h))
-    (λ h. rw (longer_other one other (omega arith)) (omega arith, omega arith))
+longer_long one other = grind (arith, nat_tests)
 
 -- a note is heard: the seat has seen what was noted, and the note is spent
 pub hears : (setup : Setup) (id other : ℕ) (v w : View) → w.low ≡ 0 → w.high ≡ 0 → w.inside ≡ None

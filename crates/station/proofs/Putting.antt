@@ -66,10 +66,7 @@ due_by : {plan : PlanData} {handset : HandsetData} {visit : Visit} → GoesWith 
     → (stage : Stage) → IsMoveStage (nodes_of plan) handset.last stage
     → option_map (visit_of handset.sub) (due_at (setting_of plan []) handset stage) ≡ Some visit
     → IsDue plan handset.sub visit
-due_by {visit} g homes Resting within e = absurd (nothing visit e)
-  where
-    nothing : (v : Visit) → None ≡ Some v → ⊥
-    nothing v e = cc
+due_by g homes Resting within e = cc
 due_by {handset} g homes Coming within e =
     from_write handset.sub (mark_at handset.last.to (ComingMark handset.last.number handset.last.from)) e g.to
 due_by {plan} {handset} g homes (Renewing level) within e =
@@ -232,14 +229,10 @@ moves setup view earlier {node} new actor (Presence place sub) known at seen owe
     }
   where
     gained : (a b : Bool) → (if a then not b else b) ≡ true → b ≡ true → a ≡ false
-    gained true true e h = sym e
-    gained true false e h = absurd (true≢false (sym h))
-    gained false b e h = refl
+    gained a b e h = grind arith
 
     lost : (a b : Bool) → (if a then not b else b) ≡ true → b ≡ false → a ≡ true
-    lost true b e h = refl
-    lost false true e h = sym h
-    lost false false e h = absurd (true≢false (sym e))
+    lost a b e h = grind arith
 
 pub census-short : (setting : Setting) (history : History) (node : ℕ)
     → length (census setting history node) ≤ subs setting

@@ -1,6 +1,7 @@
 -- What stays while no visit is at a node: its cells and its census.
-use Rattle.std.proofs.Common.{◌≡◌, ◌≢◌, ℕ, ◌==◌, eq-eqb, Bool, true, false, cond, List, [], ◌∷◌, length, drop, refl, sym, ap, ◌∙◌, arith, true≢false, Some}
+use Rattle.std.proofs.Common.{◌≡◌, ◌≢◌, ℕ, Bool, true, false, List, [], ◌∷◌, length, drop, refl, sym, ap, ◌∙◌, arith, Some}
 use Rattle.std.specs.Prelude.{fold, if◌then◌else◌}
+use Rattle.std.proofs.lemmas.Bool.Decides.{nat_tests}
 use Rattle.std.proofs.lemmas.List.Sums.{fold-append}
 use Rattle.node_set.specs.Ascending.{sift}
 use Rattle.entry_word.specs.Marks.{mark_in, says_here}
@@ -48,18 +49,9 @@ cell-rest : SameKey → (setting : Setting) (key : Key) {node : ℕ} (word : ℕ
     word rest ≡ word
 cell-rest law setting key word [] at none-there = refl
 cell-rest law setting key {node} word (visit ∷ rest) at none-there =
-    go (λ f. cell-rest law setting key word rest at f) (act_node setting visit.act == node) refl none-there
-  where
-    go : (visits_at setting node rest ≡ [] → fold (λ w (v : Visit). word_after key w v.act) word rest ≡ word)
-        → (b : Bool) → (act_node setting visit.act == node) ≡ b
-        → cond b (visit ∷ visits_at setting node rest) (visits_at setting node rest) ≡ []
-        → fold (λ w (v : Visit). word_after key w v.act) (word_after key word visit.act) rest ≡ word
-    go later true e f = absurd (omega (arith, ap length f))
-    go later false e f =
-        let away : act_node setting visit.act ≢ key_node setting key = λ same. true≢false (sym (eq-eqb
-        (act_node setting visit.act) node (same ∙ at)) ∙ e) in
-        let first = word-elsewhere law setting key word visit.act away in
-        ap (λ w. fold (λ w (v : Visit). word_after key w v.act) w rest) first ∙ later f
+    let t : (act_node setting visit.act ≢ node) × (visits_at setting node rest ≡ []) = grind (arith, nat_tests) in
+    rw (word-elsewhere law setting key word visit.act (λ e. t.0 (e ∙ at)))
+    (cell-rest law setting key word rest at t.1)
 
 pub cell-stays : SameKey → (setting : Setting) (key : Key) {node : ℕ} (seen history : History) → IsFront seen history
     → key_node setting key ≡ node → visits_at setting node (drop (length seen) history) ≡ []
