@@ -4,7 +4,7 @@ use Rattle.std.specs.Prelude.{slice_index}
 use Rattle.std.proofs.lemmas.List.{append-nil}
 use mathlib.Core.Logic.{dite}
 use mathlib.Core.Option.{some-injective}
-use native.Mathlib.Decide.{ℕ_discrete, dec_le}
+use native.Mathlib.Decide.{ℕ_discrete}
 use Rattle.atomic_table.specs.Table.{State}
 use Rattle.entry_word.specs.declared.visit.Act.{Act}
 use Rattle.station.specs.Moments.{AreOthersOut, ComesAt, EventsComeWithinCalls, GoesThrough, IsAnothers, IsLoggedAt, IsMoment, IsStepBeside, IsStepOf}
@@ -18,7 +18,7 @@ use Rattle.station.specs.declared.view.View.{View}
 use Rattle.std.proofs.lemmas.Bool.Decides.{nat_tests}
 use Rattle.station.proofs.Logging.{lock-push}
 use Rattle.station.proofs.Steps.{same_view}
-use Rattle.station.proofs.Timing.{its_seat, other_seat, some-mine}
+use Rattle.station.proofs.Timing.{actor-below, its_seat, other_seat, some-mine}
 
 -- two events are the same, or not
 same_event : (x y : TurnEvent) → (x ≡ y) ⊎ (x ≢ y)
@@ -137,14 +137,7 @@ module _ (setup : Setup) (old new : State Act View) (seat : ℕ) (was : KeepsRul
       let whole : is.turns ≡ front ++ o.event ∷ o.back = log
       ∙ (ap (λ (l : List TurnEvent). earlier ++ event ∷ l) o.is
       ∙ sym (append_assoc earlier (event ∷ o.front) (o.event ∷ o.back))) in
-      dite (dec_le setup.actors b)
-      (λ h. absurd (omega (
-        arith,
-        some-mine front o.event o.back refl,
-        ap (λ l. length (events_of b l)) whole,
-        ap length (is.strangers b h),
-      )))
-      (λ h. let its = is.actors b (omega arith) in
+      let its = is.actors b (actor-below is front o.event o.back whole) in
       let k = is.owner b in
       let before = sym (other_seat s k (apart k its.0 b its.1 its.2 o.other)) ∙ its.1 in
       let has = is.logged k its.0 its.1 in
@@ -157,7 +150,7 @@ module _ (setup : Setup) (old new : State Act View) (seat : ℕ) (was : KeepsRul
       ∙ (append_assoc front (o.event ∷ there.0) had.later
       ∙ append_assoc earlier (event ∷ o.front) ((o.event ∷ there.0) ++ had.later))) in
       front-has s.before.turns me.later earlier event (o.front ++ ((o.event ∷ there.0) ++ had.later)) mine
-      (me.by_others s.before.low (omega arith, omega (arith, s.alone))) (sym me.goes_on ∙ then))
+      (me.by_others s.before.low (omega arith, omega (arith, s.alone))) (sym me.goes_on ∙ then)
 
   -- the word of a lock names the actor inside the node, and did so behind these, if all since are its own
   named : (earlier more : List TurnEvent) → is.turns ≡ earlier ++ more → AreOf s.before.low more

@@ -157,21 +157,10 @@ passing-gains f g v (suc n) k low high same off on =
     let more = passing-more f v n in
     let more' = passing-more g v n in
     dite (ℕ_discrete (v + n) k)
-    (λ e. omega (
-      arith,
-      more,
-      more',
-      ap length (passing_same f g v n (λ s _ below. same s (λ is. omega (arith, e, is, below)))),
-      ap {B = ℕ} (λ b. cond b 1 0) (ap f e ∙ off),
-      ap {B = ℕ} (λ b. cond b 1 0) (ap g e ∙ on),
-    ))
-    (λ ne. omega (
-      arith,
-      more,
-      more',
-      ap {B = ℕ} (λ b. cond b 1 0) (same (v + n) ne),
-      passing-gains f g v n k low (omega (arith, high, ne)) same off on,
-    ))
+    (λ e. let rest = passing_same f g v n (λ s _ below. same s (λ is. omega (arith, e, is, below))) in grind arith)
+    (λ ne. let there = same (v + n) ne in
+    let rest = passing-gains f g v n k low (omega (arith, high, ne)) same off on in
+    grind arith)
 
 -- whether a subscriber is at a node
 abbrev was_here : Setting → History → ℕ → ℕ → Bool

@@ -49,6 +49,12 @@ some-mine {actor} earlier event later mine = omega (
   ap length (events-mine actor event later mine),
 )
 
+-- who has an event in the log is one of the actors
+pub actor-below : {setup : Setup} {s : State Act View} (o : KeepsRule setup s) (front : List TurnEvent)
+    (event : TurnEvent) (later : List TurnEvent) → o.turns ≡ front ++ event ∷ later → event_actor event < setup.actors
+actor-below o front event later is =
+    grind (arith, o.strangers (event_actor event), some-mine front event later refl)
+
 -- a log in which nobody has an event
 nobodys : (log : List TurnEvent) → ((actor : ℕ) → events_of actor log ≡ []) → log ≡ []
 nobodys [] all = refl
@@ -121,14 +127,7 @@ module _ (setup : Setup) (old new : State Act View) (seat : ℕ) (was : KeepsRul
       (λ (e : was.turns ≡ []). (is.turns, ap (λ l. l ++ is.turns) (sym e)))
       (λ (t : (front : List TurnEvent) × (last : TurnEvent) × (was.turns ≡ front ++ last ∷ [])).
       let actor = event_actor t.1 in
-      dite (dec_le setup.actors actor)
-      (λ h. absurd (omega (
-        arith,
-        some-mine t.0 t.1 [] refl,
-        ap (λ l. length (events_of actor l)) t.2,
-        ap length (was.strangers actor h),
-      )))
-      (λ h. let its = was.actors actor (omega arith) in
+      let its = was.actors actor (actor-below was t.0 t.1 [] t.2) in
       let all : was.turns ≡ its.0.turns = whole t.0 t.1 (was.logged (was.owner actor) its.0 its.1) its.2 t.2 in
       dite (ℕ_discrete (was.owner actor) seat)
       (λ e. let same = same_view old.views s.was its.1 e in
@@ -138,7 +137,7 @@ module _ (setup : Setup) (old new : State Act View) (seat : ℕ) (was : KeepsRul
             ∙ ap (λ l. l ++ (logs.later ++ event ∷ later)) (sym (all ∙ ap (λ (u : View). u.turns) same))),
       ))
       (λ ne. let has = is.logged (was.owner actor) its.0 (other_seat s (was.owner actor) ne ∙ its.1) in
-      (has.later, has.goes_on ∙ ap (λ l. l ++ has.later) (sym all)))))
+      (has.later, has.goes_on ∙ ap (λ l. l ++ has.later) (sym all))))
       (ends was.turns)
 
   -- nobody else has an event more

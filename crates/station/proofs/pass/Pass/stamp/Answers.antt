@@ -1,8 +1,6 @@
-use Rattle.std.proofs.Common.{arith, ap, sym, ◌∙◌, ◌≡◌, ◌<◌, ◌≤◌, ◌+◌, ℕ, List, get_or, set, length, take, subst, eq-eqb, ne_eqb, get_or-set_same, get_or-set_other, length-set}
-use Rattle.std.specs.Prelude.{slice_index, ◌||◌, if◌then◌else◌}
-use Rattle.std.proofs.Math.Bool.{or-false, or-true}
-use mathlib.Core.Logic.{dite}
-use native.Mathlib.Decide.{ℕ_discrete}
+use Rattle.std.proofs.Common.{arith, ap, sym, ◌∙◌, ◌≡◌, ◌<◌, ◌≤◌, ◌+◌, ℕ, List, get_or, set, length, take, subst, get_or-set_same, get_or-set_other, length-set}
+use Rattle.std.specs.Prelude.{slice_index, if◌then◌else◌}
+use Rattle.std.proofs.lemmas.Bool.Decides.{nat_tests}
 use Rattle.node_set.specs.Ascending.{has}
 use Rattle.directory.specs.Histories.{tickets}
 use Rattle.station.proofs.Ticketing.{tickets-below, has-taken}
@@ -40,14 +38,14 @@ stamped : (order list : List ℕ) (old : ℕ → ℕ) {at : ℕ} (actor k : ℕ)
     → at < length order → ((i : ℕ) → slice_index order i ≡ (if has i (take k list) then actor else old i)) → (i : ℕ)
     → slice_index (set order at actor) i ≡ (if has i (take (k + 1) list) then actor else old i)
 stamped order list old {at} actor k d is near inside all i =
-    dite (ℕ_discrete i at)
-    (λ e. ap (slice_index (set order at actor)) e ∙ (get_or-set_same order at actor 0 inside
-    ∙ sym (ap {B = ℕ} (λ b. if b then actor else old i) (has-taken i k list d near
-    ∙ (ap (λ b. has i (take k list) || b) (eq-eqb i (get_or list k d) (e ∙ is)) ∙ or-true (has i (take k list)))))))
-    (λ ne. get_or-set_other order at i actor 0 ne ∙ (all i
-    ∙ sym (ap {B = ℕ} (λ b. if b then actor else old i) (has-taken i k list d near
-    ∙ (ap (λ b. has i (take k list) || b) (ne_eqb i (get_or list k d) (λ q. ne (q ∙ sym is)))
-    ∙ or-false (has i (take k list)))))))
+    grind (
+      arith,
+      nat_tests,
+      has-taken i k list d near,
+      get_or-set_same order at actor 0 inside,
+      get_or-set_other order at i actor 0,
+      all i,
+    )
 
 pub loop-k-preserved : goal.loop-k-preserved
 loop-k-preserved c =
@@ -67,19 +65,11 @@ loop-k-preserved c =
     let lists : tickets c.args.self.now.view.low c.args.self.now.view.seen ≡ list =
     ap (λ q. tickets q.view.low q.view.seen) (sym told)
     ∙ ap (λ (a : ℕ). tickets a c.self.inside.seat.me.0.seen) c.self.invariant.low in
-    let Stamped : ℕ → List ℕ → List ℕ → ℕ → Type 0 = λ actor l order n. (i : ℕ)
-    → slice_index order i ≡ (if has i (take n l) then actor else slice_index c.args.order.now i) in
-    let was : Stamped c.self.inside.actor list c.loop-k.order k =
-    subst (λ (a : ℕ). Stamped a list c.loop-k.order k) low
-    (subst (λ (l : List ℕ). Stamped c.args.self.now.view.low l c.loop-k.order k) lists
-    c.loop-k.invariant.stamped) in
+    let was = rw (lists, low) at c.loop-k.invariant.stamped in
     let next = stamped c.loop-k.order list (λ i. slice_index c.args.order.now i) c.self.inside.actor k
     c.index.result.now at.1 at.0 inside was in
     record {
       size = ap length c.write_at.ensures ∙ (length-set c.loop-k.order c.index.result.now c.self.inside.actor
           ∙ c.loop-k.invariant.size);
-      stamped = subst (λ (a : ℕ). Stamped a (tickets c.args.self.now.view.low c.args.self.now.view.seen)
-          c.write_at.new.order (k + 1)) (sym low)
-          (subst (λ (l : List ℕ). Stamped c.self.inside.actor l c.write_at.new.order (k + 1)) (sym lists)
-          (subst (λ (o : List ℕ). Stamped c.self.inside.actor list o (k + 1)) (sym c.write_at.ensures) next));
+      stamped = rw (lists, low, c.write_at.ensures) next;
     }
