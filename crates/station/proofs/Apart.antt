@@ -31,16 +31,12 @@ pub apart : NumbersApart → {setup : Setup} {x y i k : ℕ} → x < nodes_in se
     → IsWordAt setup x i → IsWordAt setup y k → i ≢ k
 apart law inx iny ne (is_lock a) (is_lock b) e = ne (omega arith)
 apart law inx iny ne (is_lock a) (is_tally b) e = omega arith
-apart law {setup} {x} inx iny ne (is_lock a) (is_cell key cell at b) e =
-    behind (nodes_in setup) x (cell_number setup.plan (subs_in setup) key) inx (sym b ∙ (sym e ∙ a))
+apart law inx iny ne (is_lock a) (is_cell key cell at b) e = omega arith
 apart law inx iny ne (is_tally a) (is_lock b) e = omega arith
 apart law inx iny ne (is_tally a) (is_tally b) e = ne (omega arith)
-apart law {setup} {x} inx iny ne (is_tally a) (is_cell key cell at b) e =
-    behind_tally (nodes_in setup) x (cell_number setup.plan (subs_in setup) key) inx (sym b ∙ (sym e ∙ a))
-apart law {setup} {y} inx iny ne (is_cell key cell at a) (is_lock b) e =
-    behind (nodes_in setup) y (cell_number setup.plan (subs_in setup) key) iny (sym a ∙ (e ∙ b))
-apart law {setup} {y} inx iny ne (is_cell key cell at a) (is_tally b) e =
-    behind_tally (nodes_in setup) y (cell_number setup.plan (subs_in setup) key) iny (sym a ∙ (e ∙ b))
+apart law inx iny ne (is_tally a) (is_cell key cell at b) e = omega arith
+apart law inx iny ne (is_cell key cell at a) (is_lock b) e = omega arith
+apart law inx iny ne (is_cell key cell at a) (is_tally b) e = omega arith
 apart law {setup} inx iny ne (is_cell key cell at a) (is_cell other cell' at' b) e =
     let same = law setup.plan (subs_in setup) key other cell cell'
     (same_number (nodes_in setup) (cell_number setup.plan (subs_in setup) key) (cell_number setup.plan

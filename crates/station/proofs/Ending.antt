@@ -1,8 +1,8 @@
 -- How the passes of all actors tell the order of all tickets.
-use Rattle.std.proofs.Common.{◌≡◌, ◌≢◌, ℕ, zero, suc, ◌+◌, ◌≤◌, ◌==◌, List, [], ◌∷◌, ◌++◌, length, map, take, drop, refl, sym, ap, ◌∙◌, arith, Option, Some, append_assoc, length-append}
+use Rattle.std.proofs.Common.{◌≡◌, ◌≢◌, ℕ, zero, suc, ◌+◌, ◌==◌, List, [], ◌∷◌, ◌++◌, length, map, take, drop, refl, sym, ap, ◌∙◌, arith, Option, Some, append_assoc, length-append}
 use Rattle.std.proofs.lemmas.Bool.Decides.{nat_tests}
 use Rattle.std.proofs.Math.Seq.{take-append_seam}
-use Rattle.std.proofs.lemmas.List.{take-append-drop}
+use Rattle.std.proofs.lemmas.List.{take-append-drop, take_all}
 use Rattle.std.proofs.lemmas.Option.{slice_get_within}
 use Rattle.directory.specs.ListLaws.{slice_get-right}
 use Rattle.std.specs.Prelude.{option_to_list, slice_get, slice_index, if◌then◌else◌, unwrap_or}
@@ -15,18 +15,14 @@ use Rattle.station.specs.Passes.{NoteData, PassData, actor_of}
 use Rattle.station.specs.Closing.{HasNoPass}
 use Rattle.station.specs.Plays.{longer}
 use Rattle.station.specs.Visits.{HasHeard}
-use Rattle.station.specs.TicketLaws.{front-rest, own-nil}
+use Rattle.station.specs.TicketLaws.{own-nil}
 use Rattle.station.proofs.Joining.{longer_one, longer_other}
 
 -- the longer of a front and its whole is the whole
 longer-whole : (xs zs : List Visit) → IsFront xs zs → longer xs zs ≡ zs
 longer-whole xs zs f = dite (dec_le (length zs) (length xs))
-    (λ h. longer_one xs zs h ∙ same (drop (length xs) zs) (front-rest xs zs f) h)
+    (λ h. longer_one xs zs h ∙ (f ∙ take_all (length xs) zs h))
     (λ h. longer_other xs zs (omega arith))
-  where
-    same : (rest : List Visit) → zs ≡ xs ++ rest → length zs ≤ length xs → xs ≡ zs
-    same [] e h = sym (e ∙ Rattle.std.proofs.lemmas.List.append-nil xs)
-    same (r ∷ rest) e h = absurd (omega (arith, ap length e, length-append xs (r ∷ rest), h))
 
 -- an actor that isn't missing has a pass
 none_more : (x : PassData) (passes : List PassData) (actor : ℕ) → actor_of x ≢ actor → HasNoPass passes actor

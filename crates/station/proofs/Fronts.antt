@@ -51,12 +51,11 @@ pub own-between : (actor : ℕ) (xs ys zs : List Visit) → IsFront xs zs → Is
 own-between actor xs ys zs f g short same =
     let t = split_at xs (drop (length xs) zs) ys (drop (length ys) zs) (sym (front-rest xs zs f)
     ∙ front-rest ys zs g) short in
-    let nothing = own-beyond actor xs zs f same in
-    let both : own actor t.0 ++ own actor (drop (length ys) zs) ≡ [] = sym (own-append actor t.0 (drop
-    (length ys) zs)) ∙ (ap (own actor) (sym t.2) ∙ nothing) in
-    let mid : own actor t.0 ≡ [] = first-nil (own actor t.0) (own actor (drop (length ys) zs)) both in
-    same ∙ (sym (append-nil (own actor xs)) ∙ (ap (λ l. own actor xs ++ l) (sym mid)
-    ∙ (sym (own-append actor xs t.0) ∙ ap (own actor) (sym t.1))))
+    let rest = drop (length ys) zs in
+    let none = own-beyond actor xs zs f same in
+    let both : own actor t.0 ++ own actor rest ≡ [] = cc (own-append actor t.0 rest, none, t.2) in
+    let mid = first-nil (own actor t.0) (own actor rest) both in
+    cc (append-nil (own actor xs), own-append actor xs t.0, t.1)
 
 -- an actor with no visit has none in a front
 pub own-none_longer : (actor : ℕ) (xs zs : List Visit) → IsFront xs zs → own actor zs ≡ [] → own actor xs ≡ []

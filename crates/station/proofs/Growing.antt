@@ -1,6 +1,5 @@
 -- A ticket is drawn: the history has one visit more.
-use Rattle.std.proofs.Common.{◌≡◌, ◌≢◌, ◌⊎◌, ℕ, zero, suc, ◌+◌, ◌*◌, ◌%◌, ◌^◌, ◌<◌, ◌≤◌, ◌==◌, eq-eqb, ne_eqb, Bool, true, false, not, cond, [], ◌∷◌, ◌++◌, length, drop, refl, sym, ap, ◌∙◌, inl, inr, arith}
-use Rattle.std.specs.Prelude.{if◌then◌else◌}
+use Rattle.std.proofs.Common.{◌≡◌, ◌≢◌, ◌⊎◌, ℕ, zero, suc, ◌+◌, ◌*◌, ◌%◌, ◌^◌, ◌<◌, ◌≤◌, ◌==◌, eq-eqb, ne_eqb, false, cond, [], ◌∷◌, ◌++◌, length, drop, refl, ap, ◌∙◌, inl, inr, arith}
 use Rattle.std.proofs.lemmas.Bool.Decides.{nat_tests}
 use Rattle.std.proofs.lemmas.List.{drop_all}
 use Rattle.std.proofs.lemmas.List.Elements.{filter-append}
@@ -15,7 +14,7 @@ use Rattle.entry_word.specs.declared.visit.Act.{Act}
 use Rattle.entry_word.specs.declared.visit.Act.TheVariants.{Put, Census}
 use Rattle.entry_word.specs.declared.visit.Visit.{Visit}
 use Rattle.directory.specs.Settings.{Setting, subs}
-use Rattle.directory.specs.Keys.{act_node, same_key, opening}
+use Rattle.directory.specs.Keys.{act_node, opening}
 use Rattle.directory.specs.Histories.{History, cell, changes_here, own, word_after}
 use Rattle.directory.specs.Census.{census}
 use Rattle.station.specs.Views.{visits_at}
@@ -36,22 +35,9 @@ here-same : SameKey → (setting : Setting) (history : History) (node sub : ℕ)
 here-same law setting history node sub act (inl away) =
     ap (λ w. says_here (mark_in w)) (word-elsewhere law setting (Presence node sub) (cell setting history
     (Presence node sub)) act away)
-here-same law setting history node sub (Put (Presence at other) word) (inr calm) = go (same_key
-    (Presence node sub) (Presence at other)) refl
-  where
-    was : Key → Bool
-    was key = says_here (mark_in (cell setting history key))
-
-    alike : (a b : Bool) → (if a then not b else b) ≡ false → b ≡ a
-    alike a b e = grind arith
-
-    go : (b : Bool) → same_key (Presence node sub) (Presence at other) ≡ b
-        → says_here (mark_in (if b then word else cell setting history (Presence node sub)))
-        ≡ says_here (mark_in (cell setting history (Presence node sub)))
-    go true e = alike (says_here (mark_in (cell setting history (Presence at other)))) (says_here (mark_in word)) calm
-        ∙ ap (λ (k : Key). says_here (mark_in (cell setting history k))) (sym ((law (Presence node sub)
-        (Presence at other)).0 e))
-    go false e = refl
+here-same law setting history node sub (Put (Presence at other) word) (inr calm) =
+    let means = (law (Presence node sub) (Presence at other)).0 in
+    grind arith
 here-same law setting history node sub act (inr calm) = refl
 
 pub census-push : SameKey → (setting : Setting) (history : History) (node : ℕ) (visit : Visit)

@@ -1,6 +1,6 @@
 -- What stays while no visit is at a node: its cells and its census.
-use Rattle.std.proofs.Common.{◌≡◌, ◌≢◌, ℕ, Bool, true, false, List, [], ◌∷◌, length, drop, refl, sym, ap, ◌∙◌, arith, Some}
-use Rattle.std.specs.Prelude.{fold, if◌then◌else◌}
+use Rattle.std.proofs.Common.{◌≡◌, ◌≢◌, ℕ, List, [], ◌∷◌, length, drop, refl, sym, ap, ◌∙◌, arith, Some}
+use Rattle.std.specs.Prelude.{fold}
 use Rattle.std.proofs.lemmas.Bool.Decides.{nat_tests}
 use Rattle.std.proofs.lemmas.List.Sums.{fold-append}
 use Rattle.node_set.specs.Ascending.{sift}
@@ -11,7 +11,7 @@ use Rattle.entry_word.specs.declared.visit.Act.{Act}
 use Rattle.entry_word.specs.declared.visit.Act.TheVariants.{Put}
 use Rattle.entry_word.specs.declared.visit.Visit.{Visit}
 use Rattle.directory.specs.Settings.{Setting, subs}
-use Rattle.directory.specs.Keys.{act_node, key_node, same_key, opening}
+use Rattle.directory.specs.Keys.{act_node, key_node, opening}
 use Rattle.directory.specs.Histories.{History, IsFront, cell, word_after}
 use Rattle.directory.specs.Census.{census}
 use Rattle.station.specs.Plays.{key_put}
@@ -32,11 +32,9 @@ put_node setting act {key} e = sym (ap (act_node setting) (put_word act key e).1
 
 -- an act leaves the cells that it doesn't put into
 pub word-unput : SameKey → (key : Key) (word : ℕ) (act : Act) → key_put act ≢ Some key → word_after key word act ≡ word
-word-unput law key word (Put other new) ne = go (same_key key other) refl
-  where
-    go : (b : Bool) → same_key key other ≡ b → (if b then new else word) ≡ word
-    go true e = absurd (ne (ap (λ (k : Key). Some k) (sym ((law key other).0 e))))
-    go false e = refl
+word-unput law key word (Put other new) ne =
+    let means = (law key other).0 in
+    grind arith
 word-unput law key word act ne = refl
 
 -- an act at another node leaves a cell

@@ -10,18 +10,12 @@ use Rattle.station.proofs.Laying.{count-more}
 use Rattle.station.proofs.opening.starting_at.Goals as goal
 use Rattle.station.proofs.opening.starting_at.Goals.{then-node-homes, else-node-homes}
 
-hit : (count : ℕ) {new node home : ℕ} → new ≡ count + 1 → node ≡ home → new ≡ count + cond (node == home) 1 0
-hit count is same = grind (arith, nat_tests)
-
-miss : {count new : ℕ} (node home : ℕ) → new ≡ count → node ≢ home → new ≡ count + cond (node == home) 1 0
-miss node home is other = grind (arith, nat_tests)
-
 pub loop-sub-preserved : goal.loop-sub-preserved
 loop-sub-preserved c =
     let home = slice_index c.args.homes.now c.loop-sub.sub in
     let e : c.if-node-homes.count ≡ c.loop-sub.count + cond (c.args.node == home) 1 0 = elim c.if-node-homes.branch [
-      | then-node-homes w ↦ hit _ w.count-is w.if-node-homes.true
-      | else-node-homes w ↦ miss _ home w.count-is w.if-node-homes.false
+      | then-node-homes w ↦ grind (arith, nat_tests, w.count-is, w.if-node-homes.true)
+      | else-node-homes w ↦ grind (arith, nat_tests, w.count-is, w.if-node-homes.false)
     ] in (
       (λ plan. e ∙ count-more (setting_of plan c.args.homes.now) c.args.node c.loop-sub.sub c.loop-sub-test.true
           (c.loop-sub.invariant.0 plan)),
