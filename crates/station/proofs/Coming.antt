@@ -75,12 +75,8 @@ all-or-other actor (event ∷ later) = dite (ℕ_discrete (event_actor event) ac
 front-has : {actor : ℕ} (front rest earlier : List TurnEvent) (event : TurnEvent) (later : List TurnEvent)
     → event_actor event ≡ actor → events_of actor rest ≡ [] → front ++ rest ≡ earlier ++ event ∷ later
     → IsLoggedAt earlier event front
-front-has {actor} [] rest earlier event later mine none is = absurd (omega (
-  arith,
-  some-mine earlier event later mine,
-  ap (λ l. length (events_of actor l)) is,
-  ap length none,
-))
+front-has {actor} [] rest earlier event later mine none is =
+    absurd (grind (arith, some-mine earlier event later mine))
 front-has (x ∷ front) rest [] event later mine none is =
     let first : x ≡ event = ap (λ (l : List TurnEvent). get_or l 0 x) is in
     (front, λ i. first i ∷ front)
@@ -246,13 +242,8 @@ come_on : {setup : Setup} {seat : ℕ} {states : ℕ → State Act View} (before
     → event_actor event ≡ after.low → IsLoggedAt earlier event after.turns → Came setup seat count states earlier event
 come_on before earlier event first short zero after through there mine logged =
     let same : before ≡ after = some-injective before after (sym first ∙ there) in
-    absurd (omega (
-      arith,
-      short,
-      ap (λ (u : View). length u.turns) same,
-      ap length logged.1,
-      length-append earlier (event ∷ logged.0),
-    ))
+    let longer = length-append earlier (event ∷ logged.0) in
+    absurd (grind (arith, logged.1))
 come_on {setup} {seat} {states} before earlier event first short (suc count) after through there mine logged = ⊎_elim
     (λ (s : IsStepOf seat (states count) (states (suc count))).
     let was = through.keeps count (omega arith) in

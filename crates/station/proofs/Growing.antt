@@ -1,5 +1,5 @@
 -- A ticket is drawn: the history has one visit more.
-use Rattle.std.proofs.Common.{◌≡◌, ◌≢◌, ◌⊎◌, ℕ, zero, suc, ◌+◌, ◌*◌, ◌%◌, ◌^◌, ◌<◌, ◌≤◌, ◌==◌, eq-eqb, ne_eqb, false, cond, [], ◌∷◌, ◌++◌, length, drop, refl, ap, ◌∙◌, inl, inr, arith}
+use Rattle.std.proofs.Common.{◌≡◌, ◌≢◌, ◌⊎◌, ℕ, zero, suc, ◌+◌, ◌*◌, ◌%◌, ◌^◌, ◌<◌, ◌≤◌, ◌==◌, ne_eqb, false, cond, [], ◌∷◌, ◌++◌, length, drop, refl, ap, ◌∙◌, inl, inr, arith}
 use Rattle.std.proofs.lemmas.Bool.Decides.{nat_tests}
 use Rattle.std.proofs.lemmas.List.{drop_all}
 use Rattle.std.proofs.lemmas.List.Elements.{filter-append}
@@ -83,13 +83,7 @@ total-first : (count : ℕ) (visit : Visit) (later : History) → visit.actor < 
     → suc (total_own count later) ≤ total_own count (visit ∷ later)
 total-first zero visit later h = absurd (omega arith)
 total-first (suc count) visit later h = dite (ℕ_discrete visit.actor count)
-    (λ e. omega (
-      arith,
-      own-first count visit later,
-      ap {B = ℕ} (λ b. cond b 1 0)
-          (eq-eqb visit.actor count e),
-      total-later count visit later,
-    ))
+    (λ e. grind (arith, nat_tests, own-first count visit later, total-later count visit later))
     (λ ne. omega (arith, own-first count visit later, total-first count visit later (omega arith)))
   where
     total-later : (k : ℕ) (visit : Visit) (later : History) → total_own k later ≤ total_own k (visit ∷ later)
@@ -102,12 +96,8 @@ length-total count [] all = omega arith
 length-total count (visit ∷ later) all =
     let here : visit.actor < count = dite (dec_le count visit.actor) (λ h. absurd
     ((own-nil visit.actor visit later (all visit.actor h)).0 refl)) (λ h. omega arith) in
-    omega (
-      arith,
-      total-first count visit later here,
-      length-total count later (λ actor h.
-          (own-nil actor visit later (all actor h)).1),
-    )
+    let rest = length-total count later (λ actor h. (own-nil actor visit later (all actor h)).1) in
+    omega (arith, total-first count visit later here)
 
 total-most : (count most : ℕ) (history : History) → ((actor : ℕ) → length (own actor history) ≤ most)
     → total_own count history ≤ count * most

@@ -42,12 +42,8 @@ none-first actor event later e = grind (arith, nat_tests)
 -- there is its own event in a log that has it
 pub some-mine : {actor : ℕ} (earlier : List TurnEvent) (event : TurnEvent) (later : List TurnEvent)
     → event_actor event ≡ actor → length (events_of actor earlier) < length (events_of actor (earlier ++ event ∷ later))
-some-mine {actor} earlier event later mine = omega (
-  arith,
-  ap length (events-append actor earlier (event ∷ later)),
-  length-append (events_of actor earlier) (events_of actor (event ∷ later)),
-  ap length (events-mine actor event later mine),
-)
+some-mine {actor} earlier event later mine =
+    rw (events-append actor earlier (event ∷ later), events-mine actor event later mine, length-append) (omega arith)
 
 -- who has an event in the log is one of the actors
 pub actor-below : {setup : Setup} {s : State Act View} (o : KeepsRule setup s) (front : List TurnEvent)

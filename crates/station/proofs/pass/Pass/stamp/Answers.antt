@@ -28,14 +28,11 @@ stamped : (order list : List ℕ) (old : ℕ → ℕ) {at : ℕ} (actor k : ℕ)
     → at < length order → ((i : ℕ) → slice_index order i ≡ (if has i (take k list) then actor else old i)) → (i : ℕ)
     → slice_index (set order at actor) i ≡ (if has i (take (k + 1) list) then actor else old i)
 stamped order list old {at} actor k d is near inside all i =
-    grind (
-      arith,
-      nat_tests,
-      has-taken i k list d near,
-      get_or-set_same order at actor 0 inside,
-      get_or-set_other order at i actor 0,
-      all i,
-    )
+    let more = has-taken i k list d near in
+    let here = get_or-set_same order at actor 0 inside in
+    let elsewhere = get_or-set_other order at i actor 0 in
+    let was = all i in
+    grind (arith, nat_tests)
 
 pub loop-k-preserved : goal.loop-k-preserved
 loop-k-preserved c =

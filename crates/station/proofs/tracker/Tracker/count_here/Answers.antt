@@ -8,11 +8,4 @@ overflow_cast-result c =
     let setup = c.args.self.now.setup in
     let told = ap (λ t. subs_in t.setup) c.self.view_is in
     let short = census-short (setting_in setup) c.args.seat.now.me.0.seen c.args.node in
-    omega (
-      arith,
-      c.read_tally.ensures.tally c.requires.clear,
-      short,
-      told,
-      c.self.invariant.subs_are,
-      c.self.invariant.few_subs,
-    )
+    omega (arith, c.read_tally.ensures.tally c.requires.clear, short, told, c.self.invariant)

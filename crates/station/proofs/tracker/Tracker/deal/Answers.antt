@@ -62,16 +62,7 @@ push_reserved-requires-2 c =
     let d = c.loop-actor.invariant in
     let actors = ap (λ t. t.setup.actors) c.self.view_is in
     let end = c.loop-actor.auto.actor-end in
-    omega (
-      arith,
-      c.loop-actor.passes.ok,
-      d.count,
-      d.room,
-      actors,
-      c.self.invariant.actors_are,
-      c.self.invariant.some_actors,
-      end,
-    )
+    omega (arith, c.loop-actor.passes.ok, d.count, d.room, actors, c.self.invariant, end)
 
 pub returns-clause-fresh : goal.returns-clause-fresh
 returns-clause-fresh c =
@@ -88,13 +79,6 @@ returns-clause-count c =
     let actors = ap (λ t. t.setup.actors) c.self.view_is in
     let end = c.loop-actor.auto.actor-end in
     let items = c.push_reserved-2.ensures.items in
-    ap length items ∙ omega (
-      arith,
-      length-append c.loop-actor.passes.items (c.of-2.result ∷ []),
-      c.loop-actor.invariant.count,
-      end,
-      c.loop-actor-test.false,
-      actors,
-      c.self.invariant.actors_are,
-      c.self.invariant.some_actors,
-    )
+    let longer = length-append c.loop-actor.passes.items (c.of-2.result ∷ []) in
+    let count = c.loop-actor.invariant.count in
+    ap length items ∙ omega (arith, longer, count, end, c.loop-actor-test.false, actors, c.self.invariant)

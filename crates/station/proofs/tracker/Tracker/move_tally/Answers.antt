@@ -7,13 +7,6 @@ pub overflow_add-moved : goal.overflow_add-moved
 overflow_add-moved c =
     let setup = c.args.self.now.setup in
     let told = ap (λ t. subs_in t.setup) c.self.view_is in
-    omega (
-      arith,
-      c.requires.more c.if-more.true,
-      c.read_tally-tally.ensures.before c.requires.owes,
-      census-short
-          (setting_in setup) c.args.seat.now.me.0.seen c.args.node,
-      told,
-      c.self.invariant.subs_are,
-      c.self.invariant.few_subs,
-    )
+    let short = census-short (setting_in setup) c.args.seat.now.me.0.seen c.args.node in
+    let before = c.read_tally-tally.ensures.before c.requires.owes in
+    omega (arith, c.requires.more c.if-more.true, before, short, told, c.self.invariant)

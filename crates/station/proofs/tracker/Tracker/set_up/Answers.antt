@@ -1,4 +1,4 @@
-use Rattle.std.proofs.Common.{arith, [], ◌∙◌, sym, ap, refl}
+use Rattle.std.proofs.Common.{arith, ◌≤◌, [], ◌∙◌, sym, ap}
 use Rattle.atomic_table.specs.Table.{Me}
 use Rattle.entry_word.specs.declared.visit.Act.{Act}
 use Rattle.region_plan.specs.Kept.{IsKept}
@@ -13,21 +13,9 @@ invariant_of-tracker c =
     let plan = c.args.plan.now in let homes = c.args.homes.now in let actors = c.args.actors in
     let o = c.in_ok-table.ensures.opened in
     let sound : IsKept plan = c.plan_is_sound.ensures.sound in
-    rw o.3 record {
-      words = o.0;
-      slots = o.2;
-      nodes_are = c.nodes.ensures.count;
-      subs_are = refl;
-      actors_are = refl;
-      few_nodes = omega (arith, c.nodes.ensures.count, sound.metric.few);
-      few_words = o.1;
-      few_subs = c.requires.few;
-      some_actors = c.requires.actors;
-      few_actors = c.requires.few_actors;
-      lies = matched_lies homes actors c.plan_is_sound.ensures.matched;
-      homes = c.plan_is_sound.ensures.matched.homes;
-      places_are = c.in_ok-places.ensures;
-    }
+    let few : c.nodes.result ≤ 1024 = omega (arith, c.nodes.ensures.count, sound.metric.few) in
+    let lies = matched_lies homes actors c.plan_is_sound.ensures.matched in
+    rw o.3 (assumption (o, c.nodes.ensures, c.requires, c.plan_is_sound.ensures.matched, c.in_ok-places.ensures))
 
 pub overflow_cast-tracker : goal.overflow_cast-tracker
 overflow_cast-tracker c = omega (arith, c.requires.few)
