@@ -137,8 +137,7 @@ deals setup id v more out clear s o me =
             (omega (arith, st.0, ne), st.1),
           ))
           (λ other. (t.0, there (o.owner actor) t.0 other t.1, t.2))));
-      remains = λ k u node at is. let ne : k ≢ id = λ e. no_some (sym out
-          ∙ (ap (λ (y : View). y.inside) (sym (same_view s.views me at e)) ∙ is)) in
+      remains = λ k u node at is. let ne : k ≢ id = λ e. let same = same_view s.views me at e in cc in
           (k, u, there k u ne at, is, refl, refl, refl);
       in_turn = o.in_turn;
       strangers = o.strangers;

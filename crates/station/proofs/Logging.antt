@@ -72,6 +72,12 @@ by-other : (actor : ℕ) (log : List TurnEvent) (event : TurnEvent) → event_ac
 by-other actor log event other =
     rw (events-append actor log (event ∷ []), ne_eqb (event_actor event) actor other, append-nil)
 
+-- all events of its actors are among those that a view has logged
+pub own-all : {log : List TurnEvent} {view : View} (actor : ℕ) → HasLogged log view → StandsForActor view actor
+    → events_of actor log ≡ events_of actor view.turns
+own-all {view} actor has st = ap (events_of actor) has.goes_on ∙ (events-append actor view.turns has.later
+    ∙ (ap (λ l. events_of actor view.turns ++ l) (has.by_others actor st) ∙ append-nil (events_of actor view.turns)))
+
 -- a view that has logged the same, and lost the same, and stands for no others
 pub logged-same : {log : List TurnEvent} {v : View} (w : View) → w.turns ≡ v.turns → w.lost ≡ v.lost
     → ((actor : ℕ) → StandsForActor w actor → StandsForActor v actor) → HasLogged log v → HasLogged log w
@@ -100,9 +106,7 @@ logged-mine : {log : List TurnEvent} (event : TurnEvent) {v : View} (w : View) �
 logged-mine {log} event {v} w mine alone low high turns lost has =
     let actor = v.low in
     let stands : StandsForActor v actor = (omega arith, omega (arith, alone)) in
-    let before : events_of actor log ≡ events_of actor v.turns = ap (events_of actor) has.goes_on
-    ∙ (events-append actor v.turns has.later
-    ∙ (ap (λ l. events_of actor v.turns ++ l) (has.by_others actor stands) ∙ append-nil (events_of actor v.turns))) in
+    let before = own-all actor has stands in
     let whole : lost_in (events_of actor w.turns) ≡ lost_in (events_of actor v.turns) ++ lost_in (event ∷ []) =
     ap (λ l. lost_in (events_of actor l)) turns ∙ (ap lost_in (by-mine log event mine)
     ∙ (lost-append (events_of actor log) (event ∷ []) ∙ ap (λ l. lost_in l ++ lost_in (event ∷ [])) before)) in

@@ -18,7 +18,7 @@ use Rattle.station.specs.TurnLaws.{events-append, events-mine}
 use Rattle.station.specs.Views.{StandsForActor}
 use Rattle.station.specs.declared.view.TurnEvent.{TurnEvent}
 use Rattle.station.specs.declared.view.View.{View}
-use Rattle.station.proofs.Logging.{last_or_there}
+use Rattle.station.proofs.Logging.{last_or_there, own-all}
 use Rattle.station.proofs.Steps.{same_view, seat_below}
 
 module _ {A : Type 0} where
@@ -78,19 +78,9 @@ whole {view} front last has stands is = ⊎_elim
     let both : front ++ last ∷ [] ≡ (view.turns ++ t.0) ++ t.1 ∷ [] = sym is ∙ (has.goes_on
     ∙ (ap (λ l. view.turns ++ l) t.2 ∙ sym (append_assoc view.turns t.0 (t.1 ∷ [])))) in
     let same : t.1 ≡ last = same_last front last (view.turns ++ t.0) t.1 both in
-    absurd (omega (
-      arith,
-      some-mine t.0 t.1 [] (ap event_actor same),
-      ap (λ l. length (events_of (event_actor last) l)) t.2,
-      ap length (has.by_others (event_actor last) stands),
-    )))
+    let none = has.by_others (event_actor last) stands in
+    absurd (grind (arith, some-mine t.0 t.1 [] (ap event_actor same), t.2)))
     (ends has.later)
-
--- all events of its actors are among those that a view has logged
-own-all : {log : List TurnEvent} {view : View} (actor : ℕ) → HasLogged log view → StandsForActor view actor
-    → events_of actor log ≡ events_of actor view.turns
-own-all {view} actor has st = ap (events_of actor) has.goes_on ∙ (events-append actor view.turns has.later
-    ∙ (ap (λ l. events_of actor view.turns ++ l) (has.by_others actor st) ∙ append-nil (events_of actor view.turns)))
 
 module _ {old new : State Act View} {seat : ℕ} (s : IsStepOf seat old new) where
   pub its_seat : IsViewOf new.views seat s.after
@@ -181,12 +171,7 @@ module _ (setup : Setup) (old new : State Act View) (seat : ℕ) (was : KeepsRul
   moment = ⊎_elim
       (λ (t : (s.before.turns ++ logs.later ≡ was.turns) × (event ≡ event)). sym t.0)
       (λ (t : (rest : List TurnEvent) × (was.turns ≡ (s.before.turns ++ logs.later) ++ event ∷ rest)).
-      absurd (omega (
-        arith,
-        some-mine (s.before.turns ++ logs.later) event t.0 mine,
-        ap (λ l. length (events_of s.before.low l)) t.1,
-        ap length own_first,
-      )))
+      absurd (grind (arith, some-mine (s.before.turns ++ logs.later) event t.0 mine, t.1, own_first)))
       (last_or_there was.turns event (s.before.turns ++ logs.later) event
       (is.logged seat s.after (its_seat s)).later (sym one_more ∙ log_then))
 

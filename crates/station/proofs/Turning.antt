@@ -38,16 +38,14 @@ pub written_here : {setup : Setup} {s : St} (o : KeepsRule setup s) (j : ℕ) {x
     → IsViewOf s.views j v → ((k : ℕ) (u : View) → k ≢ j → IsViewOf s.views k u → u.inside ≢ Some x)
     → key_node (setting_in setup) key ≡ x → v.unwritten ≢ Some key → IsCellWritten s.views key
 written_here {s} o j v key me alone at mine k u there is = dite (ℕ_discrete k j)
-    (λ e. let same = same_view s.views me there e in
-    mine (ap (λ (y : View). y.unwritten) (sym same) ∙ is))
+    (λ e. let same = same_view s.views me there e in mine (cc))
     (λ ne. alone k u ne there (((o.views k u there).unwritten key is).inside ∙ ap (λ (n : ℕ). Some n) at))
 
 pub tallied_here : {setup : Setup} {s : St} (o : KeepsRule setup s) (j x : ℕ) (v : View) → IsViewOf s.views j v
     → ((k : ℕ) (u : View) → k ≢ j → IsViewOf s.views k u → u.inside ≢ Some x) → (v.owes ≡ true → v.inside ≢ Some x)
     → IsTallied s.views x
 tallied_here {s} o j x v me alone mine k u there owes is = dite (ℕ_discrete k j)
-    (λ e. let same = same_view s.views me there e in
-    mine (ap (λ (y : View). y.owes) (sym same) ∙ owes) (ap (λ (y : View). y.inside) (sym same) ∙ is))
+    (λ e. let same = same_view s.views me there e in mine (cc) (cc))
     (λ ne. alone k u ne there is)
 
 -- the view of a seat changes in what the rule doesn't speak of
@@ -241,9 +239,3 @@ pub turns_at : NumbersApart → (setup : Setup) (n id : ℕ) {x i new : ℕ} (m 
     → Allows (KeepsRule setup) n id m i (λ y. either (y == 0) new y) (Turns (step n i 0 new (some act)) m)
 turns_at law setup n id {x} {new} m act known alone idle at is =
     rw (at, is) (turns law setup n id x m act known alone idle)
-
-pub leaves_at : NumbersApart → (setup : Setup) (n id : ℕ) {x i : ℕ} (m : Seat) → m.0.inside ≡ Some x
-    → m.0.unwritten ≡ None → m.0.owes ≡ false → i ≡ lock_word x → Allows (KeepsRule setup) n id m i (λ _. 0)
-    (λ _. Leaves (step n i 0 0 none) m 0)
-leaves_at law setup n id m there unwritten owes at =
-    rw at (leaves law setup n id m there unwritten owes)
