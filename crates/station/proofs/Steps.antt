@@ -10,7 +10,7 @@ use Rattle.atomic_table.proofs.Lists.{at_set, set_here, set_else}
 use Rattle.entry_word.specs.declared.visit.Key.{Key}
 use Rattle.entry_word.specs.declared.visit.Act.{Act}
 use Rattle.directory.specs.Keys.{key_node}
-use Rattle.directory.specs.Histories.{History, IsFront, cell, own}
+use Rattle.directory.specs.Histories.{History, cell}
 use Rattle.directory.specs.Census.{census}
 use Rattle.station.specs.Setup.{Setup, setting_in, nodes_in, IsCellOf, lock_word, tally_word, cell_word}
 use Rattle.station.specs.Views.{HasSeen, IsSoundView, StandsForActor}
@@ -70,14 +70,7 @@ each_push P (first ∷ later) new old (suc k) u at =
 -- a view that has seen the same, and stands for no others
 pub has-kept : {history : History} {v : View} (w : View) → w.seen ≡ v.seen → w.told ≡ v.told → w.had ≡ v.had
     → ((actor : ℕ) → StandsForActor w actor → StandsForActor v actor) → HasSeen history v → HasSeen history w
-has-kept {history} w seen told had stands has =
-    record {
-      seen = subst (λ l. IsFront l history) (sym seen) has.seen;
-      told = subst (λ l. IsFront l history) (sym told) has.told;
-      had = subst (λ l. IsFront l history) (sym had) has.had;
-      visits = λ actor its. has.visits actor (stands actor its) ∙ ap (own actor) (sym seen);
-      kept = λ actor its. has.kept actor (stands actor its) ∙ ap (own actor) (sym had);
-    }
+has-kept w seen told had stands has = grind (arith, has.visits, has.kept, stands)
 
 -- a seat's view and a word of the node that it is inside are replaced
 pub record Changes (setup : Setup) (s : St) (o : KeepsRule setup s) (j x : ℕ) (v w : View) (new : List ℕ) : Type 0 where

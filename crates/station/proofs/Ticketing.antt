@@ -116,8 +116,7 @@ pass_is {me} {actor} {seen} {spare} {kept} {kept'} {room'} p a b c =
 -- what comes before the last visit
 pub before_last : (earlier : History) {seen : History} (visit : Visit) {ticket : ℕ} → length earlier ≡ ticket
     → seen ≡ earlier ++ visit ∷ [] → before ticket seen ≡ earlier
-before_last earlier {seen} visit count is = ap (λ (k : ℕ). take k seen) (sym count)
-    ∙ (ap (take (length earlier)) is ∙ take-append_seam earlier (visit ∷ []))
+before_last earlier visit count is = rw (← count, is, take-append_seam)
 
 pub seen_done : (v : View) {two new : View} {node ticket : ℕ} {act : Act}
     → (d : Draws (view_inside v node act two.turns) node act ticket two) → HasLeft two new
