@@ -1,5 +1,5 @@
 -- The passes that a tracker begins with.
-use Rattle.std.proofs.Common.{◌≡◌, ℕ, zero, suc, ◌<◌, List, [], ◌∷◌, ◌++◌, length, Some, sym, ap, ◌∙◌, subst}
+use Rattle.std.proofs.Common.{◌≡◌, ℕ, zero, suc, ◌<◌, List, [], ◌∷◌, ◌++◌, length, Some, sym, ap, ◌∙◌, subst, arith}
 use Rattle.std.specs.Prelude.{All, slice_get}
 use Rattle.std.proofs.lemmas.List.Elements.{All-get_or}
 use Rattle.atomic_table.specs.Seated.{TableId}
@@ -66,8 +66,5 @@ pub fresh_push : {tracker : TrackerData} (passes : List PassData) {made : List P
     → pass ≡ record { table = table; seat = seat; view = me.0; spare = 0 } → made ≡ passes ++ pass ∷ []
     → AreFresh tracker made
 fresh_push {tracker} passes {pass} {actor} seat {table} fresh count of is e grown i found there =
-    pushed (IsFreshPass tracker) passes (subst (λ (k : ℕ). IsFreshPass tracker k pass) (sym count) record {
-      table = ap (λ (p : PassData). p.table) e ∙ of;
-      view = ap (λ (p : PassData). p.view) e ∙ ap (λ (m : Me Act View). m.0) is;
-      spare = ap (λ (p : PassData). p.spare) e;
-    }) fresh i found (ap (λ (l : List PassData). slice_get l i) (sym grown) ∙ there)
+    pushed (IsFreshPass tracker) passes (grind arith) fresh i found
+    (ap (λ (l : List PassData). slice_get l i) (sym grown) ∙ there)

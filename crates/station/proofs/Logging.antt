@@ -107,17 +107,15 @@ logged-mine {log} event {v} w mine alone low high turns lost has =
     let actor = v.low in
     let stands : StandsForActor v actor = (omega arith, omega (arith, alone)) in
     let before = own-all actor has stands in
-    let whole : lost_in (events_of actor w.turns) ≡ lost_in (events_of actor v.turns) ++ lost_in (event ∷ []) =
-    ap (λ l. lost_in (events_of actor l)) turns ∙ (ap lost_in (by-mine log event mine)
-    ∙ (lost-append (events_of actor log) (event ∷ []) ∙ ap (λ l. lost_in l ++ lost_in (event ∷ [])) before)) in
-    let all : w.lost ≡ lost_in (events_of actor w.turns) = lost
-    ∙ (ap (λ l. l ++ lost_in (event ∷ [])) (has.lost actor stands) ∙ sym whole) in
+    let one = lost-append (events_of actor log) (event ∷ []) in
+    let all : w.lost ≡ lost_in (events_of actor w.turns) =
+    cc (lost, turns, has.lost actor stands, by-mine log event mine, one, before) in
     record {
       later = [];
       goes_on = sym (append-nil (log ++ event ∷ [])) ∙ ap (λ l. l ++ []) (sym turns);
       by_others = λ _ _. refl;
       lost = λ other st. let same : actor ≡ other = omega (arith, st.0, st.1, low, high, alone) in
-          subst (λ (a : ℕ). w.lost ≡ lost_in (events_of a w.turns)) same all;
+          rw (← same) all;
     }
 
 -- the log after a step of a seat j, which has the view w then
@@ -131,12 +129,10 @@ pub record LogGoes (setup : Setup) (s : State Act View) (o : KeepsRule setup s) 
 -- a step that does nothing at a lock
 pub log-stays : {setup : Setup} {s : State Act View} (o : KeepsRule setup s) (j : ℕ) (v w : View) → IsViewOf s.views j v
     → w.turns ≡ v.turns → w.lost ≡ v.lost → w.low ≡ v.low → w.high ≡ v.high → LogGoes setup s o j w o.turns
-log-stays o j v w me turns lost low high = record {
-  in_turn = o.in_turn;
-  strangers = o.strangers;
-  mine = logged-same w turns lost (λ actor st. (omega (arith, st.0, low), omega (arith, st.1, high))) (o.logged j v me);
-  others = λ k u ne at. o.logged k u at;
-}
+log-stays o j v w me turns lost low high =
+    let its = logged-same w turns lost (λ actor st. (omega (arith, st.0, low), omega (arith, st.1, high)))
+    (o.logged j v me) in
+    search o.logged
 
 -- a step at a lock
 pub log-goes : {setup : Setup} {s : State Act View} (o : KeepsRule setup s) (j : ℕ) (v w : View) (event : TurnEvent)
