@@ -92,21 +92,14 @@ pub switch-stands : (setting : Setting) (handset : HandsetData) (steps : List St
     → StandsForSteps setting (record handset { stage = Switching off }) (steps ++ switch_to off ∷ []) made
 switch-stands setting handset steps made off rests stands =
     let f = at_rest setting handset steps made rests stands in
-    record {
-      over = f.over;
-      begun = ap (λ xs. xs ++ switch_to off ∷ []) (f.begun ∙ append-nil f.over);
-      move = tt;
-      place = f.place;
-      number = f.number;
-      is_off = f.is_off;
-      addresses = f.addresses;
-      gathered = λ level h. f.gathered level h ∙ sym (switch-gathered setting handset.sub steps off level);
-      trail = f.trail;
-      shows = begun-shows (record handset { stage = Switching off }) steps made (switch_to off) refl refl refl refl
-          f.few f.shows;
-      few = few-more setting handset.sub steps made (switch_to off) f.few;
-      left = left-more setting handset.sub steps made (switch_to off) f.few f.left ∙ switch-writes off f;
-    }
+    let after : HandsetData = record handset { stage = Switching off } in
+    let begun = ap (λ (xs : List Step). xs ++ switch_to off ∷ []) (f.begun ∙ append-nil f.over) in
+    let gathered = λ (level : ℕ) (h : level < levels setting). f.gathered level h
+    ∙ sym (switch-gathered setting handset.sub steps off level) in
+    let shows = begun-shows after steps made (switch_to off) refl refl refl refl f.few f.shows in
+    let few = few-more setting handset.sub steps made (switch_to off) f.few in
+    let left = left-more setting handset.sub steps made (switch_to off) f.few f.left ∙ switch-writes off f in
+    search
 
 -- a move
 same-move : {a b c d e f g h : ℕ} (to : ℕ) → a ≡ b → c ≡ d → e ≡ f → g ≡ h

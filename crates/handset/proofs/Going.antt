@@ -78,30 +78,22 @@ trail-length false trail to = length-set trail to true
 
 pub goes-settled : {plan : PlanData} {handset : HandsetData} → GoesWith plan handset
     → handset.last.number ≡ handset.number → GoesWith plan (settle (setting_of plan []) handset)
-goes-settled {plan} {handset} goes done = record {
-  addresses = omega (
-    arith,
-    length-append (replicate (suc handset.last.renewed) handset.last.to) (drop
-        (suc handset.last.renewed) handset.addresses),
-    length-replicate (suc handset.last.renewed) handset.last.to,
-    length-drop (suc handset.last.renewed) handset.addresses,
-    goes.addresses,
-    goes.renewed,
-  );
-  gathered = goes.gathered;
-  trail = trail-length _ handset.trail handset.last.to ∙ goes.trail;
-  place = goes.place;
-  from = goes.from;
-  to = goes.to;
-  renewed = goes.renewed;
-  inside = λ level h. subst (λ n. n < nodes_of plan) (sym (readdressed handset.addresses handset.last.renewed
-      handset.last.to level (omega (arith, h, goes.addresses)))) (at_test level h
-      (nat_lt handset.last.renewed level));
-  light = goes.light;
-  counted = done;
-  numbered = goes.numbered;
-  stage = tt;
-}
+goes-settled {plan} {handset} goes done =
+    let after = settle (setting_of plan []) handset in
+    let addresses : length after.addresses ≡ levels_of plan = omega (
+      arith,
+      length-append (replicate (suc handset.last.renewed) handset.last.to) (drop
+          (suc handset.last.renewed) handset.addresses),
+      length-replicate (suc handset.last.renewed) handset.last.to,
+      length-drop (suc handset.last.renewed) handset.addresses,
+      goes.addresses,
+      goes.renewed,
+    ) in
+    let trail : length after.trail ≡ nodes_of plan = trail-length _ handset.trail handset.last.to ∙ goes.trail in
+    let inside = λ (level : ℕ) (h : level < levels_of plan). subst (λ n. n < nodes_of plan) (sym (readdressed
+    handset.addresses handset.last.renewed handset.last.to level (omega (arith, h, goes.addresses)))) (at_test level h
+    (nat_lt handset.last.renewed level)) in
+    assumption
   where
     at_test : (level : ℕ) → level < levels_of plan → (b : Bool)
         → cond b (get_or handset.addresses level 0) handset.last.to < nodes_of plan
@@ -167,29 +159,21 @@ pub goes-begun : {plan : PlanData} {handset : HandsetData} (to : ℕ) → IsKept
     → GoesWith plan (begin_move (setting_of plan []) handset to)
 goes-begun {plan} {handset} to kept goes inside rests few =
     let done : handset.last.number ≡ handset.number = goes.counted ∙ ap (λ s. begun_at s handset.number) rests in
-    record {
-      addresses = goes.addresses;
-      gathered = length-map (numbers_from 0 (length handset.gathered)) (λ k. gathered_then
-          (get_or handset.gathered k 0) move.renewed move.weight k) ∙ (length-passing_all 0 (length handset.gathered)
-          ∙ goes.gathered);
-      trail = goes.trail;
-      place = goes.place;
-      from = goes.place;
-      to = inside;
-      renewed = omega (
-        arith,
-        kept.some,
-        highest-low (λ level. nat_le ((setting_of plan []).threshold level)
-            (get_or handset.gathered level 0 + move.weight)) (levels_of plan - 1),
-      );
-      inside = goes.inside;
-      light = light-after handset.gathered handset.number move.renewed move.weight goes.gathered
-          (λ level h. subst (λ n. get_or handset.gathered level 0 ≤ n * 2 ^ 30) done (goes.light level h))
-          (light-weight handset.place to kept) (omega arith) refl;
-      counted = refl;
-      numbered = few;
-      stage = tt;
-    }
+    let gathered = length-map (numbers_from 0 (length handset.gathered)) (λ k. gathered_then
+    (get_or handset.gathered k 0) move.renewed move.weight k) ∙ (length-passing_all 0 (length handset.gathered)
+    ∙ goes.gathered) in
+    let renewed : move.renewed < levels_of plan = omega (
+      arith,
+      kept.some,
+      highest-low (λ level. nat_le ((setting_of plan []).threshold level)
+          (get_or handset.gathered level 0 + move.weight)) (levels_of plan - 1),
+    ) in
+    let after = begin_move (setting_of plan []) handset to in
+    let light : (level : ℕ) → level < levels_of plan → get_or after.gathered level 0 ≤ after.last.number * 2 ^ 30 =
+    light-after handset.gathered handset.number move.renewed move.weight goes.gathered
+    (λ level h. subst (λ n. get_or handset.gathered level 0 ≤ n * 2 ^ 30) done (goes.light level h))
+    (light-weight handset.place to kept) (omega arith) refl in
+    assumption
   where
     move : Move
     move = journey_to (setting_of plan []) handset to

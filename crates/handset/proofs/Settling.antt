@@ -8,14 +8,15 @@ use Rattle.node_set.specs.Ascending.{has}
 use Rattle.directory.specs.Settings.{Setting, start}
 use Rattle.directory.specs.Courses.{Step, move_to, Course, course_at, last_stop, address_node, gathered_weight, next_move, after_step, after_steps}
 use Rattle.directory.specs.Writes.{visits, trail}
+use Rattle.handset.specs.declared.stage.Stage.{Stage}
 use Rattle.handset.specs.declared.stage.Stage.TheVariants.{Confirming}
 use Rattle.handset.specs.Condition.{HandsetData}
 use Rattle.handset.specs.StepWrites.{settle}
 use Rattle.directory.specs.Amid.{course_of}
-use Rattle.handset.specs.Stands.{Shows, StandsForSteps}
+use Rattle.handset.specs.Stands.{IsNextMove, Shows, StandsAt, StandsForSteps}
 use Rattle.handset.proofs.Going.{readdressed}
 use Rattle.handset.proofs.CourseLaws.{course-more, trail-after}
-use Rattle.handset.proofs.Keeping.{Fits, Keeps}
+use Rattle.handset.proofs.Keeping.{AreAlike, Fits}
 use Rattle.directory.specs.StepLaws.{last_stop-moved}
 
 -- the law of the levels
@@ -73,17 +74,18 @@ marked trail renews to node h l = at_test (node == to) refl
         ∙ (kept ∙ sym (or-false (cond renews false (get_or trail node false))))
 
 -- a move that is over
-pub settled-stands : {setting : Setting} {handset : HandsetData} {steps : List Step} (made : ℕ) → AddressLaw setting
-    → Fits setting handset → Keeps setting handset Confirming steps
+pub settled-stands : {setting : Setting} {handset : HandsetData} {stage : Stage} {steps : List Step} {before : ℕ}
+    (made : ℕ) → AddressLaw setting → Fits setting handset → AreAlike setting handset.last stage Confirming
+    → StandsAt setting handset stage steps before
     → Shows setting handset (take made (visits setting handset.sub steps))
     → made ≤ length (visits setting handset.sub steps) → drop made (visits setting handset.sub steps) ≡ []
     → StandsForSteps setting (settle setting handset) steps made
-settled-stands {setting} {handset} {steps} made law fits f shows few left = record {
+settled-stands {setting} {handset} {steps} made law fits same f shows few left = record {
   over = steps;
   begun = sym (append-nil steps);
   move = tt;
-  place = f.place ∙ sym (ap last_stop course_is ∙ last_stop-moved setting before handset.last.to);
-  number = f.number ∙ (ap (λ m. m.number) f.move.0 ∙ sym (ap (λ c. length c.moves) course_is
+  place = f.place ∙ same.2 before ∙ sym (ap last_stop course_is ∙ last_stop-moved setting before handset.last.to);
+  number = f.number ∙ same.3 before ∙ (ap (λ m. m.number) next.0 ∙ sym (ap (λ c. length c.moves) course_is
       ∙ (let e : length (before.moves ++ next_move setting before handset.last.to ∷ [])
       ≡ suc (length before.moves) = omega (
         arith,
@@ -95,14 +97,14 @@ settled-stands {setting} {handset} {steps} made law fits f shows few left = reco
       readdressed handset.addresses handset.last.renewed handset.last.to level (omega (arith, h, fits.addresses))
       ∙ (turned handset.last.renewed level (get_or handset.addresses level 0) handset.last.to
       ∙ (ap (λ n. cond (nat_le level handset.last.renewed) handset.last.to n) (f.addresses level h)
-      ∙ (ap (λ r. cond (nat_le level r) handset.last.to (address_node before level)) (ap (λ m. m.renewed) f.move.0)
+      ∙ (ap (λ r. cond (nat_le level r) handset.last.to (address_node before level)) (ap (λ m. m.renewed) next.0)
       ∙ sym (ap (λ c. address_node c level) course_is
       ∙ law (start setting handset.sub) f.over handset.last.to level))));
   gathered = f.gathered;
   trail = λ to node h.
       ap (λ b. get_or (slice_set (cond b (replicate (length handset.trail) false) handset.trail) handset.last.to
       true) node false)
-      (top-renewed setting.top handset.last.renewed fits.renewed ∙ ap (λ m. nat_le setting.top m.renewed) f.move.0)
+      (top-renewed setting.top handset.last.renewed fits.renewed ∙ ap (λ m. nat_le setting.top m.renewed) next.0)
       ∙ (marked handset.trail (nat_le setting.top (next_move setting before handset.last.to).renewed)
       handset.last.to node (omega (arith, fits.to, fits.trail)) (omega (arith, h, fits.trail))
       ∙ (ap (λ b. cond (nat_le setting.top (next_move setting before handset.last.to).renewed) false b || node ==
@@ -117,6 +119,10 @@ settled-stands {setting} {handset} {steps} made law fits f shows few left = reco
     before : Course
     before = course_of setting handset.sub f.over
 
+    next : IsNextMove setting before handset.last
+    next = same.1 before f.move
+
     course_is : course_of setting handset.sub steps ≡ after_step setting before (move_to handset.last.to)
-    course_is = ap (course_of setting handset.sub) f.begun ∙ course-more setting handset.sub f.over
+    course_is = ap (course_of setting handset.sub) (f.begun ∙ ap (λ under. f.over ++ under) same.0)
+        ∙ course-more setting handset.sub f.over
         (move_to handset.last.to)
