@@ -1,11 +1,11 @@
 -- A handset goes with its plan after each of its writes.
 use Rattle.std.proofs.Common.{◌≡◌, ℕ, suc, ◌+◌, ◌*◌, ◌-◌, ◌^◌, ◌<◌, ◌≤◌, Bool, true, false, cond, List, [], ◌++◌, Option, Some, None, length, drop, replicate, refl, sym, ap, ◌∙◌, subst, arith, length-append}
-use Rattle.std.specs.Prelude.{get_or, nat_le, nat_lt, slice_set, ◌&&◌}
+use Rattle.std.specs.Prelude.{get_or, nat_le, nat_lt, slice_set}
 use Rattle.std.proofs.lemmas.Bool.Decides.{nat_tests}
 use Rattle.std.proofs.lemmas.List.{length-map, length-set, length-drop, length-replicate, get_or_append_left, get_or-replicate, get_or-append_right, get_or-drop}
 use Rattle.directory.specs.Courses.{Move}
 use Rattle.directory.specs.Writes.{numbers_from}
-use Rattle.region_plan.specs.Plan.{PlanData, nodes_of, levels_of, distance}
+use Rattle.region_plan.specs.Plan.{PlanData, nodes_of, levels_of}
 use Rattle.region_plan.specs.Kept.{IsKept}
 use Rattle.region_plan.specs.Settings.{setting_of}
 use Rattle.handset.specs.declared.stage.Stage.{Stage}
@@ -134,25 +134,12 @@ light-after xs {ys} n {more} renewed weight count light small next same level h 
     let one : get_or ys level 0 ≡ gathered_then (get_or xs level 0) renewed weight level =
     ap (λ zs. get_or zs level 0) same ∙ numbers-from-zero (λ k. gathered_then (get_or xs k 0) renewed weight k)
     (length xs) level (omega (arith, h, count)) in
-    subst (λ w. w ≤ more * 2 ^ 30) (sym one) (at_test (nat_le level renewed))
-  where
-    at_test : (b : Bool) → cond b 0 (get_or xs level 0 + weight) ≤ more * 2 ^ 30
-    at_test true = omega arith
-    at_test false = omega (arith, light level h, small, next)
+    let was = light level h in
+    grind arith
 
 -- a handset that begins a move goes with its plan
 light-weight : {plan : PlanData} (u v : ℕ) → IsKept plan → (setting_of plan []).distance u v ≤ 2 ^ 30
-light-weight {plan} u v kept = at_tests (nat_lt u (nodes_of plan)) (nat_lt v (nodes_of plan)) refl refl
-  where
-    at_tests : (a b : Bool) → nat_lt u (nodes_of plan) ≡ a → nat_lt v (nodes_of plan) ≡ b
-        → cond (a && b) (distance plan u v) 0 ≤ 2 ^ 30
-    at_tests true true h l =
-        let inside : u < nodes_of plan = grind (arith, nat_tests) in
-        let other : v < nodes_of plan = grind (arith, nat_tests) in
-        omega (arith, kept.metric.bounded u v inside other, kept.metric.few)
-    at_tests true false h l = omega arith
-    at_tests false true h l = omega arith
-    at_tests false false h l = omega arith
+light-weight {plan} u v kept = grind (arith, nat_tests, kept.metric.bounded u v, kept.metric.few)
 
 pub goes-begun : {plan : PlanData} {handset : HandsetData} (to : ℕ) → IsKept plan → GoesWith plan handset
     → to < nodes_of plan → handset.stage ≡ Resting → suc handset.number < 2 ^ 32

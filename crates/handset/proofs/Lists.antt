@@ -1,5 +1,5 @@
 -- Lists: the first number that passes a test, numbers one after another, and what is left of a list.
-use Rattle.std.proofs.Common.{◌≡◌, ◌≢◌, ℕ, zero, suc, ◌+◌, ◌-◌, ◌<◌, ◌≤◌, Bool, true, false, cond, List, [], ◌∷◌, ◌++◌, Some, None, length, map, take, drop, refl, sym, ap, ◌∙◌, arith, add-one}
+use Rattle.std.proofs.Common.{◌≡◌, ◌≢◌, ℕ, zero, suc, ◌+◌, ◌-◌, ◌<◌, ◌≤◌, Bool, true, false, cond, List, [], ◌∷◌, ◌++◌, Some, None, length, map, take, drop, refl, ap, ◌∙◌, arith, add-one}
 use Rattle.std.proofs.Math.Seq.{drop-cons}
 use Rattle.std.proofs.lemmas.List.{drop-append-le, drop-drop, get_or-map, length-drop}
 use Rattle.std.proofs.lemmas.Option.{slice_get-get_or, slice_get_past}
@@ -39,17 +39,13 @@ pub highest-here : (test : ℕ → Bool) (limit : ℕ) → 0 < limit → test (l
     ≡ highest test limit
 unfolding highest
 highest-here test zero h passes = absurd (omega arith)
-highest-here test (suc level) h passes =
-    let e : suc level - 1 ≡ level = omega arith in
-    e ∙ sym (ap (λ b. cond b level (highest test level)) (ap test (sym e) ∙ passes))
+highest-here test (suc level) h passes = grind arith
 
 pub highest-later : (test : ℕ → Bool) (limit : ℕ) → 0 < limit → test (limit - 1) ≡ false
     → highest test (limit - 1) ≡ highest test limit
 unfolding highest
 highest-later test zero h fails = absurd (omega arith)
-highest-later test (suc level) h fails =
-    let e : suc level - 1 ≡ level = omega arith in
-    ap (highest test) e ∙ sym (ap (λ b. cond b level (highest test level)) (ap test (sym e) ∙ fails))
+highest-later test (suc level) h fails = grind arith
 
 pub highest-none : (test : ℕ → Bool) (limit : ℕ) → limit ≤ 0 → 0 ≡ highest test limit
 unfolding highest
@@ -68,40 +64,22 @@ numbers-from-zero f count k h =
 -- the first number that passes, and all that do
 pub first-inside : (test : ℕ → Bool) (x k : ℕ) {y : ℕ} → first_with test x k ≡ Some y → (x ≤ y) × (y < x + k)
 first-inside test x zero h = cc
-first-inside test x (suc k) {y} h = at_test (first-inside test (suc x) k) (test x) h
-  where
-    at_test : (first_with test (suc x) k ≡ Some y → (suc x ≤ y) × (y < suc x + k)) → (b : Bool)
-        → cond b (Some x) (first_with test (suc x) k) ≡ Some y → (x ≤ y) × (y < x + suc k)
-    at_test later true same = let e : x ≡ y = cc in (omega (arith, e), omega (arith, e))
-    at_test later false same = let deep : (suc x ≤ y) × (y < suc x + k) = later same in (
-      omega (arith, deep.0),
-      omega (arith, deep.1),
-    )
+first-inside test x (suc k) {y} h =
+    let later = λ (e : first_with test (suc x) k ≡ Some y). first-inside test (suc x) k e in
+    grind arith
 
 pub passing-none : (test : ℕ → Bool) (x k : ℕ) → first_with test x k ≡ None → sift test x k ≡ []
 passing-none test x zero h = refl
-passing-none test x (suc k) h = at_test (passing-none test (suc x) k) (test x) h
-  where
-    at_test : (first_with test (suc x) k ≡ None → sift test (suc x) k ≡ []) → (b : Bool)
-        → cond b (Some x) (first_with test (suc x) k) ≡ None → cond b (x ∷ sift test (suc x) k) (sift test
-        (suc x) k) ≡ []
-    at_test later true same = cc
-    at_test later false same = later same
+passing-none test x (suc k) h =
+    let later = λ (e : first_with test (suc x) k ≡ None). passing-none test (suc x) k e in
+    grind arith
 
 pub passing-some : (test : ℕ → Bool) (x k : ℕ) {y : ℕ} → first_with test x k ≡ Some y
     → sift test x k ≡ y ∷ sift test (suc y) (x + k - suc y)
 passing-some test x zero h = cc
-passing-some test x (suc k) {y} h = at_test (passing-some test (suc x) k) (test x) h
-  where
-    at_test : (first_with test (suc x) k ≡ Some y → sift test (suc x) k ≡ y ∷ sift test (suc y)
-        (suc x + k - suc y)) → (b : Bool) → cond b (Some x) (first_with test (suc x) k) ≡ Some y
-        → cond b (x ∷ sift test (suc x) k) (sift test (suc x) k) ≡ y ∷ sift test (suc y) (x + suc k - suc y)
-    at_test later true same =
-        let e : x ≡ y = cc in let f : k ≡ x + suc k - suc x = omega arith in
-        ap (λ n. x ∷ sift test (suc x) n) f ∙ ap (λ z. z ∷ sift test (suc z) (x + suc k - suc z)) e
-    at_test later false same =
-        let f : suc x + k - suc y ≡ x + suc k - suc y = omega arith in
-        later same ∙ ap (λ n. y ∷ sift test (suc y) n) f
+passing-some test x (suc k) {y} h =
+    let later = λ (e : first_with test (suc x) k ≡ Some y). passing-some test (suc x) k e in
+    grind arith
 
 -- tests and functions that agree on some numbers make the same list
 pub map-passing-same : {A : Type 0} (p q : ℕ → Bool) (f g : ℕ → A) (x k : ℕ)
@@ -109,15 +87,11 @@ pub map-passing-same : {A : Type 0} (p q : ℕ → Bool) (f g : ℕ → A) (x k 
     → map f (sift p x k) ≡ map g (sift q x k)
 map-passing-same p q f g x zero same equal = refl
 map-passing-same p q f g x (suc k) same equal =
-    ap (λ b. map f (cond b (x ∷ sift p (suc x) k) (sift p (suc x) k))) (same x (omega arith) (omega arith))
-    ∙ at_test (map-passing-same p q f g (suc x) k (λ y h l. same y (omega (arith, h)) (omega (arith, l)))
-    (λ y h l. equal y (omega (arith, h)) (omega (arith, l)))) (q x)
-  where
-    at_test : map f (sift p (suc x) k) ≡ map g (sift q (suc x) k) → (b : Bool) → map f (cond b (x ∷ sift p
-        (suc x) k) (sift p (suc x) k)) ≡ map g (cond b (x ∷ sift q (suc x) k) (sift q (suc x) k))
-    at_test deep true = ap (λ z. z ∷ map f (sift p (suc x) k)) (equal x (omega arith) (omega arith))
-        ∙ ap (λ zs. g x ∷ zs) deep
-    at_test deep false = deep
+    let here = same x (omega arith) (omega arith) in
+    let alike = equal x (omega arith) (omega arith) in
+    let later = map-passing-same p q f g (suc x) k (λ y h l. same y (omega (arith, h)) (omega (arith, l)))
+    (λ y h l. equal y (omega (arith, h)) (omega (arith, l))) in
+    grind arith
 
 pub highest-same : (p q : ℕ → Bool) (limit : ℕ) → ((y : ℕ) → y < limit → p y ≡ q y) → highest p limit
     ≡ highest q limit

@@ -1,7 +1,6 @@
 -- What a handset stands for when its move is over.
 use Rattle.std.proofs.Common.{◌≡◌, ℕ, suc, ◌+◌, ◌<◌, ◌≤◌, Bool, true, false, cond, List, [], ◌∷◌, ◌++◌, length, take, drop, replicate, refl, sym, ap, ◌∙◌, arith, length-append}
 use Rattle.std.specs.Prelude.{get_or, nat_le, nat_lt, slice_set, ◌==◌, ◌||◌}
-use Rattle.std.proofs.Math.Bool.{or-false, or-true}
 use Rattle.std.proofs.lemmas.Bool.Decides.{nat_tests}
 use Rattle.std.proofs.lemmas.List.{append-nil, get_or-set_same, get_or-set_other, get_or-replicate, length-replicate}
 use Rattle.node_set.specs.Ascending.{has}
@@ -45,33 +44,14 @@ top-renewed top renewed h = grind (arith, nat_tests)
 pub marked : (trail : List Bool) (renews : Bool) (to node : ℕ) → to < length trail → node < length trail
     → get_or (slice_set (cond renews (replicate (length trail) false) trail) to true) node false
     ≡ (cond renews false (get_or trail node false) || node == to)
-marked trail renews to node h l = at_test (node == to) refl
-  where
-    count : length (cond renews (replicate (length trail) false) trail) ≡ length trail
-    count = elim renews as (λ b. length (cond b (replicate (length trail) false) trail)
-        ≡ length trail) [ true ↦ length-replicate (length trail) false | false ↦ refl ]
-
-    kept : get_or (cond renews (replicate (length trail) false) trail) node false ≡ cond renews false
-        (get_or trail node false)
-    kept = elim renews as (λ b. get_or (cond b (replicate (length trail) false) trail) node false
-        ≡ cond b false (get_or trail node false)) [
-          | true ↦ get_or-replicate
-              (length trail) node false false l
-          | false ↦ refl
-        ]
-
-    at_test : (b : Bool) → (node == to) ≡ b → get_or (slice_set (cond renews (replicate
-        (length trail) false) trail) to true) node false ≡ (cond renews false (get_or trail node false) || b)
-    at_test true test =
-        let same : node ≡ to = grind (arith, nat_tests) in
-        let inside : to < length (cond renews (replicate (length trail) false) trail) = omega (arith, h, count) in
-        ap (λ n. get_or (slice_set (cond renews (replicate (length trail) false) trail) to true) n false) same
-        ∙ (get_or-set_same (cond renews (replicate (length trail) false) trail) to true false inside
-        ∙ sym (or-true (cond renews false (get_or trail node false))))
-    at_test false test =
-        let other : node ≡ to → ⊥ = λ e. (let t : (node == to) ≡ true = grind (arith, nat_tests) in cc) in
-        get_or-set_other (cond renews (replicate (length trail) false) trail) to node true false other
-        ∙ (kept ∙ sym (or-false (cond renews false (get_or trail node false))))
+marked trail renews to node h l =
+    let list = cond renews (replicate (length trail) false) trail in
+    let count : length list ≡ length trail = grind (arith, length-replicate (length trail) false) in
+    let inside : to < length list = omega (arith, h, count) in
+    let same = get_or-set_same list to true false inside in
+    let other = get_or-set_other list to node true false in
+    let none = get_or-replicate (length trail) node false false l in
+    grind (arith, nat_tests)
 
 -- a move that is over
 pub settled-stands : {setting : Setting} {handset : HandsetData} {stage : Stage} {steps : List Step} {before : ℕ}
