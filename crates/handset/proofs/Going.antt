@@ -54,21 +54,13 @@ erasing-is-late plan handset level = late-erasing plan handset level _ refl
 pub readdressed : (xs : List ℕ) (renewed to level : ℕ) → level < length xs
     → get_or (replicate (suc renewed) to ++ drop (suc renewed) xs) level 0 ≡ cond (nat_lt renewed level)
     (get_or xs level 0) to
-readdressed xs renewed to level h = at_test (nat_lt renewed level) refl
-  where
-    at_test : (b : Bool) → nat_lt renewed level ≡ b → get_or (replicate (suc renewed) to ++ drop
-        (suc renewed) xs) level 0 ≡ cond b (get_or xs level 0) to
-    at_test true test =
-        let low : suc renewed ≤ level = grind (arith, nat_tests) in
-        let e : suc renewed + (level - suc renewed) ≡ level = omega arith in
-        get_or-append_right (replicate (suc renewed) to) (drop (suc renewed) xs) (suc renewed) level 0
-        (length-replicate (suc renewed) to) low
-        ∙ (get_or-drop (suc renewed) xs (level - suc renewed) 0 ∙ ap (λ n. get_or xs n 0) e)
-    at_test false test =
-        let low : level < suc renewed = grind (arith, nat_tests) in
-        let small : level < length (replicate (suc renewed) to) = omega (arith, length-replicate (suc renewed) to) in
-        get_or_append_left (replicate (suc renewed) to) (drop (suc renewed) xs) 0 level small
-        ∙ get_or-replicate (suc renewed) level to 0 low
+readdressed xs renewed to level h =
+    let count = length-replicate (suc renewed) to in
+    let front = get_or_append_left (replicate (suc renewed) to) (drop (suc renewed) xs) 0 level in
+    let new = get_or-replicate (suc renewed) level to 0 in
+    let back = get_or-append_right (replicate (suc renewed) to) (drop (suc renewed) xs) (suc renewed) level 0 count in
+    let old = get_or-drop (suc renewed) xs (level - suc renewed) 0 in
+    grind (arith, nat_tests)
 
 trail-length : (b : Bool) (trail : List Bool) (to : ℕ) → length (slice_set (cond b (replicate
     (length trail) false) trail) to true) ≡ length trail
@@ -90,15 +82,12 @@ goes-settled {plan} {handset} goes done =
       goes.renewed,
     ) in
     let trail : length after.trail ≡ nodes_of plan = trail-length _ handset.trail handset.last.to ∙ goes.trail in
-    let inside = λ (level : ℕ) (h : level < levels_of plan). subst (λ n. n < nodes_of plan) (sym (readdressed
-    handset.addresses handset.last.renewed handset.last.to level (omega (arith, h, goes.addresses)))) (at_test level h
-    (nat_lt handset.last.renewed level)) in
+    let inside : (level : ℕ) → level < levels_of plan → get_or after.addresses level 0 < nodes_of plan = λ level h.
+    let was = goes.inside level h in
+    let told = readdressed handset.addresses handset.last.renewed handset.last.to level
+    (omega (arith, h, goes.addresses)) in
+    rw told (grind arith) in
     assumption
-  where
-    at_test : (level : ℕ) → level < levels_of plan → (b : Bool)
-        → cond b (get_or handset.addresses level 0) handset.last.to < nodes_of plan
-    at_test level h true = goes.inside level h
-    at_test level h false = goes.to
 
 pub goes-late : {plan : PlanData} {handset : HandsetData} (next : Stage) → GoesWith plan handset
     → handset.last.number ≡ begun_at next handset.number → IsMoveStage (nodes_of plan) handset.last next

@@ -1,5 +1,5 @@
 -- What a handset stands for when its move is over.
-use Rattle.std.proofs.Common.{◌≡◌, ℕ, suc, ◌+◌, ◌<◌, ◌≤◌, Bool, true, false, cond, List, [], ◌∷◌, ◌++◌, length, take, drop, replicate, refl, sym, ap, ◌∙◌, arith, length-append}
+use Rattle.std.proofs.Common.{◌≡◌, ℕ, ◌+◌, ◌<◌, ◌≤◌, Bool, true, false, cond, List, [], ◌∷◌, ◌++◌, length, take, drop, replicate, refl, sym, ap, ◌∙◌, arith, length-append}
 use Rattle.std.specs.Prelude.{get_or, nat_le, nat_lt, slice_set, ◌==◌, ◌||◌}
 use Rattle.std.proofs.lemmas.Bool.Decides.{nat_tests}
 use Rattle.std.proofs.lemmas.List.{append-nil, get_or-set_same, get_or-set_other, get_or-replicate, length-replicate}
@@ -65,13 +65,10 @@ settled-stands {setting} {handset} {steps} made law fits same f shows few left =
   begun = sym (append-nil steps);
   move = tt;
   place = f.place ∙ same.2 before ∙ sym (ap last_stop course_is ∙ last_stop-moved setting before handset.last.to);
-  number = f.number ∙ same.3 before ∙ (ap (λ m. m.number) next.0 ∙ sym (ap (λ c. length c.moves) course_is
-      ∙ (let e : length (before.moves ++ next_move setting before handset.last.to ∷ [])
-      ≡ suc (length before.moves) = omega (
-        arith,
-        length-append before.moves
-            (next_move setting before handset.last.to ∷ []),
-      ) in e)));
+  number =
+      let longer = length-append before.moves (next_move setting before handset.last.to ∷ []) in
+      let moves = ap (λ c. length c.moves) course_is in
+      omega (arith, f.number, same.3 before, ap (λ m. m.number) next.0);
   is_off = f.is_off ∙ sym (ap (λ c. c.is_off) course_is);
   addresses = λ level h.
       readdressed handset.addresses handset.last.renewed handset.last.to level (omega (arith, h, fits.addresses))
