@@ -1,7 +1,7 @@
 -- What a handset stands for goes on with each step that it begins.
 use Rattle.std.proofs.Common.{◌≡◌, ℕ, suc, ◌+◌, ◌<◌, ◌≤◌, Bool, true, false, cond, List, [], ◌∷◌, ◌++◌, length, map, fold, take, drop, replicate, refl, sym, ap, ◌∙◌, subst, arith, length-append}
 use Rattle.std.specs.Prelude.{get_or, nat_le, slice_set, ◌==◌, ◌||◌}
-use Rattle.std.proofs.Math.Bool.{or-false}
+use Rattle.std.proofs.lemmas.Bool.Decides.{nat_tests}
 use Rattle.std.proofs.lemmas.List.{append-nil, take-append-le, get_or-replicate, length-replicate, length-set}
 use Rattle.node_set.specs.Ascending.{has}
 use Rattle.entry_word.specs.declared.mark.PresenceMark.TheVariants.{Off, Here}
@@ -38,14 +38,8 @@ switch-writes : {setting : Setting} {handset : HandsetData} {steps : List Step} 
     (step_writes setting (course_of setting handset.sub steps) (switch_to off)) ≡ map (visit_of handset.sub)
     (left_at setting handset (Switching off))
 switch-writes {setting} {handset} {steps} off f =
-    let over : course_of setting handset.sub steps ≡ course_of setting handset.sub f.over =
-    ap (course_of setting handset.sub) (f.begun ∙ append-nil f.over) in
-    ap (map (visit_of handset.sub)) (switch-is setting (course_of setting handset.sub steps) off)
-    ∙ (ap (λ (c : Course). visit_of handset.sub
-    (mark_at (last_stop c) (cond off (Off (length c.moves)) (Here (length c.moves)))) ∷ []) over
-    ∙ (ap (λ node. visit_of handset.sub (mark_at node (cond off (Off (length (course_of setting handset.sub
-    f.over).moves)) (Here (length (course_of setting handset.sub f.over).moves)))) ∷ []) (sym f.place)
-    ∙ ap (λ n. visit_of handset.sub (mark_at handset.place (cond off (Off n) (Here n))) ∷ []) (sym f.number)))
+    let over = f.begun ∙ append-nil f.over in
+    rw (switch-is setting (course_of setting handset.sub steps) off, over, f.place, f.number)
 
 switch-gathered : (setting : Setting) (sub : ℕ) (steps : List Step) (off : Bool) (level : ℕ)
     → gathered_weight (course_of setting sub (steps ++ switch_to off ∷ [])) level
@@ -194,10 +188,10 @@ new-stands setting plan sub {home} nodes count starts inside = record {
         (nodes_of plan) false) home true) node false ≡ (node == start setting sub || false)
     at_start node h =
         let count = length-replicate (nodes_of plan) false in
-        marked (replicate (nodes_of plan) false) false home node (omega (arith, inside, count))
-        (omega (arith, h, count))
-        ∙ (ap (λ b. b || node == home) (get_or-replicate (nodes_of plan) node false false h)
-        ∙ (sym (or-false (node == home)) ∙ ap (λ n. node == n || false) (sym starts)))
+        let told = marked (replicate (nodes_of plan) false) false home node (omega (arith, inside, count))
+        (omega (arith, h, count)) in
+        let none = get_or-replicate (nodes_of plan) node false false h in
+        grind (arith, nat_tests)
 
 -- it goes with its plan
 pub new-goes : {plan : PlanData} (sub home : ℕ) → IsKept plan → home < nodes_of plan
