@@ -126,12 +126,7 @@ added-more longer through {setup} {begun} {pass} {tried} {new} {made} {act} {tic
         append-nil (turns_taken actor turns),
       ) (logged-more begun pass new taken (turns_taken actor turns) added.logged
           (rw (← added.same.actor) (logged-visit told lost visited)));
-      same = record {
-        table = visited.same.table ∙ (ap (λ (q : PassData). q.table) lost.is ∙ added.same.table);
-        seat = visited.same.seat ∙ (ap (λ (q : PassData). q.seat) lost.is ∙ added.same.seat);
-        setup = visited.same.setup ∙ (ap (λ (q : PassData). q.view.setup) lost.is ∙ added.same.setup);
-        actor = visited.same.actor ∙ (ap actor_of lost.is ∙ added.same.actor);
-      };
+      same = search arith;
     }
 
 -- no turn is lost; and one more

@@ -85,12 +85,4 @@ tried-put setup {pass} new handset held {visit} same next tried lost =
 -- turns that are lost leave a handset with its pass
 pub own-tried : {setup : Setup} {node : ℕ} {begun tried : PassData} {handset : HandsetData} → HasTried node begun tried
     → IsHandsetOf setup begun.view handset → IsHandsetOf setup tried.view handset
-own-tried {setup} {handset} lost its =
-    rw lost.is (record {
-      goes = its.goes;
-      sub = its.sub;
-      steps = its.steps;
-      script = its.script;
-      stands = its.stands;
-      made = its.made;
-    })
+own-tried lost its = rw lost.is (search)

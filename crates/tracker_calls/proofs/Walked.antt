@@ -72,14 +72,7 @@ pub walk-held : {tracker : TrackerData} {plan : PlanData} {distances : DistanceT
     {walk moved : WalkData} {held : Held} → MayWalkOn tracker plan distances pass walk
     → HasLostLook tracker.setup pass walk held new moved → MayWalkOn tracker plan distances new moved
 walk-held {tracker} {plan} {distances} {new} {walk} way on =
-    rw (on.same, on.lost.turn) (record {
-      of = record { table = way.of.table; setup = way.of.setup };
-      plan_is = way.plan_is;
-      belongs = way.belongs;
-      outside = way.outside;
-      goes = way.goes;
-      known = way.known;
-    })
+    rw (on.same, on.lost.turn) assumption
 
 no-looks : (setting : Setting) (history : History) (actor : ℕ) (call : FindCall)
     → AreLooks setting history actor call 0 at_origin []

@@ -141,22 +141,10 @@ moving-out {setup} {begun} {handset} moving none =
     let put = moving.put in
     let rests = none-rests (setting_in setup) handset (ap is_some none) in
     let all = put-all put rests in
-    record {
-      steps = put.steps;
-      stood = put.stood;
-      made = moving.made;
-      added = moving.added;
-      count = sym put.count ∙ ap length all;
-      visits = put.visits_are ∙ ap (λ l. own (actor_of begun) begun.view.seen ++ l) all;
-      after_is = put.after;
-      rest = none;
-      its = put.its;
-      steps_are = put.steps_are;
-      number = moving.number;
-      first = moving.first;
-      commit = (moving.timed.late (ap is_early (rest-means handset.stage rests))).0;
-      last = moving.last;
-    }
+    let count = sym put.count ∙ ap length all in
+    let visits = put.visits_are ∙ ap (λ l. own (actor_of begun) begun.view.seen ++ l) all in
+    let commit = (moving.timed.late (ap is_early (rest-means handset.stage rests))).0 in
+    search
 
 -- nothing is due where the code reads no next put
 pub none-due : (setup : Setup) {plan : PlanData} (handset : HandsetData) {next : Option Visit} → plan ≡ setup.plan
