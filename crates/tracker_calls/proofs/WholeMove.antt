@@ -150,8 +150,5 @@ moving-out {setup} {begun} {handset} moving none =
 pub none-due : (setup : Setup) {plan : PlanData} (handset : HandsetData) {next : Option Visit} → plan ≡ setup.plan
     → next ≡ due (setting_of plan []) handset → is_some next ≡ false → due (setting_in setup) handset ≡ None
 none-due setup handset {next} same is none =
-    subst (λ p. due (setting_of p []) handset ≡ None) same (sym is ∙ nothing next none)
-  where
-    nothing : (o : Option Visit) → is_some o ≡ false → o ≡ None
-    nothing None e = refl
-    nothing (Some visit) e = cc
+    let nothing : next ≡ None = grind arith in
+    subst (λ p. due (setting_of p []) handset ≡ None) same (sym is ∙ nothing)
