@@ -54,10 +54,8 @@ Stays old new = (new.last ≡ old.last) × (new.number ≡ old.number) × (is_ea
 
 stays-on : (setting : Setting) (handset : HandsetData) (stage : Stage) → is_early stage ≡ false
     → Stays handset (go_on setting handset stage)
-stays-on setting handset Coming late = cc
-stays-on setting handset (Renewing level) late = cc
-stays-on setting handset Committing late = cc
-stays-on setting handset stage late = (refl, refl, refl)
+stays-on setting handset Resting late = (refl, refl, refl)
+stays-on setting handset stage late = grind arith
 
 late-timed : {move : Move} (number : ℕ) (handset after : HandsetData) (made : List ℕ) (commit ticket : ℕ)
     → handset.last ≡ move → IsLate move number handset made commit → Stays handset after
@@ -137,8 +135,7 @@ timed-next setting nodes {move} {number} {handset} {made} {commit} ticket next w
 
     low : (commit : ℕ) → IsTimed move number after (made ++ ticket ∷ []) commit → (b : Bool)
         → is_early after.stage ≡ b → after.number ≤ suc number
-    low commit t true e = omega (arith, (t.early e).1)
-    low commit t false e = omega (arith, (t.late e).2)
+    low commit t b e = grind (arith, t.early, t.late)
 
     go : (b : Bool) → is_early handset.stage ≡ b → (commits : Bool)
         → after.number ≡ (if commits then suc handset.number else handset.number)

@@ -68,8 +68,7 @@ number-next {setup} {old} {new} {handset} {moved} stepped its =
 
     counted : (o : Option Commit) → moved.number ≡ handset.number + length (cons_option o [])
         → moved.number ≡ (if is_some o then suc handset.number else handset.number)
-    counted None e = omega (arith, e)
-    counted (Some commit) e = omega (arith, e)
+    counted o e = grind arith
 
 -- a put, with the ticket of the commit
 timed-step : {setup : Setup} {begun : PassData} {from : HandsetData} {to commit : ℕ} {made : List ℕ}
