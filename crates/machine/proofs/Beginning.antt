@@ -22,9 +22,8 @@ use Rattle.machine.specs.declared.subscriber.Subscriber.{Subscriber}
 use Rattle.machine.specs.Owed.{HasNone}
 use Rattle.machine.specs.Stands.{BelongTogether, setting_over}
 use Rattle.machine.specs.Subscribers.{IsShown, IsSubscriber, Shown, begun_steps, shown_at}
-use Rattle.machine.proofs.Putting.{shown-now}
 use Rattle.scripts.specs.ScriptLaws.{calls-few, steps-are}
-use Rattle.machine.proofs.Rests.{Begins, begins, first-visit}
+use Rattle.machine.proofs.Rests.{Begins, begins, first-visit, shown-now}
 use Rattle.machine.specs.ScriptVisits.{script-is}
 
 -- what is known where a step is left
@@ -63,7 +62,7 @@ ready scripts input {plan} {history} {sub} {subscriber} {script} {place} default
     let short : place < length script = omega (arith, here, its.few, steps, other) in
     let call : Call = get_or script place default in
     record {
-      begin = begins scripts together low its rests (omega (arith, here, short, ap length script_is))
+      begin = begins low its scripts together rests (omega (arith, here, short, ap length script_is))
           (get_or_default script place default call short
           ∙ (ap (λ s. get_or s place call) script_is ∙ ap
           (λ i. get_or (get_or (seen_input input).scripts sub []) i call) here));

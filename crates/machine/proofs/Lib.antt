@@ -5,7 +5,6 @@ mod Seen
 mod Finishing
 mod Making
 mod Written
-mod Many
 mod Rests
 mod Beginning
 mod Sums
@@ -19,6 +18,5 @@ mod Ending
 mod RightOutcome
 mod MovedEntries
 mod Owing
-mod Putting
 mod OwnCells
 mod Appended

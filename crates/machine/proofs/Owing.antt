@@ -5,13 +5,12 @@ use Rattle.std.specs.Global.{Vec}
 use Rattle.std.proofs.lemmas.List.{length_push}
 use Rattle.entry_word.specs.declared.visit.Act.TheVariants.{Put}
 use Rattle.entry_word.specs.declared.visit.Key.{Key}
-use Rattle.entry_word.specs.declared.visit.Visit.{Visit}
 use Rattle.directory.specs.Histories.{History}
 use Rattle.region_plan.specs.Plan.{PlanData}
 use Rattle.handset.specs.Condition.{GoesWith, HandsetData}
 use Rattle.visit_log.specs.Cells.{CellData, GoWith, Hold, IsPlaceOf}
 use Rattle.machine.specs.declared.ahead.Ahead.{Ahead}
-use Rattle.machine.specs.Owed.{HasCome, IsAhead, IsNextAhead, MayPut, Owes}
+use Rattle.machine.specs.Owed.{HasCome, HasPut, IsAhead, IsNextAhead, MayPut, Owes}
 
 -- one write more
 pub owes-push : {plan : PlanData} {subs : ℕ} (start : HandsetData) {old new : HandsetData} {write : Ahead}
@@ -74,18 +73,25 @@ next-of plan subs old new writes place {write} low same owes =
       its = subst (IsNextAhead plan subs old found.0) (sym same) found.2;
     }
 
--- what the cells hold behind it
-pub holds-next : {plan : PlanData} {subs : ℕ} {old new : HandsetData} {write : Ahead} {cells after : CellData}
-    (its : IsNextAhead plan subs old new write) → ((starts : List ℕ) (history : History) (actor : ℕ)
+-- a put of a write into its cell tells what cells hold behind it
+abbrev pub Puts : PlanData → ℕ → CellData → CellData → Ahead → Type 0
+Puts plan sub cells after write =
+    (key : Key) → IsPlaceOf plan cells.subs sub write.place key → (starts : List ℕ) (history : History) (actor : ℕ)
     → Hold plan starts cells history
-    → Hold plan starts after (history ++ record { actor = actor; act = Put its.key write.word } ∷ []))
-    → (starts : List ℕ) (history : History) → Hold plan starts cells history
-    → Hold plan starts after (history ++ its.visit ∷ [])
-holds-next {plan} {write} {after} its put starts history held =
-    let same : record { actor = its.visit.actor; act = Put its.key write.word } ≡ its.visit =
-    ap (λ a. record { actor = its.visit.actor; act = a }) (sym its.act) in
-    subst (λ (v : Visit). Hold plan starts after (history ++ v ∷ [])) same
-    (put starts history its.visit.actor held)
+    → Hold plan starts after (history ++ record { actor = actor; act = Put key write.word } ∷ [])
+
+-- so the handset has made it
+abbrev pub put-next : {plan : PlanData} {sub : ℕ} {old new : HandsetData} {write : Ahead} {cells after : CellData}
+    → IsNextAhead plan cells.subs old new write → old.sub ≡ sub → Puts plan sub cells after write
+    → HasPut plan old new cells after
+put-next its mine put =
+    record {
+      visit = its.visit;
+      next = its.next;
+      stands = its.stands;
+      hold = λ starts history held.
+          rw (← its.act) at (put its.key (rw mine at its.cell) starts history its.visit.actor held);
+    }
 
 -- none of them
 pub come-none : {plan : PlanData} {sub : ℕ} {old new : HandsetData} {cells : CellData} {left : List Ahead}
@@ -96,9 +102,7 @@ come-none {old} may = record { handset = old; put = (refl, refl); may = may }
 pub come-more : {plan : PlanData} {sub : ℕ} {old new : HandsetData} {cells between after : CellData} {count : ℕ}
     (place : ℕ) (writes : List Ahead) {write : Ahead} → place < length writes → write ≡ get_or writes place write
     → write.commits ≡ false → HasCome plan sub old new cells between count (drop place writes)
-    → ((key : Key) → IsPlaceOf plan between.subs sub write.place key → (starts : List ℕ) (history : History) (actor : ℕ)
-    → Hold plan starts between history
-    → Hold plan starts after (history ++ record { actor = actor; act = Put key write.word } ∷ [])) → GoWith plan after
+    → Puts plan sub between after write → GoWith plan after
     → ((key : Key) → IsPlaceOf plan between.subs sub write.place key → after.subs ≡ between.subs)
     → HasCome plan sub old new cells after (suc count) (drop (suc place) writes)
 come-more {plan} {sub} {new} {between} place writes {write} low same plain come put over subs =
@@ -114,12 +118,7 @@ come-more {plan} {sub} {new} {between} place writes {write} low same plain come 
         between,
         come.put,
         record {
-          put = record {
-            visit = its.visit;
-            next = its.next;
-            stands = its.stands;
-            hold = holds-next its (put its.key cell);
-          };
+          put = put-next its come.may.its put;
           plain = sym its.commits ∙ plain;
           goes = its.goes;
           its = its.its;

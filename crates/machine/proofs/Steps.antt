@@ -1,8 +1,8 @@
 -- The lines of steps, a ticket more, and which visit of a move commits it.
-use Rattle.std.proofs.Common.{◌≡◌, inl, inr, ℕ, zero, suc, ◌+◌, ◌-◌, ◌<◌, ◌≤◌, ◌^◌, Bool, true, false, List, [], ◌∷◌, ◌++◌, length, map, take, drop, get_or, refl, sym, ap, ◌∙◌, subst, arith, length-append}
+use Rattle.std.proofs.Common.{◌≡◌, inl, inr, ℕ, zero, suc, ◌-◌, ◌<◌, ◌≤◌, ◌^◌, Bool, true, false, List, [], ◌∷◌, ◌++◌, length, map, drop, get_or, refl, sym, ap, ◌∙◌, subst, arith, length-append}
 use Rattle.std.specs.Option.{is_some}
 use Rattle.std.specs.Prelude.{Some, slice_get, if◌then◌else◌, ◌==◌}
-use Rattle.std.proofs.lemmas.List.{take-append-le, drop-append-le, length-drop, get_or_push, get_or_past, length_push, length-map, nil_from_length}
+use Rattle.std.proofs.lemmas.List.{take_all, take-append-le, drop-append-le, length-drop, get_or_push, get_or_past, length_push, length-map, nil_from_length}
 use Rattle.std.proofs.Math.ListN.{get_or-append}
 use Rattle.entry_word.specs.Marks.{IsSmallMark, MarksUnpack, mark_in, mark_word}
 use Rattle.entry_word.specs.declared.mark.PresenceMark.{PresenceMark}
@@ -23,23 +23,22 @@ use Rattle.std.proofs.lemmas.Bool.{cases_lt}
 -- the lines of steps, the last of which may be under way
 pub lines-partial : (setting : Setting) (sub : ℕ) (course : Course) (done : List Step) (step : Step)
     (seen more : List ℕ) → length seen ≡ length (writes setting course done)
+    → length more ≤ length (step_writes setting (after_steps setting course done) step)
     → step_lines setting sub course (done ++ step ∷ []) (seen ++ more)
-    ≡ step_lines setting sub course done seen
-    ++ step_line setting sub (after_steps setting course done) step
-    (take (length (step_writes setting (after_steps setting course done) step)) more) ∷ []
+    ≡ step_lines setting sub course done seen ++ step_line setting sub (after_steps setting course done) step more ∷ []
 unfolding step_lines writes
-lines-partial setting sub course [] step seen more count = rw (nil_from_length seen count)
-lines-partial setting sub course (one ∷ done) step seen more count =
+lines-partial setting sub course [] step seen more count few =
+    rw (nil_from_length seen count, take_all (length (step_writes setting course step)) more few)
+lines-partial setting sub course (one ∷ done) step seen more count few =
     let size : ℕ = length (step_writes setting course one) in
-    let whole : length (step_writes setting course one ++ writes setting (after_step setting course one) done)
-    ≡ size + length (writes setting (after_step setting course one) done) =
-    length-append (step_writes setting course one) (writes setting (after_step setting course one) done) in
+    let whole = length-append (step_writes setting course one) (writes setting (after_step setting course one) done) in
     let room : size ≤ length seen = omega (arith, count, whole) in
-    let front : take size (seen ++ more) ≡ take size seen = take-append-le size seen more room in
-    let back : drop size (seen ++ more) ≡ drop size seen ++ more = drop-append-le size seen more room in
-    let rest : length (drop size seen) ≡ length (writes setting (after_step setting course one) done) =
-    omega (arith, count, whole, length-drop size seen) in
-    rw (front, back, lines-partial setting sub (after_step setting course one) done step (drop size seen) more rest)
+    rw (
+      take-append-le size seen more room,
+      drop-append-le size seen more room,
+      lines-partial setting sub (after_step setting course one) done step (drop size seen) more
+          (omega (arith, count, whole, length-drop size seen)) few,
+    )
 
 -- of the visits of a move the one behind the new addresses commits it, and no other
 AllQuiet : ℕ → List Write → Type 0

@@ -1,15 +1,15 @@
 -- What a machine stands for after a visit.
-use Rattle.std.proofs.Common.{◌≡◌, ◌≢◌, inl, inr, ℕ, zero, suc, ◌+◌, ◌<◌, ◌≤◌, ◌==◌, false, List, [], ◌∷◌, ◌++◌, length, map, get_or, refl, sym, ap, ◌∙◌, arith, append_assoc, Vec, Global}
+use Rattle.std.proofs.Common.{◌≡◌, ◌≢◌, inl, inr, ℕ, zero, suc, ◌+◌, ◌<◌, ◌≤◌, ◌==◌, false, List, [], ◌∷◌, ◌++◌, length, map, get_or, refl, sym, ap, ◌∙◌, arith, append_assoc, Vec, Global, subst}
 use Rattle.std.specs.Prelude.{None, Option, Some, replicate, slice_set, vec_capacity}
 use Rattle.std.proofs.lemmas.Bool.{cases_eq, ne_eqb}
-use Rattle.std.proofs.lemmas.List.{append-nil, length-map, length-append, length-replicate, length-set, length_push, map-append, get_or-set_same, get_or-set_other}
+use Rattle.std.proofs.lemmas.List.{append-nil, length-map, length-set, length_push, map-append, get_or-set_same, get_or-set_other}
 use Rattle.std.proofs.lemmas.List.Sums.{fold-append}
 use Rattle.entry_word.specs.declared.visit.Key.{Key}
 use Rattle.entry_word.specs.declared.visit.Visit.{Visit}
 use Rattle.directory.specs.Histories.{History, own, tickets, word_after}
 use Rattle.directory.specs.Keys.{opening}
 use Rattle.directory.specs.Looks.{look_by}
-use Rattle.directory.specs.Orders.{next}
+use Rattle.directory.specs.Orders.{next, IsPlayed}
 use Rattle.directory.specs.Statements.{CallersKept, TicketsGrow, OwnGrow, MoreIsPlayed}
 use Rattle.net_reader.specs.Input.{Contents}
 use Rattle.region_plan.specs.Plan.{PlanData}
@@ -20,11 +20,12 @@ use Rattle.machine.specs.declared.machine.Machine.{Machine}
 use Rattle.machine.specs.declared.subscriber.Subscriber.{Subscriber}
 use Rattle.scripts.specs.Scripts.{scripts_of}
 use Rattle.scripts.specs.Laws.{VisitsAreFew}
-use Rattle.machine.specs.Stands.{Sees, over, setting_over}
-use Rattle.machine.specs.Callers.{IsCaller}
-use Rattle.machine.specs.Subscribers.{IsShown, IsSubscriber, Shown}
-use Rattle.machine.specs.Machines.{HasHistory, input_at, scripts_at, setting_at}
+use Rattle.machine.specs.Stands.{Sees, over, setting_over, AreMade}
+use Rattle.machine.specs.Callers.{IsCaller, MayLook}
+use Rattle.machine.specs.Subscribers.{IsShown, IsSubscriber, MayTakeTurn, Shown}
+use Rattle.machine.specs.Machines.{IsStill, HasHistory, input_at, scripts_at, setting_at, HasMade, HasStridden}
 use Rattle.machine.proofs.Looked.{by-parts}
+use Rattle.machine.proofs.Making.{made-count, no-visits}
 
 -- a visit of another changes nothing of what is seen of a subscriber
 shown-kept : OwnGrow → TicketsGrow → {input : Contents} {plan : PlanData} {history : History} {sub : ℕ} {shown : Shown}
@@ -111,138 +112,147 @@ kept-all P {actor} (visit ∷ visits) (suc count) {history} step same is =
     let rest : map (λ (v : Visit). v.actor) visits ≡ replicate count actor = cc in
     rw append_assoc at (kept-all P visits count step rest (step history visit its is))
 
--- after visits of a subscriber
-pub sub-turned : OwnGrow → TicketsGrow → CallersKept → {old : Machine} {history : History} {actor : ℕ} (count : ℕ)
-    (visits : List Visit) {subscriber : Subscriber} {cells : CellData} (subscribers : Vec Subscriber Global)
-    (order : Vec ℕ Global) → HasHistory old history → actor < length (input_at old).homes
-    → map (λ (v : Visit). v.actor) visits ≡ replicate count actor
-    → Sees (input_at old) old.plan.now cells (history ++ visits)
-    → IsSubscriber (input_at old) old.plan.now (history ++ visits) actor subscriber
-    → subscribers.items ≡ slice_set old.subscribers.items actor subscriber
-    → order.items ≡ old.order.items ++ replicate count actor → vec_capacity old.order ≤ vec_capacity order
-    → HasHistory (record old { cells = cells; subscribers = subscribers; order = order }) (history ++ visits)
-sub-turned own_law ticket_law kept {old} {history} {actor} count visits {subscriber} subscribers order stands low actors
-    sees its items pushed room =
-    record {
-      together = stands.together;
-      homes = stands.homes;
-      routes = stands.routes;
-      sees = sees;
-      order = rw (map-append, actors, ← stands.order) pushed;
-      room = omega (arith, stands.room, room);
-      subscribers_count = rw (items, length-set) stands.subscribers_count;
-      callers_count = stands.callers_count;
-      subscribers = λ s d below. each-set (IsSubscriber (input_at old) old.plan.now (history ++ visits))
-          old.subscribers.items subscribers.items actor subscriber items its
-          (λ k e within other. kept-all
-          (λ h. IsSubscriber (input_at old) old.plan.now h k (get_or old.subscribers.items k e)) visits count
-          (λ before visit same. sub-kept own_law ticket_law visit
-          (ne_eqb visit.actor k (λ q. other (sym q ∙ same)))) actors
-          (stands.subscribers k e (omega (arith, within, stands.subscribers_count)))) s d
-          (omega (arith, below, stands.subscribers_count));
-      callers = λ c d below.
-          kept-all (λ h. IsCaller (input_at old) old.plan.now h (length (input_at old).homes + c)
-          (get_or old.callers.items c d)) visits count (λ before visit same. caller-kept kept visit
-          (ne_eqb visit.actor (length (input_at old).homes + c) (λ e. omega (arith, e, same, low)))) actors
-          (stands.callers c d below);
-      calls = stands.calls;
-      total = stands.total;
-    }
-
--- after visits of a caller
-pub caller-turned : OwnGrow → TicketsGrow → CallersKept → {old : Machine} {history : History} {actor : ℕ}
-    (place count : ℕ) (visits : List Visit) {caller : Caller} (callers : Vec Caller Global) (order : Vec ℕ Global)
-    → HasHistory old history → actor ≡ length (input_at old).homes + place → actor < length (input_at old).scripts
-    → map (λ (v : Visit). v.actor) visits ≡ replicate count actor
-    → Sees (input_at old) old.plan.now old.cells (history ++ visits)
-    → IsCaller (input_at old) old.plan.now (history ++ visits) actor caller
-    → callers.items ≡ slice_set old.callers.items place caller → order.items ≡ old.order.items ++ replicate count actor
-    → vec_capacity old.order ≤ vec_capacity order
-    → HasHistory (record old { callers = callers; order = order }) (history ++ visits)
-caller-turned own_law ticket_law kept {old} {history} {actor} place count visits {caller} callers order stands at low
-    actors sees
-    its items pushed room =
-    record {
-      together = stands.together;
-      homes = stands.homes;
-      routes = stands.routes;
-      sees = sees;
-      order = rw (map-append, actors, ← stands.order) pushed;
-      room = omega (arith, stands.room, room);
-      subscribers_count = stands.subscribers_count;
-      callers_count = rw (items, length-set) stands.callers_count;
-      subscribers =
-          λ s d below. kept-all (λ h. IsSubscriber (input_at old) old.plan.now h s (get_or old.subscribers.items s d))
-          visits count (λ before visit same. sub-kept own_law ticket_law visit
-          (ne_eqb visit.actor s (λ e. omega (arith, same, e, at, below)))) actors (stands.subscribers s d below);
-      callers = λ c d below. each-set
-          (λ k x. IsCaller (input_at old) old.plan.now (history ++ visits) (length (input_at old).homes + k) x)
-          old.callers.items callers.items place caller items (rw at at its)
-          (λ k e within other. kept-all (λ h. IsCaller (input_at old) old.plan.now h (length (input_at old).homes + k)
-          (get_or old.callers.items k e)) visits count
-          (λ before visit same. caller-kept kept visit
-          (ne_eqb visit.actor (length (input_at old).homes + k) (λ q. other (omega (arith, same, q, at))))) actors
-          (stands.callers k e (omega (arith, within, stands.callers_count)))) c d
-          (omega (arith, below, stands.callers_count));
-      calls = stands.calls;
-      total = stands.total;
-    }
-
--- what a turn leans on
-pub at-sub : {machine : Machine} {history : History} (actor : ℕ) {x : Subscriber} → HasHistory machine history
-    → actor < length (input_at machine).homes → x ≡ get_or machine.subscribers.items actor x
-    → IsSubscriber (input_at machine) machine.plan.now history actor x
-at-sub actor {x} stands low same = rw same (stands.subscribers actor x low)
-
-pub at-caller : {machine : Machine} {history : History} {actor : ℕ} (place : ℕ) {x : Caller}
-    → HasHistory machine history → actor ≡ length (input_at machine).homes + place
-    → actor < length (input_at machine).scripts → x ≡ get_or machine.callers.items place x
-    → IsCaller (input_at machine) machine.plan.now history actor x
-at-caller place {x} stands at low same =
-    rw (at, same) (stands.callers place x (omega (arith, at, low, stands.together.valid.scripts)))
-
-pub ticket-is : {machine : Machine} {history : History} (ticket : ℕ) → HasHistory machine history
-    → ticket ≡ length machine.order.items → length history ≡ ticket
-ticket-is ticket stands same = sym (rw (same, stands.order, length-map))
-
--- the order has room for one visit more
-pub room-left : VisitsAreFew → MoreIsPlayed → {machine : Machine} {history : History} (actor : ℕ) {visit : Visit}
-    → HasHistory machine history → next (setting_at machine) (scripts_at machine) history actor ≡ Some visit
-    → length history < vec_capacity machine.order
-room-left few more {machine} {history} actor {visit} is wants =
+-- a history that is played has room in the order
+order-fits : VisitsAreFew → {machine : Machine} {history : History} (later : History) → HasHistory machine history
+    → IsPlayed (setting_at machine) (scripts_at machine) later → length later ≤ vec_capacity machine.order
+order-fits few {machine} later is played =
     omega (
       arith,
-      few (input_at machine) (setting_at machine) (history ++ visit ∷ []) is.together.valid
-          (over (input_at machine) machine.plan.now machine.distances.now is.together)
-          (more (setting_at machine) (scripts_at machine) history actor visit wants is.sees.played),
-      length_push history visit,
-      is.room,
-    )
-
--- and for many, which are those of a played history
-pub rooms-left : VisitsAreFew → {machine : Machine} {cells : CellData} {history : History} (actor count : ℕ)
-    (visits : List Visit) → HasHistory machine history → map (λ (v : Visit). v.actor) visits ≡ replicate count actor
-    → Sees (input_at machine) machine.plan.now cells (history ++ visits)
-    → length history + count ≤ vec_capacity machine.order
-rooms-left few {machine} {history} actor count visits is actors sees =
-    omega (
-      arith,
-      few (input_at machine) (setting_at machine) (history ++ visits) is.together.valid
-          (over (input_at machine) machine.plan.now machine.distances.now is.together) sees.played,
-      length-append history visits,
-      length-map visits (λ (v : Visit). v.actor),
-      ap length actors,
-      length-replicate count actor,
+      few (input_at machine) (setting_at machine) later is.together.valid
+          (over (input_at machine) machine.plan.now machine.distances.now is.together) played,
       is.room,
     )
 
 -- an actor that makes none of the visits that the order has room for has none left
-pub none-left : VisitsAreFew → MoreIsPlayed → {machine : Machine} {history : History} (actor reach : ℕ)
+none-left : VisitsAreFew → MoreIsPlayed → {machine : Machine} {history : History} (actor reach : ℕ)
     (wants : Option Visit) → HasHistory machine history → (reach ≡ 0 → vec_capacity machine.order ≤ length history)
     → next (setting_at machine) (scripts_at machine) history actor ≡ wants
     → (0 < reach → next (setting_at machine) (scripts_at machine) history actor ≡ None)
     → next (setting_at machine) (scripts_at machine) history actor ≡ None
 none-left few more actor reach None is full same law = same
-none-left few more actor zero (Some visit) is full same law =
-    absurd (omega (arith, full refl, room-left few more actor is same))
+none-left few more {machine} {history} actor zero (Some visit) is full same law =
+    absurd (omega (
+      arith,
+      full refl,
+      order-fits few (history ++ visit ∷ []) is
+          (more (setting_at machine) (scripts_at machine) history actor visit same is.sees.played),
+      length_push history visit,
+    ))
 none-left few more actor (suc reach) (Some visit) is full same law = law (omega arith)
+
+-- many visits of an actor, behind the history of a machine
+module _ {old : Machine} {history : History} {actor count : ℕ} {cells : CellData} {Holds : History → Type 0}
+    (stands : HasHistory old history)
+    (made : AreMade (input_at old) old.plan.now cells history actor count Holds) where
+  -- the order has room for them
+  pub rooms-left : VisitsAreFew → length history + count ≤ vec_capacity old.order
+  rooms-left few = omega (arith, order-fits few (history ++ made.visits) stands made.sees.played, made-count made refl)
+
+  -- where they were none, none is left
+  pub stridden : VisitsAreFew → MoreIsPlayed → {new : Machine} (reach : ℕ) → HasMade old new history actor count
+      → (reach ≡ 0 → vec_capacity old.order ≤ length history) → (count < reach
+      → next (setting_at old) (scripts_at old) (history ++ made.visits) actor ≡ None) → (count ≡ 0 → IsStill old new)
+      → HasStridden old new history actor count
+  stridden few more reach turned full ends still = (
+    turned,
+    λ none. (
+      none-left few more actor reach (next (setting_at old) (scripts_at old) history actor) stands full refl
+          (λ some. rw (no-visits made none, append-nil) at (ends (omega (arith, some, none)))),
+      still none,
+    ),
+  )
+
+  -- what the machine stands for then
+  turned : (subscribers : Vec Subscriber Global) (callers : Vec Caller Global) (order : Vec ℕ Global)
+      → order.items ≡ old.order.items ++ replicate count actor → vec_capacity old.order ≤ vec_capacity order
+      → length subscribers.items ≡ length old.subscribers.items → length callers.items ≡ length old.callers.items
+      → ((s : ℕ) (d : Subscriber) → s < length (input_at old).homes
+      → IsSubscriber (input_at old) old.plan.now (history ++ made.visits) s (get_or subscribers.items s d))
+      → ((c : ℕ) (d : Caller) → c < (input_at old).callers → IsCaller (input_at old) old.plan.now
+      (history ++ made.visits) (length (input_at old).homes + c) (get_or callers.items c d))
+      → HasMade old (record old { cells = cells; subscribers = subscribers; callers = callers; order = order }) history
+      actor count
+  turned subscribers callers order pushed room subs_count callers_count subs_are callers_are = record {
+    stands = subst (HasHistory _) (sym made.turns) (record {
+      together = stands.together;
+      homes = stands.homes;
+      routes = stands.routes;
+      sees = made.sees;
+      order = rw (map-append, made.actors, ← stands.order) pushed;
+      room = omega (arith, stands.room, room);
+      subscribers_count = subs_count ∙ stands.subscribers_count;
+      callers_count = callers_count ∙ stands.callers_count;
+      subscribers = subs_are;
+      callers = callers_are;
+      calls = stands.calls;
+      total = stands.total;
+    });
+    made = ap length made.turns ∙ made-count made refl;
+  }
+
+  -- the other actors are as far as they were
+  subs-stay : OwnGrow → TicketsGrow → (s : ℕ) (d : Subscriber) → s < length (input_at old).homes → s ≢ actor
+      → IsSubscriber (input_at old) old.plan.now (history ++ made.visits) s (get_or old.subscribers.items s d)
+  subs-stay own_law ticket_law s d low other =
+      kept-all (λ h. IsSubscriber (input_at old) old.plan.now h s (get_or old.subscribers.items s d)) made.visits count
+      (λ before visit same. sub-kept own_law ticket_law visit (ne_eqb visit.actor s (λ e. other (sym e ∙ same))))
+      made.actors (stands.subscribers s d low)
+
+  callers-stay : CallersKept → (c : ℕ) (d : Caller) → c < (input_at old).callers
+      → length (input_at old).homes + c ≢ actor → IsCaller (input_at old) old.plan.now (history ++ made.visits)
+      (length (input_at old).homes + c) (get_or old.callers.items c d)
+  callers-stay kept c d low other =
+      kept-all (λ h. IsCaller (input_at old) old.plan.now h (length (input_at old).homes + c)
+      (get_or old.callers.items c d)) made.visits count (λ before visit same. caller-kept kept visit
+      (ne_eqb visit.actor (length (input_at old).homes + c) (λ e. other (sym e ∙ same)))) made.actors
+      (stands.callers c d low)
+
+  -- so after visits of a subscriber
+  pub sub-turned : OwnGrow → TicketsGrow → CallersKept → {subscriber : Subscriber} (subscribers : Vec Subscriber Global)
+      (order : Vec ℕ Global) → actor < length (input_at old).homes
+      → IsSubscriber (input_at old) old.plan.now (history ++ made.visits) actor subscriber
+      → subscribers.items ≡ slice_set old.subscribers.items actor subscriber
+      → order.items ≡ old.order.items ++ replicate count actor → vec_capacity old.order ≤ vec_capacity order
+      → HasMade old (record old { cells = cells; subscribers = subscribers; order = order }) history actor count
+  sub-turned own_law ticket_law kept {subscriber} subscribers order low its items pushed room =
+      turned subscribers old.callers order pushed room (rw (items, length-set)) refl
+      (λ s d below. each-set (IsSubscriber (input_at old) old.plan.now (history ++ made.visits)) old.subscribers.items
+      subscribers.items actor subscriber items its (λ k e within. subs-stay own_law ticket_law k e
+      (omega (arith, within, stands.subscribers_count))) s d (omega (arith, below, stands.subscribers_count)))
+      (λ c d below. callers-stay kept c d below (λ e. omega (arith, e, low)))
+
+  -- and of a caller
+  pub caller-turned : OwnGrow → TicketsGrow → CallersKept → (place : ℕ) {caller : Caller} (callers : Vec Caller Global)
+      (order : Vec ℕ Global) → actor ≡ length (input_at old).homes + place
+      → IsCaller (input_at old) old.plan.now (history ++ made.visits) actor caller
+      → callers.items ≡ slice_set old.callers.items place caller
+      → order.items ≡ old.order.items ++ replicate count actor → vec_capacity old.order ≤ vec_capacity order
+      → HasMade old (record old { cells = cells; callers = callers; order = order }) history actor count
+  caller-turned own_law ticket_law kept place {caller} callers order at its items pushed room =
+      turned old.subscribers callers order pushed room refl (rw (items, length-set))
+      (λ s d below. subs-stay own_law ticket_law s d below (λ e. omega (arith, e, at, below)))
+      (λ c d below. each-set (λ k x. IsCaller (input_at old) old.plan.now (history ++ made.visits)
+      (length (input_at old).homes + k) x) old.callers.items callers.items place caller items (rw at at its)
+      (λ k e within other. callers-stay kept k e (omega (arith, within, stands.callers_count))
+      (λ q. other (omega (arith, q, at)))) c d (omega (arith, below, stands.callers_count)))
+
+-- a subscriber of a machine may have its turn
+abbrev pub sub-may : {machine : Machine} {history : History} (actor : ℕ) {ticket : ℕ} {x : Subscriber}
+    → HasHistory machine history → actor < length (input_at machine).homes → ticket ≡ length machine.order.items
+    → x ≡ get_or machine.subscribers.items actor x
+    → MayTakeTurn (input_at machine) machine.plan.now machine.cells ticket actor x
+sub-may {history = history} actor {x = x} stands low count same =
+    (history, stands.sees, sym (rw (count, stands.order, length-map)), rw same (stands.subscribers actor x low))
+
+-- and a caller
+abbrev pub caller-may : {machine : Machine} {history : History} {actor : ℕ} (place : ℕ) {ticket : ℕ} {x : Caller}
+    → HasHistory machine history → actor ≡ length (input_at machine).homes + place
+    → actor < length (input_at machine).scripts → ticket ≡ length machine.order.items
+    → x ≡ get_or machine.callers.items place x
+    → MayLook (input_at machine) machine.plan.now machine.cells ticket actor x
+caller-may {history = history} place {x = x} stands at low count same = (
+  history,
+  stands.sees,
+  sym (rw (count, stands.order, length-map)),
+  rw (at, same) (stands.callers place x (omega (arith, at, low, stands.together.valid.scripts))),
+)

@@ -1,6 +1,6 @@
 use Rattle.std.proofs.Common.{◌≡◌, [], arith, refl, subst, sym}
 use Rattle.machine.specs.Owed.{HasNone, Owes}
-use Rattle.machine.proofs.Putting.{none-there, refilled}
+use Rattle.machine.proofs.Rests.{none-there, refilled}
 use Rattle.machine.proofs.subscriber.Subscriber.has_ahead.Goals as goal
 
 pub returns-clause-stands : goal.returns-clause-stands
