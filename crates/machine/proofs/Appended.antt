@@ -18,12 +18,11 @@ module _ {A B : Type 0} (f : A → List B) (xs : List A) (i : ℕ) (item : A) (p
       → held + length part ≤ capacity
   part-fits held capacity fits = omega (arith, fits, parts-left)
 
-  pub rest-fits : (now new : List B) (old capacity : ℕ) → length now + length (flat_map f (drop i xs)) ≤ old
-      → old ≤ capacity → new ≡ now ++ part → length new + length (flat_map f (drop (i + 1) xs)) ≤ capacity
-  rest-fits now new old capacity fits wide added =
-      omega (arith, fits, wide, parts-left, ap length added, length-append now part)
-
-  pub one-more : (old now new : List B) → now ≡ old ++ flat_map f (take i xs) → new ≡ now ++ part
-      → new ≡ old ++ flat_map f (take (i + 1) xs)
-  one-more old now new items added =
-      rw (added, items, add-one i, take-suc xs i item low, flat_map-append, append-nil, its-part, append_assoc)
+  pub part-more : (old : List B) {now new : List B} (held capacity : ℕ) → now ≡ old ++ flat_map f (take i xs)
+      → new ≡ now ++ part → length now + length (flat_map f (drop i xs)) ≤ held → held ≤ capacity
+      → (new ≡ old ++ flat_map f (take (i + 1) xs))
+      × (length new + length (flat_map f (drop (i + 1) xs)) ≤ capacity)
+  part-more old {now} held capacity items added fits wide = (
+    rw (added, items, add-one i, take-suc xs i item low, flat_map-append, append-nil, its-part, append_assoc),
+    omega (arith, fits, wide, parts-left, ap length added, length-append now part),
+  )

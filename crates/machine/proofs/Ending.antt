@@ -1,6 +1,7 @@
--- The end: when no actor has a visit left, the lines of all actors are those of the outcome.
+-- The end: when no actor has a visit left, the lines of all actors are those of the outcome, they are right, and their
+-- numbers rise.
 use Rattle.std.proofs.Common.{◌≡◌, ℕ, suc, ◌+◌, ◌<◌, ◌≤◌, List, [], ◌∷◌, ◌++◌, length, map, drop, fold, get_or, refl, sym, ap, ◌∙◌, arith, length-append, Option, take-append-drop}
-use Rattle.std.specs.Prelude.{None, Some, flat_map, vec_capacity}
+use Rattle.std.specs.Prelude.{None, Some, flat_map, vec_capacity, All}
 use Rattle.std.proofs.lemmas.List.{length-map, length-drop, take_all, get_or-drop}
 use Rattle.directory.specs.Settings.{Setting, start}
 use Rattle.directory.specs.Courses.{Course, Step, after_step, after_steps, course_at}
@@ -20,12 +21,18 @@ use Rattle.machine.specs.declared.caller.Caller.{Caller}
 use Rattle.machine.specs.declared.subscriber.Subscriber.{Subscriber}
 use Rattle.machine.specs.declared.machine.Machine.{Machine}
 use Rattle.scripts.specs.Scripts.{scripts_of, step_of, find_of}
-use Rattle.machine.specs.Stands.{setting_over}
+use Rattle.machine.specs.Stands.{setting_over, over}
 use Rattle.machine.specs.Subscribers.{IsSubscriber, begun_steps, shown_at}
 use Rattle.machine.specs.Machines.{HasHistory, input_at, scripts_at, setting_at}
-use Rattle.scripts.specs.ScriptLaws.{finds-are, steps-are}
+use Rattle.scripts.specs.ScriptLaws.{finds-are, steps-are, few-nodes}
 use Rattle.machine.specs.ScriptVisits.{some-write}
 use Rattle.directory.specs.HistoryLaws.{next-sub}
+use Rattle.entry_word.specs.declared.visit.Visit.{Visit}
+use Rattle.trail_laws.specs.RightOutcomes.{IsRightLine, NumbersRise, OutcomesAreRight, TellRisingNumbers}
+use Rattle.region_plan.specs.Matched.{IsMatched}
+use Rattle.directory.specs.Statements.{OrdersAreOwn}
+use Rattle.scripts.specs.Laws.{ScriptsAreValid}
+use Rattle.walk.specs.ReaderLaws.{reads-top}
 
 none-left : (setting : Setting) (course : Course) (before left : List Step) (made : ℕ)
     → length (writes setting course (before ++ left)) ≤ made → made ≤ length (writes setting course before)
@@ -97,41 +104,27 @@ flat-few f (x ∷ xs) (script ∷ scripts) each within =
       flat-few f xs scripts (λ i d h. each (suc i) d (omega (arith, h))) (omega (arith, within)),
     )
 
--- a caller has no more answers than finds
-pursuit-count : (caller : Seeker) {call : FindCall} {later : List FindCall} (pursuit : Pursuit) (answer : Option Found)
-    → caller.calls ≡ call ∷ later → length (with_pursuit caller call later pursuit answer).answers + length
-    (with_pursuit caller call later pursuit answer).calls ≡ length caller.answers + length caller.calls
-pursuit-count caller pursuit None same = refl
-pursuit-count caller {call} pursuit (Some found) same =
-    omega (
-      arith,
-      length-append caller.answers (record {
-        call = call;
-        found = found;
-        first = caller.first;
-        last = caller.next;
-      } ∷ []),
-      ap length same,
-    )
+-- a caller's answers and the finds that it has left stay as many
+abbrev all_finds : Seeker → ℕ
+all_finds caller = length caller.answers + length caller.calls
 
-read-count : (setting : Setting) (caller : Seeker) (word : ℕ)
-    → length (after_read setting caller word).answers + length (after_read setting caller word).calls
-    ≡ length caller.answers + length caller.calls
-read-count setting caller word = at_calls caller.calls refl
-  where
-    at_calls : (calls : List FindCall) → caller.calls ≡ calls
-        → length (read_by setting caller calls word).answers + length (read_by setting caller calls word).calls
-        ≡ length caller.answers + length caller.calls
-    at_calls [] same = refl
-    at_calls (call ∷ later) same = pursuit-count caller (after_word setting call caller.pursuit word)
-        (answer_of (after_word setting call caller.pursuit word)) same
+pursuit-count : (caller : Seeker) {call : FindCall} {later : List FindCall} (pursuit : Pursuit) (answer : Option Found)
+    → caller.calls ≡ call ∷ later → all_finds (with_pursuit caller call later pursuit answer) ≡ all_finds caller
+pursuit-count caller pursuit None same = refl
+pursuit-count caller pursuit (Some found) same = simp length-append (omega (arith, ap length same))
+
+read-count : (setting : Setting) (caller : Seeker) (calls : List FindCall) (word : ℕ) → caller.calls ≡ calls
+    → all_finds (read_by setting caller calls word) ≡ all_finds caller
+read-count setting caller [] word same = refl
+read-count setting caller (call ∷ later) word same =
+    pursuit-count caller (after_word setting call caller.pursuit word)
+    (answer_of (after_word setting call caller.pursuit word)) same
 
 words-count : (setting : Setting) (words : List ℕ) (caller : Seeker)
-    → length (fold (after_read setting) caller words).answers + length (fold (after_read setting) caller words).calls
-    ≡ length caller.answers + length caller.calls
+    → all_finds (fold (after_read setting) caller words) ≡ all_finds caller
 words-count setting [] caller = refl
-words-count setting (word ∷ words) caller = words-count setting words (after_read setting caller word)
-    ∙ read-count setting caller word
+words-count setting (word ∷ words) caller =
+    words-count setting words (after_read setting caller word) ∙ read-count setting caller caller.calls word refl
 
 caller-few : (input : Contents) (plan : PlanData) (history : History) (actor : ℕ)
     → length (caller_lines (setting_over input plan) (scripts_of input) history actor)
@@ -208,3 +201,27 @@ lines-all {machine} {history} is done =
       is.callers_count,
       finds_count,
     )
+
+pub right-outcome : OutcomesAreRight → OrdersAreOwn → ScriptsAreValid → {machine : Machine} {history : History}
+    → IsMatched machine.plan.now → HasHistory machine history
+    → ((actor : ℕ) → IsDone (setting_at machine) (scripts_at machine) history actor)
+    → All (IsRightLine (setting_at machine) history) (outcome_in (setting_at machine) (scripts_at machine)
+    history).calls
+right-outcome right own valid {machine} {history} matched is done =
+    rw (← own (setting_at machine) (scripts_at machine) history is.sees.played done)
+    (right (setting_at machine) (scripts_at machine) (map (λ (visit : Visit). visit.actor) history)
+    (omega (arith, is.together.nodes, few-nodes (input_at machine) is.together.valid))
+    (reads-top machine.plan.now (input_at machine).homes matched)
+    (valid (input_at machine) (setting_at machine) is.together.valid
+    (over (input_at machine) machine.plan.now machine.distances.now is.together)))
+
+-- and later lines tell no lower numbers
+pub rising-outcome : NumbersRise → OrdersAreOwn → ScriptsAreValid → {machine : Machine} {history : History}
+    → HasHistory machine history → ((actor : ℕ) → IsDone (setting_at machine) (scripts_at machine) history actor)
+    → TellRisingNumbers (outcome_in (setting_at machine) (scripts_at machine) history).calls
+rising-outcome rise own valid {machine} {history} is done =
+    rw (← own (setting_at machine) (scripts_at machine) history is.sees.played done)
+    (rise (setting_at machine) (scripts_at machine) (map (λ (visit : Visit). visit.actor) history)
+    (omega (arith, is.together.nodes, few-nodes (input_at machine) is.together.valid))
+    (valid (input_at machine) (setting_at machine) is.together.valid
+    (over (input_at machine) machine.plan.now machine.distances.now is.together)))

@@ -1,7 +1,7 @@
--- The turns of an actor until it is done, and those of all actors.
-use Rattle.std.proofs.Common.{◌≡◌, ◌↔◌, ℕ, zero, suc, ◌+◌, ◌-◌, ◌<◌, ◌≤◌, List, [], ◌∷◌, ◌++◌, length, map, drop, refl, sym, ap, ◌∙◌, subst, arith}
+-- The turns of an actor until it is done, those of all actors, and those of an order, run by run.
+use Rattle.std.proofs.Common.{◌≡◌, ◌↔◌, ℕ, zero, suc, ◌+◌, ◌-◌, ◌<◌, ◌≤◌, List, [], ◌∷◌, ◌++◌, length, map, drop, refl, sym, ap, ◌∙◌, subst, arith, get_or, append_assoc, drop-cons, add-one}
 use Rattle.std.specs.Prelude.{None, flat_map, replicate}
-use Rattle.std.proofs.lemmas.List.{append-nil, length-map, length-drop, replicate-append-replicate}
+use Rattle.std.proofs.lemmas.List.{append-nil, length-map, length-drop, replicate-append-replicate, drop_all}
 use Rattle.std.proofs.lemmas.List.Sums.{fold-append}
 use Rattle.entry_word.specs.declared.visit.Visit.{Visit}
 use Rattle.directory.specs.Settings.{Setting}
@@ -75,26 +75,34 @@ made-idle {entry} {now} {new} {history} {actor} {k} count same first then zero_m
     (subst (HasHistory new) all (rw zero_made at then.0.stands), sym (ap length all) ∙ first.made)
 
 -- one turn: it makes a visit where one is left
+pub record Turned (old new : Machine) (history : History) (actor count : ℕ) : Type 0 where
+  pub stands : HasHistory new (after_turn (setting_at old) (scripts_at old) history actor)
+  pub none : (count ≡ 0) ↔ (next (setting_at old) (scripts_at old) history actor ≡ None)
+  pub made : length (after_turn (setting_at old) (scripts_at old) history actor) ≡ length history + count
+
 pub turned-once : {old new : Machine} {history : History} {actor : ℕ} (count : ℕ) → count ≤ 1
-    → HasStridden old new history actor count → HasHistory new
-    (after_turn (setting_at old) (scripts_at old) history actor)
-    × ((count ≡ 0) ↔ (next (setting_at old) (scripts_at old) history actor ≡ None))
+    → HasStridden old new history actor count → Turned old new history actor count
 turned-once {old} {new} {history} {actor} zero few made =
-    let none : next (setting_at old) (scripts_at old) history actor ≡ None = (made.1 refl).0 in (
-      subst (HasHistory new) (sym (turn-none (setting_at old) (scripts_at old) history actor none)) made.0.stands,
-      (λ same. none, λ same. refl),
-    )
-turned-once {old} {history} {actor} (suc zero) few made = (
-  made.0.stands,
-  (
-    λ same. absurd (omega (arith, same)),
-    λ none. absurd (omega (
-      arith,
-      made.0.made,
-      ap length (turn-none (setting_at old) (scripts_at old) history actor none),
-    )),
-  ),
-)
+    let none : next (setting_at old) (scripts_at old) history actor ≡ None = (made.1 refl).0 in
+    let still = turn-none (setting_at old) (scripts_at old) history actor none in
+    record {
+      stands = subst (HasHistory new) (sym still) made.0.stands;
+      none = (λ same. none, λ same. refl);
+      made = ap length still ∙ omega arith;
+    }
+turned-once {old} {history} {actor} (suc zero) few made =
+    record {
+      stands = made.0.stands;
+      none = (
+        λ same. absurd (omega (arith, same)),
+        λ none. absurd (omega (
+          arith,
+          made.0.made,
+          ap length (turn-none (setting_at old) (scripts_at old) history actor none),
+        )),
+      );
+      made = made.0.made;
+    }
 turned-once (suc (suc count)) few made = absurd (omega (arith, few))
 
 -- turns that make visits leave fewer
@@ -187,11 +195,48 @@ turns-all machine valid =
     ) in
     ap (turns_of (setting_at machine) (scripts_at machine)) count
 
--- and so many visits more
-pub counted-once : {old new : Machine} {history : History} {actor : ℕ} (count : ℕ) → count ≤ 1
-    → HasStridden old new history actor count → length (after_turns (setting_at old) (scripts_at old) history
-    (replicate 1 actor)) ≡ length history + count
-counted-once {old} {history} {actor} zero few made =
-    ap length (turn-none (setting_at old) (scripts_at old) history actor (made.1 refl).0) ∙ omega arith
-counted-once (suc zero) few made = made.0.made
-counted-once (suc (suc count)) few made = absurd (omega (arith, few))
+-- a run of one number, and of one more
+pub run-first : (order : List ℕ) (start : ℕ) → start < length order
+    → drop start order ≡ replicate (start + 1 - start) (get_or order start 0) ++ drop (start + 1) order
+run-first order start inside =
+    let one : start + 1 - start ≡ 1 = omega arith in rw (one, add-one start, drop-cons order start 0 inside)
+
+pub run-more : (order : List ℕ) (start end : ℕ) → start < end → end < length order
+    → get_or order end 0 ≡ get_or order start 0
+    → drop start order ≡ replicate (end - start) (get_or order start 0) ++ drop end order
+    → drop start order ≡ replicate (end + 1 - start) (get_or order start 0) ++ drop (end + 1) order
+run-more order start end on inside same so_far =
+    let a : ℕ = get_or order start 0 in
+    let longer : end + 1 - start ≡ end - start + 1 = omega (arith, on) in
+    rw (
+      so_far,
+      longer,
+      ← replicate-append-replicate (end - start) 1 a,
+      append_assoc (replicate (end - start) a) (a ∷ []) (drop (end + 1) order),
+      add-one end,
+      drop-cons order end 0 inside,
+      same,
+    )
+
+-- the history behind one run more
+pub played-run : (entry now : Machine) {new : Machine} (history : History) {wanted : History} (order : List ℕ)
+    (start end : ℕ) → IsSame entry now → drop start order ≡ replicate (end - start) (get_or order start 0) ++ drop end
+    order → after_turns (setting_at entry) (scripts_at entry) history (drop start order) ≡ wanted
+    → HasHistory new (after_turns (setting_at now) (scripts_at now) history
+    (replicate (end - start) (get_or order start 0))) → (after : History) × HasHistory new
+    after × (after_turns (setting_at entry) (scripts_at entry) after (drop end order) ≡ wanted)
+played-run entry now {new} history order start end same run so_far goes =
+    let turns : List ℕ = replicate (end - start) (get_or order start 0) in (
+      after_turns (setting_at entry) (scripts_at entry) history turns,
+      rw (same.0, same.1) at goes,
+      sym (fold-append (after_turn (setting_at entry) (scripts_at entry)) history turns (drop end order))
+          ∙ (ap (after_turns (setting_at entry) (scripts_at entry) history) (sym run) ∙ so_far),
+    )
+
+-- and behind all of them
+pub played-whole : (entry : Machine) {now : Machine} {history wanted : History} (order : List ℕ) (start : ℕ)
+    → length order ≤ start → HasHistory now history → after_turns (setting_at entry) (scripts_at entry) history
+    (drop start order) ≡ wanted → HasHistory now wanted
+played-whole entry {now} {history} order start past is so_far =
+    subst (HasHistory now)
+    (ap (after_turns (setting_at entry) (scripts_at entry) history) (sym (drop_all start order past)) ∙ so_far) is

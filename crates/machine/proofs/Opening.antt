@@ -1,9 +1,9 @@
 -- Subscribers and callers before their first visits.
 use Rattle.std.proofs.Common.{◌≡◌, inl, inr, ℕ, ◌+◌, ◌<◌, ◌≤◌, Bool, true, false, List, [], ◌∷◌, ◌++◌, length, map, take, get_or, refl, sym, ap, ◌∙◌, subst, arith, Vec, Global}
-use Rattle.std.specs.Prelude.{All, None, vec_capacity}
+use Rattle.std.specs.Prelude.{None, vec_capacity}
 use Rattle.std.proofs.lemmas.List.{get_or_push, length_push, length-map, get_or-map}
 use Rattle.std.proofs.Math.ListN.{get_or-append}
-use Rattle.std.proofs.lemmas.List.Elements.{All-cons, All-nil, All-head, All-tail}
+use Rattle.std.proofs.lemmas.List.Elements.{All-cons, All-nil, All-weaker}
 use Rattle.directory.specs.Finds.{at_origin}
 use Rattle.directory.specs.Histories.{tickets_from, words_after}
 use Rattle.directory.specs.Orders.{finds_of, steps_of}
@@ -93,15 +93,9 @@ course-inside format n here off (calls.Off ∷ script) its =
 course-inside format n here off (calls.On ∷ script) its =
     All-cons (BeginsInside n) calls.On script tt (course-inside format n here false script its.2)
 
-search-inside : (n subs : ℕ) (script : List Call) → All (IsSearch n subs) script → BeginInside n script
-search-inside n subs [] all = All-nil (BeginsInside n)
-search-inside n subs (call ∷ script) all =
-    All-cons (BeginsInside n) call script (at_call call (All-head (IsSearch n subs) call script all))
-    (search-inside n subs script (All-tail (IsSearch n subs) call script all))
-  where
-    at_call : (c : Call) → IsSearch n subs c → BeginsInside n c
-    at_call (calls.Find from sub) h = h.0
-    at_call c h = absurd h
+search-begins : (n subs : ℕ) (call : Call) → IsSearch n subs call → BeginsInside n call
+search-begins n subs (calls.Find from sub) h = h.0
+search-begins n subs call h = absurd h
 
 script-inside : {input : Contents} (actor : ℕ) → IsValid input → actor < length input.scripts
     → BeginInside input.nodes (get_or input.scripts actor [])
@@ -109,7 +103,8 @@ script-inside {input} actor valid low =
     elim (cases_lt actor (length input.homes)) [
       | inl sub ↦ course-inside input.format input.nodes (get_or input.homes actor 0) false
           (get_or input.scripts actor []) (valid.courses actor sub)
-      | inr high ↦ search-inside input.nodes (length input.homes) (get_or input.scripts actor [])
+      | inr high ↦ All-weaker (IsSearch input.nodes (length input.homes)) (BeginsInside input.nodes)
+          (search-begins input.nodes (length input.homes)) (get_or input.scripts actor [])
           (valid.searches actor high low)
     ]
 

@@ -31,8 +31,7 @@ use Rattle.machine.specs.Stands.{BelongTogether, setting_over, Sees}
 use Rattle.machine.specs.Subscribers.{IsShown, MayBegin, Shown, begun_line, begun_steps, HasWritten, IsSubscriber, shown_at}
 use Rattle.scripts.specs.ScriptLaws.{IsStep, course-steps, steps-are}
 use Rattle.machine.specs.ScriptVisits.{some-write, step-at, visits-longer}
-use Rattle.machine.proofs.Steps.{lines-partial}
-use Rattle.machine.proofs.Seen.{Seen, seen-after, step-allowed}
+use Rattle.machine.proofs.Seen.{lines-partial, Seen, seen-after, step-allowed}
 use Rattle.directory.specs.HistoryLaws.{next-sub, tickets-count}
 use Rattle.directory.specs.Statements.{TicketsGrow, OwnGrow, TicketsAreOwn}
 use Rattle.handset.specs.StageLaws.{IsRestAfter, rests}

@@ -26,9 +26,8 @@ use Rattle.scripts.specs.Scripts.{scripts_of}
 use Rattle.scripts.specs.Laws.{ScriptsAreValid}
 use Rattle.machine.specs.Stands.{AreMade, BelongTogether, Sees, setting_over}
 use Rattle.machine.specs.Subscribers.{IsShown, IsSubscriber, Shown, TakesTurn, begun_steps, line_after, HasWritten, shown_at}
-use Rattle.machine.proofs.Steps.{line-grows, lines-partial}
+use Rattle.machine.proofs.Seen.{line-grows, lines-partial, HasLast, Seen, last-visit, seen-after, step-allowed, steps-last}
 use Rattle.machine.proofs.Making.{HasNext, NextIsOwn, made-as, made-count, made-joined, made-next, made-none}
-use Rattle.machine.proofs.Seen.{HasLast, Seen, last-visit, seen-after, step-allowed, steps-last}
 use Rattle.directory.specs.HistoryLaws.{tickets-count}
 use Rattle.directory.specs.Statements.{MoreIsPlayed, TicketsGrow, OwnGrow, TicketsAreOwn}
 use Rattle.directory.specs.declared.answers.Done.TheVariants.{Moved}

@@ -1,6 +1,6 @@
 use Rattle.std.proofs.Common.{◌≡◌, ◌+◌, ◌-◌, arith, length, refl}
 use Rattle.machine.specs.Machines.{input_at}
-use Rattle.machine.proofs.Looking.{scripts-low}
+use Rattle.machine.proofs.Looked.{scripts-low}
 use Rattle.machine.proofs.Turning.{caller-may, caller-turned, rooms-left, stridden}
 use Rattle.machine.proofs.machine.Machine.look.Goals as goal
 

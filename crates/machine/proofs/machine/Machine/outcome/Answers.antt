@@ -5,8 +5,7 @@ use Rattle.directory.specs.Outcomes.{Outcome}
 use Rattle.machine.specs.Machines.{scripts_at, setting_at}
 use Rattle.machine.specs.declared.caller.Caller.{Caller}
 use Rattle.machine.specs.declared.subscriber.Subscriber.{Subscriber}
-use Rattle.machine.proofs.RightOutcome.{right-outcome, rising-outcome}
-use Rattle.machine.proofs.Ending.{lines-all, room-for_both}
+use Rattle.machine.proofs.Ending.{right-outcome, rising-outcome, lines-all, room-for_both}
 use Rattle.machine.proofs.machine.Machine.outcome.Goals as goal
 
 -- the lines of some subscribers, and of some callers

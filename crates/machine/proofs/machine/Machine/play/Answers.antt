@@ -1,6 +1,5 @@
 use Rattle.std.proofs.Common.{arith, refl}
-use Rattle.machine.proofs.Finishing.{same-through}
-use Rattle.machine.proofs.Playing.{played-run, played-whole}
+use Rattle.machine.proofs.Finishing.{same-through, played-run, played-whole}
 use Rattle.machine.proofs.machine.Machine.play.Goals as goal
 
 pub runs-init : goal.runs-init

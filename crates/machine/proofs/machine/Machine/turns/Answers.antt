@@ -1,17 +1,17 @@
 use Rattle.std.proofs.Common.{◌≡◌, ◌+◌, ◌-◌, arith, refl, subst}
 use Rattle.machine.specs.Machines.{HasMade}
-use Rattle.machine.proofs.Finishing.{counted-once, made-idle, made-joined, made-none, same-through, turned-once}
+use Rattle.machine.proofs.Finishing.{made-idle, made-joined, made-none, same-through, turned-once}
 use Rattle.machine.proofs.machine.Machine.turns.Goals as goal
 
 pub returns-then-count-eq1-clause-stands : goal.returns-then-count-eq1-clause-stands
 returns-then-count-eq1-clause-stands c = λ history is.
     rw c.if-count-eq1.true
-    (turned-once c.stride.result c.stride.ensures.few (c.stride.ensures.stands history is)).0
+    (turned-once c.stride.result c.stride.ensures.few (c.stride.ensures.stands history is)).stands
 
 pub returns-then-count-eq1-clause-made : goal.returns-then-count-eq1-clause-made
 returns-then-count-eq1-clause-made c = λ history is.
     rw c.if-count-eq1.true
-    (counted-once c.stride.result c.stride.ensures.few (c.stride.ensures.stands history is))
+    (turned-once c.stride.result c.stride.ensures.few (c.stride.ensures.stands history is)).made
 
 pub turns-init : goal.turns-init
 turns-init c = record {

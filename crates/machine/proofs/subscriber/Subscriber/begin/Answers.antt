@@ -2,7 +2,7 @@ use Rattle.std.proofs.Common.{◌≡◌, ◌++◌, ◌∷◌, [], sym, ap, ◌�
 use Rattle.std.specs.Prelude.{if◌then◌else◌}
 use Rattle.net_reader.specs.declared.said.Call.TheVariants as calls
 use Rattle.machine.specs.Owed.{Owes}
-use Rattle.machine.proofs.Looking.{ok-of}
+use Rattle.machine.proofs.Looked.{ok-of}
 use Rattle.machine.proofs.Rests.{all-written, first-cell, first-put, shown-now}
 use Rattle.machine.proofs.Beginning.{first-ahead, on-err, ready, script-of}
 use Rattle.machine.proofs.subscriber.Subscriber.begin.Goals as goal
