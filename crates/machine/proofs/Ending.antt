@@ -138,10 +138,17 @@ caller-few input plan history actor =
           (caller_at (finds_of (setting_over input plan) (scripts_of input) actor)),
     )
 
+-- the lines of some subscribers, and of some callers
+abbrev pub of_steps : List Subscriber → List Done
+of_steps some = flat_map (λ (one : Subscriber). one.lines.items) some
+
+abbrev pub of_finds : List Caller → List Done
+of_finds some = flat_map (λ (one : Caller). one.lines.items) some
+
 -- there is room for the lines of the subscribers, and then for those of the callers
 pub room-for_both : {machine : Machine} {history : History} → HasHistory machine history
-    → length (flat_map (λ (one : Subscriber). one.lines.items) machine.subscribers.items) + length
-    (flat_map (λ (one : Caller). one.lines.items) machine.callers.items) ≤ vec_capacity machine.calls
+    → length (of_steps machine.subscribers.items) + length (of_finds machine.callers.items)
+    ≤ vec_capacity machine.calls
 room-for_both {machine} {history} is =
     let input : Contents = input_at machine in
     omega (
@@ -179,8 +186,7 @@ room-for_both {machine} {history} is =
 -- the lines of all actors are those of the outcome
 pub lines-all : {machine : Machine} {history : History} → HasHistory machine history
     → ((actor : ℕ) → IsDone (setting_at machine) (scripts_at machine) history actor)
-    → flat_map (λ (one : Subscriber). one.lines.items) machine.subscribers.items ++ flat_map
-    (λ (one : Caller). one.lines.items) machine.callers.items
+    → of_steps machine.subscribers.items ++ of_finds machine.callers.items
     ≡ (outcome_in (setting_at machine) (scripts_at machine) history).calls
 lines-all {machine} {history} is done =
     let input : Contents = input_at machine in

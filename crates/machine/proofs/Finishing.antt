@@ -1,5 +1,5 @@
 -- The turns of an actor until it is done, those of all actors, and those of an order, run by run.
-use Rattle.std.proofs.Common.{◌≡◌, ◌↔◌, ℕ, zero, suc, ◌+◌, ◌-◌, ◌<◌, ◌≤◌, List, [], ◌∷◌, ◌++◌, length, map, drop, refl, sym, ap, ◌∙◌, subst, arith, get_or, append_assoc, drop-cons, add-one}
+use Rattle.std.proofs.Common.{true, ◌≡◌, ◌↔◌, ℕ, zero, suc, ◌+◌, ◌-◌, ◌<◌, ◌≤◌, List, [], ◌∷◌, ◌++◌, length, map, drop, refl, sym, ap, ◌∙◌, subst, arith, get_or, append_assoc, drop-cons, add-one}
 use Rattle.std.specs.Prelude.{None, flat_map, replicate}
 use Rattle.std.proofs.lemmas.List.{append-nil, length-map, length-drop, replicate-append-replicate, drop_all}
 use Rattle.std.proofs.lemmas.List.Sums.{fold-append}
@@ -18,6 +18,8 @@ use Rattle.machine.specs.Stands.{over}
 use Rattle.machine.specs.Machines.{IsSame, HasHistory, HasMade, HasStridden, input_at, scripts_at, setting_at}
 use Rattle.directory.specs.HistoryLaws.{turn-none}
 use Rattle.std.proofs.lemmas.Grind.{flat_map-append}
+use Rattle.node_set.specs.SetLaws.{passing_takes}
+use Rattle.machine.specs.RestLaws.{of_same}
 
 pub same-through : (one two three : Machine) → IsSame one two → IsSame two three → IsSame one three
 same-through one two three p q = (q.0 ∙ p.0, q.1 ∙ p.1, q.2 ∙ p.2)
@@ -30,14 +32,16 @@ turns-joined setting scripts history actor k n =
     sym (fold-append (after_turn setting scripts) history (replicate k actor) (replicate n actor))
     ∙ ap (after_turns setting scripts history) (replicate-append-replicate k n actor)
 
+-- the history behind these turns, in a machine
+abbrev pub behind_turns : Machine → History → List ℕ → History
+behind_turns machine history order = after_turns (setting_at machine) (scripts_at machine) history order
+
 pub made-joined : {entry now new : Machine} {history : History} {actor k n : ℕ} → IsSame entry now
-    → HasMade entry now history actor k → HasMade now new
-    (after_turns (setting_at entry) (scripts_at entry) history (replicate k actor)) actor n
+    → HasMade entry now history actor k → HasMade now new (behind_turns entry history (replicate k actor)) actor n
     → HasMade entry new history actor (k + n)
 made-joined {entry} {now} {new} {history} {actor} {k} {n} same first then =
-    let joined : after_turns (setting_at now) (scripts_at now)
-    (after_turns (setting_at entry) (scripts_at entry) history (replicate k actor)) (replicate n actor)
-    ≡ after_turns (setting_at entry) (scripts_at entry) history (replicate (k + n) actor) =
+    let joined : behind_turns now (behind_turns entry history (replicate k actor)) (replicate n actor)
+    ≡ behind_turns entry history (replicate (k + n) actor) =
     rw (same.0, same.1) (turns-joined (setting_at entry) (scripts_at entry) history actor k n) in
     record {
       stands = subst (HasHistory new) joined then.stands;
@@ -60,18 +64,16 @@ turns-idle setting scripts history actor none (suc k) =
 
 -- so where it makes none, all turns that are left change nothing
 pub made-idle : {entry now new : Machine} {history : History} {actor k : ℕ} (count : ℕ) {made : ℕ} → IsSame entry now
-    → HasMade entry now history actor k → HasStridden now new
-    (after_turns (setting_at entry) (scripts_at entry) history (replicate k actor)) actor made → made ≡ 0 → k ≤ count
-    → HasHistory new (after_turns (setting_at entry) (scripts_at entry) history (replicate count actor))
-    × (length (after_turns (setting_at entry) (scripts_at entry) history (replicate count actor)) ≡ length history + k)
-made-idle {entry} {now} {new} {history} {actor} {k} count same first then zero_made low =
-    let reached : History = after_turns (setting_at entry) (scripts_at entry) history (replicate k actor) in
-    let none : next (setting_at entry) (scripts_at entry) reached actor ≡ None =
-    rw (same.0, same.1) at (then.1 zero_made).0 in
+    → HasMade entry now history actor k
+    → HasStridden now new (behind_turns entry history (replicate k actor)) actor made → made ≡ 0 → k ≤ count
+    → HasHistory new (behind_turns entry history (replicate count actor))
+    × (length (behind_turns entry history (replicate count actor)) ≡ length history + k)
+made-idle {entry} {new = new} {history} {actor} {k} count same first then zero_made low =
+    let none = rw (same.0, same.1) at (then.1 zero_made).0 in
     let whole : k + (count - k) ≡ count = omega (arith, low) in
-    let all : reached ≡ after_turns (setting_at entry) (scripts_at entry) history (replicate count actor) =
-    sym (turns-idle (setting_at entry) (scripts_at entry) reached actor none (count - k))
-    ∙ rw (turns-joined (setting_at entry) (scripts_at entry) history actor k (count - k), whole) in
+    let all : behind_turns entry history (replicate k actor) ≡ behind_turns entry history (replicate count actor) =
+    sym (turns-idle (setting_at entry) (scripts_at entry) (behind_turns entry history (replicate k actor)) actor none
+    (count - k)) ∙ rw (turns-joined (setting_at entry) (scripts_at entry) history actor k (count - k), whole) in
     (subst (HasHistory new) all (rw zero_made at then.0.stands), sym (ap length all) ∙ first.made)
 
 -- one turn: it makes a visit where one is left
@@ -111,7 +113,7 @@ pub visits-fewer : VisitsAreFew → {old new : Machine} {history : History} {act
     → most_visits (setting_at new) (input_at new).scripts - length new.order.items < most_visits (setting_at old)
     (input_at old).scripts - length old.order.items
 visits-fewer few {old} {new} {history} {actor} {count} same is made some =
-    let after : History = after_turns (setting_at old) (scripts_at old) history (replicate count actor) in
+    let after : History = behind_turns old history (replicate count actor) in
     let most : most_visits (setting_at new) (input_at new).scripts
     ≡ most_visits (setting_at old) (input_at old).scripts = rw (same.0, same.1) in
     omega (
@@ -128,58 +130,42 @@ visits-fewer few {old} {new} {history} {actor} {count} same is made some =
 -- an actor's turns end where it has no visit left
 pub turns-ended : TurnsEndAlike → (entry now new : Machine) (history : History) (actor k : ℕ) → IsSame entry now
     → HasHistory entry history
-    → next (setting_at now) (scripts_at now)
-    (after_turns (setting_at entry) (scripts_at entry) history (replicate k actor)) actor ≡ None
-    → HasHistory new (after_turns (setting_at entry) (scripts_at entry) history (replicate k actor))
-    → HasHistory new (after_turns (setting_at entry) (scripts_at entry) history
-    (replicate (most_turns (setting_at entry) (scripts_at entry) actor) actor))
+    → next (setting_at now) (scripts_at now) (behind_turns entry history (replicate k actor)) actor ≡ None
+    → HasHistory new (behind_turns entry history (replicate k actor)) → HasHistory new
+    (behind_turns entry history (replicate (most_turns (setting_at entry) (scripts_at entry) actor) actor))
 turns-ended alike entry now new history actor k same is none goes =
     subst (HasHistory new) (alike (setting_at entry) (scripts_at entry) history actor k is.sees.played
     (rw (same.0, same.1) at none)) goes
-
--- the turns of the actors by number, one actor more
-numbers-push : (x k : ℕ) → numbers_from x (suc k) ≡ numbers_from x k ++ (x + k) ∷ []
-numbers-push x zero = let e : x ≡ x + 0 = omega arith in ap (λ y. y ∷ []) e
-numbers-push x (suc k) = ap (λ xs. x ∷ xs) (numbers-push (suc x) k
-    ∙ ap (λ y. numbers_from (suc x) k ++ y ∷ []) (let e : suc x + k ≡ x + suc k = omega arith in e))
-
-flat-push : (f : ℕ → List ℕ) (xs : List ℕ) (x : ℕ) → flat_map f (xs ++ x ∷ []) ≡ flat_map f xs ++ f x
-flat-push f xs x = rw (flat_map-append, append-nil)
 
 -- all turns that the first actors may have
 abbrev pub turns_of : Setting → Scripts → ℕ → List ℕ
 turns_of setting scripts count =
     flat_map (λ actor. replicate (most_turns setting scripts actor) actor) (numbers_from 0 count)
 
-pub turns-next : (setting : Setting) (scripts : Scripts) (history : History) (actor : ℕ)
+-- and those of one actor more
+turns-next : (setting : Setting) (scripts : Scripts) (history : History) (actor : ℕ)
     → after_turns setting scripts (after_turns setting scripts history (turns_of setting scripts actor))
     (replicate (most_turns setting scripts actor) actor)
-    ≡ after_turns setting scripts history (turns_of setting scripts (suc actor))
+    ≡ after_turns setting scripts history (turns_of setting scripts (actor + 1))
 turns-next setting scripts history actor =
-    sym (ap (after_turns setting scripts history)
-    (ap (flat_map (λ a. replicate (most_turns setting scripts a) a)) (numbers-push 0 actor)
-    ∙ flat-push (λ a. replicate (most_turns setting scripts a) a) (numbers_from 0 actor) (0 + actor))
-    ∙ (fold-append (after_turn setting scripts) history (turns_of setting scripts actor)
-    (replicate (most_turns setting scripts (0 + actor)) (0 + actor))
-    ∙ ap (λ a. after_turns setting scripts (after_turns setting scripts history (turns_of setting scripts actor))
-    (replicate (most_turns setting scripts a) a)) (let e : 0 + actor ≡ actor = omega arith in e)))
+    let turns : ℕ → List ℕ = λ a. replicate (most_turns setting scripts a) a in
+    let more : turns_of setting scripts (actor + 1) ≡ turns_of setting scripts actor ++ turns actor =
+    ap (flat_map turns) (passing_takes (λ a. true) actor refl)
+    ∙ (flat_map-append turns (numbers_from 0 actor) (actor ∷ []) ∙ ap (λ ys. turns_of setting scripts actor ++ ys)
+    (append-nil (turns actor))) in
+    sym (ap (after_turns setting scripts history) more
+    ∙ fold-append (after_turn setting scripts) history (turns_of setting scripts actor) (turns actor))
 
 pub turns-following : (entry now : Machine) {new : Machine} (history : History) (actor : ℕ) → IsSame entry now
-    → HasHistory new (after_turns (setting_at now) (scripts_at now)
-    (after_turns (setting_at entry) (scripts_at entry) history (turns_of (setting_at entry) (scripts_at entry) actor))
+    → HasHistory new (behind_turns now
+    (behind_turns entry history (turns_of (setting_at entry) (scripts_at entry) actor))
     (replicate (most_turns (setting_at now) (scripts_at now) actor) actor))
-    → HasHistory new (after_turns (setting_at entry) (scripts_at entry) history
-    (turns_of (setting_at entry) (scripts_at entry) (suc actor)))
+    → HasHistory new (behind_turns entry history (turns_of (setting_at entry) (scripts_at entry) (actor + 1)))
 turns-following entry now {new} history actor same goes =
-    let setting : setting_at now ≡ setting_at entry = rw (same.0, same.1) in
-    let scripts : scripts_at now ≡ scripts_at entry = rw same.0 in
-    let reached : History = after_turns (setting_at entry) (scripts_at entry) history
-    (turns_of (setting_at entry) (scripts_at entry) actor) in
-    subst (HasHistory new)
-    (ap (λ s. after_turns s (scripts_at now) reached (replicate (most_turns s (scripts_at now) actor) actor)) setting
-    ∙ ap (λ s. after_turns (setting_at entry) s reached (replicate (most_turns (setting_at entry) s actor) actor))
-    scripts
-    ∙ turns-next (setting_at entry) (scripts_at entry) history actor) goes
+    subst (HasHistory new) (turns-next (setting_at entry) (scripts_at entry) history actor)
+    (of_same (λ setting scripts. HasHistory new (after_turns setting scripts
+    (behind_turns entry history (turns_of (setting_at entry) (scripts_at entry) actor))
+    (replicate (most_turns setting scripts actor) actor))) now entry (sym same.0, sym same.1, sym same.2) goes)
 
 -- and these are the last turns, where all actors have had them
 pub turns-all : (machine : Machine) → IsValid (input_at machine)
@@ -220,23 +206,22 @@ run-more order start end on inside same so_far =
 
 -- the history behind one run more
 pub played-run : (entry now : Machine) {new : Machine} (history : History) {wanted : History} (order : List ℕ)
-    (start end : ℕ) → IsSame entry now → drop start order ≡ replicate (end - start) (get_or order start 0) ++ drop end
-    order → after_turns (setting_at entry) (scripts_at entry) history (drop start order) ≡ wanted
-    → HasHistory new (after_turns (setting_at now) (scripts_at now) history
-    (replicate (end - start) (get_or order start 0))) → (after : History) × HasHistory new
-    after × (after_turns (setting_at entry) (scripts_at entry) after (drop end order) ≡ wanted)
+    (start end : ℕ) → IsSame entry now
+    → drop start order ≡ replicate (end - start) (get_or order start 0) ++ drop end order
+    → behind_turns entry history (drop start order) ≡ wanted
+    → HasHistory new (behind_turns now history (replicate (end - start) (get_or order start 0)))
+    → (after : History) × HasHistory new after × (behind_turns entry after (drop end order) ≡ wanted)
 played-run entry now {new} history order start end same run so_far goes =
     let turns : List ℕ = replicate (end - start) (get_or order start 0) in (
-      after_turns (setting_at entry) (scripts_at entry) history turns,
+      behind_turns entry history turns,
       rw (same.0, same.1) at goes,
       sym (fold-append (after_turn (setting_at entry) (scripts_at entry)) history turns (drop end order))
-          ∙ (ap (after_turns (setting_at entry) (scripts_at entry) history) (sym run) ∙ so_far),
+          ∙ (ap (behind_turns entry history) (sym run) ∙ so_far),
     )
 
 -- and behind all of them
 pub played-whole : (entry : Machine) {now : Machine} {history wanted : History} (order : List ℕ) (start : ℕ)
-    → length order ≤ start → HasHistory now history → after_turns (setting_at entry) (scripts_at entry) history
-    (drop start order) ≡ wanted → HasHistory now wanted
+    → length order ≤ start → HasHistory now history → behind_turns entry history (drop start order) ≡ wanted
+    → HasHistory now wanted
 played-whole entry {now} {history} order start past is so_far =
-    subst (HasHistory now)
-    (ap (after_turns (setting_at entry) (scripts_at entry) history) (sym (drop_all start order past)) ∙ so_far) is
+    subst (HasHistory now) (ap (behind_turns entry history) (sym (drop_all start order past)) ∙ so_far) is

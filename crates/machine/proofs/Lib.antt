@@ -4,12 +4,9 @@ mod Finishing
 mod Making
 mod Written
 mod Rests
-mod Beginning
 mod Turning
 mod Opening
-mod Climbing
 mod Passing
 mod Ending
-mod MovedEntries
 mod Owing
 mod Appended

@@ -105,8 +105,8 @@ module _ {input : Contents} {plan : PlanData} {actor : ℕ} where
       nil_from_length made.visits (omega (arith, none, made-count made refl, length-append history made.visits))
 
   -- turns behind turns
-  pub made-joined : {before after : CellData} {history : History} {ticket count more : ℕ} {First Then : History → Type 0}
-      → AreMade input plan before history actor count First → length history ≡ ticket
+  pub made-joined : {before after : CellData} {history : History} {ticket count more : ℕ}
+      {First Then : History → Type 0} → AreMade input plan before history actor count First → length history ≡ ticket
       → Makes input plan before after (ticket + count) actor more First Then
       → AreMade input plan after history actor (count + more) Then
   made-joined {after} {history} {count} {more} {Then} first place then =

@@ -63,7 +63,8 @@ quiet-get : (sub : ℕ) (ys : List Write) (i : ℕ) {visit : Visit} → All (IsQ
     → slice_get (map (visit_of sub) ys) i ≡ Some visit → is_commit visit.act ≡ false
 quiet-get sub [] i q h = cc
 quiet-get sub (y ∷ ys) zero {visit} q h =
-    let e : visit_of sub y ≡ visit = cc in subst (λ (v : Visit). is_commit v.act ≡ false) e (All-head (IsQuiet sub) y ys q)
+    let e : visit_of sub y ≡ visit = cc in
+    subst (λ (v : Visit). is_commit v.act ≡ false) e (All-head (IsQuiet sub) y ys q)
 quiet-get sub (y ∷ ys) (suc i) q h = quiet-get sub ys i (All-tail (IsQuiet sub) y ys q) h
 
 pub record Tells (commits : Bool) (i place : ℕ) : Type 0 where

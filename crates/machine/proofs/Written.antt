@@ -166,7 +166,8 @@ module _ (unpack : MarksUnpack) (own_law : OwnGrow) (ticket_law : TicketsGrow) (
             ∙ lines-partial setting sub course split.before split.last (take n (tickets sub history)) p front
             (omega (arith, room));
         then = ap (λ ss. step_lines setting sub course ss (tickets sub history ++ length history ∷ [])) split.are
-            ∙ ap (λ ts. step_lines setting sub course (split.before ++ split.last ∷ []) (ts ++ length history ∷ [])) parts
+            ∙ ap (λ ts. step_lines setting sub course (split.before ++ split.last ∷ []) (ts ++ length history ∷ []))
+            parts
             ∙ rw (
               append_assoc,
               lines-partial setting sub course split.before split.last (take n (tickets sub history))
@@ -275,13 +276,14 @@ module _ (unpack : MarksUnpack) (own_law : OwnGrow) (ticket_law : TicketsGrow) (
   written-many more mine {ticket} {old} line place sees its zero handset after puts =
       rw puts.1 (made-none (λ later. IsShown input plan later sub (behind old handset line ticket 0)) sees
       (its-same {one = old} (behind old handset line ticket 0) puts.0 refl (omega arith) its))
-  written-many more mine {history} {ticket} {old} line place sees its (suc count) handset after (before, between, rest, entry) =
+  written-many more mine {history} {ticket} {old} line place sees its (suc count) handset after
+      (before, between, rest, entry) =
       let mid : Shown = behind old before line ticket count in
       let new : Shown = behind old handset line ticket (suc count) in
       let New : History → Type 0 = λ later. IsShown input plan later sub new in
       subst (λ n. AreMade input plan after history sub n New) (add-one count)
-      (made-joined (written-many more mine line place sees its count before between rest) place (λ later sight at stands.
-      let lines : List Done = lines_behind old.lines.items line ticket count in
+      (made-joined (written-many more mine line place sees its count before between rest) place
+      (λ later sight at stands. let lines : List Done = lines_behind old.lines.items line ticket count in
       let size : length lines ≡ length old.lines.items = lines-count old.lines.items line ticket count in
       let some : 0 < length lines = some-line stands
       (entry.put.next input.homes (begun_steps input sub mid) (length (own sub later)) stands.handset) in

@@ -2,7 +2,7 @@ use Rattle.std.proofs.Common.{◌≡◌, ◌∙◌, [], sym, ap, arith, ℕ, ◌
 use Rattle.handset.specs.Condition.{HandsetData, GoesWith, IsMoveStage}
 use Rattle.handset.specs.StepWrites.{due, due_at, erasure, switch_mark}
 use Rattle.region_plan.specs.Settings.{setting_of}
-use Rattle.machine.proofs.Beginning.{on-some}
+use Rattle.machine.proofs.Rests.{on-some}
 use Rattle.machine.proofs.ahead.next_ahead.Goals as goal
 use Rattle.handset.specs.StageLaws.{write-sub}
 use Rattle.std.specs.Prelude.{Some, option_map, slice_index}
@@ -13,7 +13,8 @@ use Rattle.entry_word.specs.declared.visit.Visit.{Visit}
 use Rattle.directory.specs.Keys.{key_sub}
 use Rattle.directory.specs.Writes.{Write, mark_at, new_address, visit_of, write_key, write_word}
 use Rattle.region_plan.specs.Cells.{IsCell}
-use Rattle.region_plan.specs.Plan.{PlanData, clusters_of, home, levels_of, nodes_of}
+use Rattle.visit_log.specs.Cells.{HasHomes}
+use Rattle.region_plan.specs.Plan.{PlanData, levels_of, nodes_of}
 use Rattle.handset.specs.declared.stage.Stage.{Stage}
 use Rattle.handset.specs.declared.stage.Stage.TheVariants.{Resting, Coming, Renewing, Committing, Confirming, Erasing, Purging, Switching}
 use Rattle.directory.specs.StepLaws.{key_sub-of_write}
@@ -30,8 +31,7 @@ cell-of {plan} {subs} sub write {visit} {key} {word} same act cell =
     subst (λ k. IsCell plan subs k × (key_sub k ≡ sub)) here (cell, key_sub-of_write sub write)
 
 cell-at : {plan : PlanData} {handset : HandsetData} (subs : ℕ) {visit : Visit} {key : Key} {word : ℕ}
-    → ((level node : ℕ) → level < levels_of plan → node < nodes_of plan → home plan level node < clusters_of plan level)
-    → GoesWith plan handset → handset.sub < subs → visit.act ≡ Put key word → (stage : Stage)
+    → HasHomes plan → GoesWith plan handset → handset.sub < subs → visit.act ≡ Put key word → (stage : Stage)
     → IsMoveStage (nodes_of plan) handset.last stage → option_map (visit_of handset.sub)
     (due_at (setting_of plan []) handset stage) ≡ Some visit → IsCell plan subs key × (key_sub key ≡ handset.sub)
 cell-at subs homes goes known act Resting its same = absurd (let e : ⊥ = cc in e)
@@ -62,8 +62,7 @@ cell-at {handset} subs homes goes known act (Switching off) its same =
     (record { place = goes.place; known = known })
 
 cell-due : {plan : PlanData} {handset : HandsetData} (subs : ℕ) {visit : Visit} {key : Key} {word : ℕ}
-    → ((level node : ℕ) → level < levels_of plan → node < nodes_of plan → home plan level node < clusters_of plan level)
-    → GoesWith plan handset → handset.sub < subs → due (setting_of plan []) handset ≡ Some visit
+    → HasHomes plan → GoesWith plan handset → handset.sub < subs → due (setting_of plan []) handset ≡ Some visit
     → visit.act ≡ Put key word → IsCell plan subs key × (key_sub key ≡ handset.sub)
 cell-due {handset} subs homes goes known is act =
     cell-at subs homes goes known act handset.stage goes.stage is

@@ -11,8 +11,7 @@ use Rattle.region_plan.specs.Plan.{PlanData, home, levels_of, nodes_of}
 use Rattle.region_plan.specs.Settings.{setting_of}
 use Rattle.visit_log.specs.Homes.{home_place}
 use Rattle.machine.specs.Owed.{IsAhead}
-use Rattle.machine.proofs.MovedEntries.{at-stage, entry-ahead, first-found, first-passed}
-use Rattle.machine.proofs.Owing.{ahead-more, ahead-none}
+use Rattle.machine.proofs.Owing.{at-stage, entry-ahead, first-found, first-passed, ahead-more, ahead-none}
 use Rattle.machine.proofs.ahead.push_erasures.Goals as goal
 use Rattle.machine.proofs.ahead.push_erasures.Goals.{then-old-new, else-old-new}
 

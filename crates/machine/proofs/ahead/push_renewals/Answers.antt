@@ -11,8 +11,7 @@ use Rattle.region_plan.specs.Settings.{setting_of}
 use Rattle.std.proofs.lemmas.List.{length_push}
 use Rattle.visit_log.specs.Homes.{home_place}
 use Rattle.machine.specs.Owed.{IsAhead}
-use Rattle.machine.proofs.MovedEntries.{at-stage, entry-ahead, renewal-at}
-use Rattle.machine.proofs.Owing.{ahead-more, ahead-none}
+use Rattle.machine.proofs.Owing.{at-stage, entry-ahead, renewal-at, ahead-more, ahead-none}
 use Rattle.machine.proofs.ahead.push_renewals.Goals as goal
 
 -- a level that is renewed is one of the plan's

@@ -5,7 +5,7 @@ use Rattle.visit_log.specs.declared.routes.Height.{Height}
 use Rattle.walk.specs.declared.progress.Climb.{Climb}
 use Rattle.walk.specs.Climbs.{IsClimbOver, climb_past}
 use Rattle.machine.specs.Climbs.{rung_of}
-use Rattle.machine.proofs.Climbing.{climb-is, passes, past-over, climb-at}
+use Rattle.machine.proofs.Passing.{climb-is, passes, past-over, climb-at}
 use Rattle.machine.proofs.caller.climb_past.Goals as goal
 
 pub returns-clause-exact : goal.returns-clause-exact

@@ -3,7 +3,7 @@ use Rattle.std.specs.Prelude.{slice_index, slice_index_or}
 use Rattle.std.proofs.Math.Nat.{min-le_left}
 use Rattle.std.proofs.lemmas.List.{get_or-take, get_or_default, length-take-le}
 use Rattle.visit_log.specs.Cells.{word_beside}
-use Rattle.machine.proofs.Climbing.{climb-at, place-below}
+use Rattle.machine.proofs.Passing.{climb-at, place-below}
 use Rattle.machine.proofs.caller.count_ahead.Goals as goal
 
 -- one of the first of some places

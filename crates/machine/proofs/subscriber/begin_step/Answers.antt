@@ -1,5 +1,5 @@
 use Rattle.std.proofs.Common.{sym, ◌∙◌}
-use Rattle.machine.proofs.Beginning.{on-ok}
+use Rattle.machine.proofs.Rests.{on-ok}
 use Rattle.machine.proofs.subscriber.begin_step.Goals as goal
 
 pub returns-else-is_err-clause-stands : goal.returns-else-is_err-clause-stands

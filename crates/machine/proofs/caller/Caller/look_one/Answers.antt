@@ -3,7 +3,7 @@ use Rattle.std.specs.Prelude.{Some, if◌then◌else◌}
 use Rattle.std.proofs.lemmas.List.{length_push}
 use Rattle.scripts.specs.Scripts.{find_of}
 use Rattle.machine.specs.Stands.{setting_over, IsWalking}
-use Rattle.machine.proofs.Beginning.{on-err}
+use Rattle.machine.proofs.Rests.{on-err}
 use Rattle.machine.proofs.Looked.{ok-of, room-left, wanted, scripts-low, place-low, call-at, looks, looked-on, looked-up}
 use Rattle.net_reader.specs.Seen.{seen_input}
 use Rattle.region_plan.specs.Plan.{nodes_of}

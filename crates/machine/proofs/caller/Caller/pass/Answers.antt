@@ -2,9 +2,8 @@ use Rattle.std.proofs.Common.{◌≡◌, ◌<◌, ◌∙◌, arith, subst}
 use Rattle.net_reader.specs.Seen.{seen_input}
 use Rattle.walk.specs.Climbs.{IsClimbOf}
 use Rattle.machine.specs.Callers.{HasPassed}
-use Rattle.machine.proofs.Climbing.{ahead-cell, ahead-word, past-from}
+use Rattle.machine.proofs.Passing.{ahead-cell, ahead-word, past-from, LooksAhead, behind-none, behind-some, passed-ahead, passed-none}
 use Rattle.machine.proofs.Looked.{scripts-low, sub-known, walks-over}
-use Rattle.machine.proofs.Passing.{LooksAhead, behind-none, behind-some, passed-ahead, passed-none}
 use Rattle.machine.proofs.caller.Caller.pass.Goals as goal
 
 pub returns-in_default-climb-clause-passed : goal.returns-in_default-climb-clause-passed

@@ -3,8 +3,7 @@ use Rattle.std.specs.Prelude.{if◌then◌else◌}
 use Rattle.net_reader.specs.declared.said.Call.TheVariants as calls
 use Rattle.machine.specs.Owed.{Owes}
 use Rattle.machine.proofs.Looked.{ok-of}
-use Rattle.machine.proofs.Rests.{all-written, first-cell, first-put, shown-now}
-use Rattle.machine.proofs.Beginning.{first-ahead, on-err, ready, script-of}
+use Rattle.machine.proofs.Rests.{all-written, first-cell, first-put, shown-now, first-ahead, on-err, ready, script-of}
 use Rattle.machine.proofs.subscriber.Subscriber.begin.Goals as goal
 
 pub returns-then-place-script : goal.returns-then-place-script
