@@ -4,10 +4,10 @@ use Rattle.std.proofs.Common.{◌≡◌, ℕ, suc, ◌+◌, ◌<◌, ◌≤◌, 
 use Rattle.std.specs.Prelude.{None, Some, flat_map, vec_capacity, All}
 use Rattle.std.proofs.lemmas.List.{length-map, length-drop, take_all, get_or-drop}
 use Rattle.directory.specs.Settings.{Setting, start}
-use Rattle.directory.specs.Courses.{Course, Step, after_step, after_steps, course_at}
+use Rattle.directory.specs.Courses.{Course, Step, after_steps, course_at}
 use Rattle.directory.specs.Histories.{History, own, tickets, words_read}
 use Rattle.directory.specs.Finds.{FindCall, Pursuit, after_word, answer_of}
-use Rattle.directory.specs.Writes.{numbers_from, step_writes, visit_of, visits, writes}
+use Rattle.directory.specs.Writes.{Write, numbers_from, visit_of, visits, writes}
 use Rattle.directory.specs.Orders.{Caller as Seeker, after_read, caller_at, caller_in, finds_of, read_by, script_visits, steps_of, with_pursuit, IsDone}
 use Rattle.directory.specs.Outcomes.{answer_line, caller_lines, outcome_in, sub_lines}
 use Rattle.directory.specs.StepLaws.{writes-append, past-end}
@@ -45,10 +45,7 @@ none-left setting course before (step ∷ later) made all few =
       all,
       few,
       ap length (writes-append setting course before (step ∷ later)),
-      length-append (writes setting course before)
-          (writes setting (after_steps setting course before) (step ∷ later)),
-      length-append (step_writes setting (after_steps setting course before) step)
-          (writes setting (after_step setting (after_steps setting course before) step) later),
+      length-append {A = Write},
       some-write setting (after_steps setting course before) step,
     ))
 

@@ -9,12 +9,6 @@ returns-then-most-eq0-clause-taken c = λ history sees place its. (
   λ fewer. absurd (omega (arith, fewer, c.if-most-eq0.true)),
 )
 
-pub returns-then-made-eq1-clause-taken : goal.returns-then-made-eq1-clause-taken
-returns-then-made-eq1-clause-taken c = λ history sees place its. (
-  rw c.if-made-eq1.true at (c.pass-made.ensures.passed history sees place its),
-  λ fewer. absurd (omega (arith, fewer, c.requires.alone)),
-)
-
 pub look_one-requires-clause-stands : goal.look_one-requires-clause-stands
 look_one-requires-clause-stands c =
     may-follow c.requires.stands c.pass-made.ensures.passed

@@ -11,9 +11,6 @@ look-count-requires-clause-stands g c =
     (scripts-low c.args.self.now.input.now.scripts.items c.args.actor c.requires.known)
     (omega (arith, c.len-ticket.ensures)) c.index_mut.ensures.value
 
-pub look-count-requires-clause-routes : goal.look-count-requires-clause-routes
-look-count-requires-clause-routes g c = c.requires.stands.1.routes
-
 pub log_run-requires : goal.log_run-requires
 log_run-requires g c =
     let may = caller-may (c.args.actor - c.len.result) c.requires.stands.1

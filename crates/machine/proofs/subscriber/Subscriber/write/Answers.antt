@@ -25,10 +25,6 @@ returns-then-made-most-clause-taken g c = λ history sees place its. (
   λ fewer. absurd (omega (arith, fewer, c.if-made-most.true)),
 )
 
-pub returns-then-made-most-clause-still : goal.returns-then-made-most-clause-still
-returns-then-made-most-clause-still g c = λ none.
-    c.write_plain-made.ensures.still (omega (arith, none)) ∙ c.writes.invariant.still (omega (arith, none))
-
 pub writes-preserved : goal.writes-preserved
 writes-preserved g c = record {
   few = omega (arith, c.writes-test.true, c.write_plain-made.ensures.few, c.if-made-most.false);
@@ -52,7 +48,3 @@ returns-in-Finished-clause-still g c = λ none.
     (c.in-Finished.ensures (stands.0 ++ made.visits) made.sees
     (made-count made stands.2) made.its).2
     ∙ c.write_plain-made.ensures.still (omega (arith, none)) ∙ c.writes.invariant.still (omega (arith, none))
-
-pub returns-clause-taken : goal.returns-clause-taken
-returns-clause-taken g c = λ history sees place its.
-    (c.writes.invariant.written history sees place its, λ fewer. absurd (omega (arith, fewer, c.writes-test.false)))
