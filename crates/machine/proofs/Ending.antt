@@ -1,7 +1,9 @@
--- The end: when no actor has a visit left, the lines of all actors are those of the outcome, they are right, and their
--- numbers rise.
-use Rattle.std.proofs.Common.{◌≡◌, ℕ, suc, ◌+◌, ◌<◌, ◌≤◌, List, [], ◌∷◌, ◌++◌, length, map, drop, fold, get_or, refl, sym, ap, ◌∙◌, arith, length-append, Option, take-append-drop}
-use Rattle.std.specs.Prelude.{None, Some, flat_map, vec_capacity, All}
+-- The end: when no actor has a visit left, the lines of all actors, one behind the other, are those of the outcome,
+-- they are right, and their numbers rise.
+use Rattle.std.proofs.Common.{◌≡◌, ◌+◌, ◌<◌, ◌≤◌, ℕ, List, ◌++◌, length, take, drop, get_or, ap, sym, ◌∙◌, arith, add-one, append_assoc, append-nil, drop-cons, length-append, suc, [], ◌∷◌, map, fold, refl, Option, take-append-drop}
+use Rattle.std.specs.Prelude.{flat_map, None, Some, vec_capacity, All}
+use Rattle.std.proofs.Math.Seq.{take-suc}
+use Rattle.std.proofs.lemmas.Grind.{flat_map-append}
 use Rattle.std.proofs.lemmas.List.{length-map, length-drop, take_all, get_or-drop}
 use Rattle.directory.specs.Settings.{Setting, start}
 use Rattle.directory.specs.Courses.{Course, Step, after_steps, course_at}
@@ -33,6 +35,29 @@ use Rattle.region_plan.specs.Matched.{IsMatched}
 use Rattle.directory.specs.Statements.{OrdersAreOwn}
 use Rattle.scripts.specs.Laws.{ScriptsAreValid}
 use Rattle.walk.specs.ReaderLaws.{reads-top}
+
+module _ {A B : Type 0} (f : A → List B) (xs : List A) (i : ℕ) (item : A) (part : List B) (low : i < length xs)
+    (is : item ≡ get_or xs i item) (its : part ≡ f item) where
+  its-part : f (get_or xs i item) ≡ part
+  its-part = ap f (sym is) ∙ sym its
+
+  -- the parts that are left begin with that of the item
+  parts-left : length (flat_map f (drop i xs)) ≡ length part + length (flat_map f (drop (i + 1) xs))
+  parts-left =
+      rw (drop-cons xs i item low, its-part, add-one i, length-append)
+
+  pub part-fits : (held capacity : ℕ) → held + length (flat_map f (drop i xs)) ≤ capacity
+      → held + length part ≤ capacity
+  part-fits held capacity fits = omega (arith, fits, parts-left)
+
+  pub part-more : (old : List B) {now new : List B} (held capacity : ℕ) → now ≡ old ++ flat_map f (take i xs)
+      → new ≡ now ++ part → length now + length (flat_map f (drop i xs)) ≤ held → held ≤ capacity
+      → (new ≡ old ++ flat_map f (take (i + 1) xs))
+      × (length new + length (flat_map f (drop (i + 1) xs)) ≤ capacity)
+  part-more old {now} held capacity items added fits wide = (
+    rw (added, items, add-one i, take-suc xs i item low, flat_map-append, append-nil, its-part, append_assoc),
+    omega (arith, fits, wide, parts-left, ap length added, length-append now part),
+  )
 
 none-left : (setting : Setting) (course : Course) (before left : List Step) (made : ℕ)
     → length (writes setting course (before ++ left)) ≤ made → made ≤ length (writes setting course before)

@@ -5,8 +5,6 @@ mod Making
 mod Written
 mod Rests
 mod Turning
-mod Opening
 mod Passing
 mod Ending
 mod Owing
-mod Appended

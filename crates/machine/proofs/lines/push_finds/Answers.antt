@@ -2,7 +2,7 @@ use Rattle.std.proofs.Common.{◌++◌, ◌∙◌, ap, length, arith}
 use Rattle.std.specs.Prelude.{flat_map, vec_capacity}
 use Rattle.std.proofs.lemmas.List.{take_all}
 use Rattle.machine.specs.declared.caller.Caller.{Caller}
-use Rattle.machine.proofs.Appended.{part-fits, part-more}
+use Rattle.machine.proofs.Ending.{part-fits, part-more}
 use Rattle.machine.proofs.lines.push_finds.Goals as goal
 
 pub push_lines-requires : goal.push_lines-requires
