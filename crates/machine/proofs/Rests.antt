@@ -326,31 +326,21 @@ pub on-err : {A E : Type 0} {P : Type 0} (r : Result A E) → is_err r ≡ true 
 on-err (Ok x) e h = cc
 on-err (Err x) e h = h
 
--- the first visit of the step that is begun
-pub its-visit : {input : Input} {plan : PlanData} {history : History} {sub : ℕ} {old : Shown} {script : List Call}
-    {place subject : ℕ} {default : Call} {result : Option Visit} → Ready input plan history sub old script place default
-    → subject ≡ old.handset.sub → result ≡ slice_get (visits (setting_over (seen_input input) plan) subject
-    (begun_steps (seen_input input) sub old ++ step_of (get_or script place default) ∷ [])) (length (own sub history))
-    → (visit : Visit) × (result ≡ Some visit)
-its-visit {input} {plan} {history} {sub} {old} {script} {place} {default} at same visit =
-    let first = first-visit (setting_over (seen_input input) plan) sub (begun_steps (seen_input input) sub old)
-    (step_of (get_or script place default)) at.begin.all in (
-      first.0,
-      visit ∙ rw (same, at.shown.its) first.1,
-    )
-
--- so a write of it is ahead
+-- a write of the step that is begun is ahead
 pub first-ahead : {input : Input} {plan : PlanData} {history : History} {sub : ℕ} {old : Shown} {script : List Call}
     {place : ℕ} {default : Call} {begun : HandsetData} (ahead : List Ahead)
     → Ready input plan history sub old script place default → begun.sub ≡ old.handset.sub
     → StandsForSteps (setting_over (seen_input input) plan) begun
     (begun_steps (seen_input input) sub old ++ step_of (get_or script place default) ∷ []) (length (own sub history))
     → (ahead ≡ [] → HasNone plan begun) → 0 < length ahead
-first-ahead {input} {history} {sub} {old} {script} {place} {default} [] at same stands rests =
-    let found = its-visit at same refl in
-    let none = (rests refl).next (seen_input input).homes
-    (begun_steps (seen_input input) sub old ++ step_of (get_or script place default) ∷ []) (length (own sub history))
-    stands in
-    cc (found.1, none)
+first-ahead {input} {plan} {history} {sub} {old} {script} {place} {default} {begun} [] at same stands rests =
+    let step : Step = step_of (get_or script place default) in
+    let steps : List Step = begun_steps (seen_input input) sub old ++ step ∷ [] in
+    let first = first-visit (setting_over (seen_input input) plan) sub (begun_steps (seen_input input) sub old) step
+    at.begin.all in
+    let some : slice_get (visits (setting_over (seen_input input) plan) begun.sub steps) (length (own sub history))
+    ≡ Some first.0 = rw (same, at.shown.its) first.1 in
+    let none = (rests refl).next (seen_input input).homes steps (length (own sub history)) stands in
+    cc (some, none)
 first-ahead (write ∷ writes) at same stands rests =
     omega arith

@@ -30,8 +30,7 @@ use Rattle.entry_word.specs.declared.visit.Visit.{Visit}
 use Rattle.directory.specs.Keys.{opening}
 use Rattle.directory.specs.Looks.{look_by}
 use Rattle.directory.specs.Statements.{CallersKept, TicketsGrow, OwnGrow, MoreIsPlayed}
-use Rattle.region_plan.specs.Settings.{setting_of}
-use Rattle.visit_log.specs.Cells.{CellData, Hold}
+use Rattle.visit_log.specs.Cells.{CellData}
 use Rattle.machine.specs.declared.machine.Machine.{Machine}
 use Rattle.scripts.specs.Laws.{VisitsAreFew}
 use Rattle.machine.specs.Machines.{IsStill, HasHistory, input_at, scripts_at, setting_at, HasMade, HasStridden}
@@ -180,16 +179,6 @@ each-set P xs ys i x items its others k d low =
       | inr other ↦ rw (get_or-set_other xs i k x d other) (others k d low other)
     ])
 
-hold-look : {plan : PlanData} {starts : List ℕ} {cells : CellData} {history : History} (actor : ℕ) (key : Key)
-    → Hold plan starts cells history → Hold plan starts cells (history ++ look_by actor key ∷ [])
-hold-look {plan} {starts} {history} actor key hold =
-    record {
-      subs = hold.subs;
-      words = λ at its. hold.words at its
-          ∙ sym (fold-append (λ word (v : Visit). word_after at word v.act)
-          (opening (setting_of plan starts) at) history (look_by actor key ∷ []));
-    }
-
 -- each visit was its actor's next one, and cells hold what the history leaves
 pub sees-more : MoreIsPlayed → {input : Contents} {plan : PlanData} {cells : CellData} {history : History} (actor : ℕ)
     (key : Key) → Sees input plan cells history → next (setting_over input plan) (scripts_of input) history actor ≡ Some
@@ -198,7 +187,12 @@ sees-more more {input} {plan} {history} actor key sees wants =
     record {
       played = more (setting_over input plan) (scripts_of input) history actor (look_by actor key) wants sees.played;
       goes = sees.goes;
-      hold = hold-look actor key sees.hold;
+      hold = record {
+        subs = sees.hold.subs;
+        words = λ at its. sees.hold.words at its
+            ∙ sym (fold-append (λ word (v : Visit). word_after at word v.act)
+            (opening (setting_over input plan) at) history (look_by actor key ∷ []));
+      };
     }
 
 -- what a visit of an actor keeps, many keep

@@ -15,9 +15,9 @@ push_lines-requires c = record {
 pub callers-preserved : goal.callers-preserved
 callers-preserved c =
     let more = part-more (λ (one : Caller). one.lines.items) c.args.callers.now c.callers.caller-index
-    c.caller-item.result c.deref.result.now c.callers-test.true c.caller-item.is c.deref.ensures.value c.args.calls.now.items
-    (vec_capacity c.callers.calls) (vec_capacity c.push_lines.new.calls) c.callers.invariant.items
-    c.push_lines.ensures.items c.callers.invariant.room c.push_lines.ensures.capacity in
+    c.caller-item.result c.deref.result.now c.callers-test.true c.caller-item.is c.deref.ensures.value
+    c.args.calls.now.items (vec_capacity c.callers.calls) (vec_capacity c.push_lines.new.calls)
+    c.callers.invariant.items c.push_lines.ensures.items c.callers.invariant.room c.push_lines.ensures.capacity in
     record {
       items = more.0;
       room = more.1;

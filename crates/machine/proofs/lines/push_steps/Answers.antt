@@ -16,10 +16,10 @@ push_lines-requires c = record {
 pub subscribers-preserved : goal.subscribers-preserved
 subscribers-preserved c =
     let more = part-more (λ (one : Subscriber). one.lines.items) c.args.subscribers.now c.subscribers.subscriber-index
-    c.subscriber-item.result c.deref.result.now c.subscribers-test.true c.subscriber-item.is c.deref.ensures.value c.args.calls.now.items
-    (vec_capacity c.subscribers.calls) (vec_capacity c.push_lines.new.calls) c.subscribers.invariant.items
-    c.push_lines.ensures.items c.subscribers.invariant.room c.push_lines.ensures.capacity in
-    record {
+    c.subscriber-item.result c.deref.result.now c.subscribers-test.true c.subscriber-item.is c.deref.ensures.value
+    c.args.calls.now.items (vec_capacity c.subscribers.calls) (vec_capacity c.push_lines.new.calls)
+    c.subscribers.invariant.items c.push_lines.ensures.items c.subscribers.invariant.room
+    c.push_lines.ensures.capacity in record {
       items = more.0;
       room = more.1;
       capacity = omega (arith, c.subscribers.invariant.capacity, c.push_lines.ensures.capacity);

@@ -26,7 +26,8 @@ count-had actor scripts low high one two =
 pub returns-clause-stands : goal.returns-clause-stands
 returns-clause-stands c history is =
     subst (λ order. HasHistory c.actors.self (behind_turns c.args.self.now history order))
-    (ap (turns_of (setting_at c.args.self.now) (scripts_at c.args.self.now)) (count-had c.actors.actor c.args.self.now.input.now.scripts c.actors-test.false c.actors.auto.actor-end
+    (ap (turns_of (setting_at c.args.self.now) (scripts_at c.args.self.now))
+    (count-had c.actors.actor c.args.self.now.input.now.scripts c.actors-test.false c.actors.auto.actor-end
     c.len-actor-end.ensures c.args.self.now.input.now.scripts.ok.0) ∙ turns-all c.args.self.now is.together.valid)
     (c.actors.invariant.stands history is)
 

@@ -43,7 +43,8 @@ returns-then-made-gt0-clause-made c = λ history sees place its.
     (may-put sees its c.as_slice.ensures.value) in
     plain-put c.mark_words.ensures.unpacked c.own_after.ensures.visits c.own_after.ensures.tickets
     c.tickets_tell.ensures.visits c.scripts_are_valid.ensures c.requires.together c.requires.low
-    c.each_visit_is_next.ensures.more c.next_is_own.ensures c.put_plain-behind.result _ line place sees its c.as_slice.ensures.value come c.if-made-gt0.true c.put_plain-behind.ensures.within
+    c.each_visit_is_next.ensures.more c.next_is_own.ensures c.put_plain-behind.result _ line place sees its
+    c.as_slice.ensures.value come c.if-made-gt0.true c.put_plain-behind.ensures.within
     (ap (set old.lines.items (c.len-last.result - 1)) (c.go_on.ensures
     ∙ ap (λ l. line_after l false (c.args.ticket + count - 1)) c.index_mut.ensures.value) ∙ rw size) (omega arith)
 
