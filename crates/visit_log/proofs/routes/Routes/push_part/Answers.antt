@@ -1,10 +1,9 @@
 use Rattle.std.proofs.Common.{◌≡◌, ℕ, ◌+◌, ◌*◌, ◌^◌, ◌<◌, ◌≤◌, [], ◌∷◌, ◌++◌, length, get_or, refl, sym, ap, ◌∙◌, arith}
 use Rattle.std.specs.Prelude.{slice_index}
-use Rattle.std.proofs.lemmas.List.{get_or_push, length_push}
 use Rattle.entry_word.specs.declared.visit.Key.TheVariants.{Entry}
 use Rattle.region_plan.specs.Plan.{inside, readers}
 use Rattle.visit_log.specs.Routes.{RouteData}
-use Rattle.visit_log.proofs.Adding.{adding-done, adding-more, parts-few, row_of}
+use Rattle.visit_log.proofs.Adding.{adding-done, adding-more, parts-few, pushed, row_of}
 use Rattle.visit_log.proofs.Apart.{place-below}
 use Rattle.region_plan.specs.ReaderLaws.{reader-held, readers-few, readers-some, way-light}
 use Rattle.visit_log.proofs.routes.Routes.push_part.Goals as goal
@@ -109,19 +108,9 @@ loop-index-preserved c =
                 c.plan_is_sound.ensures.reached c.requires.level held.1 held.0,
           ));
       sum =
-          let size : length c.push_reserved.new.self.items ≡ length c.loop-index.self-inside.ways.items =
-          omega (
-            arith,
-            ap length c.push_reserved.ensures.items,
-            length_push c.loop-index.self-inside.places.items
-                (c.first-first.result + slice_index c.readers-readers.result.now index),
-            c.loop-index.invariant.adding.ways_size,
-          )
-          in
-          sym (ap (λ xs. slice_index xs (length c.push_reserved.new.self.items))
-          c.push_reserved-in-loop-index.ensures.items
-          ∙ get_or_push c.loop-index.self-inside.ways.items sum 0 (length c.push_reserved.new.self.items)
-          (sym size));
+          let row = pushed c.push_reserved.ensures.items in
+          sym ((pushed c.push_reserved-in-loop-index.ensures.items).last (length c.push_reserved.new.self.items)
+          (omega (arith, row.size, c.loop-index.invariant.adding.ways_size)));
       room = omega (arith, c.push_reserved.ensures.capacity, c.loop-index.invariant.room);
       ways_room = omega (
         arith,
