@@ -1,17 +1,15 @@
 -- Numbers that are read digit by digit, of 18 digits at most.
-use Rattle.std.proofs.Common.{◌≡◌, ℕ, ◌+◌, ◌-◌, ◌*◌, ◌^◌, ◌%◌, ◌<◌, ◌≤◌, true, fold, take, List, [], ◌∷◌, length, get_or, refl, ap, sym, ◌∙◌, subst, arith}
+use Rattle.std.proofs.Common.{◌≡◌, ℕ, ◌+◌, ◌-◌, ◌*◌, ◌^◌, ◌%◌, ◌<◌, ◌≤◌, true, fold, take, List, length, get_or, ap, sym, ◌∙◌, arith}
 use Rattle.std.proofs.Math.Nat.{pow-le-pow_right}
 use Rattle.std.proofs.lemmas.Bool.Decides.{nat_tests}
 use Rattle.std.proofs.lemmas.Grind.{pow_more}
-use Rattle.std.proofs.lemmas.List.{take_more}
+use Rattle.std.proofs.lemmas.List.Folds.{list_all_more}
 use Rattle.std.proofs.lemmas.List.Sums.{fold_more}
 use Rattle.std.specs.Char.{is_ascii_digit}
 use Rattle.std.specs.List.{list_all}
 use Rattle.net_reader.specs.declared.line.Open.{Open}
 use Rattle.net_reader.specs.declared.line.Open.TheVariants.{Number}
 use Rattle.net_reader.specs.Steps.{is_plain, more, more_digits}
-use Rattle.net_reader.proofs.Running.{all-append}
-use Rattle.std.proofs.lemmas.Bool.{and_from}
 
 pub below-most : (value taken : ℕ) → value < 10 ^ taken → taken < 18 → value < 100000000000000000
 below-most value taken small few =
@@ -24,24 +22,17 @@ pub wrapped : (b : ℕ) {base : ℕ} → b < 18446744073709551616 → base ≡ 4
     → (b + (18446744073709551616 - base)) % 18446744073709551616 ≤ 9
     → (is_ascii_digit b ≡ true) × ((b + (18446744073709551616 - base)) % 18446744073709551616 ≡ b - 48)
 wrapped b fits is few =
-    let low : 48 ≤ b = omega (arith, fits, is, few) in
-    let high : b ≤ 57 = omega (arith, fits, is, few) in
-    (grind (arith, nat_tests, low, high), omega (arith, fits, is, low))
+    let digit : (48 ≤ b) × (b ≤ 57) = omega arith in
+    (grind (arith, nat_tests), omega arith)
 
 pub still-small : (value taken digit : ℕ) → value < 10 ^ taken → digit < 10
     → 10 * value + digit < 10 ^ (taken + 1)
 still-small value taken digit small few =
     let rise : 10 ^ (taken + 1) ≡ 10 ^ taken * 10 = pow_more 10 taken in omega (arith, small, few, rise)
 
-digit-plain : (b : ℕ) → is_ascii_digit b ≡ true → is_plain b ≡ true
-digit-plain b e = grind (arith, nat_tests)
-
 pub plain-more : (xs : List ℕ) (i : ℕ) → i < length xs → is_ascii_digit (get_or xs i 0) ≡ true
     → list_all is_plain (take i xs) ≡ true → list_all is_plain (take (i + 1) xs) ≡ true
-plain-more xs i within digit plain =
-    subst (λ ys. list_all is_plain ys ≡ true) (sym (take_more xs i 0 within))
-    (all-append is_plain (take i xs) (get_or xs i 0 ∷ []) plain
-    (and_from (is_plain (get_or xs i 0)) true (digit-plain (get_or xs i 0) digit) refl))
+plain-more xs i within digit plain = grind (arith, nat_tests, list_all_more is_plain xs i 0 within)
 
 digit-read : (count value b : ℕ) → is_ascii_digit b ≡ true → count < 18 → value < 100000000000000000
     → Number (count + 1) (10 * value + (b - 48)) ≡ more (Number count value) b

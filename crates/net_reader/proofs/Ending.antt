@@ -1,5 +1,5 @@
 -- A reader's answer is what the bytes say that it stands for.
-use Rattle.std.proofs.Common.{◌≡◌, ℕ, ◌≤◌, ◌<◌, ◌+◌, ◌^◌, Bool, true, false, cond, eqb, inl, inr, List, ◌++◌, Result, Ok, Err, ap, subst, sym, refl, ◌∙◌, arith}
+use Rattle.std.proofs.Common.{◌≡◌, ℕ, ◌<◌, ◌+◌, ◌^◌, Bool, false, inl, inr, List, ◌++◌, Result, Ok, Err, ap, subst, sym, refl, ◌∙◌, arith}
 use Rattle.std.specs.Result.{is_err, OnOk}
 use Rattle.net_graph.specs.Network.{Network}
 use Rattle.net_reader.specs.declared.fault.InputFault.{InputFault}
@@ -59,10 +59,6 @@ fed_stands reader (Ok done) old new piece e same read = λ bytes stands. record 
 fed_stands reader (Err fault) old new piece e same read = tt
 
 -- what was said is within the limits
-nodes-few : (two : Bool) → cond two 1024 256 ≤ 1024
-nodes-few true = omega arith
-nodes-few false = omega arith
-
 pub sound : (scan : Scan) (known : Known) (lines : ℕ)
     → (bytes : List ℕ) × IsWell scan.fault scan.known × (seen_scan scan ≡ after_bytes fresh_reader bytes)
     → Finishes (Ok (known, lines)) (end_result (seen_scan scan)) → IsSound (seen_known known)
@@ -72,7 +68,7 @@ sound scan known lines stands h =
     let m = holds_of_read IsMeasured begins-measured keeps-measured stands.0 is in
     record {
       some = m.0.some (omega (arith, m.1));
-      few = omega (arith, m.0.few, nodes-few (eqb known.format 2));
+      few = grind (arith, m.0.few);
       edges = m.0.edges;
     }
 

@@ -1,12 +1,10 @@
 -- What each line keeps holds of all that is read.
-use Rattle.std.proofs.Common.{◌≡◌, ℕ, ◌+◌, ◌≤◌, Bool, true, false, cond, ltb, List, [], ◌∷◌, Option, Some, None, Result, Ok, Err, refl, subst, arith}
+use Rattle.std.proofs.Common.{◌≡◌, ℕ, ◌+◌, ◌≤◌, true, List, [], ◌∷◌, Option, Some, None, Result, Ok, Err, refl, arith}
 use Rattle.std.proofs.lemmas.Bool.Decides.{nat_tests}
 use Rattle.net_reader.specs.declared.fault.InputCause.{InputCause}
-use Rattle.net_reader.specs.declared.fault.InputCause.TheVariants as causes
-use Rattle.net_reader.specs.declared.fault.InputFault.{InputFault}
 use Rattle.net_reader.specs.declared.word.Word.{Word}
 use Rattle.net_reader.specs.Said.{Said, nothing}
-use Rattle.net_reader.specs.TextLines.{word_of, numbers_of, is_skipped, lines_of, fields_of}
+use Rattle.net_reader.specs.TextLines.{word_of, numbers_of, lines_of, fields_of}
 use Rattle.net_reader.specs.Table.{judge_word, judge, verdict, row_of, may_stand, place_of_word}
 use Rattle.net_reader.specs.Input.{after_line, read_from, read}
 
@@ -24,7 +22,8 @@ module _ (P : Said → Type 0) (kept : IsKeptByLines P) where
 
   keeps-judged : {said : Said} (found : Said) (fields : List (List ℕ)) → P said → judge said fields ≡ Ok found → P found
   keeps-judged {said} found [] h e = grind arith
-  keeps-judged {said} found (field ∷ fields) h e = grind (arith, keeps-spoken found (word_of field) (numbers_of fields) h)
+  keeps-judged {said} found (field ∷ fields) h e =
+      grind (arith, keeps-spoken found (word_of field) (numbers_of fields) h)
 
   abbrev Reads : List (List ℕ) → Type 0
   Reads lines = (said : Said) (n : ℕ) (found : Said × ℕ) → P said → read_from said n lines ≡ Ok found

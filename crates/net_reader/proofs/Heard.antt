@@ -66,11 +66,14 @@ heard said words.Track (format ∷ []) h = (format, grind (arith, nat_tests), gr
 heard said words.Nodes (n ∷ []) h = (n, grind (arith, nat_tests), grind (arith, nat_tests), grind (arith, nat_tests))
 heard said words.K (k ∷ []) h = (k, grind (arith, nat_tests), grind (arith, nat_tests))
 heard said words.Edge (a ∷ b ∷ w ∷ []) h =
-    (record { a = a; b = b; weight = w }, grind (arith, nat_tests), grind (arith, nat_tests), grind (arith, nat_tests))
-heard said words.Sub (node ∷ []) h = (node, grind (arith, nat_tests), grind (arith, nat_tests), grind (arith, nat_tests))
+    let edge : Edge = record { a = a; b = b; weight = w } in
+    (edge, grind (arith, nat_tests), grind (arith, nat_tests), grind (arith, nat_tests))
+heard said words.Sub (node ∷ []) h =
+    (node, grind (arith, nat_tests), grind (arith, nat_tests), grind (arith, nat_tests))
 heard said words.Callers (callers ∷ []) h = (callers, grind (arith, nat_tests), grind (arith, nat_tests))
 heard said words.Move (sub ∷ to ∷ []) h = (sub, to, grind (arith, nat_tests), grind (arith, nat_tests))
-heard said words.Find (caller ∷ from ∷ sub ∷ []) h = (caller, from, sub, grind (arith, nat_tests), grind (arith, nat_tests))
+heard said words.Find (caller ∷ from ∷ sub ∷ []) h =
+    (caller, from, sub, grind (arith, nat_tests), grind (arith, nat_tests))
 heard said words.Off (sub ∷ []) h = (sub, grind (arith, nat_tests), grind (arith, nat_tests))
 heard said words.On (sub ∷ []) h = (sub, grind (arith, nat_tests), grind (arith, nat_tests))
 heard said words.Order ns h =

@@ -1,5 +1,5 @@
 -- Runs of bytes that don't end a line, and what a line is with them.
-use Rattle.std.proofs.Common.{◌≡◌, ℕ, zero, suc, ◌-◌, ◌<◌, ◌≤◌, Bool, true, false, cond, eqb, fold, take, drop, List, [], ◌∷◌, ◌++◌, length, get_or, refl, ap, sym, ◌∙◌, arith, append_assoc, length-append, length-take, subst}
+use Rattle.std.proofs.Common.{◌≡◌, ℕ, zero, suc, ◌-◌, ◌<◌, ◌≤◌, Bool, true, false, eqb, fold, take, drop, List, [], ◌∷◌, ◌++◌, length, get_or, refl, ap, sym, ◌∙◌, arith, append_assoc, length-append, length-take, subst}
 use Rattle.std.proofs.lemmas.Bool.Decides.{nat_tests}
 use Rattle.std.proofs.lemmas.List.{take-append-drop, take_all}
 use Rattle.std.proofs.lemmas.List.Sums.{fold-append}
@@ -8,8 +8,8 @@ use Rattle.std.specs.List.{list_all}
 use Rattle.net_reader.specs.declared.line.Open.{Open}
 use Rattle.net_reader.specs.declared.line.Open.TheVariants as opens
 use Rattle.net_reader.specs.TextLines.{is_blank}
-use Rattle.net_reader.specs.Steps.{IsRun, LineState, close, close_as, is_inside, is_plain, keep, more, pack, put}
-use Rattle.std.proofs.lemmas.Bool.{and_parts, and_from}
+use Rattle.net_reader.specs.Steps.{IsRun, LineState, close_as, is_inside, is_plain, keep, more, pack, put}
+use Rattle.std.proofs.lemmas.Bool.{and_from}
 
 pub all-append : (test : ℕ → Bool) (xs ys : List ℕ) → list_all test xs ≡ true → list_all test ys ≡ true
     → list_all test (xs ++ ys) ≡ true
