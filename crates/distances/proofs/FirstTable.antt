@@ -1,5 +1,5 @@
 -- The table that elimination begins with, and what it ends with.
-use Rattle.std.proofs.Common.{◌≡◌, ℕ, ◌+◌, ◌*◌, ◌<◌, ◌≤◌, List, length, replicate, take, ◌++◌, refl, sym, ◌∙◌, ap, subst, inl, inr, arith}
+use Rattle.std.proofs.Common.{◌≡◌, ℕ, ◌+◌, ◌*◌, ◌<◌, ◌≤◌, List, length, replicate, take, ◌++◌, refl, sym, ◌∙◌, ap, subst₂, inl, inr, arith}
 use Rattle.std.proofs.lemmas.List.{get_or-replicate, length-replicate, take_at}
 use Rattle.std.proofs.lemmas.List.Elements.{All-contains, All-replicate}
 use Rattle.std.proofs.lemmas.Nat.{same_from_place, row_fits}
@@ -26,7 +26,7 @@ arcs_step {n} width {u} {edges} {arcs} are so_far lowered =
     (λ i w (arc, has, (at, weight)). (
       arc.target,
       (All-contains (IsArc n) arcs arc are.limits has).below,
-      subst (λ x. Joins edges u arc.target x) (sym weight) (are.sound arc.target arc.weight has),
+      rw weight (are.sound arc.target arc.weight has),
       at,
     )) (λ i w (v, below, joined, at). (make_arc v w, are.whole v w joined, (at, refl))) lowered)
 
@@ -47,8 +47,7 @@ first_done network width {table} wide lowered =
             (omega (arith, row_fits u width n width u_below (omega arith), wide, v_below)))
         | inr (x, x_below, (y, y_below, joined, at)) ↦
             let place = same_from_place u v x y width (omega (arith, wide)) (omega (arith, wide)) at in
-            inr (subst (λ i. Joins network.edges i v (cell_at width table u v)) (sym place.0)
-            (subst (λ i. Joins network.edges x i (cell_at width table u v)) (sym place.1) joined))
+            inr (subst₂ (λ a b. Joins network.edges a b (cell_at width table u v)) (sym place.0) (sym place.1) joined)
       ];
       whole = λ u v w u_below v_below joined. lowered.reached (u * width + v) w
           (u, u_below, (v, v_below, joined, refl));
@@ -59,11 +58,12 @@ module _ (network : Network) (sound : IsNetwork network) (width : ℕ) (wide : n
   turned_below : (u v : ℕ) → u < network.nodes → v < network.nodes
       → cell_at width table v u ≤ cell_at width table u v
   turned_below u v u_below v_below = elim (first.sound u v u_below v_below) [
-    | inl far ↦
-        let most : cell_at width table v u ≤ FAR =
-        first.light (v * width + u) 0 (omega
-        (arith, first.count, row_fits v width network.nodes width v_below (omega arith), wide, u_below)) in
-        omega arith
+    | inl far ↦ omega (
+      arith,
+      far,
+      first.light (v * width + u) 0
+          (omega (arith, first.count, row_fits v width network.nodes width v_below (omega arith), wide, u_below)),
+    )
     | inr joined ↦ first.whole v u (cell_at width table u v) v_below u_below
         (join_turned network.edges u v (cell_at width table u v) joined)
   ]

@@ -32,10 +32,6 @@ pub record IsLeavingSome (n width : ℕ) (first : List ℕ) (left : List Bool) (
   pub holds : (d : ℕ → ℕ → ℕ) → AreLengths n d → KeepsLengths (λ x. x < n) (cell_at width first) d → AreLeftOut n d
       left_out
 
-least_is_min : {x c s : ℕ} → x ≤ c → x ≤ s → (x ≡ c) ⊎ (x ≡ s) → x ≡ min c s
-least_is_min le_c le_s (inl e) = omega arith
-least_is_min le_c le_s (inr e) = omega arith
-
 keeps_as : {left : ℕ → Type 0} (other : ℕ → Type 0) {c d : ℕ → ℕ → ℕ} → ((x : ℕ) → left x → other x)
     → ((x : ℕ) → other x → left x) → KeepsLengths left c d → KeepsLengths other c d
 keeps_as other there back p = record {
@@ -56,18 +52,10 @@ left_out_as other there back p = record {
 -- the nodes that are left once v is not
 module _ (left : List Bool) (v : ℕ) (v_left : among left v ≡ true) where
   v_in : v < length left
-  v_in = elim (cases_lt v (length left)) [
-    | inl below ↦ below
-    | inr past ↦ let both : false ≡ true = sym (get_or_past left v false past) ∙ v_left in cc
-  ]
+  v_in = grind (arith, get_or_past left v false)
 
   fewer : (x : ℕ) → among (set left v false) x ≡ true → (among left x ≡ true) × (x ≢ v)
-  fewer x h = elim (cases_eq x v) [
-    | inl same ↦
-        let both : false ≡ true = sym (get_or-set_same left v false false v_in)
-        ∙ subst (λ i. among (set left v false) i ≡ true) same h in cc
-    | inr other ↦ (sym (get_or-set_other left v x false false other) ∙ h, other)
-  ]
+  fewer x h = grind (arith, v_in, get_or-set_same left v false false, get_or-set_other left v x false false)
 
   rest : (x : ℕ) → among left x ≡ true → x ≢ v → among (set left v false) x ≡ true
   rest x h other = get_or-set_other left v x false false other ∙ h
@@ -103,32 +91,24 @@ module _ (n width : ℕ) (wide : n ≤ width) (v : ℕ) (new : ℕ → Type 0) (
   pairs_lowered count light lowered a b a_new b_new =
       let a_below = within a a_new in
       let b_below = within b b_new in
-      let most : cell_at width old a b ≤ FAR = light (a * width + b) 0
+      let at : ℕ = a * width + b in
+      let most : cell_at width old a b ≤ FAR = light at 0
       (omega (arith, row_fits a width n width a_below (omega arith), wide, b_below, count)) in
-      least_is_min (lowered.falls (a * width + b)) (elim (cases_lt (cell_at width old v a) FAR) [
-        | inr far ↦ omega
-            (arith, lowered.falls (a * width + b))
-        | inl a_light ↦ elim (cases_lt (cell_at width old v b) FAR) [
-          | inr far ↦
-              omega (arith, lowered.falls (a * width + b))
-          | inl b_light ↦ lowered.reached (a * width + b)
-              (cell_at width old v a + cell_at width old v b) (
-                make_near a (cell_at width old v a),
-                near_whole a a_new a_light,
-                (make_near b (cell_at width old v b), near_whole b b_new b_light, (refl, refl)),
-              )
-        ]
-      ]) (elim (lowered.cause (a * width + b)) [
-        | inl kept ↦ inl kept
-        | inr (p, has_p, (q, has_q, (at, sum))) ↦
+      let reached = λ (a_light : cell_at width old v a < FAR) (b_light : cell_at width old v b < FAR).
+      lowered.reached at (cell_at width old v a + cell_at width old v b) (
+        make_near a (cell_at width old v a),
+        near_whole a a_new a_light,
+        (make_near b (cell_at width old v b), near_whole b b_new b_light, (refl, refl)),
+      ) in
+      elim (lowered.cause at) [
+        | inl kept ↦ grind (arith, most, lowered.falls at, reached, kept)
+        | inr (p, has_p, (q, has_q, (place, sum))) ↦
             let p_is = near_sound p.node p.weight has_p in
             let q_is = near_sound q.node q.weight has_q in
-            let place = same_from_place a b p.node q.node width (omega (arith, wide))
-            (omega (arith, wide, within q.node q_is.0)) at in
-            inr (sum ∙ ap (λ w. w + q.weight) p_is.1 ∙ ap (λ w. cell_at width old v p.node + w) q_is.1
-            ∙ ap (λ x. cell_at width old v x + cell_at width old v q.node) (sym place.0)
-            ∙ ap (λ x. cell_at width old v a + cell_at width old v x) (sym place.1))
-      ])
+            let same = same_from_place a b p.node q.node width (omega (arith, wide))
+            (omega (arith, wide, within q.node q_is.0)) place in
+            grind (arith, most, lowered.falls at, reached, sum, p_is, q_is, same)
+      ]
 
 -- one more node is left out
 module _ (n width : ℕ) (wide : n ≤ width) (first : List ℕ) (left : List Bool) (left_out : List LeftOut) (old : List ℕ)

@@ -84,11 +84,8 @@ module _ (n width : ℕ) (all : List LeftOut) (left_out earlier : List LeftOut) 
   parts = All-pop (IsLeftOutWithin n) left_out earlier (Some s) is so_far.within
 
   still : (x : ℕ) → IsFresh n earlier x → x ≢ s.node → IsFresh n left_out x
-  still x fresh other = (
-    fresh.0,
-    All-same (λ (t : LeftOut). t.node ≢ x) left_out (earlier ++ s ∷ []) is
-        (All-push (λ (t : LeftOut). t.node ≢ x) earlier s fresh.1 (λ e. other (sym e))),
-  )
+  still x fresh other =
+      (fresh.0, rw is (All-push (λ (t : LeftOut). t.node ≢ x) earlier s fresh.1 (λ e. other (sym e))))
 
   module _ (d : ℕ → ℕ → ℕ) (lengths : AreLengths n d) (begun : AreLeftOut n d all)
       (none_fresh : (x : ℕ) → IsFresh n all x → ⊥) where
@@ -102,17 +99,15 @@ module _ (n width : ℕ) (all : List LeftOut) (left_out earlier : List LeftOut) 
 
     next_lengths : (a b : ℕ) → IsFresh n earlier a → IsFresh n earlier b → cell_at width table a b ≡ d a b
     next_lengths a b a_fresh b_fresh = elim (cases_eq a s.node) [
-      | inl a_is ↦ subst (λ i. cell_at width table i b ≡ d i b) (sym a_is)
-          (written.row b b_fresh.0 ∙ elim (cases_eq b s.node) [
-            | inl b_is ↦ rw b_is
-                (at_node folded zeroed (omega (arith, lowered.count, length-replicate n FAR, parts.1.node))
-                ∙ sym (lengths.zero s.node parts.1.node))
-            | inr b_other ↦ from_node b b_fresh b_other
-          ])
+      | inl a_is ↦ rw a_is (written.row b b_fresh.0 ∙ grind (
+        arith,
+        at_node folded zeroed (omega (arith, lowered.count, length-replicate n FAR, parts.1.node)),
+        lengths.zero s.node parts.1.node,
+        from_node b b_fresh,
+      ))
       | inr a_other ↦ elim (cases_eq b s.node) [
-        | inl b_is ↦ subst (λ i. cell_at width table a i ≡ d a i) (sym b_is)
-            (written.column a (so_far.fresh_is_back none_fresh a (still a a_fresh a_other)) ∙ from_node a a_fresh
-            a_other ∙ lengths.turned s.node a parts.1.node a_fresh.0)
+        | inl b_is ↦ rw b_is (written.column a (so_far.fresh_is_back none_fresh a (still a a_fresh a_other))
+            ∙ from_node a a_fresh a_other ∙ lengths.turned s.node a parts.1.node a_fresh.0)
         | inr b_other ↦ written.other a b a_fresh.0 b_fresh.0 a_other b_other
             ∙ so_far.lengths d lengths begun none_fresh a b (still a a_fresh a_other) (still b b_fresh b_other)
       ]
@@ -120,7 +115,7 @@ module _ (n width : ℕ) (all : List LeftOut) (left_out earlier : List LeftOut) 
 
   next_back : ((x : ℕ) → IsFresh n all x → ⊥) → (x : ℕ) → IsFresh n earlier x → Contains (back ++ s.node ∷ []) x
   next_back none_fresh x fresh = elim (cases_eq x s.node) [
-    | inl same ↦ subst (λ i. Contains (back ++ s.node ∷ []) i) (sym same) (Contains-push back s.node)
+    | inl same ↦ rw same (Contains-push back s.node)
     | inr other ↦ Contains-append_left back (s.node ∷ []) x (so_far.fresh_is_back none_fresh x (still x fresh other))
   ]
 
@@ -152,12 +147,10 @@ fill_begins n width all table count light within = record {
 -- no cell rises above FAR
 pub written_light : {n width v : ℕ} {back mine old table : List ℕ} → IsNodeWritten n width v back mine old table
     → All (λ w. w ≤ FAR) old → ((x : ℕ) → x < n → get_or mine x 0 ≤ FAR) → All (λ w. w ≤ FAR) table
-written_light {table} written light mine_light i d i_below =
-    let here : get_or table i d ≡ get_or table i 0 = get_or_default table i d 0 i_below in
-    subst (λ w. w ≤ FAR) (sym here) (elim (written.cause i) [
-      | inl kept ↦ subst (λ w. w ≤ FAR) (sym kept) (light i 0 (omega (arith, written.count)))
-      | inr (x, x_below, is) ↦ subst (λ w. w ≤ FAR) (sym is) (mine_light x x_below)
-    ])
+written_light {table} written light mine_light i d i_below = elim (written.cause i) [
+  | inl kept ↦ omega (arith, get_or_default table i d 0 i_below, kept, light i 0 (omega (arith, written.count)))
+  | inr (x, x_below, is) ↦ omega (arith, get_or_default table i d 0 i_below, is, mine_light x x_below)
+]
 
 -- the step as the code has it
 module _ (n width : ℕ) (all : List LeftOut) (left_out earlier : List LeftOut) (s : LeftOut)
@@ -168,15 +161,13 @@ module _ (n width : ℕ) (all : List LeftOut) (left_out earlier : List LeftOut) 
 
   module _ (mine table : List ℕ) (taken : IsTakenBack n width s back mine old table) where
     mine_light : (x : ℕ) → x < n → get_or mine x 0 ≤ FAR
-    mine_light x below = elim (cases_eq x s.node) [
-      | inl same ↦
-          let zero_there = at_node taken.folded taken.zeroed
-          (omega (arith, taken.lowered.count, length-replicate n FAR, left_out_within.node)) in
-          rw same (omega (arith, zero_there))
-      | inr other ↦
-          let kept = at_other taken.folded taken.zeroed x other in
-          omega (arith, kept, taken.lowered.falls x, get_or-replicate n x FAR 0 below)
-    ]
+    mine_light x below = grind (
+      arith,
+      at_node taken.folded taken.zeroed (omega (arith, taken.lowered.count, length-replicate n FAR, left_out_within.node)),
+      at_other taken.folded taken.zeroed x,
+      taken.lowered.falls x,
+      get_or-replicate n x FAR 0 below,
+    )
 
     pub fill_next : IsFilling n width all earlier (back ++ s.node ∷ []) table
     fill_next = fill_step n width all left_out earlier s is back old so_far taken.folded mine table taken.lowered
