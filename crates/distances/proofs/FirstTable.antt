@@ -72,12 +72,12 @@ module _ (network : Network) (sound : IsNetwork network) (width : ℕ) (wide : n
     pub begun : KeepsLengths (λ x. x < network.nodes) (cell_at width table) d
     begun = record {
       sound = λ a b a_below b_below. elim (first.sound a b a_below b_below) [
-        | inl far ↦ omega (arith, (lengths bounds network sound d least).light a b a_below b_below)
-        | inr joined ↦ step_length bounds network sound d least a b (cell_at width table a b) a_below b_below joined
+        | inl far ↦ omega (arith, (lengths network sound d least bounds).light a b a_below b_below)
+        | inr joined ↦ step_length network sound d least a b (cell_at width table a b) a_below b_below joined
       ];
       turned = λ a b a_below b_below. omega (arith, turned_below a b a_below b_below, turned_below b a b_below a_below);
       goes_on = λ a b a_below b_below apart.
-          let g = begins bounds network sound d least a b a_below b_below apart in
+          let g = begins network sound d least a b a_below b_below apart in
           record {
             next = g.next;
             is_left = g.below;
@@ -94,7 +94,7 @@ rows_of least_of bounds {network} sound {width} wide {first} {table} is_first el
     let least : AreLeast network d = least_there least_of network sound in
     let is : (a b : ℕ) → a < network.nodes → b < network.nodes → cell_at network.nodes table a b ≡ d a b =
     λ a b a_below b_below. closed.each a b a_below b_below
-    ∙ eliminated.each d (lengths bounds network sound d least)
+    ∙ eliminated.each d (lengths network sound d least bounds)
     (begun network sound width wide first is_first bounds d least) a b a_below b_below in
     record {
       count = closed.count;
@@ -102,7 +102,7 @@ rows_of least_of bounds {network} sound {width} wide {first} {table} is_first el
           rw (is a v a_below v_below) (least a v a_below v_below);
       bounded = λ a v a_below v_below.
           rw (is a v a_below v_below)
-          (bounded bounds network sound d least a v a_below v_below);
+          (bounded network sound d least bounds a v a_below v_below);
     }
 
 -- the table as the code has it
