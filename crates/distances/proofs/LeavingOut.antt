@@ -1,9 +1,8 @@
 -- Leaving out all nodes, one after another.
-use Rattle.std.proofs.Common.{◌≡◌, ◌≢◌, ◌⊎◌, ℕ, ◌+◌, ◌*◌, ◌<◌, ◌≤◌, Bool, true, false, cond, min, List, Some, [], ◌∷◌, ◌++◌, length, get_or, set, replicate, refl, sym, ◌∙◌, ap, subst, inl, inr, arith}
+use Rattle.std.proofs.Common.{◌≡◌, ◌≢◌, ℕ, ◌+◌, ◌*◌, ◌<◌, ◌≤◌, Bool, true, false, cond, min, List, Some, [], ◌∷◌, ◌++◌, length, get_or, set, replicate, refl, sym, ◌∙◌, ap, inl, inr, arith}
 use Rattle.std.specs.Prelude.{All, Contains}
 use Rattle.std.proofs.lemmas.List.{length-set, get_or-set_same, get_or-set_other, get_or_past, get_or-replicate, length-replicate}
 use Rattle.std.proofs.lemmas.List.Elements.{All-nil, All-pop, All-push, All-contains, All-weaker}
-use Rattle.std.proofs.lemmas.Bool.{cases_eq, cases_lt}
 use Rattle.std.proofs.lemmas.Nat.{same_from_place, row_fits}
 use Rattle.std.proofs.lemmas.List.Edits.{length-between, get_or-between}
 use Rattle.std.proofs.lemmas.List.Sums.{sum_by-set}
@@ -13,7 +12,7 @@ use Rattle.distances.specs.declared.near_nodes.Near.{Near}
 use Rattle.distances.specs.declared.elimination.LeftOut.{LeftOut}
 use Rattle.distances.specs.declared.weights.TheConstants.{FAR}
 use Rattle.distances.specs.Lowering.{Among, AreNearBelow, IsLowered, IsWithin, PairOffer, cell_at}
-use Rattle.distances.specs.NodesLeftOut.{AreLengths, AreLeftOut, IsFresh, AreAllLeftOut, KeepsLengths, IsLeftOut, IsLeftOutWithin, make_near}
+use Rattle.distances.specs.NodesLeftOut.{AreLengths, AreLeftOut, IsFresh, AreAllLeftOut, KeepsLengths, IsLeftOutWithin, make_near}
 use Rattle.distances.specs.NodesLeftOut.AreLeftOut.{none, more}
 use Rattle.distances.proofs.OneLess.{kept_without, is_left_out}
 use Rattle.distances.proofs.Lowered.{lowered_light}

@@ -34,8 +34,6 @@ pub record Begins (edges : List Edge) (n : ℕ) (d : ℕ → ℕ → ℕ) (a b :
   pub joined : Joins edges a next weight
   pub below : next < n
   pub other : next ≢ a
-  pub positive : 1 ≤ weight
-  pub light : weight ≤ MAX_WEIGHT
   pub short : weight + d next b ≤ d a b
 
 module _ (network : Network) (sound : IsNetwork network) (d : ℕ → ℕ → ℕ) (least : AreLeast network d) where
@@ -54,8 +52,6 @@ module _ (network : Network) (sound : IsNetwork network) (d : ℕ → ℕ → �
         other = λ same.
             let again : d a b ≤ weight_of steps = subst (λ i. d i b ≤ weight_of steps) same short in
             absurd (omega (arith, edge.2.positive));
-        positive = edge.2.positive;
-        light = edge.2.light;
         short = omega arith;
       }
 
