@@ -86,34 +86,26 @@ module _ (network : Network) (sound : IsNetwork network) (width : ℕ) (wide : n
           };
     }
 
-pub rows_of : LeastWeightsAreFound → LeastWeightsAreBounded → {network : Network} → IsNetwork network → {width : ℕ}
-    → network.nodes ≤ width → {first rows table : List ℕ} → IsFirstTable network width first
-    → IsEliminated network.nodes width first rows → AreClosed network.nodes width rows table → AreRowsOf network table
-rows_of least_of bounds {network} sound {width} wide {first} {table} is_first eliminated closed =
-    let d : ℕ → ℕ → ℕ = least_weight network everywhere in
-    let least : AreLeast network d = least_there least_of network sound in
-    let is : (a b : ℕ) → a < network.nodes → b < network.nodes → cell_at network.nodes table a b ≡ d a b =
-    λ a b a_below b_below. closed.each a b a_below b_below
-    ∙ eliminated.each d (lengths network sound d least bounds)
-    (begun network sound width wide first is_first bounds d least) a b a_below b_below in
-    record {
-      count = closed.count;
-      each = λ a v a_below v_below.
-          rw (is a v a_below v_below) (least a v a_below v_below);
-      bounded = λ a v a_below v_below.
-          rw (is a v a_below v_below)
-          (bounded network sound d least bounds a v a_below v_below);
-    }
-
 -- the table as the code has it
 pub rows_made : LeastWeightsAreFound → LeastWeightsAreBounded → {network : Network} → IsNetwork network → {n : ℕ}
     → n ≡ network.nodes → {width : ℕ} → n ≤ width → {first seen filled : List ℕ} (more : List ℕ) {wide closed : List ℕ}
     {k : ℕ} → IsFirstTable network width first → seen ≡ first → length seen ≡ k → IsEliminated n width seen filled
     → wide ≡ take k (filled ++ more) → AreClosed n width wide closed → AreRowsOf network closed
-rows_made least_of bounds {network} sound {n} is_n {width} n_wide {first} {filled} more {wide} {closed} {k} is_first
-    seen_is
-    count eliminated wide_is is_closed =
+rows_made least_of bounds {network} sound {n} is_n {width} n_wide {first} {filled = filled} more {wide} {closed} {k}
+    is_first seen_is count eliminated wide_is is_closed =
     let here : IsEliminated network.nodes width first filled = rw (← is_n, ← seen_is) eliminated in
     let same : length filled ≡ k = here.count ∙ sym is_first.count ∙ sym (ap length seen_is) ∙ count in
     let rows_are : wide ≡ filled = wide_is ∙ take_at filled more k same in
-    rows_of least_of bounds sound (rw (← is_n) n_wide) is_first here (rw (← is_n, ← rows_are) is_closed)
+    let rows : AreClosed network.nodes width filled closed = rw (← is_n, ← rows_are) is_closed in
+    let d : ℕ → ℕ → ℕ = least_weight network everywhere in
+    let least : AreLeast network d = least_there least_of network sound in
+    let is : (a b : ℕ) → a < network.nodes → b < network.nodes → cell_at network.nodes closed a b ≡ d a b =
+    λ a b a_below b_below. rows.each a b a_below b_below
+    ∙ here.each d (lengths network sound d least bounds)
+    (begun network sound width (rw (← is_n) n_wide) first is_first bounds d least) a b a_below b_below in
+    record {
+      count = rows.count;
+      each = λ a v a_below v_below. rw (is a v a_below v_below) (least a v a_below v_below);
+      bounded = λ a v a_below v_below.
+          rw (is a v a_below v_below) (bounded network sound d least bounds a v a_below v_below);
+    }

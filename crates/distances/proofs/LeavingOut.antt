@@ -194,7 +194,8 @@ leaving_next {n} {width} wide {first} {left} {left_out} {old = old} {table} s so
     let end_fits : at + n ≤ length old = row_ends wide so_far s.node was_left.1 in
     rw later_is
     (leaving_step n width wide first left left_out old so_far s was_left.1 (between at (at + n) old)
-    (length-between old at (at + n) end_fits ∙ omega arith) (λ x below. get_or-between old at (at + n) x 0 (omega arith))
+    (length-between old at (at + n) end_fits ∙ omega arith)
+    (λ x below. get_or-between old at (at + n) x 0 (omega arith))
     are_near table (rw (← near_is) lowered))
 
 pub none_left_in : (left : List Bool) → ((x : ℕ) → x < length left → among left x ≡ true → ⊥)

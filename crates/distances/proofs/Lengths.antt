@@ -65,7 +65,8 @@ module _ (network : Network) (sound : IsNetwork network) (d : ℕ → ℕ → �
 
   pub positive_length : (u v : ℕ) → u < network.nodes → v < network.nodes → u ≢ v → 1 ≤ d u v
   positive_length u v u_below v_below apart =
-      least_positive network.nodes network.edges everywhere u v (d u v) sound.limits.edges apart (least u v u_below v_below)
+      least_positive network.nodes network.edges everywhere u v (d u v) sound.limits.edges apart
+      (least u v u_below v_below)
 
   pub turned_length : (u v : ℕ) → u < network.nodes → v < network.nodes → d u v ≡ d v u
   turned_length u v u_below v_below = least_weight_one network.edges everywhere u v (d u v) (d v u)

@@ -43,27 +43,16 @@ module _ (n width : ℕ) (d : ℕ → ℕ → ℕ) (lengths : AreLengths n d) (f
       let b_below = within b b_fresh in
       let on = holds.leads_on b b_fresh in
       let by = holds.sound on.node on.weight on.is_near in
-      let up : get_or mine b 0 ≤ on.weight + cell_at width table on.node b =
-      lowered.reached b (on.weight + cell_at width table on.node b) (
-        make_near on.node on.weight,
-        on.is_near,
-        (b_below, refl),
-      )
-      in
+      let up = lowered.reached b (on.weight + cell_at width table on.node b)
+      (make_near on.node on.weight, on.is_near, (b_below, refl)) in
       let down : d v b ≤ get_or mine b 0 = elim (lowered.cause b) [
         | inl kept ↦ omega (arith, get_or-replicate n b FAR 0 b_below, lengths.light v b v_below b_below)
         | inr (x, has, (below, sum)) ↦
             let is = holds.sound x.node x.weight has in
-            omega (
-              arith,
-              sum,
-              known x.node b is.0 b_fresh,
-              is.1,
-              lengths.triangle v x.node b v_below
-                  (within x.node is.0) b_below,
-            )
+            let past = lengths.triangle v x.node b v_below (within x.node is.0) b_below in
+            omega (arith, sum, known x.node b is.0 b_fresh, is.1, past)
       ] in
-      omega (arith, known on.node b by.0 b_fresh, on.short)
+      omega (arith, up, known on.node b by.0 b_fresh, on.short)
 
 -- a row in which its own node is at 0
 module _ {v : ℕ} (folded : List ℕ) {mine : List ℕ} (zeroed : mine ≡ set folded v 0) where
@@ -111,8 +100,10 @@ module _ (n width : ℕ) (all : List LeftOut) (left_out earlier : List LeftOut) 
 
       next_lengths : (a b : ℕ) → IsFresh n earlier a → IsFresh n earlier b → cell_at width table a b ≡ d a b
       next_lengths a b a_fresh b_fresh = elim (cases_eq a s.node) [
-        | inl a_is ↦ rw a_is (taken.written.row b b_fresh.0
-            ∙ grind (arith, own_zero, lengths.zero s.node parts.1.node, from_node b b_fresh))
+        | inl a_is ↦ rw a_is (taken.written.row b b_fresh.0 ∙ elim (cases_eq b s.node) [
+          | inl b_is ↦ rw b_is (own_zero ∙ sym (lengths.zero s.node parts.1.node))
+          | inr b_other ↦ from_node b b_fresh b_other
+        ])
         | inr a_other ↦ elim (cases_eq b s.node) [
           | inl b_is ↦ rw b_is
               (taken.written.column a (so_far.fresh_is_back none_fresh a (still a a_fresh a_other))
@@ -129,13 +120,12 @@ module _ (n width : ℕ) (all : List LeftOut) (left_out earlier : List LeftOut) 
     ]
 
     mine_light : (x : ℕ) → x < n → get_or mine x 0 ≤ FAR
-    mine_light x below = grind (
-      arith,
-      own_zero,
-      at_other taken.folded taken.zeroed x,
-      taken.lowered.falls x,
-      get_or-replicate n x FAR 0 below,
-    )
+    mine_light x below = elim (cases_eq x s.node) [
+      | inl same ↦ rw same (omega (arith, own_zero))
+      | inr other ↦
+          let kept = at_other taken.folded taken.zeroed x other in
+          omega (arith, kept, taken.lowered.falls x, get_or-replicate n x FAR 0 below)
+    ]
 
     pub fill_next : IsFilling n width all earlier (back ++ s.node ∷ []) table
     fill_next = record {
