@@ -1,6 +1,6 @@
 -- One phase: its clusters are disjoint, and the balls that they are homes of are many.
-use Rattle.std.proofs.lemmas.Bool.{cases_Bool, false≢true, false_from_ne_true, not-true, and_from, and_parts}
-use Rattle.std.proofs.Common.{◌≡◌, inl, inr, ℕ, zero, suc, ◌+◌, ◌*◌, ◌^◌, ◌<◌, ◌≤◌, Bool, true, false, cond, not, ◌&&◌, List, [], ◌∷◌, length, filter, refl, sym, ◌∙◌, ap, subst, arith}
+use Rattle.std.proofs.lemmas.Bool.{false≢true, false_from_ne_true, not-true}
+use Rattle.std.proofs.Common.{◌≡◌, ℕ, zero, suc, ◌+◌, ◌*◌, ◌^◌, ◌<◌, ◌≤◌, Bool, true, false, cond, not, ◌&&◌, List, [], ◌∷◌, length, filter, refl, sym, ◌∙◌, ap, arith}
 use Rattle.std.specs.Prelude.{count_by, All}
 use Rattle.std.proofs.lemmas.List.Elements.{All-nil, All-cons, All-head, All-tail}
 use Rattle.std.proofs.lemmas.List.Sums.{sum_by-cons}
@@ -13,7 +13,7 @@ use Rattle.coarse_cover.specs.Coarsening.{is_enough, cluster_of, phase}
 use Rattle.coarse_cover.specs.HalfMade.{IsReady}
 use Rattle.node_set.specs.Balls.{ball, union_of, touches, growth, least, GrownCluster, IsShaped, is_homed}
 use Rattle.node_set.specs.GrowthLaws.{touching_below}
-use Rattle.node_set.specs.HomeLaws.{homed_here, homed_later, homed_cases}
+use Rattle.node_set.specs.HomeLaws.{homed_here, homed_later}
 use Rattle.node_set.specs.FilterLaws.{filter_keeps, filter-has, filter_twice, filter_halves, filter_fewer, filter_more, some_length, ascending-filter}
 use Rattle.node_set.specs.BallLaws.{HoldCentres, union_from, touches_own, growth_waits, growth_leader, growth_picked, least_passes}
 use Rattle.coarse_cover.proofs.Growth.{growths_few, enough_means}

@@ -1,7 +1,7 @@
 -- What is done, and what the definition gives for the rest.
 use Rattle.std.proofs.Common.{◌≡◌, inl, inr, ℕ, zero, suc, ◌+◌, ◌<◌, ◌≤◌, Bool, true, false, cond, not, ◌&&◌, List, [], ◌∷◌, ◌++◌, length, length-append, append_assoc, filter, get_or, map, refl, sym, ◌∙◌, ap, arith}
 use Rattle.std.proofs.Math.Nat.{le_refl}
-use Rattle.std.proofs.lemmas.Bool.{cases_lt, false≢true, not-true, not_from_false, false_from_ne_true, and_right}
+use Rattle.std.proofs.lemmas.Bool.{cases_lt, false≢true}
 use Rattle.node_set.specs.Ascending.{has}
 use Rattle.node_set.specs.HomeLaws.{home_step}
 use Rattle.node_set.specs.SetLaws.{has-passing, passing_over, ascending-passing}

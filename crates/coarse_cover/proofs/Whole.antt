@@ -1,11 +1,10 @@
 -- All phases: how many they are, that each ball finds a home, and how many clusters a node is in.
-use Rattle.node_set.specs.HomeLaws.{homed_cases, homed_here, homed_later}
-use Rattle.std.proofs.Common.{◌≡◌, inl, inr, ℕ, zero, suc, ◌+◌, ◌-◌, ◌*◌, ◌^◌, ◌<◌, ◌≤◌, true, cond, not, List, [], ◌∷◌, ◌++◌, length, length-append, filter, refl, ap, subst, arith}
+use Rattle.std.proofs.Common.{◌≡◌, ℕ, zero, suc, ◌+◌, ◌-◌, ◌*◌, ◌^◌, ◌<◌, ◌≤◌, true, cond, not, List, [], ◌∷◌, ◌++◌, length, length-append, filter, refl, ap, arith}
 use Rattle.std.specs.Prelude.{count_by, All}
 use Rattle.std.proofs.Math.Nat.{le_refl}
 use Rattle.std.proofs.lemmas.List.Elements.{All-nil, All-append}
 use Rattle.std.proofs.lemmas.List.Sums.{sum_by-append}
-use Rattle.std.proofs.lemmas.Bool.{cases_Bool, false≢true, not_from_false}
+use Rattle.std.proofs.lemmas.Bool.{false≢true}
 use Rattle.node_set.specs.Ascending.{has}
 use Rattle.whole_powers.specs.Bounds.{PowersAdd, OnePhase}
 use Rattle.whole_powers.specs.PowerLaws.{zero_pow}

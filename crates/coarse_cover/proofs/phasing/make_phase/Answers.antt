@@ -65,8 +65,7 @@ first-preserved c =
     in
     let cluster : GrownCluster = cluster_of (sets c.args.balls.now) c.args.k c.count-r.result
     c.first.work.waiting.members c.in-Some.first in
-    let added : IsAdded (length c.args.balls.now) (sets c.args.balls.now) cluster c.first.work
-    c.add_cluster.new.work c.first.cover c.add_cluster.new.cover = c.in_ok-add_cluster.ensures.added in
+    let added = c.in_ok-add_cluster.ensures.added in
     let one_more : length c.add_cluster.new.cover.clusters.items ≡ length c.first.cover.clusters.items + 1 =
     ap length added.clusters ∙ length-append c.first.cover.clusters.items _ in
     record {
