@@ -76,7 +76,12 @@ pub ready_shrunk : {balls : List (List ℕ)} {k : ℕ} {left : List ℕ} (p : �
     → IsReady balls k (length (filter p left)) (filter p left)
 ready_shrunk {left = left} p ready =
     let all = ready_filter p ready in
-    record { some = all.some; fits = le_refl (length (filter p left)); ascending = all.ascending; centred = all.centred }
+    record {
+      some = all.some;
+      fits = le_refl (length (filter p left));
+      ascending = all.ascending;
+      centred = all.centred;
+    }
 
 pub cluster_ready : {balls : List (List ℕ)} {k r a : ℕ} {rest : List ℕ} → IsReady balls k r (a ∷ rest)
     → IsCluster balls k r (a ∷ rest) (cluster_of balls k r (a ∷ rest) a)

@@ -244,29 +244,27 @@ between_start balls k home some centred all = rw all (record {
 
 -- ---- bounds on what is done
 
-pub in_phase_numbers : {balls : List (List ℕ)} {k r : ℕ} {waiting left : List ℕ} {clusters : List Cluster}
+pub in_phase_bounds : {balls : List (List ℕ)} {k r : ℕ} {waiting left : List ℕ} {clusters : List Cluster}
     {home : List ℕ} {p : ℕ} → 0 < k → AreCentred balls → IsInPhase balls k r waiting left clusters home p
-    → length clusters ≤ length balls
-in_phase_numbers {balls} {k} {r} {waiting} {left} {clusters} {p} some centred phase =
-    omega (
-      arith,
-      ap length phase.so_far.clusters_so_far,
-      length-append clusters (cluster_list (length balls) p
-          (phase_of balls k r waiting ∷ phases_of balls k (without_home (phase_of balls k r waiting) left))),
-      length-cluster_list (length balls) 0 (coarsening balls k),
-      length-centres (length balls),
-      clusters_within balls k (centres (length balls)) (coarsening balls k) (coarsening_phases balls k some centred),
-    )
-
-pub in_phase_number : {balls : List (List ℕ)} {k r : ℕ} {waiting left : List ℕ} {clusters : List Cluster}
-    {home : List ℕ} {p : ℕ} → 0 < k → AreCentred balls → IsInPhase balls k r waiting left clusters home p
-    → p < length balls
-in_phase_number {balls} {k} some centred phase =
-    omega (
-      arith,
-      phase.so_far.phases_so_far,
-      length-centres (length balls),
-      phases_within balls k (centres (length balls)) (coarsening balls k) (coarsening_phases balls k some centred),
+    → (length clusters ≤ length balls) × (p < length balls)
+in_phase_bounds {balls} {k} {r} {waiting} {left} {clusters} {p} some centred phase =
+    let all = centres (length balls) in
+    let are = coarsening_phases balls k some centred in (
+      omega (
+        arith,
+        ap length phase.so_far.clusters_so_far,
+        length-append clusters (cluster_list (length balls) p
+            (phase_of balls k r waiting ∷ phases_of balls k (without_home (phase_of balls k r waiting) left))),
+        length-cluster_list (length balls) 0 (coarsening balls k),
+        length-centres (length balls),
+        clusters_within balls k all (coarsening balls k) are,
+      ),
+      omega (
+        arith,
+        phase.so_far.phases_so_far,
+        length-centres (length balls),
+        phases_within balls k all (coarsening balls k) are,
+      ),
     )
 
 -- with the cluster gone, none waits up to its leader
