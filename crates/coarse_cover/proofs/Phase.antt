@@ -116,17 +116,6 @@ phase_is {balls} {k} {r} (suc more) (a ∷ rest) ready enough =
     )
 
 module _ (balls : List (List ℕ)) (k r : ℕ) where
-  pub homed_waits : (waiting : List ℕ) (cs : List GrownCluster) → IsPhase balls k r waiting cs → (v : ℕ) → is_homed cs v
-      ≡ true → has v waiting ≡ true
-  unfolding is_homed
-  homed_waits waiting [] is v h = absurd (false≢true h)
-  homed_waits waiting (c ∷ cs) is v h = grind (
-    arith,
-    is.0.waits v,
-    filter_keeps (λ w. not (touches balls c.members w)) v waiting,
-    homed_waits (apart balls c.members waiting) cs is.1 v,
-  )
-
   -- the balls of a cluster and those of the later ones are counted apart
   split_homed : (waiting : List ℕ) (c : GrownCluster) (cs : List GrownCluster) → IsCluster balls k r waiting c →
       length c.homed + length (filter (is_homed cs) (apart balls c.members waiting)) ≤ length
