@@ -1,12 +1,12 @@
 -- The looks of callers: each own visit reads one word, and no caller makes more than the most.
-use Rattle.std.proofs.Common.{◌≡◌, ℕ, ◌+◌, ◌<◌, ◌≤◌, List, [], ◌∷◌, ◌++◌, Option, Some, None, refl, sym, ◌∙◌, subst, arith}
+use Rattle.std.proofs.Common.{◌≡◌, ℕ, ◌+◌, ◌<◌, ◌≤◌, List, [], ◌∷◌, ◌++◌, Option, Some, None, refl, sym, ◌∙◌, arith}
 use Rattle.std.specs.Prelude.{sum_by, option_map}
 use Rattle.std.proofs.lemmas.List.Sums.{fold-append, sum_by-cons}
 use Rattle.entry_word.specs.declared.visit.Key.{Key}
 use Rattle.entry_word.specs.declared.visit.Visit.{Visit}
 use Rattle.directory.specs.Settings.{Setting, subs}
 use Rattle.directory.specs.Histories.{History}
-use Rattle.directory.specs.Finds.{FindCall, Pursuit, at_origin, after_word, answer_of, most_looks, looks_left}
+use Rattle.directory.specs.Finds.{FindCall, Pursuit, at_origin, most_looks, looks_left}
 use Rattle.directory.specs.Looks.{look_by}
 use Rattle.directory.specs.Orders.{Scripts, Caller, caller_at, with_pursuit, read_by, after_read, caller_after, caller_in, key_in, next_key, next}
 use Rattle.directory.specs.declared.answers.Found.{Found}
@@ -29,9 +29,7 @@ pursuit_left : (setting : Setting) (caller : Caller) (call : FindCall) (later : 
     → left_of setting (with_pursuit caller call later pursuit answer).calls
     (with_pursuit caller call later pursuit answer).pursuit
     ≤ looks_left setting call pursuit + sum_by (λ (c : FindCall). most_looks setting c.from) later
-pursuit_left setting caller call later pursuit None same =
-    subst (λ calls. left_of setting calls pursuit ≤ looks_left setting call pursuit + sum_by
-    (λ (c : FindCall). most_looks setting c.from) later) (sym same) (omega arith)
+pursuit_left setting caller call later pursuit None same = grind (arith, left_of)
 pursuit_left setting caller call later pursuit (Some found) same = omega (arith, left_at_origin setting later)
 
 -- each word leaves fewer
@@ -40,13 +38,7 @@ pub read_left : (setting : Setting) (caller : Caller) (calls : List FindCall) (w
     → left_of setting (read_by setting caller calls word).calls
     (read_by setting caller calls word).pursuit < left_of setting calls caller.pursuit
 read_left setting caller [] word key same h = cc
-read_left setting caller (call ∷ later) word key same h =
-    omega (
-      arith,
-      looks-fall setting call caller.pursuit word key h,
-      pursuit_left setting caller call later (after_word setting call caller.pursuit word)
-          (answer_of (after_word setting call caller.pursuit word)) same,
-    )
+read_left setting caller (call ∷ later) word key same h = grind (arith, looks-fall, pursuit_left)
 
 pub caller-push : (setting : Setting) (calls : List FindCall) (words : List ℕ) (word : ℕ)
     → caller_after setting calls (words ++ word ∷ []) ≡ after_read setting (caller_after setting calls words) word

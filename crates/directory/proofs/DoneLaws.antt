@@ -1,5 +1,5 @@
 -- A subscriber whose script is done has nothing left to put.
-use Rattle.std.proofs.Common.{◌≡◌, ◌≤◌, ◌<◌, ◌^◌, ◌++◌, ◌∷◌, ℕ, suc, [], List, length, map, take, drop, refl, sym, ap, ◌∙◌, arith}
+use Rattle.std.proofs.Common.{◌≡◌, ◌≤◌, ◌<◌, ◌^◌, ◌++◌, ◌∷◌, ℕ, suc, [], List, length, map, take, refl, sym, ap, ◌∙◌, arith}
 use Rattle.std.proofs.Math.Seq.{drop-length}
 use Rattle.std.proofs.lemmas.List.{map-append, take_all}
 use Rattle.entry_word.specs.Marks.{MarksUnpack}
@@ -7,8 +7,8 @@ use Rattle.entry_word.specs.declared.visit.Visit.{Visit}
 use Rattle.directory.specs.Settings.{Setting, start, subs}
 use Rattle.directory.specs.Histories.{History, puts_to}
 use Rattle.directory.specs.Courses.{Course, course_at, Step, after_step, MaySteps}
-use Rattle.directory.specs.Writes.{step_writes, visit_of, visits, writes}
-use Rattle.directory.specs.Puts.{puts_left, steps_from, steps_in}
+use Rattle.directory.specs.Writes.{step_writes, visit_of, writes}
+use Rattle.directory.specs.Puts.{steps_from, steps_in}
 use Rattle.directory.specs.Orders.{AreValid, IsDone, IsPlayed, script_visits, Scripts, steps_of}
 use Rattle.directory.specs.Statements.{DoneIsRest, DoneShowsScript}
 use Rattle.directory.specs.StepLaws.{visits_in}
@@ -55,9 +55,7 @@ script-shown unpacks {setting} {scripts} sub low valid known =
 
 pub done-rests : MarksUnpack → DoneIsRest
 done-rests unpacks setting scripts history sub low valid known played done =
-    ap (puts_left setting sub) (all-put setting scripts history sub known played done)
-    ∙ (ap (λ steps. drop (length (script_visits setting scripts sub)) (visits setting sub steps))
-    (script-shown unpacks sub low valid known) ∙ drop-length (script_visits setting scripts sub))
+    grind (arith, all-put, script-shown, drop-length)
 
 pub done-shows : MarksUnpack → DoneShowsScript
 done-shows unpacks setting scripts history sub low valid known played done =

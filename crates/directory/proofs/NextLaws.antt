@@ -1,5 +1,5 @@
 -- The next visits of actors, and histories in which each visit was its actor's next one.
-use Rattle.std.proofs.Common.{◌≡◌, ℕ, suc, ◌+◌, ◌<◌, Bool, true, false, ◌==◌, List, [], ◌∷◌, ◌++◌, Option, Some, None, length, take, map, refl, sym, ap, ◌∙◌, subst, arith, inl, inr}
+use Rattle.std.proofs.Common.{◌≡◌, ℕ, ◌+◌, ◌<◌, Bool, true, false, ◌==◌, List, [], ◌∷◌, ◌++◌, Option, Some, None, length, take, map, refl, sym, ap, ◌∙◌, subst, arith, inl, inr}
 use Rattle.std.specs.Prelude.{slice_get, option_to_list, All}
 use Rattle.std.proofs.lemmas.Bool.{eqb-true, ne_eqb, cases_lt}
 use Rattle.std.proofs.lemmas.List.{append-nil, take_all, take-append-le, length_push}
@@ -8,10 +8,9 @@ use Rattle.std.proofs.lemmas.List.Elements.{All-head, All-tail}
 use Rattle.entry_word.specs.declared.visit.Visit.{Visit}
 use Rattle.directory.specs.Settings.{Setting, subs}
 use Rattle.directory.specs.Histories.{History, is_put_for, puts_to, own}
-use Rattle.directory.specs.Looks.{look_by}
 use Rattle.directory.specs.Writes.{Write, mark_at, entry_at, visit_of}
 use Rattle.directory.specs.Legal.{ArePuts}
-use Rattle.directory.specs.Orders.{Scripts, steps_of, script_visits, caller_in, next_key, next, after_turn, after_turns, last_turns, IsPlayed, IsDone}
+use Rattle.directory.specs.Orders.{Scripts, steps_of, script_visits, next, after_turn, after_turns, last_turns, IsPlayed, IsDone}
 use Rattle.directory.proofs.StepLaws.{script-legal}
 use Rattle.entry_word.specs.Marks.{MarksUnpack}
 use Rattle.directory.specs.Statements.{OrdersArePlayed, OwnPutsAlone, ScriptsInOrder, PlayedIsLegal, MoreIsPlayed}
@@ -27,25 +26,14 @@ write-puts sub s (entry_at level cluster address) = refl
 own-write : (sub : ℕ) (writes : List Write) (i : ℕ) (visit : Visit)
     → slice_get (map (visit_of sub) writes) i ≡ Some visit
     → (visit.actor ≡ sub) × ((s : ℕ) → is_put_for s visit.act ≡ (sub == s))
-own-write sub writes i visit h =
-    let its = option_map-some (visit_of sub) (slice_get writes i) visit
-    (sym (slice_get-map (visit_of sub) writes i) ∙ h) in
-    rw (← its.1) (refl, λ s. write-puts sub s its.0)
+own-write sub writes i visit h = grind (arith, slice_get-map, option_map-some, write-puts)
 
 -- the next visit of an actor is its own, and a put into a cell of a subscriber just where that is the actor
 next-own : (setting : Setting) (scripts : Scripts) (history : History) (actor : ℕ) (visit : Visit)
     → next setting scripts history actor ≡ Some visit → (visit.actor ≡ actor)
     × ((s : ℕ) → s < subs setting → is_put_for s visit.act ≡ (actor == s))
-next-own setting scripts history actor visit h = elim (cases_lt actor (subs setting)) [
-  | inl low ↦
-      let own = own-write actor _ (length (own actor history)) visit
-      (sym (next-sub setting scripts history actor low) ∙ h) in
-      (own.0, λ s below. own.1 s)
-  | inr high ↦
-      let look = option_map-some (look_by actor) (next_key (caller_in setting scripts history actor)) visit
-      (sym (next-caller setting scripts history actor high) ∙ h) in
-      rw (← look.1) (refl, λ s below. sym (ne_eqb actor s (λ same. omega arith)))
-]
+next-own setting scripts history actor visit h =
+    grind (arith, cases_lt, next-sub, own-write, next-caller, option_map-some, ne_eqb)
 
 pub next-actor : (setting : Setting) (scripts : Scripts) (history : History) (actor : ℕ) (visit : Visit)
     → next setting scripts history actor ≡ Some visit → visit.actor ≡ actor
@@ -123,9 +111,7 @@ played-puts setting scripts history sub below played =
 
 front-push : (whole made : History) (visit : Visit) → slice_get whole (length made) ≡ Some visit
     → made ≡ take (length made) whole → made ++ visit ∷ [] ≡ take (length (made ++ visit ∷ [])) whole
-front-push whole made visit next_one so_far =
-    let count : length (made ++ visit ∷ []) ≡ suc (length made) = omega (arith, length_push made visit) in
-    rw count (ap (λ xs. xs ++ visit ∷ []) so_far ∙ sym (take-more whole (length made) visit next_one))
+front-push whole made visit next_one so_far = grind (arith, length_push, take-more)
 
 pub played-own : ScriptsInOrder
 played-own setting scripts history sub below played =

@@ -13,7 +13,6 @@ use Rattle.directory.specs.Settings.{Setting, subs}
 use Rattle.directory.specs.Histories.{History, own, words_read}
 use Rattle.directory.specs.Finds.{FindCall, most_looks}
 use Rattle.directory.specs.Looks.{look_by}
-use Rattle.directory.specs.Writes.{numbers_from}
 use Rattle.directory.specs.Orders.{actors, Scripts, finds_of, script_visits, caller_at, after_read, caller_after, caller_in, next_key, next, after_turn, after_turns, most_turns, last_turns, history_of, IsPlayed, IsDone}
 use Rattle.directory.proofs.HistoryLaws.{words-push}
 use Rattle.directory.specs.Statements.{OrdersAreDone, HistoriesAreOrdered, OrdersAreOwn, TurnsAreFew}
@@ -51,9 +50,7 @@ next-few setting scripts history actor visit played h =
 next-kept : (setting : Setting) (scripts : Scripts) (history : History) (actor : ℕ) (visit : Visit)
     → (visit.actor == actor) ≡ false → next setting scripts (history ++ visit ∷ []) actor
     ≡ next setting scripts history actor
-next-kept setting scripts history actor visit e =
-    rw (own-push actor history visit, words-push setting actor history visit, e)
-    (rw (append-nil (own actor history), append-nil (words_read setting actor history)) refl)
+next-kept setting scripts history actor visit e = grind (arith, own-push, words-push, append-nil)
 
 -- an actor that is done stays done
 pub done-kept : (setting : Setting) (scripts : Scripts) (actor : ℕ) (order : List ℕ) (history : History)
@@ -155,13 +152,7 @@ stranger-done setting scripts history actor high =
 -- when an order is played to its end all scripts are done
 pub all-done : OrdersAreDone
 all-done setting scripts order actor =
-    elim (cases_lt actor (actors setting scripts)) [
-      | inl low ↦ rw (after_turns-append setting scripts [] order (last_turns setting scripts))
-          (done-each setting scripts actor (numbers_from 0 (actors setting scripts))
-          (after_turns setting scripts [] order) (has-passing (λ p. true) actor 0 (actors setting scripts)
-          (omega arith) (omega arith)) (played-of_play setting scripts order))
-      | inr high ↦ stranger-done setting scripts (history_of setting scripts order) actor high
-    ]
+    grind (arith, cases_lt, after_turns-append, has-passing, played-of_play, done-each, stranger-done)
 
 -- more turns after the end change nothing
 pub history-longer : (setting : Setting) (scripts : Scripts) (order more : List ℕ)
@@ -184,12 +175,7 @@ own-order setting scripts history played =
 
 -- a played history, whoever made it, becomes the history of the order of its actors
 pub completed : HistoriesAreOrdered
-completed setting scripts history played =
-    rw (
-      after_turns-append setting scripts [] (map (λ (visit : Visit). visit.actor) history)
-          (last_turns setting scripts),
-      own-order setting scripts history played,
-    ) refl
+completed setting scripts history played = grind (arith, after_turns-append, own-order)
 
 -- the order of the actors of a history that is played to its end gives that history again
 pub same-again : OrdersAreOwn

@@ -58,9 +58,7 @@ rest-keeps setting scripts history key still played =
 -- what the last commit tells
 pub stands-at_last : (setting : Setting) (sub : ℕ) (history : History) (earlier : List Commit) (last : Commit)
     → commits sub history ≡ earlier ++ last ∷ [] → standing setting sub history ≡ last.to
-stands-at_last setting sub history earlier last h = ap
-    (fold (λ node (commit : Commit). commit.to) (start setting sub)) h
-    ∙ fold-append (λ node (commit : Commit). commit.to) (start setting sub) earlier (last ∷ [])
+stands-at_last setting sub history earlier last h = grind (arith, fold-append)
 
 pub stands-at_start : (setting : Setting) (sub : ℕ) (history : History) → commits sub history ≡ []
     → standing setting sub history ≡ start setting sub
@@ -84,10 +82,8 @@ pub looks-short : (setting : Setting) (history : History) (actor : ℕ) (call : 
     → AreLooks setting history actor call earliest pursuit tickets → length tickets ≤ looks_left setting call pursuit
 unfolding AreLooks
 looks-short setting history actor call earliest pursuit [] looks = omega arith
-looks-short setting history actor call earliest pursuit (ticket ∷ later) (first, (key, wanted, is_look, rest)) =
-    omega (
-      arith,
-      looks-fall setting call pursuit (cell setting (before ticket history) key) key wanted,
-      looks-short setting history actor call (suc ticket)
-          (after_word setting call pursuit (cell setting (before ticket history) key)) later rest,
-    )
+looks-short setting history actor call earliest pursuit (ticket ∷ later) (first, (key, wanted, is_look, rest)) = grind (
+  arith,
+  looks-short setting history actor call (suc ticket) (after_word setting call pursuit (cell setting (before ticket history) key)) later rest,
+  looks-fall,
+)

@@ -31,9 +31,7 @@ pub moves-added : (setting : Setting) (course : Course) (steps : List Step)
     → (after_steps setting course steps).moves ≡ course.moves ++ added setting course steps
 moves-added setting course [] = sym (append-nil course.moves)
 moves-added setting course (move_to node ∷ steps) =
-    moves-added setting (after_step setting course (move_to node)) steps
-    ∙ append_assoc course.moves (next_move setting course node ∷ [])
-    (added setting (after_step setting course (move_to node)) steps)
+    grind (arith, moves-added setting (after_step setting course (move_to node)) steps, added, append_assoc)
 moves-added setting course (step ∷ steps) = moves-added setting (after_step setting course step) steps
 
 -- a write that is no commit

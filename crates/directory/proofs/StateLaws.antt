@@ -1,5 +1,5 @@
 -- A cell after a legal history holds what the writes that are made have left; and these fit into their words.
-use Rattle.std.proofs.Common.{◌≡◌, ℕ, ◌<◌, ◌≤◌, ◌^◌, Bool, true, false, cond, ◌==◌, ◌&&◌, List, [], ◌∷◌, Option, None, length, map, fold, refl, ap, ◌∙◌, arith}
+use Rattle.std.proofs.Common.{◌≡◌, ℕ, ◌<◌, ◌≤◌, ◌^◌, Bool, false, ◌==◌, ◌&&◌, List, [], ◌∷◌, Option, None, length, map, fold, refl, ap, ◌∙◌, arith}
 use Rattle.std.specs.Prelude.{unwrap_or, filter_map, All}
 use Rattle.std.proofs.lemmas.List.Elements.{All-append, All-cons, All-head, All-nil, All-tail, All-take}
 use Rattle.directory.proofs.Tests.{both_ways}
@@ -30,18 +30,14 @@ use Rattle.entry_word.specs.MarkLaws.{read-mark}
 mark-write : (sub node : ℕ) (mark : PresenceMark) (write : Write)
     → word_after (Presence node sub) (mark_word mark) (visit_of sub write).act
     ≡ mark_word (mark_after node mark write)
-mark-write sub node mark (mark_at other new) = rw (eq-eqb sub sub refl)
-    (elim (node == other) as (λ b. cond (b && true) (mark_word new) (mark_word mark) ≡ mark_word (cond b new mark))
-    [ true ↦ refl | false ↦ refl ])
+mark-write sub node mark (mark_at other new) = grind (arith, eq-eqb)
 mark-write sub node mark (entry_at level cluster address) = refl
 
 entry-write : (sub level cluster : ℕ) (address : Option Address) (write : Write)
     → word_after (Entry level cluster sub) (address_word address) (visit_of sub write).act
     ≡ address_word (entry_after level cluster address write)
 entry-write sub level cluster address (mark_at node mark) = refl
-entry-write sub level cluster address (entry_at other c new) = rw (eq-eqb sub sub refl)
-    (elim (level == other && cluster == c) as (λ b. cond (b && true) (address_word new) (address_word address)
-    ≡ address_word (cond b new address)) [ true ↦ refl | false ↦ refl ])
+entry-write sub level cluster address (entry_at other c new) = grind (arith, eq-eqb)
 
 -- some writes: a cell holds the word of what they leave
 writes-left : {A : Type 0} (f : ℕ → Visit → ℕ) (after : A → Write → A) (word : A → ℕ) (sub : ℕ)

@@ -4,7 +4,7 @@ use Rattle.std.specs.Prelude.{slice_get}
 use Rattle.std.proofs.lemmas.List.{length_push}
 use Rattle.node_set.specs.Ascending.{IsBelowAll, IsAscending}
 use Rattle.entry_word.specs.declared.visit.Visit.{Visit}
-use Rattle.directory.specs.Histories.{History, own, tickets_from, tickets}
+use Rattle.directory.specs.Histories.{History, own, tickets_from}
 use Rattle.node_set.specs.SetLaws.{below_weaker}
 use Rattle.directory.specs.Statements.{TicketsGrow, TicketsAreOwn, TicketsAscend}
 
@@ -103,6 +103,4 @@ push_from actor ticket (first ∷ later) visit =
     one = cond (visit.actor == actor) ((ticket + suc (length later)) ∷ []) []
 
 pub tickets-push : TicketsGrow
-tickets-push actor history visit = push_from actor 0 history visit
-    ∙ ap (λ n. tickets actor history ++ cond (visit.actor == actor) (n ∷ []) [])
-    (let e : 0 + length history ≡ length history = omega arith in e)
+tickets-push actor history visit = grind (arith, push_from)

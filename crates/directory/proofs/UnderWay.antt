@@ -1,7 +1,7 @@
 -- How far a caller is before a ticket: what it has looked at for its find, and that each find that was answered before
 -- has its looks.
 use Rattle.std.proofs.Common.{◌≡◌, ℕ, suc, ◌-◌, ◌<◌, ◌≤◌, Bool, true, false, ◌==◌, ◌+◌, List, [], ◌∷◌, ◌++◌, Option, Some, None, length, map, take, drop, refl, sym, ap, ◌∙◌, arith, append_assoc, length-append}
-use Rattle.std.specs.Prelude.{slice_get, flat_map, sum_by, All}
+use Rattle.std.specs.Prelude.{slice_get, sum_by, All}
 use Rattle.std.proofs.lemmas.Bool.{eqb-true}
 use Rattle.std.proofs.lemmas.Grind.{flat_map-append}
 use Rattle.std.proofs.lemmas.List.{append-nil, map-append, length_push, length-drop, length-take-le, take_all, take-append-le, drop-append-le}
@@ -12,7 +12,7 @@ use Rattle.std.proofs.lemmas.Option.{slice_get_within}
 use Rattle.entry_word.specs.declared.visit.Key.{Key}
 use Rattle.entry_word.specs.declared.visit.Visit.{Visit}
 use Rattle.directory.specs.Settings.{Setting, subs}
-use Rattle.directory.specs.Histories.{History, before, cell, tickets_from, tickets, words_of, words_at, words_after, words_read}
+use Rattle.directory.specs.Histories.{History, before, cell, tickets_from, tickets, words_of, words_after, words_read}
 use Rattle.directory.specs.Finds.{FindCall, Pursuit, at_origin, after_word, key_of, answer_of, most_looks}
 use Rattle.directory.proofs.FindLaws.{looks-fall}
 use Rattle.directory.specs.Looks.{look_by, AreLooks, IsFind}
@@ -34,10 +34,7 @@ pursuit-push : (setting : Setting) (history : History) (actor : ℕ) (call : Fin
     → pursuit_after setting history call pursuit (sofar ++ ticket ∷ [])
     ≡ after_word setting call (pursuit_after setting history call pursuit sofar)
     (cell setting (before ticket history) key)
-pursuit-push setting history actor call pursuit sofar ticket key h =
-    rw (flat_map-append (words_at setting history) sofar (ticket ∷ []), h)
-    (fold-append (after_word setting call) pursuit (flat_map (words_at setting history) sofar)
-    (cell setting (before ticket history) key ∷ []))
+pursuit-push setting history actor call pursuit sofar ticket key h = grind (arith, flat_map-append, fold-append)
 
 -- one look more
 looks-push : (setting : Setting) (history : History) (actor : ℕ) (call : FindCall) (sofar : List ℕ) (earliest : ℕ)
@@ -124,10 +121,7 @@ later_than h far = record { looks = far.looks; reads = far.reads; low = omega (a
 -- the tickets of a find that was answered stay
 seen-more : (ticketed more : List ℕ) (answer : Answer) → answer.first ≤ answer.last → answer.last < length ticketed
     → seen_of (ticketed ++ more) answer ≡ seen_of ticketed answer
-seen-more ticketed more answer order within =
-    ap (take (suc answer.last - answer.first)) (drop-append-le answer.first ticketed more (omega arith))
-    ∙ take-append-le (suc answer.last - answer.first) (drop answer.first ticketed) more
-    (omega (arith, length-drop answer.first ticketed))
+seen-more ticketed more answer order within = grind (arith, drop-append-le, length-drop, take-append-le)
 
 answered-more : (setting : Setting) (history : History) (actor : ℕ) (ticketed more : List ℕ) (answers : List Answer)
     → All (IsAnswered setting history actor ticketed) answers
