@@ -37,9 +37,7 @@ switch-writes : {setting : Setting} {handset : HandsetData} {steps : List Step} 
     → StandsAt setting handset Resting steps made → map (visit_of handset.sub)
     (step_writes setting (course_of setting handset.sub steps) (switch_to off)) ≡ map (visit_of handset.sub)
     (left_at setting handset (Switching off))
-switch-writes {setting} {handset} {steps} off f =
-    let over = f.begun ∙ append-nil f.over in
-    rw (switch-is setting (course_of setting handset.sub steps) off, over, f.place, f.number)
+switch-writes {setting} {handset} {steps} off f = grind (arith, append-nil, switch-is)
 
 switch-gathered : (setting : Setting) (sub : ℕ) (steps : List Step) (off : Bool) (level : ℕ)
     → gathered_weight (course_of setting sub (steps ++ switch_to off ∷ [])) level
@@ -104,11 +102,7 @@ same-move to p q r s = cc
 same-renewal : (setting : Setting) (course : Course) (xs : List ℕ) {weight other : ℕ} → weight ≡ other
     → ((level : ℕ) → level < levels setting → get_or xs level 0 ≡ gathered_weight course level)
     → renewal_in setting xs weight ≡ renewal setting course other
-same-renewal setting course xs {weight} {other} same kept =
-    highest-same (λ level. nat_le (setting.threshold level) (get_or xs level 0 + weight)) (λ level. nat_le
-    (setting.threshold level) (gathered_weight course level + other)) (levels setting)
-    (λ level h. ap (λ w. nat_le (setting.threshold level) (w + weight)) (kept level h)
-    ∙ ap (λ w. nat_le (setting.threshold level) (gathered_weight course level + w)) same)
+same-renewal setting course xs {weight} {other} same kept = grind (arith, highest-same)
 
 pub begin-stands : (setting : Setting) (handset : HandsetData) (steps : List Step) (made to : ℕ)
     → AddressLaw setting → GatheredLaw setting

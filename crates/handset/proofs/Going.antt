@@ -1,5 +1,5 @@
 -- A handset goes with its plan after each of its writes.
-use Rattle.std.proofs.Common.{◌≡◌, ℕ, suc, ◌+◌, ◌*◌, ◌-◌, ◌^◌, ◌<◌, ◌≤◌, Bool, true, false, cond, List, [], ◌++◌, Option, Some, None, length, drop, replicate, refl, sym, ap, ◌∙◌, subst, arith, length-append}
+use Rattle.std.proofs.Common.{◌≡◌, ℕ, suc, ◌+◌, ◌*◌, ◌-◌, ◌^◌, ◌<◌, ◌≤◌, Bool, true, false, cond, List, [], ◌++◌, Option, Some, None, length, drop, replicate, refl, ap, ◌∙◌, subst, arith, length-append}
 use Rattle.std.specs.Prelude.{get_or, nat_le, nat_lt, slice_set}
 use Rattle.std.proofs.lemmas.Bool.Decides.{nat_tests}
 use Rattle.std.proofs.lemmas.List.{length-map, length-set, length-drop, length-replicate, get_or_append_left, get_or-replicate, get_or-append_right, get_or-drop}
@@ -55,12 +55,7 @@ pub readdressed : (xs : List ℕ) (renewed to level : ℕ) → level < length xs
     → get_or (replicate (suc renewed) to ++ drop (suc renewed) xs) level 0 ≡ cond (nat_lt renewed level)
     (get_or xs level 0) to
 readdressed xs renewed to level h =
-    let count = length-replicate (suc renewed) to in
-    let front = get_or_append_left (replicate (suc renewed) to) (drop (suc renewed) xs) 0 level in
-    let new = get_or-replicate (suc renewed) level to 0 in
-    let back = get_or-append_right (replicate (suc renewed) to) (drop (suc renewed) xs) (suc renewed) level 0 count in
-    let old = get_or-drop (suc renewed) xs (level - suc renewed) 0 in
-    grind (arith, nat_tests)
+    grind (arith, length-replicate, get_or_append_left, get_or-replicate, get_or-append_right, get_or-drop)
 
 trail-length : (b : Bool) (trail : List Bool) (to : ℕ) → length (slice_set (cond b (replicate
     (length trail) false) trail) to true) ≡ length trail
@@ -71,23 +66,7 @@ trail-length false trail to = length-set trail to true
 pub goes-settled : {plan : PlanData} {handset : HandsetData} → GoesWith plan handset
     → handset.last.number ≡ handset.number → GoesWith plan (settle (setting_of plan []) handset)
 goes-settled {plan} {handset} goes done =
-    let after = settle (setting_of plan []) handset in
-    let addresses : length after.addresses ≡ levels_of plan = omega (
-      arith,
-      length-append (replicate (suc handset.last.renewed) handset.last.to) (drop
-          (suc handset.last.renewed) handset.addresses),
-      length-replicate (suc handset.last.renewed) handset.last.to,
-      length-drop (suc handset.last.renewed) handset.addresses,
-      goes.addresses,
-      goes.renewed,
-    ) in
-    let trail : length after.trail ≡ nodes_of plan = trail-length _ handset.trail handset.last.to ∙ goes.trail in
-    let inside : (level : ℕ) → level < levels_of plan → get_or after.addresses level 0 < nodes_of plan = λ level h.
-    let was = goes.inside level h in
-    let told = readdressed handset.addresses handset.last.renewed handset.last.to level
-    (omega (arith, h, goes.addresses)) in
-    rw told (grind arith) in
-    assumption
+    grind (arith, length-append, length-replicate, length-drop, trail-length, readdressed)
 
 pub goes-late : {plan : PlanData} {handset : HandsetData} (next : Stage) → GoesWith plan handset
     → handset.last.number ≡ begun_at next handset.number → IsMoveStage (nodes_of plan) handset.last next
@@ -106,9 +85,7 @@ goes-on stage goes done late = absurd late
 pub goes-next : {plan : PlanData} {handset after : HandsetData} {stage : Stage} (next : Stage) → GoesWith plan handset
     → handset.stage ≡ stage → begun_at stage handset.number ≡ handset.number
     → IsLate (nodes_of plan) handset.last next → after ≡ go_on (setting_of plan []) handset next → GoesWith plan after
-goes-next {plan} {handset} next goes at committed late same =
-    subst (GoesWith plan) (sym same)
-    (goes-on next goes (goes.counted ∙ (ap (λ s. begun_at s handset.number) at ∙ committed)) late)
+goes-next {plan} {handset} next goes at committed late same = grind (arith, goes-on)
 
 pub purging-by-count : (plan : PlanData) (handset : HandsetData) (node : ℕ) {count : ℕ} → count ≡ nodes_of plan
     → IsLate (nodes_of plan) handset.last (purging_at (first_with (is_behind handset) node (count - node)))
@@ -119,12 +96,7 @@ purging-by-count plan handset node same =
 pub light-after : (xs : List ℕ) {ys : List ℕ} {levels : ℕ} (n : ℕ) {more : ℕ} (renewed weight : ℕ) → length xs ≡ levels
     → ((level : ℕ) → level < levels → get_or xs level 0 ≤ n * 2 ^ 30) → weight ≤ 2 ^ 30 → more ≡ n + 1
     → ys ≡ gathered_after xs renewed weight → (level : ℕ) → level < levels → get_or ys level 0 ≤ more * 2 ^ 30
-light-after xs {ys} n {more} renewed weight count light small next same level h =
-    let one : get_or ys level 0 ≡ gathered_then (get_or xs level 0) renewed weight level =
-    ap (λ zs. get_or zs level 0) same ∙ numbers-from-zero (λ k. gathered_then (get_or xs k 0) renewed weight k)
-    (length xs) level (omega (arith, h, count)) in
-    let was = light level h in
-    grind arith
+light-after xs {ys} n {more} renewed weight count light small next same level h = grind (arith, numbers-from-zero)
 
 -- a handset that begins a move goes with its plan
 light-weight : {plan : PlanData} (u v : ℕ) → IsKept plan → (setting_of plan []).distance u v ≤ 2 ^ 30

@@ -86,20 +86,17 @@ pub map-passing-same : {A : Type 0} (p q : ℕ → Bool) (f g : ℕ → A) (x k 
     → ((y : ℕ) → x ≤ y → y < x + k → p y ≡ q y) → ((y : ℕ) → x ≤ y → y < x + k → f y ≡ g y)
     → map f (sift p x k) ≡ map g (sift q x k)
 map-passing-same p q f g x zero same equal = refl
-map-passing-same p q f g x (suc k) same equal =
-    let here = same x (omega arith) (omega arith) in
-    let alike = equal x (omega arith) (omega arith) in
-    let later = map-passing-same p q f g (suc x) k (λ y h l. same y (omega (arith, h)) (omega (arith, l)))
-    (λ y h l. equal y (omega (arith, h)) (omega (arith, l))) in
-    grind arith
+map-passing-same p q f g x (suc k) same equal = grind (
+  arith,
+  map-passing-same p q f g (suc x) k (λ y h l. same y (omega (arith, h)) (omega (arith, l)))
+      (λ y h l. equal y (omega (arith, h)) (omega (arith, l))),
+)
 
 pub highest-same : (p q : ℕ → Bool) (limit : ℕ) → ((y : ℕ) → y < limit → p y ≡ q y) → highest p limit
     ≡ highest q limit
 unfolding highest
 highest-same p q zero same = refl
-highest-same p q (suc limit) same =
-    ap (λ b. cond b limit (highest p limit)) (same limit (omega arith))
-    ∙ ap (λ n. cond (q limit) limit n) (highest-same p q limit (λ y h. same y (omega (arith, h))))
+highest-same p q (suc limit) same = grind (arith, highest-same p q limit (λ y h. same y (omega (arith, h))))
 
 -- what is left of a list: its head, and the rest
 pub drop-head : {A : Type 0} (n : ℕ) (xs : List A) {y : A} {ys : List A} → drop n xs ≡ y ∷ ys → slice_get xs n ≡ Some y

@@ -44,14 +44,7 @@ top-renewed top renewed h = grind (arith, nat_tests)
 pub marked : (trail : List Bool) (renews : Bool) (to node : ℕ) → to < length trail → node < length trail
     → get_or (slice_set (cond renews (replicate (length trail) false) trail) to true) node false
     ≡ (cond renews false (get_or trail node false) || node == to)
-marked trail renews to node h l =
-    let list = cond renews (replicate (length trail) false) trail in
-    let count : length list ≡ length trail = grind (arith, length-replicate (length trail) false) in
-    let inside : to < length list = omega (arith, h, count) in
-    let same = get_or-set_same list to true false inside in
-    let other = get_or-set_other list to node true false in
-    let none = get_or-replicate (length trail) node false false l in
-    grind (arith, nat_tests)
+marked trail renews to node h l = grind (arith, length-replicate, get_or-set_same, get_or-set_other, get_or-replicate)
 
 -- a move that is over
 pub settled-stands : {setting : Setting} {handset : HandsetData} {stage : Stage} {steps : List Step} {before : ℕ}

@@ -1,5 +1,5 @@
 -- The trail as a set of nodes: what is told of each node, and the first of those that are left.
-use Rattle.std.proofs.Common.{◌≡◌, ◌≢◌, inl, inr, ℕ, zero, suc, ◌+◌, ◌-◌, ◌<◌, ◌≤◌, Bool, true, false, cond, [], Option, Some, None, IfSome, IfNone, length, replicate, set, refl, sym, ap, ◌∙◌, arith}
+use Rattle.std.proofs.Common.{◌≡◌, ◌≢◌, ℕ, zero, suc, ◌+◌, ◌-◌, ◌<◌, ◌≤◌, Bool, true, false, cond, [], Option, Some, None, IfSome, IfNone, length, replicate, set, refl, sym, ap, ◌∙◌, arith}
 use Rattle.std.specs.Prelude.{get_or, not, ◌==◌, ◌&&◌}
 use Rattle.std.proofs.lemmas.Bool.{cases_eq, cases_lt}
 use Rattle.std.proofs.lemmas.Bool.Decides.{nat_tests}
@@ -23,9 +23,7 @@ flag-count trail =
 pub flag-at : (trail : Nodes) (x : ℕ) → x < trail.room → get_or (flags trail) x false ≡ has x trail.members
 unfolding flags
 flag-at trail x below =
-    let inside : x < length (numbers_from 0 trail.room) = omega (arith, below, length-passing_all 0 trail.room) in
-    get_or-map (λ v. has v trail.members) (numbers_from 0 trail.room) x 0 false inside
-    ∙ ap (λ v. has v trail.members) (passing_all-each 0 trail.room x 0 below ∙ (let e : 0 + x ≡ x = omega arith in e))
+    grind (arith, length-passing_all 0 trail.room, passing_all-each 0 trail.room x 0 below, get_or-map)
 
 -- the flags of no node
 pub flags-none : (room : ℕ) → flags (record { room = room; members = [] }) ≡ replicate room false
@@ -93,9 +91,7 @@ still-there trail to x below there other =
 -- where no node is left from one on
 pub none-behind : (trail : Nodes) (to from : ℕ) → IsNoneFrom trail.members from
     → None ≡ first_with (is_left trail to) from (length (flags trail) - from)
-none-behind trail to from none =
-    sym (first-missing (is_left trail to) from (length (flags trail) - from)
-    (λ x low high. not-there trail to x (omega (arith, low, high, flag-count trail)) (none x low)))
+none-behind trail to from none = grind (arith, is_left, flag-count, not-there, first-missing)
 
 -- where the next node isn't the new one
 pub next-behind : (trail : Nodes) (to : ℕ) {from node : ℕ} → IsNext trail.members from node → node < trail.room
@@ -109,13 +105,7 @@ next-behind trail to {from} {node} next below other =
 -- between a number and the next node behind the new one no node is left
 between : (trail : Nodes) {to from node : ℕ} → IsNext trail.members from node → node < trail.room → node ≡ to → (x : ℕ)
     → from ≤ x → x < trail.room → (node + 1 ≤ x → has x trail.members ≡ false) → is_left trail to x ≡ false
-between trail {to} {node} next inside same x low below later = elim (cases_lt x node) [
-  | inl before ↦ not-there trail to x below (next.first x low before)
-  | inr past ↦ elim (cases_eq x to) [
-    | inl is ↦ new-node trail is
-    | inr other ↦ not-there trail to x below (later (omega (arith, past, other, same)))
-  ]
-]
+between trail {to} {node} next inside same x low below later = grind (arith, cases_lt, not-there, cases_eq, new-node)
 
 -- where the next node is the new one, the one behind it is the first
 pub behind-next : (trail : Nodes) {to from node : ℕ} (rest : Option ℕ) → IsNext trail.members from node
