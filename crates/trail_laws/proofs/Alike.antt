@@ -138,13 +138,8 @@ get-next xs ys zs visit h same = absurd (omega (arith, same))
 pub switch-rests : StepsBeginAtRest → {setting : Setting} {sub : ℕ} {history : History} {visit : Visit}
     → setting.nodes ≤ 2 ^ 16 → IsLegal setting sub history → IsLegal setting sub (history ++ visit ∷ [])
     → is_put_for sub visit.act ≡ true → IsSwitching sub history visit → IsAtRest setting sub history
-switch-rests rests {setting} {sub} {history} {visit} low legal legal_more put switch = drop_of_length-le
-    (visits setting sub (steps_in (puts_to sub history))) {i = length (puts_to sub history)}
-    (omega (
-      arith,
-      rests setting sub (puts_to sub history) visit switch.step low legal
-          (rw (puts-push_own sub history visit put) at legal_more) switch.begins,
-    ))
+switch-rests rests {setting} {sub} {history} {visit} low legal legal_more put switch =
+    grind (arith, puts-push_own, drop_of_length-le)
 
 pub alike-switch : MarksAreLeft → StepsBeginAtRest → {setting : Setting} {sub : ℕ} {history : History} {visit : Visit}
     → setting.nodes ≤ 2 ^ 16 → IsLegal setting sub history → IsLegal setting sub (history ++ visit ∷ [])
@@ -235,11 +230,8 @@ pub led-alike : (setting : Setting) (marks others : ℕ → PresenceMark) → ((
     → IsLed setting others known node last hops way
 unfolding IsLed
 led-alike setting marks others alike known node last zero way led = (led.0, sym (alike node known).1 ∙ led.1, led.2)
-led-alike setting marks others alike known node last (suc hops) way led = (
-  led.0,
-  led.1,
-  sym (alike node known).0 ∙ led.2,
-  led.3,
-  rw (alike node known).2 at
-      (led-alike setting marks others alike (known_after known (marks node)) led.0 last hops led.1 led.4),
+led-alike setting marks others alike known node last (suc hops) way led = grind (
+  arith,
+  led-alike setting marks others alike (known_after known (marks node)) led.0 last hops led.1 led.4,
+  marks,
 )

@@ -1,6 +1,6 @@
 -- What the marks that a chase has read leave for the next one, and what follows for the whole list. Each is read where
 -- the subscriber was after so many of its commits, and that stays so.
-use Rattle.std.proofs.Common.{◌≡◌, ◌⊎◌, inl, inr, ℕ, ◌-◌, ◌≤◌, false, List, [], ◌∷◌, ◌++◌, Option, refl, ap, ◌∙◌, arith}
+use Rattle.std.proofs.Common.{◌≡◌, ◌⊎◌, inl, inr, ℕ, ◌-◌, ◌≤◌, false, List, [], ◌∷◌, Option, refl, ◌∙◌, arith}
 use Rattle.std.specs.Prelude.{filter_map}
 use Rattle.node_set.specs.Ascending.{IsAscending, IsBelowAll}
 use Rattle.entry_word.specs.declared.mark.PresenceMark.{PresenceMark}
@@ -145,6 +145,4 @@ pub ended-none : (setting : Setting) (call : FindCall) (pursuit : Pursuit) (word
     → ((word : ℕ) → (mark_chased pursuit word ≡ []) × (after_word setting call pursuit word ≡ pursuit))
     → marks_chased setting call pursuit words ≡ []
 ended-none setting call pursuit [] still = refl
-ended-none setting call pursuit (word ∷ words) still =
-    ap (λ ms. ms ++ marks_chased setting call (after_word setting call pursuit word) words) (still word).0
-    ∙ (ap (λ s. marks_chased setting call s words) (still word).1 ∙ ended-none setting call pursuit words still)
+ended-none setting call pursuit (word ∷ words) still = grind (arith, ended-none setting call pursuit words still)

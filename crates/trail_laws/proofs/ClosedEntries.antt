@@ -61,18 +61,11 @@ entered-levels at new level cluster entry (l ∷ levels) =
 pub old-stop : {setting : Setting} {course : Course} (more : List Move) (level : ℕ) → IsSound setting course
     → slice_index (course.start ∷ map (λ (m : Move). m.to) (course.moves ++ more)) (base level course.moves)
     ≡ address_node course level
-old-stop {setting} {course} more level sound =
-    ap (λ xs. slice_index (course.start ∷ xs) (base level course.moves))
-    (map-append (λ (m : Move). m.to) course.moves more)
-    ∙ get_or_append_left (course.start ∷ map (λ (m : Move). m.to) course.moves) (map (λ (m : Move). m.to) more) 0
-    (base level course.moves) (omega (arith, length-map course.moves (λ (m : Move). m.to), base-low level sound))
+old-stop {setting} {course} more level sound = grind (arith, map-append, length-map, base-low, get_or_append_left)
 
 pub new-stop : {setting : Setting} {course : Course} {move : Move} → IsNext setting course move
     → stop (with_move course move) move.number ≡ move.to
-new-stop {course} {move} next =
-    ap (λ xs. slice_index (course.start ∷ xs) move.number) (map-append (λ (m : Move). m.to) course.moves (move ∷ []))
-    ∙ get_or_at (course.start ∷ map (λ (m : Move). m.to) course.moves) move.to [] 0 move.number
-    (omega (arith, length-map course.moves (λ (m : Move). m.to), next.number))
+new-stop {course} {move} next = grind (arith, map-append, length-map, get_or_at)
 
 -- the address of a level after a move
 pub address-with : {setting : Setting} {course : Course} {move : Move} (level : ℕ) → IsSound setting course

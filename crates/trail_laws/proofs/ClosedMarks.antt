@@ -141,18 +141,12 @@ base-with level course move = fold-append (λ last (m : Move). if nat_le level m
 
 there-with : {setting : Setting} {course : Course} {move : Move} → IsNext setting course move
     → there (with_move course move) ≡ Here move.number
-there-with {course} {move} next =
-    ap (λ b. cond b (Off (length (with_move course move).moves)) (Here (length (with_move course move).moves)))
-    next.is_on ∙ ap (λ n. Here n) (count-with course move ∙ sym next.number)
+there-with {course} {move} next = grind (arith, with_move, count-with)
 
 pub trail-has : {setting : Setting} {course : Course} (move : Move) (v : ℕ) → IsSound setting course
     → has v (trail setting course move) ≡ (has v (map (λ (m : Move). m.from) (since_top setting course)) ||
     (v == move.from || false))
-trail-has {setting} {course} move v sound =
-    ap (λ ms. has v (map (λ (m : Move). m.from) ms)) (drop-append-le (base setting.top course.moves) course.moves
-    (move ∷ []) (base-low setting.top sound))
-    ∙ (ap (has v) (map-append (λ (m : Move). m.from) (since_top setting course) (move ∷ []))
-    ∙ has-append v (map (λ (m : Move). m.from) (since_top setting course)) (move.from ∷ []))
+trail-has {setting} {course} move v sound = grind (arith, base-low, drop-append-le, since_top, map-append, has-append)
 
 -- a renewal of the top level leaves the new node alone
 purged-rest : (f a b : Bool) (here gone coming its mark : PresenceMark) → (f ≡ false → mark ≡ Empty)

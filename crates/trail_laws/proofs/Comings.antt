@@ -1,7 +1,7 @@
 -- A Coming stands at one node, and leads to where the subscriber stands.
 use Rattle.std.proofs.lemmas.Bool.{cases_Bool, cases_cond, eqb-true}
-use Rattle.std.proofs.Common.{◌≡◌, inl, inr, ℕ, ◌+◌, ◌<◌, ◌≤◌, Bool, true, false, cond, ◌==◌, Option, length, refl, sym, ◌∙◌, arith}
-use Rattle.entry_word.specs.declared.mark.PresenceMark.TheVariants.{Empty, Here, Gone, Coming, Off}
+use Rattle.std.proofs.Common.{◌≡◌, inl, inr, ℕ, ◌+◌, ◌<◌, ◌≤◌, Bool, true, false, cond, Option, refl, sym, ◌∙◌, arith}
+use Rattle.entry_word.specs.declared.mark.PresenceMark.TheVariants.{Empty, Here, Gone, Coming}
 use Rattle.directory.specs.Settings.{Setting}
 use Rattle.directory.specs.Courses.{Move, Course, last_stop}
 use Rattle.trail_laws.proofs.Links.{IsSound, base-low}
@@ -22,16 +22,11 @@ trail-not_coming {setting} {course} v p u sound h =
     ]
 
 pub there-not_coming : (course : Course) (p u : ℕ) → there course ≡ Coming p u → ⊥
-there-not_coming course p u h =
-    elim (cases_cond course.is_off (Off (length course.moves)) (Here (length course.moves)) (Coming p u) (sym h))
-    [ inl is_off ↦ cc | inr here ↦ cc ]
+there-not_coming course p u h = grind (arith, cases_cond)
 
 rest-not_coming : {setting : Setting} {course : Course} (v p u : ℕ) → IsSound setting course
     → rest_mark setting course v ≡ Coming p u → ⊥
-rest-not_coming {setting} {course} v p u sound h = elim (cases_Bool (v == last_stop course)) [
-  | inl e ↦ there-not_coming course p u (rw e at h)
-  | inr e ↦ trail-not_coming v p u sound (rw e at h)
-]
+rest-not_coming {setting} {course} v p u sound h = grind (arith, cases_Bool, there-not_coming, trail-not_coming)
 
 -- in each phase of a move a Coming is its own, where it goes, and once it is confirmed there is none
 module _ {setting : Setting} {course : Course} (move : Move) (v p u : ℕ) (sound : IsSound setting course) where

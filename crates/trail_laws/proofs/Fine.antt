@@ -47,9 +47,7 @@ fine-short setting shown level address way short new = record {
 pub fine-rest : {setting : Setting} {shown : Shown} (h : IsResting setting shown) (level : ℕ) (address : Address)
     → level ≤ setting.top
     → IsFine setting shown level address (weight_from h.course.moves (base level h.course.moves) + 0)
-fine-rest {setting} {shown} h level address below = fine-short setting shown level address _
-    (λ lazy. omega (arith, lazy-whole setting h.course.moves level below (rw h.moves_are at lazy)))
-    (λ all new. absurd (omega (arith, all, ap length h.moves_are, count-told h.course.moves h.commits_are)))
+fine-rest {setting} {shown} h level address below = grind (arith, lazy-whole, count-told, fine-short)
 
 pub fine-coming : {setting : Setting} {shown : Shown} {written : List ℕ} (h : IsMoving setting shown (coming written))
     (level : ℕ) → level ≤ setting.top

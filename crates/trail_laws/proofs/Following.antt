@@ -61,11 +61,8 @@ zero-up setting sub seen node mark tells = omega arith
 fits-up : ChaseLaws → {setting : Setting} {sub : ℕ} {seen : History} {behind : Behind} {known : Option ℕ} {node : ℕ}
     → setting.nodes ≤ 2 ^ 16 → IsLegal setting sub seen → node < setting.nodes
     → IsBehind setting sub seen behind known node → GoesUp behind.place (mark_seen setting sub seen node)
-fits-up laws {setting} {sub} {seen} {behind} {node} low legal inside is = elim is.stop [
-  | inl none ↦ rw none
-      (zero-up setting sub seen node _ (laws.marks setting sub seen low legal node inside))
-  | inr stop ↦ stop-goes_up laws.cells laws.marks seen low legal behind.place node is.few stop inside
-]
+fits-up laws {setting} {sub} {seen} {behind} {node} low legal inside is =
+    grind (arith, laws.marks setting sub seen low legal node inside, zero-up, stop-goes_up)
 
 fits-begun : ChaseLaws → {setting : Setting} {sub : ℕ} (seen : History) (n node : ℕ) (mark : PresenceMark)
     → setting.nodes ≤ 2 ^ 16 → IsLegal setting sub seen → n ≤ moves_begun setting sub seen

@@ -20,11 +20,7 @@ cond-fewer false false v d xs ys e more = more
 pub passing-fewer : (f g : ℕ → Bool) (v k : ℕ) → ((x : ℕ) → f x ≡ true → g x ≡ true)
     → length (sift f v k) ≤ length (sift g v k)
 passing-fewer f g v zero h = omega arith
-passing-fewer f g v (suc k) h = omega (
-  arith,
-  cond-fewer (f v) (g v) v 0 (sift f (suc v) k) (sift g (suc v) k) (h v)
-      (omega (arith, passing-fewer f g (suc v) k h)),
-)
+passing-fewer f g v (suc k) h = grind (arith, passing-fewer f g (suc v) k h, cond-fewer)
 
 pub passing-less : (f g : ℕ → Bool) (x v k : ℕ) → v ≤ x → x < v + k → ((y : ℕ) → f y ≡ true → g y ≡ true)
     → f x ≡ false → g x ≡ true → length (sift f v k) < length (sift g v k)

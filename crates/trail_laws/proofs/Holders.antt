@@ -1,7 +1,7 @@
 -- Which addresses an entry has: the old one of its level, or that of the move under way.
 use Rattle.std.proofs.lemmas.Option.{cond_some}
 use Rattle.std.proofs.lemmas.Bool.{cases_Bool, and_parts, eqb-true}
-use Rattle.std.proofs.Common.{◌≡◌, ◌⊎◌, inl, inr, ℕ, ◌≤◌, true, false, ◌==◌, ◌&&◌, List, Some, None, sym, ◌∙◌, arith}
+use Rattle.std.proofs.Common.{◌≡◌, ◌⊎◌, ℕ, ◌≤◌, true, false, ◌==◌, ◌&&◌, List, Some, sym, ◌∙◌, arith}
 use Rattle.std.specs.Prelude.{nat_le}
 use Rattle.std.proofs.lemmas.Bool.Decides.{nat_tests}
 use Rattle.node_set.specs.Ascending.{has}
@@ -34,9 +34,7 @@ IsNew setting move level cluster address = (address ≡ move_address move)
 pub rest-some : (setting : Setting) (course : Course) (level cluster : ℕ) (address : Address)
     → rest_entry setting course level cluster ≡ Some address → IsOld setting course level cluster address
 unfolding IsOld
-rest-some setting course level cluster address h =
-    let both = cond_some (cluster == old_home setting course level) (old_address course level) address h in
-    (sym both.1, both.0)
+rest-some setting course level cluster address h = grind (arith, old_address, cond_some)
 
 pub written-some : (setting : Setting) (course : Course) (move : Move) (written : List ℕ) (level cluster : ℕ)
     (address : Address) → entry_written setting course move written level cluster ≡ Some address
@@ -45,24 +43,13 @@ pub written-some : (setting : Setting) (course : Course) (move : Move) (written 
     ≡ false))
 unfolding IsNew
 written-some setting course move written level cluster address h =
-    elim (cases_Bool (has level written && cluster == setting.home level move.to)) [
-      | inl e ↦
-          let both = and_parts (has level written) (cluster == setting.home level move.to) e in
-          let is_new : new_entry move ≡ Some address = rw e at h in
-          let same : address ≡ move_address move = cc in
-          inl ((same, both.1), both.0)
-      | inr e ↦ inr (rest-some setting course level cluster address (rw e at h), e)
-    ]
+    grind (arith, setting.home level move.to, cases_Bool, and_parts, new_entry, move_address, rest-some)
 
 pub erased-some : (setting : Setting) (course : Course) (move : Move) (written erased : List ℕ) (level cluster : ℕ)
     (address : Address) → entry_erased setting course move written erased level cluster ≡ Some address
     → ((has level erased && cluster == old_home setting course level) ≡ false)
     × (entry_written setting course move written level cluster ≡ Some address)
-erased-some setting course move written erased level cluster address h =
-    elim (cases_Bool (has level erased && cluster == old_home setting course level)) [
-      | inl e ↦ let clash : None ≡ Some address = rw e at h in cc
-      | inr e ↦ (e, rw e at h)
-    ]
+erased-some setting course move written erased level cluster address h = grind (arith, cases_Bool)
 
 -- when all old addresses are erased at all levels, only the new one is left
 pub only-new : {setting : Setting} {course : Course} {move : Move} (level cluster : ℕ) (address : Address)

@@ -1,11 +1,11 @@
 -- Each line of an actor's finds begins behind the last visit of those before it.
-use Rattle.std.proofs.Common.{◌≡◌, ◌⊎◌, inl, inr, ℕ, zero, suc, ◌+◌, ◌<◌, ◌≤◌, List, [], ◌∷◌, ◌++◌, length, map, take, drop, fold, get_or, refl, sym, ap, ◌∙◌, subst, arith, Option}
+use Rattle.std.proofs.Common.{◌≡◌, ◌⊎◌, inl, inr, ℕ, zero, suc, ◌+◌, ◌<◌, ◌≤◌, List, [], ◌∷◌, ◌++◌, length, map, drop, fold, get_or, refl, ap, arith, Option}
 use Rattle.std.specs.Prelude.{Some, None, flat_map, slice_get}
 use Rattle.std.proofs.lemmas.Option.{slice_get_within}
 use Rattle.directory.specs.Settings.{Setting, start, subs}
 use Rattle.directory.specs.Statements.{CallersCount, FindsFollow, TicketsAscend}
 use Rattle.directory.specs.Courses.{Course, Step, after_step, course_at, move_to}
-use Rattle.directory.specs.Finds.{FindCall, Pursuit, after_word, answer_of}
+use Rattle.directory.specs.Finds.{FindCall, Pursuit}
 use Rattle.directory.specs.Histories.{History, tickets, words_read}
 use Rattle.directory.specs.Orders.{Answer, Caller as Seeker, IsPlayed, Scripts, after_read, caller_at, caller_in, finds_of, read_by, steps_of, with_pursuit}
 use Rattle.directory.specs.Outcomes.{FollowEachOther, answer_line, caller_lines, found_line, step_line, step_lines, sub_lines}
@@ -23,19 +23,14 @@ append-at : {A : Type 0} (xs ys : List A) (i : ℕ) (y : A) → slice_get (xs ++
     → (slice_get xs i ≡ Some y) ⊎ ((k : ℕ) × (i ≡ length xs + k) × (slice_get ys k ≡ Some y))
 append-at [] ys i y h = inr (i, omega arith, h)
 append-at (x ∷ xs) ys zero y h = inl h
-append-at (x ∷ xs) ys (suc i) y h = elim (append-at xs ys i y h) [
-  | inl here ↦ inl here
-  | inr there ↦ inr (there.0, omega (arith, there.1), there.2)
-]
+append-at (x ∷ xs) ys (suc i) y h = grind (arith, append-at xs ys i y h)
 
 -- the answers of a caller come one after another, and their last looks have been made
 follow-above : (place : ℕ) (answers : List Answer) (j : ℕ) (b : Answer) → FollowEachOther place answers
     → slice_get answers j ≡ Some b → (place ≤ b.first) × (b.first ≤ b.last)
 unfolding FollowEachOther
 follow-above place [] j b follows at = cc
-follow-above place (a ∷ answers) zero b follows at =
-    let same : a ≡ b = cc in
-    subst (λ (x : Answer). (place ≤ x.first) × (x.first ≤ x.last)) same (follows.0, follows.1)
+follow-above place (a ∷ answers) zero b follows at = grind arith
 follow-above place (a ∷ answers) (suc j) b follows at =
     let above = follow-above (suc a.last) answers j b follows.2 at in
     (omega (arith, above.0, follows.0, follows.1), above.1)
@@ -80,9 +75,7 @@ looked-more : (setting : Setting) (caller : Seeker) (calls : List FindCall) (wor
     → AreLooked caller.next caller.answers
     → AreLooked (read_by setting caller calls word).next (read_by setting caller calls word).answers
 looked-more setting caller [] word h = h
-looked-more setting caller (call ∷ later) word h =
-    looked-on caller call later (after_word setting call caller.pursuit word)
-    (answer_of (after_word setting call caller.pursuit word)) h
+looked-more setting caller (call ∷ later) word h = grind (arith, looked-on)
 
 looked-all : (setting : Setting) (words : List ℕ) (caller : Seeker) → AreLooked caller.next caller.answers
     → AreLooked (fold (after_read setting) caller words).next (fold (after_read setting) caller words).answers
@@ -156,11 +149,7 @@ caller-in-turn follow count ascend setting scripts history played actor i j one 
 
 line-of-caller : (setting : Setting) (scripts : Scripts) (history : History) (actor i : ℕ) (line : Done)
     → slice_get (caller_lines setting scripts history actor) i ≡ Some line → actor_of line ≡ actor
-line-of-caller setting scripts history actor i line at =
-    let seen : List ℕ = tickets actor history in
-    let a = map-at (answer_line actor seen) (caller_in setting scripts history actor).answers i line at in
-    sym (ap actor_of a.2)
-    ∙ actor-found actor a.0.call a.0.found (get_or seen a.0.first 0) (get_or seen a.0.last 0)
+line-of-caller setting scripts history actor i line at = grind (arith, map-at, actor-found)
 
 -- the lines of each actor lie together
 block-above : (f : ℕ → List Done) (x k : ℕ) → ((a i : ℕ) (y : Done) → x ≤ a → slice_get (f a) i ≡ Some y
@@ -212,10 +201,7 @@ steps-untold : (setting : Setting) (sub : ℕ) (course : Course) (steps : List S
     → AreUntold (step_lines setting sub course steps seen)
 unfolding step_lines
 steps-untold setting sub course [] seen i line find is told = cc
-steps-untold setting sub course (step ∷ steps) seen zero line find is told =
-    let first : List ℕ = take (length (step_writes setting course step)) seen in
-    let same : step_line setting sub course step first ≡ line = cc in
-    step-untold setting sub course step first find (rw same told)
+steps-untold setting sub course (step ∷ steps) seen zero line find is told = grind (arith, step-untold)
 steps-untold setting sub course (step ∷ steps) seen (suc i) line find is told =
     steps-untold setting sub (after_step setting course step) steps
     (drop (length (step_writes setting course step)) seen) i line find is told

@@ -32,10 +32,8 @@ lazy-push : (setting : Setting) (moves : List Move) (move : Move) → AreLazy se
     → ((level : ℕ) → level ≤ setting.top
     → weight_from (moves ++ move ∷ []) (base level (moves ++ move ∷ [])) < setting.threshold level)
     → AreLazy setting (moves ++ move ∷ [])
-lazy-push setting moves move lazy whole k level low below = elim (cases_lt (length moves) k) [
-  | inl h ↦ rw (take_all k (moves ++ move ∷ []) (omega (arith, h, length-append moves (move ∷ [])))) (whole level below)
-  | inr h ↦ rw (take-append-le k moves (move ∷ []) h) (lazy k level h below)
-]
+lazy-push setting moves move lazy whole k level low below =
+    grind (arith, cases_lt, move, length-append, take_all, take-append-le)
 
 -- a move renews each level that reaches its threshold
 lazy-whole_move : {setting : Setting} {course : Course} (node level : ℕ) → IsSound setting course

@@ -2,9 +2,8 @@
 use Rattle.std.proofs.Math.Seq.{drop-nil}
 use Rattle.std.proofs.lemmas.Bool.{cases_Bool, cond_both, eq-eqb, ne_eqb}
 use Rattle.trail_laws.proofs.ClosedMarks.{from-inside, rest_mark, since_top, sound-with, stop-with, there, trail_mark, trail_mark-push, with_move}
-use Rattle.std.proofs.Common.{inl, inr, ◌≡◌, ◌≢◌, ℕ, zero, suc, ◌+◌, ◌-◌, ◌*◌, ◌<◌, ◌≤◌, Bool, true, false, cond, ◌==◌, List, [], ◌∷◌, ◌++◌, Option, length, drop, fold, refl, sym, ap, ◌∙◌, arith}
+use Rattle.std.proofs.Common.{◌≡◌, ◌≢◌, ℕ, zero, suc, ◌+◌, ◌-◌, ◌*◌, ◌<◌, ◌≤◌, Bool, true, false, cond, ◌==◌, List, [], ◌∷◌, ◌++◌, Option, length, drop, fold, refl, sym, ap, ◌∙◌, arith}
 use Rattle.std.specs.Prelude.{if◌then◌else◌, nat_le}
-use Rattle.std.proofs.lemmas.Bool.Decides.{nat_tests}
 use Rattle.std.proofs.lemmas.List.{drop-append-le, length-drop}
 use Rattle.entry_word.specs.declared.mark.PresenceMark.{PresenceMark}
 use Rattle.entry_word.specs.declared.mark.PresenceMark.TheVariants.{Empty, Here, Gone, Coming, Off}
@@ -35,20 +34,15 @@ base-order : (setting : Setting) (level low high from number : ℕ) (moves : Lis
     → fold (λ l (m : Move). if nat_le setting.top m.renewed then m.number else l) high moves ≤ fold
     (λ l (m : Move). if nat_le level m.renewed then m.number else l) low moves
 base-order setting level low high from number [] below linked order l h = order
-base-order setting level low high from number (m ∷ later) below (link, linked) order l h =
-    elim (cases_Bool (nat_le setting.top m.renewed)) [
-      | inl e ↦ elim (cases_Bool (nat_le level m.renewed)) [
-        | inl f ↦ rw (e, f) (base-order setting level m.number m.number m.to (suc number) later below linked
-            (omega arith) (omega (arith, link.its_number)) (omega (arith, link.its_number)))
-        | inr f ↦ absurd (grind (arith, nat_tests, below))
-      ]
-      | inr e ↦ elim (cases_Bool (nat_le level m.renewed)) [
-        | inl f ↦ rw (e, f) (base-order setting level m.number high m.to (suc number) later below linked
-            (omega (arith, link.its_number, h)) (omega (arith, link.its_number)) (omega (arith, h)))
-        | inr f ↦ rw (e, f) (base-order setting level low high m.to (suc number) later below linked order
-            (omega (arith, l)) (omega (arith, h)))
-      ]
-    ]
+base-order setting level low high from number (m ∷ later) below (link, linked) order l h = grind (
+  arith,
+  base-order setting level m.number m.number m.to (suc number) later below linked (omega arith)
+      (omega (arith, link.its_number)) (omega (arith, link.its_number)),
+  base-order setting level m.number high m.to (suc number) later below linked (omega (arith, link.its_number, h))
+      (omega (arith, link.its_number)) (omega (arith, h)),
+  base-order setting level low high m.to (suc number) later below linked order (omega (arith, l)) (omega (arith, h)),
+  cases_Bool,
+)
 
 pub base-top : {setting : Setting} {course : Course} (level : ℕ) → IsSound setting course → level ≤ setting.top
     → base setting.top course.moves ≤ base level course.moves
@@ -66,9 +60,7 @@ StopsLead setting marks course b last most more_hops more_way =
 module _ {setting : Setting} {course : Course} (sound : IsSound setting course) (b : ℕ)
     (low : b ≤ length course.moves) where
   pub trail-linked : AreLinked setting (stop_at course.start course.moves b) b (drop b course.moves)
-  trail-linked =
-      let e : 0 + b ≡ b = omega arith in
-      rw e at (linked-drop setting course.start 0 course.moves b sound.linked low)
+  trail-linked = grind (arith, linked-drop setting course.start 0 course.moves b sound.linked low)
 
   pub trail-stops : (i : ℕ) → stop_at (stop_at course.start course.moves b) (drop b course.moves) i
       ≡ stop_at course.start course.moves (b + i)

@@ -1,5 +1,5 @@
 -- The moves of a course are linked: each begins where the one before ended, and is numbered after it.
-use Rattle.std.proofs.Common.{inl, inr, ◌≡◌, ℕ, suc, ◌+◌, ◌<◌, ◌≤◌, List, [], ◌∷◌, ◌++◌, length, fold, refl, arith, length-append}
+use Rattle.std.proofs.Common.{◌≡◌, ℕ, suc, ◌+◌, ◌<◌, ◌≤◌, List, [], ◌∷◌, ◌++◌, length, fold, refl, arith, length-append}
 use Rattle.std.proofs.lemmas.Bool.{cases_Bool}
 use Rattle.std.specs.Prelude.{nat_le, if◌then◌else◌}
 use Rattle.directory.specs.Settings.{Setting}
@@ -70,23 +70,16 @@ base-from : (level last from number : ℕ) (setting : Setting) (moves : List Mov
     → fold (λ l (move : Move). if nat_le level move.renewed then move.number else l) last moves ≤ number + length
     moves
 base-from level last from number setting [] low linked = omega (arith, low)
-base-from level last from number setting (move ∷ later) low (link, linked) =
-    elim (cases_Bool (nat_le level move.renewed)) [
-      | inl e ↦ rw e (omega (
-        arith,
-        base-from level move.number move.to (suc number) setting later (omega (arith, link.its_number)) linked,
-      ))
-      | inr e ↦ rw e
-          (omega (arith, base-from level last move.to (suc number) setting later (omega (arith, low)) linked))
-    ]
+base-from level last from number setting (move ∷ later) low (link, linked) = grind (
+  arith,
+  base-from level move.number move.to (suc number) setting later (omega (arith, link.its_number)) linked,
+  base-from level last move.to (suc number) setting later (omega (arith, low)) linked,
+  cases_Bool,
+)
 
 pub base-low : {setting : Setting} {course : Course} (level : ℕ) → IsSound setting course
     → base level course.moves ≤ length course.moves
-base-low {setting} {course} level sound = omega (
-  arith,
-  base-from level 0 course.start 0 setting course.moves
-      (omega arith) sound.linked,
-)
+base-low {setting} {course} level sound = grind (arith, base-from)
 
 -- one move more is moves-count
 pub moves-count : (course : Course) (move : Move) → length (course.moves ++ move ∷ []) ≡ suc (length course.moves)

@@ -13,10 +13,10 @@ use Rattle.entry_word.specs.declared.visit.Key.TheVariants.{Presence, Entry}
 use Rattle.entry_word.specs.declared.visit.Act.{Act}
 use Rattle.entry_word.specs.declared.visit.Act.TheVariants.{Put}
 use Rattle.entry_word.specs.declared.visit.Visit.{Visit}
-use Rattle.directory.specs.Settings.{Setting, start}
+use Rattle.directory.specs.Settings.{Setting}
 use Rattle.directory.specs.Histories.{cell, History, is_put_for, puts_to, word_after}
-use Rattle.directory.specs.Courses.{after_step, after_steps, course_at, next_move}
-use Rattle.directory.specs.Puts.{course_in, mark_put, mark_step, node_put, steps_from, steps_in}
+use Rattle.directory.specs.Courses.{after_steps}
+use Rattle.directory.specs.Puts.{course_in, mark_put, mark_step, node_put, steps_from}
 use Rattle.directory.specs.Legal.{IsLegal}
 use Rattle.directory.specs.Standing.{Commit, commits, confirms, number, passage, passage_of}
 use Rattle.directory.specs.StepLaws.{by_fronts, steps-append, take-more, puts-push_other, puts-push_own}
@@ -28,9 +28,7 @@ use Rattle.directory.specs.HistoryLaws.{commits-append}
 -- a confirm is a Here with its number at its node
 confirm-here : (c : Commit) (node : ℕ) (mark : PresenceMark) → confirms c node mark ≡ true
     → (node ≡ c.to) × (mark ≡ Here c.number)
-confirm-here c node (Here p) h =
-    let both : ((node == c.to) ≡ true) × ((p == c.number) ≡ true) = and_parts (node == c.to) (p == c.number) h in
-    (eqb-true node c.to both.0, ap (λ n. Here n) (eqb-true p c.number both.1))
+confirm-here c node (Here p) h = grind (arith, and_parts, eqb-true)
 confirm-here c node mark h = cc
 
 confirm-other : (c : Commit) (node : ℕ) (mark : PresenceMark) → (node == c.to) ≡ false → confirms c node mark ≡ false
@@ -42,33 +40,20 @@ put-cases : (c : Commit) (sub word : ℕ) (act : Act) → is_put_for sub act ≡
     → ((word_after (Presence c.to sub) word act ≡ word) × (confirms c (node_put act) (mark_put act) ≡ false))
     ⊎ (mark_in (word_after (Presence c.to sub) word act) ≡ mark_put act)
 put-cases c sub word (Put (Entry level cluster s) new) put = inl (refl, refl)
-put-cases c sub word (Put (Presence node s) new) put = elim (cases_Bool (c.to == node)) [
-  | inl e ↦ inr (rw (e, eq-eqb sub s (sym (eqb-true s sub put))))
-  | inr e ↦ inl (rw e, confirm-other c node (mark_in new) (ne_eqb node c.to (λ same. eqb-false c.to node e (sym same))))
-]
+put-cases c sub word (Put (Presence node s) new) put =
+    grind (arith, cases_Bool, eqb-true, eq-eqb, eqb-false, ne_eqb, confirm-other)
 put-cases c sub word act put = cc
 
 put-course : (setting : Setting) (sub : ℕ) (puts : List Visit) (visit : Visit) → (off : Bool)
     × (course_in setting sub (puts ++ visit ∷ []) ≡ after_steps setting (course_in setting sub puts)
     (cons_option (mark_step off (node_put visit.act) (mark_put visit.act)) []))
 unfolding steps_from
-put-course setting sub puts visit = (
-  _,
-  ap (after_steps setting (course_at (start setting sub))) (steps-append false puts (visit ∷ []))
-      ∙ fold-append (after_step setting) (course_at (start setting sub)) (steps_in puts) _,
-)
+put-course setting sub puts visit = grind (arith, steps-append false puts (visit ∷ []), fold-append)
 
 coming-grows : (setting : Setting) (sub : ℕ) (puts : List Visit) (visit : Visit) (p u : ℕ)
     → mark_put visit.act ≡ Coming p u
     → length (course_in setting sub puts).moves < length (course_in setting sub (puts ++ visit ∷ [])).moves
-coming-grows setting sub puts visit p u comes =
-    let more = put-course setting sub puts visit in
-    rw (more.1 ∙ ap (λ m. after_steps setting (course_in setting sub puts)
-    (cons_option (mark_step more.0 (node_put visit.act) m) [])) comes) (omega (
-      arith,
-      length-append (course_in setting sub puts).moves
-          (next_move setting (course_in setting sub puts) (node_put visit.act) ∷ []),
-    ))
+coming-grows setting sub puts visit p u comes = grind (arith, put-course setting sub puts visit, length-append)
 
 -- what is used of the laws
 pub record PassageLaws : Type 0 where

@@ -9,7 +9,7 @@ use Rattle.std.proofs.lemmas.List.Sums.{fold-append}
 use Rattle.entry_word.specs.declared.visit.Key.{Key}
 use Rattle.entry_word.specs.declared.visit.Visit.{Visit}
 use Rattle.directory.specs.Settings.{Setting, start}
-use Rattle.directory.specs.Courses.{Course, Step, after_step, after_steps, course_at, move_to, next_move}
+use Rattle.directory.specs.Courses.{Course, Step, after_step, after_steps, course_at, move_to}
 use Rattle.directory.specs.Keys.{key_sub}
 use Rattle.directory.specs.Histories.{before, cell, History, is_put_for, puts_to, through}
 use Rattle.directory.specs.Legal.{IsLegal}
@@ -25,20 +25,12 @@ filter-front : (p : Visit → Bool) (t : ℕ) (xs : List Visit)
     → filter p (take t xs) ≡ take (length (filter p (take t xs))) (filter p xs)
 filter-front p zero xs = refl
 filter-front p (suc t) [] = refl
-filter-front p (suc t) (x ∷ xs) = elim (cases_Bool (p x)) [
-  | inl e ↦ rw e (ap (λ zs. x ∷ zs) (filter-front p t xs))
-  | inr e ↦ rw e (filter-front p t xs)
-]
+filter-front p (suc t) (x ∷ xs) = grind (arith, filter-front p t xs, cases_Bool)
 
 -- a front of a legal history is legal
 pub front-legal : FrontsAreLegal → (setting : Setting) (sub : ℕ) (history : History) (t : ℕ) → setting.nodes ≤ 2 ^ 16
     → IsLegal setting sub history → IsLegal setting sub (take t history)
-front-legal fronts setting sub history t low legal =
-    let same : puts_to sub (take t history) ≡ take (length (puts_to sub (take t history)))
-    (puts_to sub history) = filter-front (λ (v : Visit). is_put_for sub v.act) t history in
-    rw same (fronts setting sub (puts_to sub history) (length (puts_to sub (take t history))) low
-    (omega (arith, ap length same, length-take (length (puts_to sub (take t history))) (puts_to sub history)))
-    legal)
+front-legal fronts setting sub history t low legal = grind (arith, filter-front, length-take)
 
 -- what a visit keeps that is none of a move holds from a front to a later one, while no move is made
 module _ (fronts : FrontsAreLegal) {setting : Setting} {sub : ℕ} (history : History) (P : History → Type 0)
@@ -88,11 +80,8 @@ number-grows sub t u history h =
 moves-kept : (setting : Setting) (course : Course) (steps : List Step)
     → length course.moves ≤ length (after_steps setting course steps).moves
 moves-kept setting course [] = omega arith
-moves-kept setting course (move_to node ∷ steps) = omega (
-  arith,
-  length-append course.moves (next_move setting course node ∷ []),
-  moves-kept setting (after_step setting course (move_to node)) steps,
-)
+moves-kept setting course (move_to node ∷ steps) =
+    grind (arith, moves-kept setting (after_step setting course (move_to node)) steps, length-append)
 moves-kept setting course (step ∷ steps) = moves-kept setting (after_step setting course step) steps
 
 pub begun-grows : (setting : Setting) (sub t u : ℕ) (history : History) → t ≤ u
@@ -131,8 +120,4 @@ through-puts sub actor key t history h = ap (puts_to sub) (through-look actor ke
 pub cell-kept : CellsOfPuts → (setting : Setting) (sub : ℕ) (history : History) (visit : Visit) (key : Key)
     → key_sub key ≡ sub → is_put_for sub visit.act ≡ false
     → cell setting (history ++ visit ∷ []) key ≡ cell setting history key
-cell-kept cells setting sub history visit key its other =
-    cells setting (history ++ visit ∷ []) key
-    ∙ (ap (λ puts. cell setting puts key) (ap (λ s. puts_to s (history ++ visit ∷ [])) its
-    ∙ (puts-push_other sub history visit other ∙ ap (λ s. puts_to s history) (sym its)))
-    ∙ sym (cells setting history key))
+cell-kept cells setting sub history visit key its other = grind (arith, puts-push_other)

@@ -84,9 +84,7 @@ module _ {setting : Setting} {shown : Shown} (level cluster : ℕ) (address : Ad
       → Arrival setting shown.marks known h.move.to last hops way)
       → IsNew setting h.move level cluster address → IsPlaced setting shown level cluster address
   unfolding IsNew
-  move-placed h fine leads new =
-      at-home (move_address h.move) new.0 h.next.inside new.1 (omega (arith, begun-count h))
-      (rw (h.moves_are, ← h.begins) (sym (new-stop h.next))) fine leads
+  move-placed h fine leads new = grind (arith, move_address h.move, begun-count h, new-stop h.next, at-home)
 
 -- the number of commits and where they end, once the move under way is committed
 all-count : {setting : Setting} {shown : Shown} {phase : Phase} (h : IsMoving setting shown phase)
@@ -165,10 +163,7 @@ module _ {setting : Setting} {shown : Shown} (level cluster : ℕ) (address : Ad
   -- an entry of a move under way is either
   either : {phase : Phase} (h : IsMoving setting shown phase) (written : List ℕ)
       → entry_written setting h.course h.move written level cluster ≡ Some address → IsEither h
-  either h written e = elim (written-some setting h.course h.move written level cluster address e) [
-    | inl new ↦ inl new.0
-    | inr old ↦ inr old.0
-  ]
+  either h written e = grind (arith, written-some)
 
   -- so it is for each address of a view
   pub entry-placed : View setting shown → shown.entries level cluster ≡ Some address

@@ -1,7 +1,7 @@
 -- How far the marks lead in each phase, and what rest is.
 use Rattle.std.proofs.lemmas.Bool.{cases_Bool}
-use Rattle.std.proofs.Common.{◌≡◌, ◌≢◌, ℕ, ◌^◌, ◌≤◌, false, Some, length, map, sym, ap, ◌∙◌, arith, inl, inr}
-use Rattle.std.specs.Prelude.{filter_map, fold}
+use Rattle.std.proofs.Common.{◌≡◌, ◌≢◌, ℕ, ◌^◌, ◌≤◌, Some, length, map, sym, ap, ◌∙◌, arith, inl, inr}
+use Rattle.std.specs.Prelude.{filter_map}
 use Rattle.std.proofs.lemmas.List.{length-map}
 use Rattle.entry_word.specs.declared.address.Address.{Address}
 use Rattle.entry_word.specs.declared.mark.PresenceMark.TheVariants.{Coming}
@@ -11,7 +11,7 @@ use Rattle.directory.specs.Legal.{IsLegal}
 use Rattle.directory.specs.Courses.{Course, course_at, last_stop}
 use Rattle.directory.specs.Puts.{course_in, steps_in}
 use Rattle.directory.specs.Standing.{commit_by, commits, number, off, standing}
-use Rattle.directory.specs.States.{entry_left, write_commit, write_off}
+use Rattle.directory.specs.States.{entry_left, write_commit}
 use Rattle.trail_laws.specs.Trail.{entry_seen, mark_seen}
 use Rattle.trail_laws.specs.Phases.{AddressesLeadByPhase, IsAtRest, IsCurrent, IsMarked, RestEndsItsCourse, RestIsSettled}
 use Rattle.trail_laws.proofs.ClosedMarks.{there}
@@ -62,10 +62,7 @@ module _ (laws : Laws) (setting : Setting) (sub : ℕ) (history : History) (low 
       (start-kept setting (course_at (start setting sub)) (steps_in (puts_to sub history))) all-committed
 
   off-there : off sub history ≡ course.is_off
-  off-there = laws.off_told setting sub history low legal
-      ∙ (ap (fold (λ o write. write_off write) false) (all-made setting sub history rest)
-      ∙ off-steps setting (course_at (start setting sub)) (steps_in (puts_to sub history))
-      (sound-opening setting sub (steps_in (puts_to sub history)) legal.script) legal.script.allowed)
+  off-there = grind (arith, laws.off_told setting sub history low legal, all-made, sound-opening, off-steps)
 
   mark_stands : mark_seen setting sub history (standing setting sub history) ≡ there course
   mark_stands = ap (mark_seen setting sub history) stood ∙ mark-there setting sub history rest laws.marks low legal

@@ -1,8 +1,8 @@
 -- The answers of finds are right: what is known grows with the commits, and the mark that answers says where the
 -- subscriber stands.
 use Rattle.std.proofs.lemmas.Bool.{cond_both}
-use Rattle.std.proofs.Common.{◌≡◌, inl, inr, ℕ, zero, suc, ◌+◌, ◌-◌, ◌*◌, ◌<◌, ◌≤◌, ◌^◌, true, false, List, [], ◌∷◌, ◌++◌, Option, Some, None, length, map, fold, sym, ap, ◌∙◌, arith}
-use Rattle.std.specs.Prelude.{All, flat_map, slice_get, slice_index}
+use Rattle.std.proofs.Common.{◌≡◌, ℕ, zero, suc, ◌+◌, ◌*◌, ◌<◌, ◌≤◌, ◌^◌, true, false, List, [], ◌∷◌, Option, Some, None, map, fold, sym, ◌∙◌, arith}
+use Rattle.std.specs.Prelude.{All, flat_map, slice_get}
 use Rattle.std.proofs.lemmas.Bool.Decides.{nat_tests}
 use Rattle.std.proofs.lemmas.List.Elements.{All-append, All-map, All-head, All-nil, All-tail}
 use Rattle.std.proofs.lemmas.Option.{slice_get_within}
@@ -10,18 +10,17 @@ use Rattle.entry_word.specs.declared.address.Address.{Address}
 use Rattle.entry_word.specs.declared.mark.PresenceMark.{PresenceMark}
 use Rattle.entry_word.specs.declared.mark.PresenceMark.TheVariants.{Empty, Here, Gone, Coming, Off}
 use Rattle.entry_word.specs.declared.visit.Key.{Key}
-use Rattle.entry_word.specs.declared.visit.Key.TheVariants.{Presence, Entry}
 use Rattle.directory.specs.Settings.{levels, Setting}
-use Rattle.directory.specs.Histories.{before, cell, History, through, words_at, words_by}
+use Rattle.directory.specs.Histories.{before, cell, History, through, words_at}
 use Rattle.directory.specs.Writes.{numbers_from}
 use Rattle.directory.specs.Legal.{IsLegal}
 use Rattle.directory.specs.Finds.{after_entry, after_mark, after_origin, after_word, all_readers, at_origin, Chase, chases, climb, climbs, ended, find, FindCall, hop, is_known, key_of, known_with, Reader, Pursuit, way_in}
 use Rattle.directory.specs.Looks.{AreLooks, last_of, look_by}
-use Rattle.directory.specs.Standing.{commits, number, off, standing}
+use Rattle.directory.specs.Standing.{number, off, standing}
 use Rattle.directory.specs.Statements.{FrontsAreLegal}
 use Rattle.directory.specs.declared.answers.Found.{Found}
 use Rattle.directory.specs.declared.answers.Found.TheVariants.{At, Off as OffAt, Again}
-use Rattle.trail_laws.specs.Trail.{entry_seen, EntryTells, EntriesTell, KnowsAtMost, mark_seen, MarksTell, MarkTells}
+use Rattle.trail_laws.specs.Trail.{EntryTells, EntriesTell, KnowsAtMost, MarksTell, MarkTells}
 use Rattle.trail_laws.specs.Rightness.{AnswersAreRight, HasNumber, IsRight, NumbersNeverFall}
 use Rattle.trail_laws.proofs.Passing.{front-legal, number-grows, through-puts}
 use Rattle.trail_laws.proofs.Chases.{knows-with}
@@ -87,11 +86,7 @@ climb-good setting sub seen known weight (reader ∷ later) knows all = (knows, 
 -- a Gone is committed
 pub gone-known : (setting : Setting) (sub : ℕ) (seen : History) (node p to : ℕ)
     → MarkTells setting sub seen node (Gone p to) → p ≤ number sub seen
-gone-known setting sub seen node p to tells = omega (
-  arith,
-  tells.0,
-  slice_get_within (commits sub seen) (p - 1) _ tells.1,
-)
+gone-known setting sub seen node p to tells = grind (arith, slice_get_within)
 
 origin-good : (setting : Setting) (seen : History) (call : FindCall) (mark : PresenceMark)
     → MarkTells setting call.sub seen call.from mark → IsGood setting call.sub seen (after_origin setting call mark)
@@ -132,34 +127,19 @@ mark-good setting sub seen chase node (Off q) knows tells = tells
 mark-good setting sub seen chase node (Gone q to) knows tells =
     hop-good setting sub seen (known_with q chase.known) chase.level chase.weight chase.hops_left node to
     (knows-with (number sub seen) q chase.known knows (gone-known setting sub seen node q to tells)) tells.2
-mark-good setting sub seen chase node (Coming q from) knows tells = cond_both (is_known q chase.known)
-    (ended (At node q chase.level chase.weight))
-    (hop setting chase.known chase.level chase.weight chase.hops_left node from) (IsGood setting sub seen)
-    (λ e. elim tells.3 [
-      | inl early ↦ absurd (omega (arith, early.0, known-low (number sub seen) q chase.known knows e))
-      | inr late ↦ (late.1, late.0, tells.2)
-    ])
-    (λ e. hop-good setting sub seen chase.known chase.level chase.weight chase.hops_left node from knows tells.1)
+mark-good setting sub seen chase node (Coming q from) knows tells =
+    grind (arith, IsGood, known-low, hop-good, cond_both)
 
 -- one look
 pub look-good : MarksTell → EntriesTell → {setting : Setting} (seen : History) (call : FindCall) (pursuit : Pursuit)
     (key : Key) → setting.nodes ≤ 2 ^ 16 → call.from < setting.nodes → IsLegal setting call.sub seen
     → IsSafe setting (number call.sub seen) pursuit → key_of call pursuit ≡ Some key
     → IsGood setting call.sub seen (after_word setting call pursuit (cell setting seen key))
-look-good marks entries {setting} seen call at_origin key low inside legal safe wanted =
-    let e : key ≡ Presence call.from call.sub = cc in
-    rw e (origin-good setting seen call (mark_seen setting call.sub seen call.from)
-    (marks setting call.sub seen low legal call.from inside))
+look-good marks entries {setting} seen call at_origin key low inside legal safe wanted = grind (arith, origin-good)
 look-good marks entries {setting} seen call (climbs known weight reader later) key low inside legal safe wanted =
-    let e : key ≡ Entry reader.level reader.cluster call.sub = cc in
-    rw e (entry-good setting seen call known weight reader later
-    (entry_seen setting call.sub seen reader.level reader.cluster) safe.0 safe.1
-    (entries setting call.sub seen low legal reader.level reader.cluster
-    (All-head (Low setting) reader later safe.1)))
+    grind (arith, Low, All-head, entry-good)
 look-good marks entries {setting} seen call (chases chase node) key low inside legal safe wanted =
-    let e : key ≡ Presence node call.sub = cc in
-    rw e (mark-good setting call.sub seen chase node (mark_seen setting call.sub seen node) safe.0
-    (marks setting call.sub seen low legal node safe.1))
+    grind (arith, mark-good)
 look-good marks entries seen call (ended found) key low inside legal safe wanted = cc
 
 -- what is right before a look is right through it
@@ -170,18 +150,14 @@ right-through setting history sub actor t key (Again why weight) h right = tt
 right-through setting history sub actor t key found h right = rw (through-puts sub actor key t history h) right
 
 pub last-more : (t u : ℕ) (later : List ℕ) → last_of (t ∷ u ∷ later) ≡ last_of (u ∷ later)
-last-more t u later = ap (λ n. slice_index (t ∷ u ∷ later) n)
-    (let e : length (t ∷ u ∷ later) - 1 ≡ suc (length later) = omega arith in e)
-    ∙ sym (ap (λ n. slice_index (u ∷ later) n) (let e : length (u ∷ later) - 1 ≡ length later = omega arith in e))
+last-more t u later = grind arith
 
 pub read-one : (setting : Setting) (history : History) (actor t : ℕ) (key : Key) (call : FindCall) (pursuit : Pursuit)
     (later : List ℕ) → slice_get history t ≡ Some (look_by actor key)
     → fold (after_word setting call) pursuit (flat_map (words_at setting history) (t ∷ later))
     ≡ fold (after_word setting call) (after_word setting call pursuit (cell setting (before t history) key))
     (flat_map (words_at setting history) later)
-read-one setting history actor t key call pursuit later h = ap
-    (λ o. fold (after_word setting call) pursuit (words_by setting (before t history) o ++ flat_map
-    (words_at setting history) later)) h
+read-one setting history actor t key call pursuit later h = grind arith
 
 -- the looks of a find end with a right answer
 module _ (marks : MarksTell) (entries : EntriesTell) (fronts : FrontsAreLegal) {setting : Setting} (history : History)

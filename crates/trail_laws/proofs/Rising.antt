@@ -4,7 +4,7 @@ use Rattle.std.proofs.Common.{◌≡◌, ◌≢◌, inl, inr, ℕ, ◌+◌, ◌-
 use Rattle.std.proofs.lemmas.Option.{slice_get_within}
 use Rattle.node_set.specs.Ascending.{has}
 use Rattle.entry_word.specs.declared.mark.PresenceMark.{PresenceMark}
-use Rattle.entry_word.specs.declared.mark.PresenceMark.TheVariants.{Empty, Here, Gone, Coming, Off}
+use Rattle.entry_word.specs.declared.mark.PresenceMark.TheVariants.{Empty, Here, Gone, Coming}
 use Rattle.directory.specs.Settings.{Setting, start}
 use Rattle.directory.specs.Courses.{Course, Move, last_stop}
 use Rattle.directory.specs.Histories.{History}
@@ -22,37 +22,22 @@ use Rattle.trail_laws.proofs.Stops.{stop_after, stop-listed, stops-told}
 
 -- at rest, and in each phase of a move
 there-not : (course : Course) (p w : ℕ) → there course ≡ Gone p w → ⊥
-there-not course p w h =
-    elim (cases_cond course.is_off (Off (length course.moves)) (Here (length course.moves)) (Gone p w) (sym h))
-    [ inl is_off ↦ cc | inr here ↦ cc ]
+there-not course p w h = grind (arith, cases_cond)
 
 rest-gone : (setting : Setting) (course : Course) (v p w : ℕ) → rest_mark setting course v ≡ Gone p w
     → (trail_mark (since_top setting course) v Empty ≡ Gone p w) × (v ≢ last_stop course)
-rest-gone setting course v p w h = elim (cases_Bool (v == last_stop course)) [
-  | inl e ↦ absurd (there-not course p w (rw e at h))
-  | inr e ↦ (rw e at h, eqb-false v (last_stop course) e)
-]
+rest-gone setting course v p w h = grind (arith, cases_Bool, there-not, eqb-false)
 
 coming-gone : (setting : Setting) (course : Course) (move : Move) (v p w : ℕ)
     → mark_coming setting course move v ≡ Gone p w
     → (trail_mark (since_top setting course) v Empty ≡ Gone p w) × (v ≢ last_stop course) × (v ≢ move.to)
-coming-gone setting course move v p w h = elim (cases_Bool (v == move.to)) [
-  | inl e ↦ let clash : Coming move.number move.from ≡ Gone p w = rw e at h in cc
-  | inr e ↦ let rest = rest-gone setting course v p w (rw e at h) in (rest.0, rest.1, eqb-false v move.to e)
-]
+coming-gone setting course move v p w h = grind (arith, cases_Bool, rest-gone, eqb-false)
 
 passing-gone : {setting : Setting} {course : Course} {move : Move} (v p w : ℕ) → IsNext setting course move
     → mark_passing setting course move v ≡ Gone p w
     → (trail_mark (since_top setting course ++ move ∷ []) v Empty ≡ Gone p w) × (v ≢ move.to)
-passing-gone {setting} {course} {move} v p w next h = elim (cases_Bool (v == move.from)) [
-  | inl e ↦ (
-    rw (trail_mark-push (since_top setting course) move v Empty, e) (rw e at h),
-    λ same. next.moving (sym same ∙ eqb-true v move.from e),
-  )
-  | inr e ↦
-      let rest = coming-gone setting course move v p w (rw e at h) in
-      (rw (trail_mark-push (since_top setting course) move v Empty, e) rest.0, rest.2)
-]
+passing-gone {setting} {course} {move} v p w next h =
+    grind (arith, cases_Bool, since_top, trail_mark-push, eqb-true, coming-gone)
 
 clearing-gone : {setting : Setting} {course : Course} {move : Move} (purged : List ℕ) (v p w : ℕ)
     → IsNext setting course move → mark_erasing setting course move purged v ≡ Gone p w
@@ -161,11 +146,4 @@ stop-goes_up laws tells {setting} {sub} history low legal j w few stop inside =
 
 pub numbers-go_up : Laws → MarksTell → NumbersGoUp
 numbers-go_up laws tells setting sub history low legal node p to inside is =
-    stop-goes_up laws tells history low legal p to few
-    (stop-listed (start setting sub) (commits sub history) p _ its.0 its.1) its.2
-  where
-    its : MarkTells setting sub history node (Gone p to)
-    its = rw is at (tells setting sub history low legal node inside)
-
-    few : p ≤ number sub history
-    few = omega (arith, its.0, slice_get_within (commits sub history) (p - 1) _ its.1)
+    grind (arith, stop-listed, stop-goes_up, number, slice_get_within)

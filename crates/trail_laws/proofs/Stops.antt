@@ -18,9 +18,7 @@ stop_after begin commits j = slice_index (begin ∷ map (λ (c : Commit). c.to) 
 -- later commits don't change it
 pub stop-kept : (begin : ℕ) (xs ys : List Commit) (j : ℕ) → j ≤ length xs
     → stop_after begin (xs ++ ys) j ≡ stop_after begin xs j
-stop-kept begin xs ys j few = ap (λ zs. slice_index (begin ∷ zs) j) (map-append (λ (c : Commit). c.to) xs ys)
-    ∙ get_or_append_left (begin ∷ map (λ (c : Commit). c.to) xs) (map (λ (c : Commit). c.to) ys) 0 j
-    (omega (arith, few, length-map xs (λ (c : Commit). c.to)))
+stop-kept begin xs ys j few = grind (arith, map-append, length-map, get_or_append_left)
 
 -- a commit leads to its node
 stop-next : (begin : ℕ) (xs : List Commit) (i : ℕ) (c : Commit) → slice_get xs i ≡ Some c
@@ -31,9 +29,7 @@ stop-next begin (x ∷ xs) (suc i) c h = stop-next x.to xs i c h
 
 pub stop-listed : (begin : ℕ) (xs : List Commit) (p : ℕ) (c : Commit) → 1 ≤ p → slice_get xs (p - 1) ≡ Some c
     → stop_after begin xs p ≡ c.to
-stop-listed begin xs p c some h =
-    let e : suc (p - 1) ≡ p = omega (arith, some) in
-    ap (stop_after begin xs) (sym e) ∙ stop-next begin xs (p - 1) c h
+stop-listed begin xs p c some h = grind (arith, stop_after begin xs, stop-next begin xs (p - 1) c h)
 
 -- after all of them it is where they say that it stands
 pub stop-last : (begin : ℕ) (xs : List Commit) → stop_after begin xs (length xs)
@@ -48,9 +44,7 @@ tos-told (m ∷ moves) = ap (λ ns. m.to ∷ ns) (tos-told moves)
 
 pub stops-told : (begin from : ℕ) (commits : List Commit) (moves : List Move) (j : ℕ) → from ≡ begin
     → commits ≡ map commit_by moves → stop_at from moves j ≡ stop_after begin commits j
-stops-told begin from commits moves j begins commits_are =
-    ap (λ f. stop_at f moves j) begins
-    ∙ ap (λ ns. slice_index (begin ∷ ns) j) (tos-told moves ∙ ap (map (λ (c : Commit). c.to)) (sym commits_are))
+stops-told begin from commits moves j begins commits_are = grind (arith, tos-told moves, stop_at)
 
 -- a commit begins where those before it lead
 left-linked : (setting : Setting) (from number : ℕ) (moves : List Move) → AreLinked setting from number moves
@@ -105,33 +99,17 @@ committed (inr (clearing erased purged, h)) = all-committed h h.commits_are
 -- at most one move is begun that isn't committed, and none when the subscriber is off
 pub view-counts : {setting : Setting} {shown : Shown} → View setting shown
     → (length shown.moves ≡ suc (length shown.commits)) ⊎ (length shown.moves ≡ length shown.commits)
-view-counts {setting} {shown} view =
-    let its = committed view in
-    elim its.rest [
-      | inl all ↦ inr (ap length all ∙ sym its.count)
-      | inr more ↦ inl (more.0 ∙ ap suc (sym its.count))
-    ]
+view-counts {setting} {shown} view = grind (arith, committed view)
 
 pub off-counts : {setting : Setting} {shown : Shown} → View setting shown → shown.off ≡ true
     → length shown.moves ≡ length shown.commits
-off-counts {setting} {shown} view off =
-    let its = committed view in
-    elim its.rest [
-      | inl all ↦ ap length all ∙ sym its.count
-      | inr more ↦ let clash : true ≡ false = sym off ∙ more.1 in cc
-    ]
+off-counts {setting} {shown} view off = grind (arith, committed view)
 
 -- it stands at a node of the network
 pub view-inside : {setting : Setting} {shown : Shown} → View setting shown
     → stands shown.from shown.commits < setting.nodes
-view-inside {setting} {shown} view =
-    let its = committed view in
-    rw (ap (stands shown.from) its.are ∙ stands-moves shown.from its.moves)
-    (last-inside setting shown.from 0 its.moves its.begins its.linked)
+view-inside {setting} {shown} view = grind (arith, committed view, stands shown.from, stands-moves, last-inside)
 
 pub stop-left : {setting : Setting} {shown : Shown} → View setting shown
     → (i : ℕ) (c : Commit) → slice_get shown.commits i ≡ Some c → stop_after shown.from shown.commits i ≡ c.from
-stop-left {setting} {shown} view i c h =
-    let its = committed view in
-    ap (λ cs. stop_after shown.from cs i) its.are
-    ∙ left-linked setting shown.from 0 its.moves its.linked i c (sym (ap (λ cs. slice_get cs i) its.are) ∙ h)
+stop-left {setting} {shown} view i c h = grind (arith, committed view, stop_after, left-linked)

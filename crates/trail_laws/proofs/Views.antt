@@ -1,6 +1,6 @@
 -- What a legal history leaves, in closed form: its subscriber rests, or is in a phase of a move.
 use Rattle.std.proofs.Math.Seq.{take-nil}
-use Rattle.std.proofs.Common.{◌≡◌, ◌⊎◌, inl, inr, ℕ, zero, suc, ◌<◌, ◌≤◌, ◌^◌, Bool, cond, true, false, not, ◌==◌, ◌&&◌, List, [], ◌∷◌, ◌++◌, None, length, map, take, fold, refl, sym, ap, ◌∙◌, subst, arith}
+use Rattle.std.proofs.Common.{◌≡◌, ◌⊎◌, inl, inr, ℕ, zero, suc, ◌<◌, ◌≤◌, ◌^◌, Bool, cond, true, false, ◌==◌, List, [], ◌∷◌, ◌++◌, None, length, map, take, fold, refl, sym, ap, ◌∙◌, subst, arith}
 use Rattle.std.specs.Prelude.{filter_map}
 use Rattle.std.proofs.lemmas.Bool.{cond_both, eq-eqb, lt-ltb, or_parts}
 use Rattle.std.proofs.Math.Bool.{and-false}
@@ -18,7 +18,7 @@ use Rattle.trail_laws.specs.Phases.{IsAtRest}
 use Rattle.directory.specs.Amid.{IsAmid}
 use Rattle.directory.specs.Statements.{CommitsAreTold, EntriesAreLeft, LegalIsAmid, MarksAreLeft, OffIsTold}
 use Rattle.directory.specs.Courses.{last_stop, Step, move_to, Move, Course, course_at, next_move, after_step, after_steps, MayMove, MayStep, MaySteps}
-use Rattle.directory.specs.Writes.{Write, mark_at, entry_at, new_address, old_home, move_writes, trail, visit_of, visits, writes}
+use Rattle.directory.specs.Writes.{Write, mark_at, entry_at, new_address, old_home, move_writes, visit_of, visits, writes}
 use Rattle.directory.specs.Standing.{commits, off}
 use Rattle.directory.specs.States.{entry_after, entry_left, mark_after, mark_left, opening_entry, opening_mark, write_commit, write_off, writes_made}
 use Rattle.trail_laws.specs.Trail.{entry_seen, mark_seen}
@@ -124,10 +124,7 @@ pub may-before : (setting : Setting) (course : Course) (before : List Step) (ste
 unfolding MaySteps
 may-before setting course [] step may = (tt, may.0)
 may-before setting course (first ∷ before) step may =
-    let rest : MaySteps setting (after_step setting course first) before
-    × MayStep setting (after_steps setting (after_step setting course first) before) step = may-before setting
-    (after_step setting course first) before step may.1 in
-    ((may.0, rest.0), rest.1)
+    grind (arith, may-before setting (after_step setting course first) before step may.1)
 
 -- ---- amid a move
 -- what isn't in a list isn't in a front of it
@@ -140,11 +137,7 @@ not-taken x (suc p) (y ∷ ys) h =
 -- the new node is never purged
 new-stays : (setting : Setting) (course : Course) (move : Move) → move.to < setting.nodes
     → has move.to (purged_nodes setting course move) ≡ false
-new-stays setting course move inside =
-    cond_both (move.renewed == setting.top) (purge_nodes setting course move) [] (λ xs. has move.to xs ≡ false)
-    (λ e. has-passing (λ node. has node (trail setting course move) && not (node == move.to)) move.to 0 setting.nodes
-    (omega arith) (omega arith)
-    ∙ rw (eq-eqb move.to move.to refl) (and-false (has move.to (trail setting course move)))) (λ e. refl)
+new-stays setting course move inside = grind (arith, purge_nodes, has-passing, eq-eqb, and-false, cond_both)
 
 module _ {setting : Setting} {sub : ℕ} {before : List Step} {node : ℕ} (script : IsScript setting sub before)
     (may : MayMove setting (course_of setting sub before) node) where
@@ -244,10 +237,7 @@ amid-view : {setting : Setting} {sub : ℕ} (before under : List Step) (made : �
     → WritesView setting sub (writes_of setting sub before ++ take made
     (writes setting (course_of setting sub before) under)) (course_of setting sub (before ++ under)).moves
 unfolding writes
-amid-view {setting} {sub} before [] made script one some few =
-    rw (append-nil before)
-    (rw (ap (λ ws. writes_of setting sub before ++ ws) (take-nil made) ∙ append-nil (writes_of setting sub before))
-    (rests setting sub before (subst (IsScript setting sub) (append-nil before) script)))
+amid-view {setting} {sub} before [] made script one some few = grind (arith, append-nil, writes_of, take-nil, rests)
 amid-view {setting} {sub} before (move_to node ∷ []) made script one some few =
     let may = may-before setting (course_at (start setting sub)) before (move_to node) script.allowed in
     rw (append-nil (move_writes setting
