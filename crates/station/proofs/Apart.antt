@@ -5,8 +5,8 @@ use Rattle.std.specs.Prelude.{slice_index}
 use Rattle.entry_word.specs.declared.visit.Key.{Key}
 use Rattle.directory.specs.Keys.{key_node}
 use Rattle.directory.specs.Histories.{History, IsFront}
-use Rattle.visit_log.specs.Numbers.{cell_number, NumbersApart}
-use Rattle.station.specs.Setup.{Setup, setting_in, nodes_in, subs_in, IsCellOf, lock_word, tally_word, cell_word}
+use Rattle.visit_log.specs.Numbers.{NumbersApart}
+use Rattle.station.specs.Setup.{Setup, setting_in, nodes_in, IsCellOf, lock_word, tally_word, cell_word}
 use Rattle.station.specs.Views.{HasSeen, IsSoundView, visits_at}
 use Rattle.station.specs.Rule.{KeepsRule, IsViewOf}
 use Rattle.station.specs.declared.view.View.{View}
@@ -37,11 +37,7 @@ apart law inx iny ne (is_tally a) (is_tally b) e = ne (omega arith)
 apart law inx iny ne (is_tally a) (is_cell key cell at b) e = omega arith
 apart law inx iny ne (is_cell key cell at a) (is_lock b) e = omega arith
 apart law inx iny ne (is_cell key cell at a) (is_tally b) e = omega arith
-apart law {setup} inx iny ne (is_cell key cell at a) (is_cell other cell' at' b) e =
-    let same = law setup.plan (subs_in setup) key other cell cell'
-    (same_number (nodes_in setup) (cell_number setup.plan (subs_in setup) key) (cell_number setup.plan
-    (subs_in setup) other) (sym a ∙ (e ∙ b))) in
-    ne (sym at ∙ (ap (key_node (setting_in setup)) same ∙ at'))
+apart law {setup} inx iny ne (is_cell key cell at a) (is_cell other cell' at' b) e = grind (arith, same_number)
 
 -- a write of a word of one node leaves the words of others
 pub else_where : NumbersApart → {setup : Setup} (ws : List ℕ) {x y i k : ℕ} (new : ℕ) → x < nodes_in setup

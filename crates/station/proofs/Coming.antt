@@ -1,5 +1,5 @@
 -- An event that a view has logged during a call: the step that brought it, and how the locks were.
-use Rattle.std.proofs.Common.{◌≡◌, ◌≢◌, ◌⊎◌, ℕ, zero, suc, ◌-◌, ◌<◌, ◌≤◌, List, [], ◌∷◌, ◌++◌, get_or, length, drop, refl, sym, ap, ◌∙◌, subst, inl, inr, ⊎_elim, arith, append_assoc, length-append, Some}
+use Rattle.std.proofs.Common.{◌≡◌, ◌≢◌, ◌⊎◌, ℕ, zero, suc, ◌-◌, ◌<◌, ◌≤◌, List, [], ◌∷◌, ◌++◌, length, drop, refl, sym, ap, ◌∙◌, subst, inl, inr, ⊎_elim, arith, append_assoc, length-append, Some}
 use Rattle.std.specs.Prelude.{slice_index}
 use Rattle.std.proofs.lemmas.List.{append-nil}
 use mathlib.Core.Logic.{dite}
@@ -31,17 +31,8 @@ same_event x y = inr (λ q. cc)
 logged_or : (log earlier : List TurnEvent) (event : TurnEvent)
     → IsLoggedAt earlier event log ⊎ (IsLoggedAt earlier event log → ⊥)
 logged_or [] earlier event = inr (λ t. absurd (omega (arith, ap length t.1, length-append earlier (event ∷ t.0))))
-logged_or (x ∷ log) [] event = ⊎_elim
-    (λ (e : x ≡ event). inl (log, λ i. e i ∷ log))
-    (λ (ne : x ≢ event). inr (λ t. ne (ap (λ (l : List TurnEvent). get_or l 0 x) t.1)))
-    (same_event x event)
-logged_or (x ∷ log) (e ∷ earlier) event = ⊎_elim
-    (λ (same : x ≡ e). ⊎_elim
-    (λ (t : IsLoggedAt earlier event log). inl (t.0, λ i. same i ∷ t.1 i))
-    (λ (never : IsLoggedAt earlier event log → ⊥). inr (λ t. never (t.0, ap (drop 1) t.1)))
-    (logged_or log earlier event))
-    (λ (ne : x ≢ e). inr (λ t. ne (ap (λ (l : List TurnEvent). get_or l 0 x) t.1)))
-    (same_event x e)
+logged_or (x ∷ log) [] event = grind (arith, same_event x event)
+logged_or (x ∷ log) (e ∷ earlier) event = grind (arith, logged_or log earlier event, same_event x e)
 
 -- all events of a log are one actor's
 abbrev AreOf : ℕ → List TurnEvent → Type 0
@@ -77,13 +68,9 @@ front-has : {actor : ℕ} (front rest earlier : List TurnEvent) (event : TurnEve
     → IsLoggedAt earlier event front
 front-has {actor} [] rest earlier event later mine none is =
     absurd (grind (arith, some-mine earlier event later mine))
-front-has (x ∷ front) rest [] event later mine none is =
-    let first : x ≡ event = ap (λ (l : List TurnEvent). get_or l 0 x) is in
-    (front, λ i. first i ∷ front)
+front-has (x ∷ front) rest [] event later mine none is = grind (arith, event, front)
 front-has (x ∷ front) rest (e ∷ earlier) event later mine none is =
-    let first : x ≡ e = ap (λ (l : List TurnEvent). get_or l 0 x) is in
-    let t = front-has front rest earlier event later mine none (ap (drop 1) is) in
-    (t.0, λ i. first i ∷ t.1 i)
+    grind (arith, front-has front rest earlier event later mine none (ap (drop 1) is))
 
 -- a lock word names another actor
 abbrev IsForeign : ℕ → ℕ → Type 0
@@ -118,10 +105,7 @@ module _ (setup : Setup) (old new : State Act View) (seat : ℕ) (was : KeepsRul
   -- the seat of another actor is another
   apart : (k : ℕ) (view : View) (actor : ℕ) → IsViewOf new.views k view → StandsForActor view actor
       → actor ≢ s.before.low → k ≢ seat
-  apart k view actor at st ne e =
-      let mine : StandsForActor s.after actor = subst (λ (u : View). StandsForActor u actor)
-      (same_view new.views (its_seat s) at e) st in
-      ne (omega (arith, mine.0, mine.1, s.low, s.high, s.alone))
+  apart k view actor at st ne e = grind (arith, its_seat s, same_view new.views (its_seat s) at e)
 
   -- an event with another's behind it was there before
   was_there : (earlier : List TurnEvent) (event : TurnEvent) (later : List TurnEvent)
@@ -164,10 +148,7 @@ module _ (setup : Setup) (old new : State Act View) (seat : ℕ) (was : KeepsRul
   others_out : (earlier more : List TurnEvent) (actor node : ℕ) → is.turns ≡ earlier ++ more
       → AreOf s.before.low more → actor ≡ s.before.low → (lock_in earlier node ≢ 0 → lock_in earlier node ≡ suc actor)
       → AreOthersOut old actor node
-  others_out earlier more actor node log own mine may k view at inside = dite (ℕ_discrete view.low actor)
-      (λ e. e)
-      (λ ne. let word = named earlier more log own k view node at inside (λ e. ne (e ∙ sym mine)) in
-      absurd (ne (omega (arith, word, may (λ e. absurd (omega (arith, word, e)))))))
+  others_out earlier more actor node log own mine may k view at inside = grind (arith, ℕ_discrete, named)
 
   anothers : (earlier more : List TurnEvent) (actor node word : ℕ) → is.turns ≡ earlier ++ more
       → AreOf s.before.low more → actor ≡ s.before.low → IsInTurn earlier (Lost actor node word)
@@ -241,9 +222,7 @@ come_on : {setup : Setup} {seat : ℕ} {states : ℕ → State Act View} (before
     → (count : ℕ) (after : View) → GoesThrough setup seat count states → IsViewOf (states count).views seat after
     → event_actor event ≡ after.low → IsLoggedAt earlier event after.turns → Came setup seat count states earlier event
 come_on before earlier event first short zero after through there mine logged =
-    let same : before ≡ after = some-injective before after (sym first ∙ there) in
-    let longer = length-append earlier (event ∷ logged.0) in
-    absurd (grind (arith, logged.1))
+    grind (arith, some-injective, event, length-append)
 come_on {setup} {seat} {states} before earlier event first short (suc count) after through there mine logged = ⊎_elim
     (λ (s : IsStepOf seat (states count) (states (suc count))).
     let was = through.keeps count (omega arith) in

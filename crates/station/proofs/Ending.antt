@@ -20,9 +20,7 @@ use Rattle.station.proofs.Joining.{longer_one, longer_other}
 
 -- the longer of a front and its whole is the whole
 longer-whole : (xs zs : List Visit) → IsFront xs zs → longer xs zs ≡ zs
-longer-whole xs zs f = dite (dec_le (length zs) (length xs))
-    (λ h. longer_one xs zs h ∙ (f ∙ take_all (length xs) zs h))
-    (λ h. longer_other xs zs (omega arith))
+longer-whole xs zs f = grind (arith, dec_le, longer_one, take_all, longer_other)
 
 -- an actor that isn't missing has a pass
 none_more : (x : PassData) (passes : List PassData) (actor : ℕ) → actor_of x ≢ actor → HasNoPass passes actor

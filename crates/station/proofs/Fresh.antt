@@ -41,9 +41,7 @@ dealt_fresh setup actor is told =
 -- the view that is left in the end is that of the last actor
 pub last_fresh : (setup : Setup) {actor last : ℕ} {rest : Me Act View} → rest ≡ (rest_view setup actor, [])
     → actor ≡ last → setup.actors ≡ suc last → rest ≡ (fresh_view setup last, [])
-last_fresh setup {last} is at high =
-    is ∙ (ap {B = Me Act View} (λ (a : ℕ). (rest_view setup a, [])) at
-    ∙ ap {B = Me Act View} (λ (h : ℕ). (record (rest_view setup last) { high = h }, [])) high)
+last_fresh setup {last} is at high = grind (arith, rest_view)
 
 pub fresh_own : (setup : Setup) (actor : ℕ) {me : Me Act View} → me ≡ (fresh_view setup actor, [])
     → me ≡ (fresh_view me.0.setup actor, [])

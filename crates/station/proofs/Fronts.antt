@@ -1,5 +1,5 @@
 -- Histories that begin with others, and what is filtered from them.
-use Rattle.std.proofs.Common.{◌≡◌, ◌≢◌, ℕ, zero, suc, ◌+◌, ◌<◌, ◌≤◌, eqb, eqb-true, ne_eqb, eq-eqb, Bool, true, false, cond, ◌==◌, List, [], ◌∷◌, ◌++◌, length, take, drop, refl, sym, ap, ◌∙◌, subst, arith, append_assoc, length-append}
+use Rattle.std.proofs.Common.{◌≡◌, ◌≢◌, ℕ, ◌≤◌, ne_eqb, eq-eqb, List, [], ◌∷◌, ◌++◌, length, take, drop, refl, sym, ap, ◌∙◌, subst, arith, append_assoc}
 use Rattle.std.proofs.lemmas.List.{append-nil}
 use Rattle.entry_word.specs.declared.visit.Visit.{Visit}
 use Rattle.directory.specs.Histories.{IsFront, own}
@@ -12,17 +12,10 @@ module _ {A : Type 0} where
       → (mid : List A) × (ys ≡ xs ++ mid) × (ps ≡ mid ++ qs)
   split_at [] ps ys qs e short = (ys, refl, e)
   split_at (x ∷ xs) ps [] qs e short = absurd (omega arith)
-  split_at (x ∷ xs) ps (y ∷ ys) qs e short =
-      let first : x ≡ y = ap (λ (l : List A). Rattle.std.proofs.Common.get_or l 0 x) e in
-      let t = split_at xs ps ys qs (ap (drop 1) e) (omega arith) in
-      (t.0, (λ i. sym first i ∷ t.1 i), t.2)
+  split_at (x ∷ xs) ps (y ∷ ys) qs e short = grind (arith, split_at xs ps ys qs (ap (drop 1) e) (omega arith))
 
 pub front-longer : (xs zs more : List Visit) → IsFront xs zs → IsFront xs (zs ++ more)
-front-longer xs zs more f =
-    let rest = drop (length xs) zs in
-    let same : zs ++ more ≡ xs ++ (rest ++ more) = ap (λ l. l ++ more) (front-rest xs zs f)
-    ∙ append_assoc xs rest more in
-    subst (λ l. xs ≡ take (length xs) l) (sym same) (front-append xs (rest ++ more))
+front-longer xs zs more f = grind (arith, front-rest xs zs f, append_assoc, front-append)
 
 -- of two fronts of one history the shorter is a front of the other
 pub front-of_longer : (xs ys zs : List Visit) → IsFront xs zs → IsFront ys zs → length xs ≤ length ys → IsFront xs ys

@@ -1,5 +1,5 @@
 -- A ticket is drawn: the history has one visit more.
-use Rattle.std.proofs.Common.{◌≡◌, ◌≢◌, ◌⊎◌, ℕ, zero, suc, ◌+◌, ◌*◌, ◌%◌, ◌^◌, ◌<◌, ◌≤◌, ◌==◌, ne_eqb, false, cond, [], ◌∷◌, ◌++◌, length, drop, refl, ap, ◌∙◌, inl, inr, arith}
+use Rattle.std.proofs.Common.{◌≡◌, ◌≢◌, ◌⊎◌, ℕ, zero, suc, ◌+◌, ◌*◌, ◌%◌, ◌^◌, ◌<◌, ◌≤◌, ◌==◌, false, cond, [], ◌∷◌, ◌++◌, length, drop, refl, ap, ◌∙◌, inl, inr, arith}
 use Rattle.std.proofs.lemmas.Bool.Decides.{nat_tests}
 use Rattle.std.proofs.lemmas.List.{drop_all}
 use Rattle.std.proofs.lemmas.List.Elements.{filter-append}
@@ -32,12 +32,8 @@ here-same : SameKey → (setting : Setting) (history : History) (node sub : ℕ)
     → (act_node setting act ≢ node) ⊎ (changes_here setting history act ≡ false)
     → says_here (mark_in (word_after (Presence node sub) (cell setting history (Presence node sub)) act))
     ≡ says_here (mark_in (cell setting history (Presence node sub)))
-here-same law setting history node sub act (inl away) =
-    ap (λ w. says_here (mark_in w)) (word-elsewhere law setting (Presence node sub) (cell setting history
-    (Presence node sub)) act away)
-here-same law setting history node sub (Put (Presence at other) word) (inr calm) =
-    let means = (law (Presence node sub) (Presence at other)).0 in
-    grind arith
+here-same law setting history node sub act (inl away) = grind (arith, word-elsewhere)
+here-same law setting history node sub (Put (Presence at other) word) (inr calm) = grind (arith, nat_tests)
 here-same law setting history node sub act (inr calm) = refl
 
 pub census-push : SameKey → (setting : Setting) (history : History) (node : ℕ) (visit : Visit)
@@ -62,10 +58,7 @@ pub at-push : (setting : Setting) (node count : ℕ) (history : History) (visit 
     → act_node setting visit.act ≢ node
     → visits_at setting node (drop count history) ≡ []
     → visits_at setting node (drop count (history ++ visit ∷ [])) ≡ []
-at-push setting node zero history visit away none-there =
-    filter-append (λ (v : Visit). act_node setting v.act == node) history (visit ∷ [])
-    ∙ (ap (λ l. l ++ visits_at setting node (visit ∷ [])) none-there
-    ∙ ap (λ b. cond b (visit ∷ []) []) (ne_eqb (act_node setting visit.act) node away))
+at-push setting node zero history visit away none-there = grind (arith, filter-append)
 at-push setting node (suc count) [] visit away none-there = rw (drop_all {X = Visit} count [] (omega arith))
 at-push setting node (suc count) (first ∷ later) visit away none-there = at-push setting node count later visit
     away none-there

@@ -3,7 +3,6 @@ use Rattle.std.proofs.Common.{◌≡◌, ℕ, ◌^◌, ◌<◌, ◌≤◌, Bool,
 use Rattle.std.specs.Prelude.{nat_lt, if◌then◌else◌}
 use Rattle.std.proofs.lemmas.Bool.Decides.{nat_tests}
 use mathlib.Core.Option.{none}
-use mathlib.Core.Logic.{dite}
 use native.Mathlib.Decide.{dec_le}
 use Rattle.atomic_table.specs.Table.{Me, Joins, Allows, step, keeps}
 use Rattle.atomic_table.proofs.Lists.{set_else}
@@ -47,9 +46,7 @@ longer_one one other h = ap (λ (c : Bool). if c then other else one) (le-ltb (l
 pub longer-own : (actor : ℕ) (one other history : History) → IsFront one history → IsFront other history
     → own actor history ≡ own actor one
     → own actor history ≡ own actor (longer one other)
-longer-own actor one other history f g same = dite (dec_le (length other) (length one))
-    (λ h. rw (longer_one one other h) same)
-    (λ h. rw (longer_other one other (omega arith)) (own-between actor one other history f g (omega arith) same))
+longer-own actor one other history f g same = grind (arith, dec_le, longer_one, longer_other, own-between)
 
 pub longer_long : (one other : History)
     → (length one ≤ length (longer one other)) × (length other ≤ length (longer one other))

@@ -1,7 +1,6 @@
 -- The words of the opening, laid one after another.
-use Rattle.std.proofs.Common.{◌≡◌, ℕ, zero, suc, ◌+◌, ◌*◌, ◌<◌, ◌==◌, Bool, true, false, cond, List, [], ◌∷◌, ◌++◌, length, refl, sym, ap, ◌∙◌, subst, arith, length-append, add-one}
+use Rattle.std.proofs.Common.{◌≡◌, ℕ, zero, suc, ◌+◌, ◌*◌, ◌<◌, ◌==◌, Bool, true, false, cond, List, [], ◌∷◌, ◌++◌, length, refl, sym, ap, ◌∙◌, arith, length-append, add-one}
 use Rattle.std.specs.Prelude.{slice_index}
-use Rattle.std.specs.List.{sum_by}
 use Rattle.std.proofs.Math.Seq.{take-length}
 use Rattle.std.proofs.lemmas.Bool.Decides.{nat_tests}
 use Rattle.node_set.specs.Ascending.{sift}
@@ -86,10 +85,7 @@ counted n l is e = is ∙ (ap (λ (k : ℕ). 1 + 2 * n + (n + k) * l) e ∙ omeg
 pub opening_of : (plan : PlanData) (homes : List ℕ) {words : List ℕ} → AreLaid (setup_of plan homes 0) words
     → length words ≡ 1 + 2 * nodes_of plan + (nodes_of plan + clusters_below plan (levels_of plan)) * length homes
     → (actors : ℕ) → AreOpening (setup_of plan homes actors) words
-opening_of plan homes o at actors =
-    let clusters = ap (sum_by (λ l. length l.clusters)) (take-length plan.levels) in
-    let size = counted (nodes_of plan) (length homes) at clusters in
-    assumption
+opening_of plan homes o at actors = grind (arith, take-length, counted)
 
 -- who starts at a node
 
@@ -110,9 +106,4 @@ pub count-more : (setting : Setting) (node sub : ℕ) {count : ℕ} → sub < su
     → count ≡ length (sift (λ s. says_here (mark_in (cell setting [] (Presence node s)))) 0 sub)
     → count + cond (node == start setting sub) 1 0 ≡ length
     (sift (λ s. says_here (mark_in (cell setting [] (Presence node s)))) 0 (sub + 1))
-count-more setting node sub {count} known is =
-    let f : ℕ → Bool = λ s. says_here (mark_in (cell setting [] (Presence node s))) in
-    let here : f (0 + sub) ≡ (node == start setting sub) = ap f (omega arith) ∙ starts-at setting node sub known in
-    let more = passing-more f 0 sub in
-    subst (λ (k : ℕ). count + cond (node == start setting sub) 1 0 ≡ length (sift f 0 k)) (sym (add-one sub))
-    (omega (arith, is, more, ap {B = ℕ} (λ b. cond b 1 0) here))
+count-more setting node sub {count} known is = grind (arith, starts-at, passing-more, add-one)

@@ -1,9 +1,7 @@
 -- The log of turns, as it goes on by one event more.
-use Rattle.std.proofs.Common.{◌≡◌, ◌≢◌, ◌⊎◌, ℕ, suc, ◌≤◌, eq-eqb, ne_eqb, List, [], ◌∷◌, ◌++◌, get_or, length, drop, set, refl, sym, ap, ◌∙◌, subst, inl, inr, ⊎_elim, arith, append_assoc, length-append}
+use Rattle.std.proofs.Common.{◌≡◌, ◌≢◌, ◌⊎◌, ℕ, suc, ◌≤◌, eq-eqb, ne_eqb, List, [], ◌∷◌, ◌++◌, get_or, length, drop, set, refl, sym, ap, ◌∙◌, subst, inl, arith, append_assoc, length-append}
 use Rattle.std.proofs.lemmas.List.{append-nil}
 use Rattle.std.proofs.lemmas.List.Sums.{fold-append}
-use mathlib.Core.Option.{some}
-use lib.ListN.{get_elem?}
 use Rattle.atomic_table.specs.Table.{State}
 use Rattle.atomic_table.proofs.Lists.{at_set}
 use Rattle.entry_word.specs.declared.visit.Act.{Act}
@@ -24,24 +22,14 @@ module _ {A : Type 0} where
   last_or_there [] x [] y later e = inl (refl, sym (ap (λ (l : List A). get_or l 0 x) e))
   last_or_there [] x (a ∷ earlier) y later e =
       absurd (omega (arith, ap length e, length-append earlier (y ∷ later)))
-  last_or_there (b ∷ xs) x [] y later e =
-      let first : b ≡ y = ap (λ (l : List A). get_or l 0 b) e in
-      inr (xs, λ i. first i ∷ xs)
-  last_or_there (b ∷ xs) x (a ∷ earlier) y later e =
-      let first : b ≡ a = ap (λ (l : List A). get_or l 0 b) e in
-      ⊎_elim
-      (λ (t : (earlier ≡ xs) × (y ≡ x)). inl ((λ i. sym first i ∷ t.0 i), t.1))
-      (λ (t : (rest : List A) × (xs ≡ earlier ++ y ∷ rest)). inr (t.0, λ i. first i ∷ t.1 i))
-      (last_or_there xs x earlier y later (ap (drop 1) e))
+  last_or_there (b ∷ xs) x [] y later e = grind arith
+  last_or_there (b ∷ xs) x (a ∷ earlier) y later e = grind (arith, last_or_there xs x earlier y later (ap (drop 1) e))
 
 pub log-nil : IsLog []
 log-nil earlier event later e = absurd (omega (arith, ap length e, length-append earlier (event ∷ later)))
 
 pub log-more : {log : List TurnEvent} (event : TurnEvent) → IsLog log → IsInTurn log event → IsLog (log ++ event ∷ [])
-log-more {log} event old new earlier other later e = ⊎_elim
-    (λ (t : (earlier ≡ log) × (other ≡ event)). rw (t.0, t.1) new)
-    (λ (t : (rest : List TurnEvent) × (log ≡ earlier ++ other ∷ rest)). old earlier other t.0 t.1)
-    (last_or_there log event earlier other later e)
+log-more {log} event old new earlier other later e = grind (arith, last_or_there)
 
 -- the lock words after one event more
 pub lock-push : (log : List TurnEvent) (event : TurnEvent) (node : ℕ)
@@ -129,10 +117,7 @@ pub record LogGoes (setup : Setup) (s : State Act View) (o : KeepsRule setup s) 
 -- a step that does nothing at a lock
 pub log-stays : {setup : Setup} {s : State Act View} (o : KeepsRule setup s) (j : ℕ) (v w : View) → IsViewOf s.views j v
     → w.turns ≡ v.turns → w.lost ≡ v.lost → w.low ≡ v.low → w.high ≡ v.high → LogGoes setup s o j w o.turns
-log-stays o j v w me turns lost low high =
-    let its = logged-same w turns lost (λ actor st. (omega (arith, st.0, low), omega (arith, st.1, high)))
-    (o.logged j v me) in
-    search o.logged
+log-stays o j v w me turns lost low high = grind (arith, o.logged j v me, logged-same)
 
 -- a step at a lock
 pub log-goes : {setup : Setup} {s : State Act View} (o : KeepsRule setup s) (j : ℕ) (v w : View) (event : TurnEvent)
@@ -167,7 +152,4 @@ logs o j v event me alone mine may =
 -- so have all views
 pub all-logged : {setup : Setup} {s : State Act View} {o : KeepsRule setup s} {j : ℕ} {w : View} {log : List TurnEvent}
     → LogGoes setup s o j w log → (seat : ℕ) (view : View) → IsViewOf (set s.views j w) seat view → HasLogged log view
-all-logged {s} {j} {w} {log} g seat view there = ⊎_elim
-    (λ (t : (seat ≡ j) × (w ≡ view)). subst (λ (u : View). HasLogged log u) t.1 g.mine)
-    (λ (t : (seat ≢ j) × (get_elem? s.views seat ≡ some view)). g.others seat view t.0 t.1)
-    (at_set s.views j seat w view there)
+all-logged {s} {j} {w} {log} g seat view there = grind (arith, at_set)

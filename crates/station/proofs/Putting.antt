@@ -1,5 +1,5 @@
 -- What a handset puts next, and how it moves the tally of its node.
-use Rattle.std.proofs.Common.{◌≡◌, ◌≢◌, ℕ, zero, suc, ◌+◌, ◌^◌, ◌<◌, ◌≤◌, eq-eqb, ne_eqb, Bool, true, false, true≢false, not, cond, List, [], ◌∷◌, ◌++◌, length, take, refl, sym, ap, ◌∙◌, subst, arith, Option, Some, None, length-append}
+use Rattle.std.proofs.Common.{◌≡◌, ◌≢◌, ℕ, zero, suc, ◌+◌, ◌^◌, ◌<◌, ◌≤◌, eq-eqb, ne_eqb, Bool, true, false, true≢false, not, List, [], ◌∷◌, ◌++◌, length, take, refl, sym, ap, ◌∙◌, subst, arith, Option, Some, None, length-append}
 use Rattle.std.specs.Prelude.{slice_get, IfSome, option_map, if◌then◌else◌, unwrap_or}
 use mathlib.Core.Logic.{dite}
 use native.Mathlib.Decide.{ℕ_discrete}
@@ -37,7 +37,6 @@ use Rattle.station.specs.PutLaws.{puts-append}
 use Rattle.node_set.specs.SetLaws.{length-passing-le, passing_same}
 use Rattle.station.proofs.Laying.{passing-more}
 use Rattle.directory.specs.StepLaws.{take-more, key_sub-of_write}
-use Rattle.directory.specs.ListLaws.{same_some}
 
 -- a put that is due: into a cell of its subscriber
 pub record IsDue (plan : PlanData) (sub : ℕ) (visit : Visit) : Type 0 where
@@ -92,10 +91,7 @@ due_is {handset} g homes e = due_by g homes handset.stage g.stage e
 
 put-alone : {sub : ℕ} (history : History) (key : Key) (word actor : ℕ) → key_sub key ≡ sub
     → puts_to sub (history ++ put_of actor key word ∷ []) ≡ puts_to sub history ++ put_of actor key word ∷ []
-put-alone {sub} history key word actor e =
-    let visit : Visit = put_of actor key word in
-    puts-append sub history (visit ∷ []) ∙ ap (λ b. puts_to sub history ++ cond b (visit ∷ []) []) (eq-eqb
-    (key_sub key) sub e)
+put-alone {sub} history key word actor e = grind (arith, puts-append, eq-eqb)
 
 -- the next put of a handset keeps what its pass has seen legal
 pub due_legal : ScriptsAreLegal → {setup : Setup} {view : View} {handset : HandsetData} (key : Key) (word : ℕ)
@@ -233,10 +229,7 @@ pub may_put : (view : View) {node : ℕ} {key : Key} (word : ℕ) (log : List Tu
     → length (own view.low view.seen) < 2 ^ 56 → IsCellOf view.setup key → key_sub key ≡ view.low
     → IsLegal (setting_in view.setup) view.low (view.seen ++ put_of view.low key word ∷ [])
     → MayDraw (view_inside view node (Put key word) log) node (Put key word)
-may_put view {node} {key} word log undrawn unwritten clear at few cell mine legal =
-    let there = sym at in
-    let each : (other : Key) → Some key ≡ Some other → IsCellOf view.setup other = λ other e. rw (← same_some e) cell in
-    assumption
+may_put view {node} {key} word log undrawn unwritten clear at few cell mine legal = grind arith
 
 -- what holds of a put of the subscriber holds of the one that is due
 pub put_due : {o : Option Visit} {sub low : ℕ} (key : Key) (word : ℕ) (P : Visit → Type 0)

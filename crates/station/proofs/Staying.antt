@@ -11,7 +11,7 @@ use Rattle.entry_word.specs.declared.visit.Act.{Act}
 use Rattle.entry_word.specs.declared.visit.Act.TheVariants.{Put}
 use Rattle.entry_word.specs.declared.visit.Visit.{Visit}
 use Rattle.directory.specs.Settings.{Setting, subs}
-use Rattle.directory.specs.Keys.{act_node, key_node, opening}
+use Rattle.directory.specs.Keys.{act_node, key_node}
 use Rattle.directory.specs.Histories.{History, IsFront, cell, word_after}
 use Rattle.directory.specs.Census.{census}
 use Rattle.station.specs.Plays.{key_put}
@@ -32,9 +32,7 @@ put_node setting act {key} e = sym (ap (act_node setting) (put_word act key e).1
 
 -- an act leaves the cells that it doesn't put into
 pub word-unput : SameKey → (key : Key) (word : ℕ) (act : Act) → key_put act ≢ Some key → word_after key word act ≡ word
-word-unput law key word (Put other new) ne =
-    let means = (law key other).0 in
-    grind arith
+word-unput law key word (Put other new) ne = grind arith
 word-unput law key word act ne = refl
 
 -- an act at another node leaves a cell
@@ -55,10 +53,7 @@ pub cell-stays : SameKey → (setting : Setting) (key : Key) {node : ℕ} (seen 
     → key_node setting key ≡ node → visits_at setting node (drop (length seen) history) ≡ []
     → cell setting history key ≡ cell setting seen key
 cell-stays law setting key seen history front at none-there =
-    let rest = drop (length seen) history in
-    ap (λ h. cell setting h key) (front-rest seen history front)
-    ∙ (fold-append (λ w (v : Visit). word_after key w v.act) (opening setting key) seen rest
-    ∙ cell-rest law setting key (cell setting seen key) rest at none-there)
+    grind (arith, front-rest seen history front, fold-append, cell-rest)
 
 pub census-stays : SameKey → (setting : Setting) (node : ℕ) (seen history : History) → IsFront seen history
     → visits_at setting node (drop (length seen) history) ≡ []

@@ -1,5 +1,5 @@
 -- The steps that leave the history as it is keep the rule.
-use Rattle.std.proofs.Common.{◌≡◌, ◌≢◌, ◌⊎◌, ℕ, zero, suc, ◌<◌, ◌≤◌, true, List, [], ◌∷◌, ◌++◌, length, set, refl, sym, ap, ◌∙◌, subst, inl, inr, ⊎_elim, arith, Some, None}
+use Rattle.std.proofs.Common.{◌≡◌, ◌≢◌, ◌⊎◌, ℕ, zero, suc, ◌<◌, ◌≤◌, true, List, [], ◌∷◌, ◌++◌, length, set, refl, sym, ap, ◌∙◌, subst, inl, inr, arith, Some, None}
 use Rattle.std.specs.Prelude.{slice_index}
 use mathlib.Core.Option.{some, none, some-injective}
 use mathlib.Core.Logic.{dite}
@@ -53,10 +53,7 @@ seat_below (x ∷ xs) (suc j) v e = omega (arith, seat_below xs j v e)
 pub each_set : (P : ℕ → View → Type 0) (views : List View) (j : ℕ) {w : View} → P j w
     → ((k : ℕ) (u : View) → k ≢ j → IsViewOf views k u → P k u)
     → (k : ℕ) (u : View) → IsViewOf (set views j w) k u → P k u
-each_set P views j {w} mine others k u at = ⊎_elim
-    (λ (t : (k ≡ j) × (w ≡ u)). subst (P k) t.1 (subst (λ (i : ℕ). P i w) (sym t.0) mine))
-    (λ (t : (k ≢ j) × IsViewOf views k u). others k u t.0 t.1)
-    (at_set views j k w u at)
+each_set P views j {w} mine others k u at = grind (arith, at_set)
 
 -- and where a seat is added
 pub each_push : (P : ℕ → View → Type 0) (views : List View) {w : View} → P (length views) w

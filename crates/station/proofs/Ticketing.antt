@@ -11,7 +11,7 @@ use Rattle.atomic_table.specs.Table.{Me}
 use Rattle.entry_word.specs.declared.visit.Act.{Act}
 use Rattle.entry_word.specs.declared.visit.Visit.{Visit}
 use Rattle.directory.specs.Histories.{History, before, changes_here, own, tickets, tickets_from}
-use Rattle.station.specs.Setup.{IsCellOf, setting_in}
+use Rattle.station.specs.Setup.{setting_in}
 use Rattle.station.specs.Plays.{Draws, view_with_ticket, view_held, view_inside, view_outside, visit_by, key_put, MayDo}
 use Rattle.station.specs.Passes.{IsPass, PassData, actor_of}
 use Rattle.station.specs.Turns.{HasHadTurn, Logs}
@@ -48,34 +48,20 @@ pub pass_done : {me : Me Act View} (two new : Me Act View) {actor seen spare : �
     → Draws (view_inside me.0 node act two.0.turns) node act ticket two.0 → HasLeft two.0 new.0 → new.1 ≡ me.1
     → IsPass new actor (suc ticket) left (kept ++ ticket ∷ []) room
 pass_done {me} two new {actor} left {node} {ticket} {kept} {room} {act} p less d gone_by slots =
-    let gone : HasLeft (view_with_ticket (view_inside me.0 node act two.0.turns) node act d.earlier) new.0 =
-    rw d.view at gone_by in
-    let all = tickets-same actor me.0.seen d.earlier d.seen (rw (← p.low) d.visits) in
-    let mine = tickets-mine actor d.earlier (visit_by me.0 act) p.low in
-    let tickets_are : kept ++ ticket ∷ [] ≡ tickets actor new.0.seen =
-    cc (all, mine, gone.seen, d.count, p.tickets_are) in
-    let longer = length-append d.earlier (visit_by me.0 act ∷ []) in
-    let seen_is : suc ticket ≡ length new.0.seen = omega (arith, ap length gone.seen, longer, d.count) in
-    let more = length-append kept (ticket ∷ []) in
-    grind arith
+    grind (arith, tickets-same, tickets-mine, length-append)
 
 -- a pass that takes its turn at a node may then draw the ticket of an act that puts nothing
 pub may_draw : {me : Me Act View} {actor seen spare : ℕ} {kept : List ℕ} {room node : ℕ} (act : Act)
     (log : List TurnEvent) → IsPass me actor seen spare kept room → 1 ≤ spare
     → act_node (setting_in me.0.setup) act ≡ node → ((key : Key) → key_put act ≡ Some key → ⊥)
     → MayDo (view_inside me.0 node act log) act → MayDraw (view_inside me.0 node act log) node act
-may_draw {me} act log p some at none may =
-    let few = own_few p some in
-    let cell : (key : Key) → key_put act ≡ Some key → IsCellOf me.0.setup key = λ key e. absurd (none key e) in
-    search
+may_draw {me} act log p some at none may = grind (arith, own_few p some)
 
 -- a view that has drawn the ticket of an act that puts nothing, and has looked, leaves its node
 look_left : {old two there new : View} {node ticket : ℕ} {act : Act} → Draws old node act ticket two
     → key_put act ≡ None → ((history : History) → changes_here (setting_in old.setup) history act ≡ false) → there ≡ two
     → new ≡ view_outside there new.turns → HasLeft two new
-look_left {two} {new} d none-put calm same gone =
-    left_by two (gone ∙ ap (λ (v : View). view_outside v new.turns) same)
-    (ap (λ (v : View). v.unwritten) d.view ∙ none-put) (ap (λ (v : View). v.owes) d.view ∙ calm d.earlier)
+look_left {two} {new} d none-put calm same gone = grind (arith, left_by)
 
 -- a pass that has drawn the ticket of a look, and has looked, leaves the node with its visit made
 pub look_done : {me two there new : Me Act View} {actor seen spare : ℕ} (left : ℕ) {node ticket : ℕ} {kept : List ℕ}

@@ -103,9 +103,7 @@ module _ (setup : Setup) (old new : State Act View) (seat : ℕ) (was : KeepsRul
 
   -- the log afterwards goes on from what the view has logged
   log_then : is.turns ≡ (s.before.turns ++ logs.later) ++ event ∷ (is.logged seat s.after (its_seat s)).later
-  log_then = (is.logged seat s.after (its_seat s)).goes_on
-      ∙ (ap (λ l. l ++ (is.logged seat s.after (its_seat s)).later) logs.goes_on
-      ∙ append_assoc (s.before.turns ++ logs.later) (event ∷ []) (is.logged seat s.after (its_seat s)).later)
+  log_then = grind (arith, is.logged seat s.after (its_seat s), its_seat, append_assoc)
 
   -- the log before is a front of the log afterwards
   log_first : (rest : List TurnEvent) × (is.turns ≡ was.turns ++ rest)
@@ -140,18 +138,12 @@ module _ (setup : Setup) (old new : State Act View) (seat : ℕ) (was : KeepsRul
 
   -- what the event comes behind has all own events that there were
   own_first : events_of s.before.low (s.before.turns ++ logs.later) ≡ events_of s.before.low was.turns
-  own_first = events-append s.before.low s.before.turns logs.later
-      ∙ (ap (λ l. events_of s.before.low s.before.turns ++ l)
-      (subst (λ (a : ℕ). events_of a logs.later ≡ []) mine logs.by_others)
-      ∙ (append-nil (events_of s.before.low s.before.turns)
-      ∙ sym (own-all s.before.low (was.logged seat s.before s.was) stands_first)))
+  own_first = grind (arith, was.logged seat s.before s.was, events-append, append-nil, own-all)
 
   -- and there is the one more
   own_then : events_of s.before.low is.turns ≡ events_of s.before.low was.turns ++ event ∷ []
-  own_then = own-all s.before.low (is.logged seat s.after (its_seat s)) stands_then
-      ∙ (ap (events_of s.before.low) logs.goes_on ∙ (events-append s.before.low (s.before.turns ++ logs.later)
-      (event ∷ [])
-      ∙ (λ i. own_first i ++ events-mine s.before.low event [] mine i)))
+  own_then =
+      grind (arith, is.logged seat s.after (its_seat s), its_seat, own-all, events-append, own_first, events-mine)
 
   -- so the log has just the event more
   one_more : is.turns ≡ was.turns ++ event ∷ []

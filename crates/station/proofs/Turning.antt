@@ -37,16 +37,12 @@ pub record IsIdle (view : View) : Type 0 where
 pub written_here : {setup : Setup} {s : St} (o : KeepsRule setup s) (j : ℕ) {x : ℕ} (v : View) (key : Key)
     → IsViewOf s.views j v → ((k : ℕ) (u : View) → k ≢ j → IsViewOf s.views k u → u.inside ≢ Some x)
     → key_node (setting_in setup) key ≡ x → v.unwritten ≢ Some key → IsCellWritten s.views key
-written_here {s} o j v key me alone at mine k u there is = dite (ℕ_discrete k j)
-    (λ e. let same = same_view s.views me there e in mine (cc))
-    (λ ne. alone k u ne there (((o.views k u there).unwritten key is).inside ∙ ap (λ (n : ℕ). Some n) at))
+written_here {s} o j v key me alone at mine k u there is = grind (arith, o.views k u there, ℕ_discrete, same_view)
 
 pub tallied_here : {setup : Setup} {s : St} (o : KeepsRule setup s) (j x : ℕ) (v : View) → IsViewOf s.views j v
     → ((k : ℕ) (u : View) → k ≢ j → IsViewOf s.views k u → u.inside ≢ Some x) → (v.owes ≡ true → v.inside ≢ Some x)
     → IsTallied s.views x
-tallied_here {s} o j x v me alone mine k u there owes is = dite (ℕ_discrete k j)
-    (λ e. let same = same_view s.views me there e in mine (cc) (cc))
-    (λ ne. alone k u ne there is)
+tallied_here {s} o j x v me alone mine k u there owes is = grind (arith, ℕ_discrete, same_view)
 
 -- the view of a seat changes in what the rule doesn't speak of
 pub restated : {setup : Setup} {s : St} {o : KeepsRule setup s} {j : ℕ} (v : View) {w : View} → IsViewOf s.views j v

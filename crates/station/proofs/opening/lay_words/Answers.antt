@@ -1,11 +1,9 @@
-use Rattle.station.specs.Opening.{setup_of}
+use Rattle.std.proofs.Common.{arith}
 use Rattle.station.proofs.Laying.{first_laid, opening_of}
 use Rattle.station.proofs.opening.lay_words.Goals as goal
 
 pub lay_locks-requires-clause-laid : goal.lay_locks-requires-clause-laid
-lay_locks-requires-clause-laid c =
-    rw (c.in_ok-push.ensures.items, c.new-words.ensures.items)
-    (first_laid (setup_of c.args.plan.now c.args.homes.now 0))
+lay_locks-requires-clause-laid c = grind (arith, first_laid)
 
 pub lay_locks-requires-clause-at : goal.lay_locks-requires-clause-at
 lay_locks-requires-clause-at c = rw (c.in_ok-push.ensures.items, c.new-words.ensures.items)

@@ -11,15 +11,7 @@ kept : (c : goal.After-row_known-1) → (c.loop-k.k < length (tickets c.self.ins
     × (c.index.result.now
     ≡ get_or (tickets c.self.inside.actor c.self.inside.seat.me.0.seen) c.loop-k.k c.index.result.now)
     × (c.index.result.now < length c.loop-k.order)
-kept c =
-    let seen = c.self.inside.seat.me.0.seen in
-    let tickets_are = c.self.invariant.tickets_are in
-    let near : c.loop-k.k < length (tickets c.self.inside.actor seen) =
-    omega (arith, c.loop-k-test.true, c.len-k-end.ensures, c.self.inside.tickets.ok, ap length tickets_are) in
-    let is = c.index.ensures ∙ ap (λ (l : List ℕ). get_or l c.loop-k.k c.index.result.now) tickets_are in
-    let below = tickets-below c.self.inside.actor seen c.loop-k.k c.index.result.now near in
-    let room = ap (λ q. length q.view.seen) c.self.view_is in
-    (near, is, omega (arith, is, below, room, c.requires.room, c.loop-k.invariant.size))
+kept c = grind (arith, tickets-below)
 
 pub write_at-requires : goal.write_at-requires
 write_at-requires c = (kept c).2
