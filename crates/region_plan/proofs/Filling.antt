@@ -4,7 +4,6 @@ use Rattle.std.proofs.lemmas.Bool.{cases_Bool}
 use Rattle.std.proofs.lemmas.List.{length-map, get_or-map}
 use Rattle.node_set.specs.Ascending.{has, IsAscending, sift}
 use Rattle.cluster_tree.specs.PlaceLaws.{beside_place, has_place}
-use Rattle.cluster_tree.specs.Tree.{weight_beside}
 use Rattle.region_plan.specs.Plan.{PlanCluster, cluster_in, weight_in}
 use Rattle.region_plan.specs.Kept.{IsTable, weights_beside}
 use Rattle.region_plan.specs.Readers.{AreCounts, AreWritten, HaveRoom, IsCounted, readers_below}
@@ -21,9 +20,7 @@ passing_place : (test : ℕ → Bool) (v j k : ℕ) → j < k → test (v + j) �
     → (length (sift test v j) < length (sift test v k))
     × (get_or (sift test v k) (length (sift test v j)) 0 ≡ v + j)
 passing_place test v j zero short passes = absurd (omega arith)
-passing_place test v zero (suc k) short passes =
-    let here : test v ≡ true = ap test (sym (add-zero v)) ∙ passes in
-    rw here (omega arith, sym (add-zero v))
+passing_place test v zero (suc k) short passes = grind (arith, add-zero)
 passing_place test v (suc j) (suc k) short passes =
     let moved : v + suc j ≡ suc v + j = omega arith in
     let later = passing_place test (suc v) j k (omega arith) (ap test (sym moved) ∙ passes) in
@@ -52,10 +49,7 @@ pub its_weight : (clusters : List PlanCluster) (number i : ℕ) {members inside 
     → IsAscending (cluster_in clusters number).members → inside ≡ (cluster_in clusters number).weights
     → length inside ≡ length (cluster_in clusters number).members
     → get_or inside i 0 ≡ weight_in clusters number (get_or members i 0)
-its_weight clusters number i {members} {inside} listed short ascending beside count =
-    sym (beside_place members inside i (rw listed ascending) (count ∙ ap (length {A = ℕ}) (sym listed)) short)
-    ∙ ap (λ xs. weight_beside (get_or members i 0) xs inside) listed
-    ∙ ap (λ ws. weight_beside (get_or members i 0) (cluster_in clusters number).members ws) beside
+its_weight clusters number i {members} {inside} listed short ascending beside count = grind (arith, beside_place)
 
 module _ (clusters : List PlanCluster) (number i : ℕ) {members old taken : List ℕ}
     (listed : members ≡ (cluster_in clusters number).members)
@@ -65,10 +59,7 @@ module _ (clusters : List PlanCluster) (number i : ℕ) {members old taken : Lis
   -- the next place of a member is free, and its reader is this cluster
   pub next_free : (get_or taken (get_or members i 0) 0 < length (clusters_with clusters (get_or members i 0)))
       × (get_or (clusters_with clusters (get_or members i 0)) (get_or taken (get_or members i 0) 0) 0 ≡ number)
-  next_free =
-      let same : get_or taken (get_or members i 0) 0 ≡ length (readers_below clusters number (get_or members i 0)) =
-      uncounted members old taken i short counted (rw listed ascending) node ∙ counts (get_or members i 0) node in
-      rw same (reader_comes clusters number (get_or members i 0) below (is_member clusters number i listed short))
+  next_free = grind (arith, uncounted, is_member, reader_comes)
 
   -- it is within the list
   pub next_within : (starts : List ℕ) → HaveRoom (length old) clusters starts

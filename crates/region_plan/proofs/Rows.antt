@@ -40,9 +40,7 @@ missed_member xs v {k} ascending result =
 
 pub readers_count : {phases : ℕ} {clusters : List PlanCluster} {homes : List ℕ} {shape : Shape}
     → shape_with phases clusters homes ≡ shape → length shape.readers ≡ length homes
-readers_count {clusters} {homes} is =
-    subst (λ (l : Shape). length l.readers ≡ length homes) is
-    (length-map_centres (clusters_with clusters) (length homes))
+readers_count {clusters} {homes} is = grind (arith, length-map_centres)
 
 pub length-containing : (clusters : List PlanCluster) (v : ℕ) → length (clusters_with clusters v) ≤ length clusters
 length-containing clusters v = length-passing-le (λ c. has v (cluster_in clusters c).members) 0 (length clusters)

@@ -7,36 +7,13 @@ use Rattle.region_plan.proofs.readers.fill_cluster.Goals as goal
 use Rattle.region_plan.proofs.readers.fill_cluster.Goals.{then-v-taken, else-v-taken}
 
 pub bounds-readers-next : goal.bounds-readers-next
-bounds-readers-next c = omega (
-  arith,
-  next_within c.args.clusters.now c.args.number c.loop-place.place c.nodes-members.ensures.members
-      c.nodes-members.ensures.ascending c.requires.number c.loop-place-test.true
-      (omega (arith, c.if-v-taken.true, c.loop-place.auto.taken)) c.requires.counts c.loop-place.invariant.counted
-      c.args.starts.now c.requires.room,
-  c.loop-place.auto.readers,
-  c.requires.readers,
-)
+bounds-readers-next c = grind (arith, next_within)
 
 pub bounds-weights-next : goal.bounds-weights-next
-bounds-weights-next c = omega (
-  arith,
-  next_within c.args.clusters.now c.args.number c.loop-place.place c.nodes-members.ensures.members
-      c.nodes-members.ensures.ascending c.requires.number c.loop-place-test.true
-      (omega (arith, c.if-v-taken.true, c.loop-place.auto.taken)) c.requires.counts c.loop-place.invariant.counted
-      c.args.starts.now c.requires.room,
-  c.loop-place.auto.weights,
-  c.requires.weights,
-)
+bounds-weights-next c = grind (arith, next_within)
 
 pub overflow_add-taken : goal.overflow_add-taken
-overflow_add-taken c =
-    let m : ℕ = get_or c.nodes-members.result.now c.loop-place.place 0 in
-    omega (
-      arith,
-      c.loop-place.invariant.filled.numbers.within m c.if-v-taken.true,
-      length-containing c.args.clusters.now m,
-      c.requires.few,
-    )
+overflow_add-taken c = grind (arith, length-containing)
 
 pub loop-place-preserved : goal.loop-place-preserved
 loop-place-preserved c = elim c.if-v-taken.branch [

@@ -4,11 +4,10 @@ use Rattle.region_plan.proofs.Rows.{weight_read, weight_short}
 use Rattle.region_plan.proofs.level.LevelTable.reader_weight.Goals as goal
 
 pub index-requires-2 : goal.index-requires-2
-index-requires-2 c = omega (
+index-requires-2 c = grind (
   arith,
   weight_short c.args.v c.self.view_is c.requires.node c.self.invariant.beside c.index.ensures c.args.place
       c.requires.place,
-  c.self.inside.lists.weights.ok.0,
 )
 
 pub returns : goal.returns
