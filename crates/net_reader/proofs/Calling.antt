@@ -1,5 +1,5 @@
 -- The scripts of what was said are courses of subscribers and searches of callers, line by line.
-use Rattle.std.proofs.Common.{◌≡◌, ℕ, ◌<◌, ◌≤◌, Bool, true, false, eqb, List, [], ◌∷◌, ◌++◌, length, length-append, All, Ok, get_or, refl, subst, arith}
+use Rattle.std.proofs.Common.{◌≡◌, ℕ, ◌<◌, ◌≤◌, Bool, true, false, eqb, List, [], ◌∷◌, ◌++◌, length, length-append, All, Ok, get_or, refl, arith}
 use Rattle.std.proofs.lemmas.List.Elements.{All-append, All-nil, All-push}
 use Rattle.net_reader.specs.declared.said.Call.{Call}
 use Rattle.net_reader.specs.declared.said.Call.TheVariants as acts
@@ -71,9 +71,7 @@ sub-called : {said : Said} (sub : ℕ) (call : Call) → IsCalling said → said
     → length said.calls < most_calls said.format → sub < length said.homes
     → IsCourse said.format said.nodes (place_of said sub) (is_off said sub) (call ∷ [])
     → IsCalling (call_said said sub call)
-sub-called {said} sub call m early few known course = call-kept sub call m early few
-    (λ s below e. rw (← eqb-true sub s e) course)
-    (λ a above e. let is = eqb-true sub a e in absurd (omega (arith, is, known, above)))
+sub-called {said} sub call m early few known course = grind (arith, eqb-true, call-kept)
 
 calling-heard : {said : Said} (found : Said) (word : Word) → IsCalling said
     → may_stand said.place (place_of_word word) ≡ true → Heard said word found → IsCalling found
@@ -83,20 +81,10 @@ calling-heard found words.K m p h = rw (← h.2) (grind (arith, nat_tests, quiet
 calling-heard found words.Edge m p h = rw (← h.3) (grind (arith, nat_tests, quiet))
 calling-heard found words.Sub m p h = rw (← h.3) (grind (arith, nat_tests, quiet))
 calling-heard found words.Callers m p h = rw (← h.2) (grind (arith, nat_tests, quiet))
-calling-heard {said} found words.Move m p h =
-    let is = h.2 in
-    subst IsCalling h.3 (sub-called h.0 (acts.Move h.1) m (grind (arith, nat_tests)) is.0 is.1 (is.3, is.2, is.4, tt))
-calling-heard {said} found words.Find m p h =
-    let is = h.3 in
-    subst IsCalling h.4 (call-kept h.0 (acts.Find h.1 h.2) m (grind (arith, nat_tests)) is.0
-    (λ s below e. let found = eqb-true h.0 s e in absurd (omega (arith, found, below, is.1)))
-    (λ a above e. (is.3, is.4)))
-calling-heard {said} found words.Off m p h =
-    let is = h.1 in
-    subst IsCalling h.2 (sub-called h.0 acts.Off m (grind (arith, nat_tests)) is.0 is.1 (is.2, is.3, tt))
-calling-heard {said} found words.On m p h =
-    let is = h.1 in
-    subst IsCalling h.2 (sub-called h.0 acts.On m (grind (arith, nat_tests)) is.0 is.1 (is.2, is.3, tt))
+calling-heard {said} found words.Move m p h = grind (arith, sub-called)
+calling-heard {said} found words.Find m p h = grind (arith, eqb-true, call-kept)
+calling-heard {said} found words.Off m p h = grind (arith, sub-called)
+calling-heard {said} found words.On m p h = grind (arith, sub-called)
 calling-heard {said} found words.Order m p h =
     rw (← h.2) (grind (arith, nat_tests, All-append (λ actor. actor < actors said) said.order h.0))
 

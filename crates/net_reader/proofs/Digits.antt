@@ -1,5 +1,5 @@
 -- Numbers that are read digit by digit, of 18 digits at most.
-use Rattle.std.proofs.Common.{◌≡◌, ℕ, ◌+◌, ◌-◌, ◌*◌, ◌^◌, ◌%◌, ◌<◌, ◌≤◌, true, fold, take, List, length, get_or, ap, sym, ◌∙◌, arith}
+use Rattle.std.proofs.Common.{◌≡◌, ℕ, ◌+◌, ◌-◌, ◌*◌, ◌^◌, ◌%◌, ◌<◌, ◌≤◌, true, fold, take, List, length, get_or, arith}
 use Rattle.std.proofs.Math.Nat.{pow-le-pow_right}
 use Rattle.std.proofs.lemmas.Bool.Decides.{nat_tests}
 use Rattle.std.proofs.lemmas.Grind.{pow_more}
@@ -7,23 +7,17 @@ use Rattle.std.proofs.lemmas.List.Folds.{list_all_more}
 use Rattle.std.proofs.lemmas.List.Sums.{fold_more}
 use Rattle.std.specs.Char.{is_ascii_digit}
 use Rattle.std.specs.List.{list_all}
-use Rattle.net_reader.specs.declared.line.Open.{Open}
 use Rattle.net_reader.specs.declared.line.Open.TheVariants.{Number}
 use Rattle.net_reader.specs.Steps.{is_plain, more, more_digits}
 
 pub below-most : (value taken : ℕ) → value < 10 ^ taken → taken < 18 → value < 100000000000000000
-below-most value taken small few =
-    let most : 10 ^ taken ≤ 100000000000000000 =
-    pow-le-pow_right {n = 10} (omega arith) {i = taken} {j = 17} (omega (arith, few)) in
-    omega (arith, small, most)
+below-most value taken small few = grind (arith, pow-le-pow_right)
 
 -- a byte from which 48 are taken without a test for less is a digit where at most 9 are left
 pub wrapped : (b : ℕ) {base : ℕ} → b < 18446744073709551616 → base ≡ 48
     → (b + (18446744073709551616 - base)) % 18446744073709551616 ≤ 9
     → (is_ascii_digit b ≡ true) × ((b + (18446744073709551616 - base)) % 18446744073709551616 ≡ b - 48)
-wrapped b fits is few =
-    let digit : (48 ≤ b) × (b ≤ 57) = omega arith in
-    (grind (arith, nat_tests), omega arith)
+wrapped b fits is few = grind arith
 
 pub still-small : (value taken digit : ℕ) → value < 10 ^ taken → digit < 10
     → 10 * value + digit < 10 ^ (taken + 1)
@@ -42,7 +36,4 @@ digit-read count value b digit few small = grind (arith, nat_tests)
 pub read-more : (xs : List ℕ) {count value : ℕ} → count < length xs → is_ascii_digit (get_or xs count 0) ≡ true
     → count < 18 → value < 100000000000000000 → Number count value ≡ fold more (Number 0 0) (take count xs)
     → Number (count + 1) (10 * value + (get_or xs count 0 - 48)) ≡ fold more (Number 0 0) (take (count + 1) xs)
-read-more xs {count} {value} within digit few small read =
-    digit-read count value (get_or xs count 0) digit few small
-    ∙ ap (λ (field : Open). more field (get_or xs count 0)) read
-    ∙ sym (fold_more more (Number 0 0) xs count 0 within)
+read-more xs {count} {value} within digit few small read = grind (arith, digit-read, fold_more)

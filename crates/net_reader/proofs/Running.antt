@@ -44,10 +44,7 @@ wrong-settled word numbers b = grind arith
 pub put-settled : {field : Open} → IsSettled field → (xs : List ℕ) (line : LineState) → line.open_field ≡ field
     → line ≡ fold put line xs
 put-settled settled [] line is = refl
-put-settled {field} settled (x ∷ xs) line is =
-    let same : put line x ≡ line = ap (λ f. put (record line { open_field = f }) x) is
-    ∙ settled line.word line.numbers x ∙ ap (λ f. record line { open_field = f }) (sym is) in
-    put-settled settled xs line is ∙ ap (λ l. fold put l xs) (sym same)
+put-settled {field} settled (x ∷ xs) line is = grind (arith, put-settled settled xs line is)
 
 -- bytes that each don't end a line
 pub inside-front : (hay : List ℕ) (k : ℕ) → k ≤ length hay
@@ -61,9 +58,7 @@ inside-front (b ∷ hay) (suc k) h inside =
 -- the first byte and those behind it
 pub first-byte : (xs : List ℕ) → 0 < length xs → xs ≡ get_or xs 0 0 ∷ take (length xs - 1) (drop 1 xs)
 first-byte [] h = absurd (omega arith)
-first-byte (x ∷ xs) h =
-    let all : take (length (x ∷ xs) - 1) xs ≡ xs = take_all (length (x ∷ xs) - 1) xs (omega arith) in
-    ap (λ l. x ∷ l) (sym all)
+first-byte (x ∷ xs) h = grind (arith, take_all)
 
 -- a run of no byte, a byte more, and a run behind it
 pub run-none : (line : LineState) (piece : List ℕ) → IsRun line line piece piece

@@ -32,9 +32,7 @@ front-is : (front piece : List ℕ) → length front ≤ length piece → StandA
 front-is [] piece h stand = sym (take_all _ piece (omega arith))
 front-is (b ∷ front) [] h stand = absurd (omega arith)
 front-is (b ∷ front) (x ∷ piece) h stand =
-    let rest = front-is front piece (omega arith) (stand-behind 0 front x piece stand.1) in
-    let count : length (x ∷ piece) - length (b ∷ front) ≡ length piece - length front = omega arith in
-    cc (stand.0)
+    grind (arith, front-is front piece (omega arith) (stand-behind 0 front x piece stand.1), stand-behind)
 
 -- a word and a blank
 pub opened : (word : Word) (packed : ℕ) (front piece : List ℕ) → 0 < length front → length front ≤ length piece
@@ -78,11 +76,7 @@ number-before piece taken value {rest} some within plain read same back = record
 
 pub number-to : {piece : List ℕ} {taken value : ℕ} {rest : List ℕ} → 0 < taken → taken < length piece
     → IsDigits piece taken value → rest ≡ drop (taken + 1) piece → IsNumberTo (get_or piece taken 0) value piece rest
-number-to {piece} {taken} {value} some within digits back =
-    let cut : drop taken piece ≡ get_or piece taken 0 ∷ drop (taken + 1) piece = rw (add-one, drop-cons piece taken 0)
-    in
-    number-before piece taken value some (omega (arith, within)) digits.plain digits.read refl
-    (ap (λ xs. get_or piece taken 0 ∷ xs) back ∙ sym cut)
+number-to {piece} {taken} {value} some within digits back = grind (arith, nat_tests, add-one, drop-cons, number-before)
 
 -- a number, a blank, and what follows
 pub blank-behind : (word : ℕ) {value : ℕ} (numbers : List ℕ) {piece rest : List ℕ} → IsNumberTo 32 value piece rest
