@@ -84,6 +84,7 @@ unfolding AreLooks
 looks-short setting history actor call earliest pursuit [] looks = omega arith
 looks-short setting history actor call earliest pursuit (ticket ∷ later) (first, (key, wanted, is_look, rest)) = grind (
   arith,
-  looks-short setting history actor call (suc ticket) (after_word setting call pursuit (cell setting (before ticket history) key)) later rest,
+  looks-short setting history actor call (suc ticket)
+      (after_word setting call pursuit (cell setting (before ticket history) key)) later rest,
   looks-fall,
 )

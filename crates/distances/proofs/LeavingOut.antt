@@ -1,12 +1,13 @@
 -- Leaving out all nodes, one after another.
 use Rattle.std.proofs.Common.{◌≡◌, ◌≢◌, ℕ, ◌+◌, ◌*◌, ◌<◌, ◌≤◌, Bool, true, false, cond, min, List, Some, [], ◌∷◌, ◌++◌, length, get_or, set, replicate, refl, sym, ◌∙◌, ap, inl, inr, arith}
 use Rattle.std.specs.Prelude.{All, Contains}
-use Rattle.std.proofs.lemmas.List.{length-set, get_or-set_same, get_or-set_other, get_or_past, get_or-replicate, length-replicate}
+use Rattle.std.proofs.lemmas.List.{length-set, get_or-set_same, get_or-set_other, get_or-replicate, length-replicate}
 use Rattle.std.proofs.lemmas.List.Elements.{All-nil, All-pop, All-push, All-contains, All-weaker}
 use Rattle.std.proofs.lemmas.Nat.{same_from_place, row_fits}
 use Rattle.std.proofs.lemmas.List.Edits.{length-between, get_or-between}
 use Rattle.std.proofs.lemmas.List.Sums.{sum_by-set}
 use Rattle.std.specs.List.{between, sum_by}
+use Rattle.net_graph.specs.WalkLaws.{among_below}
 use Rattle.net_graph.specs.Walks.{among}
 use Rattle.distances.specs.declared.near_nodes.Near.{Near}
 use Rattle.distances.specs.declared.elimination.LeftOut.{LeftOut}
@@ -30,10 +31,6 @@ pub record IsLeavingSome (n width : ℕ) (first : List ℕ) (left : List Bool) (
       → KeepsLengths (IsFresh n left_out) (cell_at width table) d
   pub holds : (d : ℕ → ℕ → ℕ) → AreLengths n d → KeepsLengths (λ x. x < n) (cell_at width first) d → AreLeftOut n d
       left_out
-
--- a node that is left is one of those that there are
-left_in : (left : List Bool) (v : ℕ) → among left v ≡ true → v < length left
-left_in left v v_left = grind (arith, get_or_past left v false)
 
 -- one more node is left out
 module _ (n width : ℕ) (wide : n ≤ width) (first : List ℕ) (left : List Bool) (left_out : List LeftOut) (old : List ℕ)
@@ -74,7 +71,7 @@ module _ (n width : ℕ) (wide : n ≤ width) (first : List ℕ) (left : List Bo
     left_now x h =
         let kept : (among left x ≡ true) × (x ≢ v) = grind (
           arith,
-          get_or-set_same left v false false (left_in left v was_left),
+          get_or-set_same left v false false (among_below left v was_left),
           get_or-set_other left v x false false,
         ) in
         rest x (so_far.left_is_fresh x kept.0) kept.1
@@ -144,7 +141,7 @@ leaving_begins n width first count light = record {
   light = light;
   within = All-nil (IsLeftOutWithin n);
   left_is_fresh = λ x h. (
-    omega (arith, left_in (replicate n true) x h, length-replicate n true),
+    omega (arith, among_below (replicate n true) x h, length-replicate n true),
     All-nil (λ (s : LeftOut). s.node ≢ x),
   );
   fresh_is_left = λ x h. get_or-replicate n x true false h.0;
@@ -200,7 +197,7 @@ leaving_next {n} {width} wide {first} {left} {left_out} {old = old} {table} s so
 
 pub none_left_in : (left : List Bool) → ((x : ℕ) → x < length left → among left x ≡ true → ⊥)
     → (x : ℕ) → among left x ≡ true → ⊥
-none_left_in left none_there x h = none_there x (left_in left x h) h
+none_left_in left none_there x h = none_there x (among_below left x h) h
 
 -- one node fewer is left
 pub fewer_left : (left : List Bool) (v : ℕ) → among left v ≡ true
@@ -209,5 +206,5 @@ fewer_left left v v_left =
     let weight : Bool → ℕ = λ is_left. cond is_left 1 0 in
     let one : weight (get_or left v false) ≡ 1 = ap weight v_left in
     let moved : sum_by weight (set left v false) + weight (get_or left v false) ≡ sum_by weight left + 0 =
-    sum_by-set weight left v false false (left_in left v v_left) in
+    sum_by-set weight left v false false (among_below left v v_left) in
     omega arith

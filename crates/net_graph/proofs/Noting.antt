@@ -20,11 +20,6 @@ pub row-append : (u : ℕ) (xs ys : List Note) → row_of u (xs ++ ys) ≡ row_o
 row-append u [] ys = refl
 row-append u (x ∷ xs) ys = grind (arith, row-append u xs ys)
 
--- a row has no more arcs than there are notes
-pub row-short : (u : ℕ) (xs : List Note) → length (row_of u xs) ≤ length xs
-row-short u [] = omega arith
-row-short u (x ∷ xs) = grind (arith, row-short u xs)
-
 pub row-at : {u : ℕ} (note : Note) (rest : List Note) → u ≡ note.from → row_of u (note ∷ rest) ≡ note.arc ∷ row_of u
     rest
 row-at {u} note rest is = rw (eq-eqb note.from u (sym is)) refl

@@ -1,10 +1,11 @@
 -- What one step of the search does to the weights.
 use Rattle.std.proofs.Common.{◌≡◌, ◌≢◌, ◌++◌, take, get_or, ℕ, ◌+◌, ◌<◌, ◌≤◌, Bool, true, false, List, [], ◌∷◌, Option, None, Some, length, set, refl, sym, ◌∙◌, ap, subst, inl, inr, arith}
 use Rattle.std.specs.Prelude.{Contains, IsPermutation}
-use Rattle.std.proofs.lemmas.List.{length-set, get_or-set_same, get_or-set_other, get_or_past, take_more}
-use Rattle.std.proofs.lemmas.Bool.{cases_eq, cases_lt}
+use Rattle.std.proofs.lemmas.List.{length-set, get_or-set_same, get_or-set_other, take_more}
+use Rattle.std.proofs.lemmas.Bool.{cases_eq}
 use Rattle.net_graph.specs.declared.neighbours.Arc.{Arc}
 use Rattle.net_graph.specs.Walks.{among}
+use Rattle.net_graph.specs.WalkLaws.{among_below}
 use Rattle.net_graph.specs.Trees.{at_node}
 use Rattle.net_graph.specs.Layout.{make_arc}
 use Rattle.net_graph.specs.Least.{IsAtMost}
@@ -14,9 +15,6 @@ use Rattle.std.proofs.lemmas.List.Sorted.{Contains-permutation, IsPermutation-sy
 use Rattle.std.proofs.lemmas.List.Elements.{Contains-append_left, Contains-append_right, Contains-append_cases}
 use Rattle.net_graph.proofs.Elements.{first, first_or_later, later}
 use Rattle.std.proofs.lemmas.Option.{same_Some}
-
-pub among_below : (allowed : List Bool) (v : ℕ) → among allowed v ≡ true → v < length allowed
-among_below allowed v h = grind (arith, cases_lt v (length allowed), get_or_past)
 
 lighter_falls : (through w : ℕ) (weight : Option ℕ) → IsLighter through weight → IsAtMost weight w → through ≤ w
 lighter_falls through w None lighter h = absurd h
@@ -95,7 +93,13 @@ relaxed_more {arcs} {arc} {x} p q = record {
   count = q.count ∙ p.count;
   kept = λ v settled. q.kept v settled ∙ p.kept v settled;
   cause = λ v w here.
-      grind (arith, q.cause v w here, p.cause v w, Contains-append_left arcs (arc ∷ []), Contains-append_right arcs (arc ∷ []));
+      grind (
+        arith,
+        q.cause v w here,
+        p.cause v w,
+        Contains-append_left arcs (arc ∷ []),
+        Contains-append_right arcs (arc ∷ []),
+      );
   falls = λ v w h. q.falls v w (p.falls v w h);
   reached = λ v c has waits. grind (arith, Contains-append_cases arcs (arc ∷ []) (make_arc v c) has);
   wait_on = λ w v has. q.wait_on w v (p.wait_on w v has);

@@ -17,9 +17,8 @@ use Rattle.net_graph.specs.Least.{IsAtMost}
 use Rattle.net_graph.specs.Queue.{Waiting, make_waiting, AreSettled, IsNextUnsettled}
 use Rattle.net_graph.specs.Search.{IsRelaxed}
 use Rattle.std.proofs.lemmas.List.Sorted.{Contains-permutation, IsPermutation-sym}
-use Rattle.net_graph.specs.WalkLaws.{walk_further, walk_begins}
+use Rattle.net_graph.specs.WalkLaws.{among_below, walk_further, walk_begins}
 use Rattle.net_graph.proofs.Lowering.{at_most_trans, at_most_some}
-use Rattle.net_graph.proofs.Relaxing.{among_below}
 use Rattle.std.proofs.lemmas.Option.{same_Some, none-some}
 
 -- how many nodes are unsettled

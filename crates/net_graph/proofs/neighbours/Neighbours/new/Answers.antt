@@ -35,7 +35,8 @@ module _ (c : goal.After-arcs-3-1) where
       (take c.in_ok-arcs.arcs.len (c.fill_arcs.new.arcs ++ drop (length c.fill_arcs.new.arcs) c.in_ok-arcs.arcs.items))
   made = grind (
     arith,
-    take_at c.fill_arcs.new.arcs (drop (length c.fill_arcs.new.arcs) c.in_ok-arcs.arcs.items) c.in_ok-arcs.arcs.len (c.fill_arcs.auto.arcs ∙ ap (length {A = Arc}) c.deref_mut-3.ensures.value ∙ sym c.in_ok-arcs.arcs.ok.0),
+    take_at c.fill_arcs.new.arcs (drop (length c.fill_arcs.new.arcs) c.in_ok-arcs.arcs.items) c.in_ok-arcs.arcs.len
+        (c.fill_arcs.auto.arcs ∙ ap (length {A = Arc}) c.deref_mut-3.ensures.value ∙ sym c.in_ok-arcs.arcs.ok.0),
   )
 
 pub invariant_of-result : goal.invariant_of-result
