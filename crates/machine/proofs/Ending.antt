@@ -6,12 +6,12 @@ use Rattle.std.proofs.Math.Seq.{take-suc}
 use Rattle.std.proofs.lemmas.Grind.{flat_map-append}
 use Rattle.std.proofs.lemmas.List.{length-map, length-drop, take_all, get_or-drop}
 use Rattle.directory.specs.Settings.{Setting, start}
-use Rattle.directory.specs.Courses.{Course, Step, after_steps, course_at}
-use Rattle.directory.specs.Histories.{History, own, tickets, words_read}
-use Rattle.directory.specs.Finds.{FindCall, Pursuit, after_word, answer_of}
-use Rattle.directory.specs.Writes.{Write, numbers_from, visit_of, visits, writes}
-use Rattle.directory.specs.Orders.{Caller as Seeker, after_read, caller_at, caller_in, finds_of, read_by, script_visits, steps_of, with_pursuit, IsDone}
-use Rattle.directory.specs.Outcomes.{answer_line, caller_lines, outcome_in, sub_lines}
+use Rattle.directory.specs.Courses.{Course, Step, course_at}
+use Rattle.directory.specs.Histories.{History, own}
+use Rattle.directory.specs.Finds.{FindCall, Pursuit}
+use Rattle.directory.specs.Writes.{numbers_from, visit_of, visits, writes}
+use Rattle.directory.specs.Orders.{Caller as Seeker, after_read, finds_of, read_by, script_visits, steps_of, with_pursuit, IsDone}
+use Rattle.directory.specs.Outcomes.{caller_lines, outcome_in, sub_lines}
 use Rattle.directory.specs.StepLaws.{writes-append, past-end}
 use Rattle.directory.specs.declared.answers.Done.{Done}
 use Rattle.directory.specs.declared.answers.Found.{Found}
@@ -27,7 +27,6 @@ use Rattle.machine.specs.Stands.{setting_over, over}
 use Rattle.machine.specs.Subscribers.{IsSubscriber, begun_steps, shown_at}
 use Rattle.machine.specs.Machines.{HasHistory, input_at, scripts_at, setting_at}
 use Rattle.scripts.specs.ScriptLaws.{finds-are, steps-are, few-nodes}
-use Rattle.machine.specs.ScriptVisits.{some-write}
 use Rattle.directory.specs.HistoryLaws.{next-sub}
 use Rattle.entry_word.specs.declared.visit.Visit.{Visit}
 use Rattle.trail_laws.specs.RightOutcomes.{IsRightLine, NumbersRise, OutcomesAreRight, TellRisingNumbers}
@@ -64,15 +63,7 @@ none-left : (setting : Setting) (course : Course) (before left : List Step) (mad
     → left ≡ []
 unfolding writes
 none-left setting course before [] made all few = refl
-none-left setting course before (step ∷ later) made all few =
-    absurd (omega (
-      arith,
-      all,
-      few,
-      ap length (writes-append setting course before (step ∷ later)),
-      length-append {A = Write},
-      some-write setting (after_steps setting course before) step,
-    ))
+none-left setting course before (step ∷ later) made all few = grind (arith, writes-append, length-append)
 
 pub lines-done : (input : Contents) (plan : PlanData) (history : History) (sub : ℕ) (subscriber : Subscriber)
     → sub < length input.homes → IsSubscriber input plan history sub subscriber
@@ -138,9 +129,7 @@ pursuit-count caller pursuit (Some found) same = simp length-append (omega (arit
 read-count : (setting : Setting) (caller : Seeker) (calls : List FindCall) (word : ℕ) → caller.calls ≡ calls
     → all_finds (read_by setting caller calls word) ≡ all_finds caller
 read-count setting caller [] word same = refl
-read-count setting caller (call ∷ later) word same =
-    pursuit-count caller (after_word setting call caller.pursuit word)
-    (answer_of (after_word setting call caller.pursuit word)) same
+read-count setting caller (call ∷ later) word same = grind (arith, pursuit-count)
 
 words-count : (setting : Setting) (words : List ℕ) (caller : Seeker)
     → all_finds (fold (after_read setting) caller words) ≡ all_finds caller
@@ -151,14 +140,7 @@ words-count setting (word ∷ words) caller =
 caller-few : (input : Contents) (plan : PlanData) (history : History) (actor : ℕ)
     → length (caller_lines (setting_over input plan) (scripts_of input) history actor)
     ≤ length (finds_of (setting_over input plan) (scripts_of input) actor)
-caller-few input plan history actor =
-    omega (
-      arith,
-      length-map (caller_in (setting_over input plan) (scripts_of input) history actor).answers
-          (answer_line actor (tickets actor history)),
-      words-count (setting_over input plan) (words_read (setting_over input plan) actor history)
-          (caller_at (finds_of (setting_over input plan) (scripts_of input) actor)),
-    )
+caller-few input plan history actor = grind (arith, length-map, words-count)
 
 -- the lines of some subscribers, and of some callers
 abbrev pub of_steps : List Subscriber → List Done

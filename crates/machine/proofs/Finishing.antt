@@ -1,5 +1,5 @@
 -- The turns of an actor until it is done, those of all actors, and those of an order, run by run.
-use Rattle.std.proofs.Common.{true, ◌≡◌, ◌↔◌, ℕ, zero, suc, ◌+◌, ◌-◌, ◌<◌, ◌≤◌, List, [], ◌∷◌, ◌++◌, length, map, drop, refl, sym, ap, ◌∙◌, subst, arith, get_or, append_assoc, drop-cons, add-one}
+use Rattle.std.proofs.Common.{◌≡◌, ◌↔◌, ℕ, zero, suc, ◌+◌, ◌-◌, ◌<◌, ◌≤◌, List, [], ◌∷◌, ◌++◌, length, drop, refl, sym, ap, ◌∙◌, subst, arith, get_or, append_assoc, drop-cons, add-one}
 use Rattle.std.specs.Prelude.{None, flat_map, replicate}
 use Rattle.std.proofs.lemmas.List.{append-nil, length-map, length-drop, replicate-append-replicate, drop_all}
 use Rattle.std.proofs.lemmas.List.Sums.{fold-append}
@@ -7,13 +7,12 @@ use Rattle.entry_word.specs.declared.visit.Visit.{Visit}
 use Rattle.directory.specs.Settings.{Setting}
 use Rattle.directory.specs.Histories.{History}
 use Rattle.directory.specs.Writes.{numbers_from}
-use Rattle.directory.specs.Orders.{Scripts, actors, after_turn, after_turns, last_turns, most_turns, next}
+use Rattle.directory.specs.Orders.{Scripts, after_turn, after_turns, last_turns, most_turns, next}
 use Rattle.directory.specs.Statements.{TurnsEndAlike}
-use Rattle.net_reader.specs.Input.{Contents}
 use Rattle.net_reader.specs.Valid.{IsValid}
 use Rattle.machine.specs.declared.machine.Machine.{Machine}
 use Rattle.scripts.specs.Laws.{VisitsAreFew}
-use Rattle.scripts.specs.Scripts.{find_of, most_visits}
+use Rattle.scripts.specs.Scripts.{most_visits}
 use Rattle.machine.specs.Stands.{over}
 use Rattle.machine.specs.Machines.{IsSame, HasHistory, HasMade, HasStridden, input_at, scripts_at, setting_at}
 use Rattle.directory.specs.HistoryLaws.{turn-none}
@@ -133,9 +132,7 @@ pub turns-ended : TurnsEndAlike → (entry now new : Machine) (history : History
     → next (setting_at now) (scripts_at now) (behind_turns entry history (replicate k actor)) actor ≡ None
     → HasHistory new (behind_turns entry history (replicate k actor)) → HasHistory new
     (behind_turns entry history (replicate (most_turns (setting_at entry) (scripts_at entry) actor) actor))
-turns-ended alike entry now new history actor k same is none goes =
-    subst (HasHistory new) (alike (setting_at entry) (scripts_at entry) history actor k is.sees.played
-    (rw (same.0, same.1) at none)) goes
+turns-ended alike entry now new history actor k same is none goes = grind arith
 
 -- all turns that the first actors may have
 abbrev pub turns_of : Setting → Scripts → ℕ → List ℕ
@@ -148,13 +145,7 @@ turns-next : (setting : Setting) (scripts : Scripts) (history : History) (actor 
     (replicate (most_turns setting scripts actor) actor)
     ≡ after_turns setting scripts history (turns_of setting scripts (actor + 1))
 turns-next setting scripts history actor =
-    let turns : ℕ → List ℕ = λ a. replicate (most_turns setting scripts a) a in
-    let more : turns_of setting scripts (actor + 1) ≡ turns_of setting scripts actor ++ turns actor =
-    ap (flat_map turns) (passing_takes (λ a. true) actor refl)
-    ∙ (flat_map-append turns (numbers_from 0 actor) (actor ∷ []) ∙ ap (λ ys. turns_of setting scripts actor ++ ys)
-    (append-nil (turns actor))) in
-    sym (ap (after_turns setting scripts history) more
-    ∙ fold-append (after_turn setting scripts) history (turns_of setting scripts actor) (turns actor))
+    grind (arith, turns_of, passing_takes, flat_map-append, append-nil, fold-append)
 
 pub turns-following : (entry now : Machine) {new : Machine} (history : History) (actor : ℕ) → IsSame entry now
     → HasHistory new (behind_turns now
@@ -171,15 +162,7 @@ turns-following entry now {new} history actor same goes =
 pub turns-all : (machine : Machine) → IsValid (input_at machine)
     → turns_of (setting_at machine) (scripts_at machine) (length (input_at machine).scripts)
     ≡ last_turns (setting_at machine) (scripts_at machine)
-turns-all machine valid =
-    let input : Contents = input_at machine in
-    let count : length input.scripts ≡ actors (setting_at machine) (scripts_at machine) = omega (
-      arith,
-      length-map (drop (length input.homes) input.scripts) (map find_of),
-      length-drop (length input.homes) input.scripts,
-      valid.scripts,
-    ) in
-    ap (turns_of (setting_at machine) (scripts_at machine)) count
+turns-all machine valid = grind (arith, length-map, length-drop, turns_of)
 
 -- a run of one number, and of one more
 pub run-first : (order : List ℕ) (start : ℕ) → start < length order
@@ -211,13 +194,7 @@ pub played-run : (entry now : Machine) {new : Machine} (history : History) {want
     → behind_turns entry history (drop start order) ≡ wanted
     → HasHistory new (behind_turns now history (replicate (end - start) (get_or order start 0)))
     → (after : History) × HasHistory new after × (behind_turns entry after (drop end order) ≡ wanted)
-played-run entry now {new} history order start end same run so_far goes =
-    let turns : List ℕ = replicate (end - start) (get_or order start 0) in (
-      behind_turns entry history turns,
-      rw (same.0, same.1) at goes,
-      sym (fold-append (after_turn (setting_at entry) (scripts_at entry)) history turns (drop end order))
-          ∙ (ap (behind_turns entry history) (sym run) ∙ so_far),
-    )
+played-run entry now {new} history order start end same run so_far goes = grind (arith, behind_turns, fold-append)
 
 -- and behind all of them
 pub played-whole : (entry : Machine) {now : Machine} {history wanted : History} (order : List ℕ) (start : ℕ)

@@ -1,5 +1,5 @@
 -- A caller's look: which cell it is at, which nodes its word names, and how far the caller is after it.
-use Rattle.std.proofs.Common.{◌≡◌, ℕ, ◌-◌, ◌^◌, ◌<◌, ◌≤◌, true, false, List, [], ◌∷◌, length, map, drop, get_or, refl, sym, ap, ◌∙◌, subst, arith, Vec, Global, suc, ◌++◌, Option, inl, inr}
+use Rattle.std.proofs.Common.{◌≡◌, ℕ, ◌-◌, ◌^◌, ◌<◌, ◌≤◌, true, false, List, [], ◌∷◌, length, map, drop, get_or, refl, sym, ap, ◌∙◌, subst, arith, Vec, Global, suc, ◌++◌, Option}
 use Rattle.std.specs.Prelude.{Some, vec_capacity, vec_len, Result, Ok, Err, None, slice_index, nat_lt, option_map, unwrap_or, if◌then◌else◌}
 use Rattle.std.proofs.lemmas.List.{get_or-map, length-map, length-drop, append-nil, length_push, get_or_push}
 use Rattle.entry_word.specs.declared.visit.Key.{Key}
@@ -83,9 +83,7 @@ module _ {input : Contents} {plan : PlanData} {history : History} {actor : ℕ} 
 
   -- it has lines for fewer finds than it makes
   finds-left : length caller.lines.items < length (finds_of (setting_over input plan) (scripts_of input) actor)
-  finds-left =
-      (drop-more (length caller.lines.items) (finds_of (setting_over input plan) (scripts_of input) actor) its-walk.call
-      its-walk.later (sym its-walk.calls_are ∙ its.left)).0
+  finds-left = grind (arith, drop-more)
 
   -- so there is room for one more
   pub room-left : vec_capacity caller.lines ≤ vec_len caller.lines → ⊥
@@ -151,12 +149,7 @@ ok-of (Err e) h = cc
 pub first-is : (first : ℕ) {next : ℕ} (ticket : ℕ) (seen : List ℕ) {kept : Option ℕ}
     → kept ≡ (if nat_lt first next then Some (slice_index seen first) else None) → length seen ≡ next → first ≤ next
     → unwrap_or kept ticket ≡ slice_index (seen ++ ticket ∷ []) first
-first-is first {next} ticket seen same count low = elim (cases_lt first next) [
-  | inl less ↦ rw (same, lt-ltb first next less)
-      (sym (get_or-append seen (ticket ∷ []) 0 first (omega (arith, less, count))))
-  | inr over ↦ rw (same, le-ltb first next over)
-      (sym (get_or_push seen ticket 0 first (omega (arith, count, low, over))))
-]
+first-is first {next} ticket seen same count low = grind (arith, cases_lt, lt-ltb, get_or-append, le-ltb, get_or_push)
 
 -- a caller by its parts
 pub by-parts : (input : Contents) (plan : PlanData) (history : History) (actor : ℕ) {seeker : Seeker} {seen : List ℕ}

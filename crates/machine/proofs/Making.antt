@@ -88,15 +88,7 @@ module _ {input : Contents} {plan : PlanData} {actor : ℕ} where
   pub made-count : {cells : CellData} {history : History} {ticket count : ℕ} {Holds : History → Type 0}
       (made : AreMade input plan cells history actor count Holds) → length history ≡ ticket
       → length (history ++ made.visits) ≡ ticket + count
-  made-count {history} {count} made place =
-      omega (
-        arith,
-        place,
-        length-append history made.visits,
-        length-map made.visits (λ (v : Visit). v.actor),
-        ap length made.actors,
-        length-replicate count actor,
-      )
+  made-count {history} {count} made place = grind (arith, length-append, length-map, length-replicate)
 
   -- and where there were none, there are none
   pub no-visits : {cells : CellData} {history : History} {count : ℕ} {Holds : History → Type 0}

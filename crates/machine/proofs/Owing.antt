@@ -148,18 +148,12 @@ come-more {plan} {sub} {new} {between} place writes {write} low same plain come 
 -- the next old level from one on is this one
 pub first-found : (test : ℕ → Bool) (above last : ℕ) → above ≤ last → test above ≡ true
     → first_with test above (suc last - above) ≡ Some above
-first-found test above last low is =
-    let count : suc (last - above) ≡ suc last - above = omega (arith, low) in
-    rw (← count, is)
+first-found test above last low is = grind arith
 
 -- or it is the next one from the level above on
 pub first-passed : (test : ℕ → Bool) (above last : ℕ) → above ≤ last → test above ≡ false
     → first_with test above (suc last - above) ≡ first_with test (above + 1) (suc last - (above + 1))
-first-passed test above last low is =
-    let count : suc (last - above) ≡ suc last - above = omega (arith, low) in
-    let next : suc above ≡ above + 1 = omega arith in
-    let rest : last - above ≡ suc last - (above + 1) = omega arith in
-    rw (← count, is, next, rest)
+first-passed test above last low is = grind arith
 
 -- the new address of a level below the last one that the move renews
 pub renewal-at : (plan : PlanData) (handset : HandsetData) (at : ℕ) {cluster word : ℕ} → at < handset.last.renewed

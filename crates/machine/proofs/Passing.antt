@@ -1,11 +1,11 @@
 -- A climb past many entries, by the row of all readers of its origin, the cells that it comes to, and a caller's looks
 -- at those that hold nothing, many at once: what as many turns make.
-use Rattle.std.proofs.Common.{◌≡◌, ℕ, zero, suc, ◌+◌, ◌<◌, ◌≤◌, Bool, true, false, length, refl, sym, ap, ◌∙◌, subst, arith, ◌*◌, ◌++◌, None, add-one}
-use Rattle.std.specs.Prelude.{nat_lt, if◌then◌else◌, slice_index, Some, unwrap_or}
+use Rattle.std.proofs.Common.{◌≡◌, ℕ, zero, suc, ◌+◌, ◌<◌, ◌≤◌, Bool, true, false, length, refl, sym, ap, ◌∙◌, arith, ◌++◌, None, add-one}
+use Rattle.std.specs.Prelude.{if◌then◌else◌, Some, unwrap_or}
 use Rattle.region_plan.specs.Kept.{IsKept}
 use Rattle.region_plan.specs.Matched.{IsMatched, IsWithinReach}
-use Rattle.region_plan.specs.Plan.{PlanData, levels_of, readers, nodes_of}
-use Rattle.visit_log.specs.Routes.{IsRung, Rung, rung_at, rung_past, way_at, ways_past, entry_place, reader_at, AreRoutes, IsAt, RouteData}
+use Rattle.region_plan.specs.Plan.{PlanData, nodes_of}
+use Rattle.visit_log.specs.Routes.{IsRung, Rung, rung_at, rung_past, ways_past, entry_place, reader_at, AreRoutes, IsAt, RouteData}
 use Rattle.walk.specs.declared.progress.Climb.{Climb}
 use Rattle.walk.specs.Climbs.{ClimbsGoOn, GoesOn, IsClimbOver, climb_past, next_climb, cluster_at, IsClimbOf, PassesEntry, walk_at}
 use Rattle.machine.specs.Climbs.{Passes, rung_of}
@@ -46,18 +46,8 @@ pub climb-is : (plan : PlanData) (climb : Climb) (count : ℕ)
     → climb_past plan climb count
     ≡ climb_at climb (climb.weight + ways_past plan climb.from (rung_of climb) count)
     (rung_past plan climb.from (rung_of climb) count)
-climb-is plan climb zero =
-    let none : climb.weight ≡ climb.weight + 0 = omega arith in
-    ap (λ w. let k : Climb = record climb { weight = w } in k) none
-climb-is plan climb (suc count) =
-    let rung : Rung = rung_past plan climb.from (rung_of climb) count in
-    let ways : ℕ = ways_past plan climb.from (rung_of climb) count in
-    let sum : climb.weight + ways + way_at plan climb.from rung ≡ climb.weight + (ways + way_at plan climb.from rung) =
-    omega arith in
-    ap (next_climb plan) (climb-is plan climb count)
-    ∙ (same-next climb (climb.weight + ways + way_at plan climb.from rung) rung
-    (nat_lt (suc rung.index) (length (readers plan rung.level climb.from)))
-    ∙ ap (λ w. climb_at climb w (rung_past plan climb.from (rung_of climb) (suc count))) sum)
+climb-is plan climb zero = grind arith
+climb-is plan climb (suc count) = grind (arith, climb-is plan climb count, same-next, climb_at)
 
 module _ (law : ClimbsGoOn) (plan : PlanData) (climb : Climb) (kept : IsKept plan) (matched : IsMatched plan)
     (reached : IsWithinReach plan) (over : IsClimbOver plan climb) where
@@ -65,9 +55,7 @@ module _ (law : ClimbsGoOn) (plan : PlanData) (climb : Climb) (kept : IsKept pla
   on-past : (count : ℕ) → IsClimbOver plan (climb_past plan climb count)
       → IsRung plan climb.from (rung_past plan climb.from (rung_of climb) (suc count))
       → GoesOn plan (climb_past plan climb count)
-  on-past count here rung =
-      law plan (climb_past plan climb count) kept matched reached here
-      (subst (λ (c : Climb). c.level < levels_of plan) (sym (climb-is plan climb (suc count))) rung.level)
+  on-past count here rung = grind (arith, climb-is)
 
   pub past-over : (count : ℕ)
       → ((i : ℕ) → i ≤ count → IsRung plan climb.from (rung_past plan climb.from (rung_of climb) i))
@@ -125,11 +113,7 @@ pub ahead-word : {plan : PlanData} {cells : CellData} (climb : Climb) (sub count
     → word_beside cells sub (entry_place plan climb.from (rung_past plan climb.from (rung_of climb) count)) ≡ word
     → word_at plan cells (Entry (climb_past plan climb count).level (cluster_at plan (climb_past plan climb count)) sub)
     ≡ word
-ahead-word {plan} {cells} climb sub count {word} goes is =
-    subst (λ (c : Climb). word_at plan cells (Entry c.level (cluster_at plan c) sub) ≡ word)
-    (sym (climb-is plan climb count))
-    (ap (λ w. slice_index cells.words
-    (sub * w + entry_place plan climb.from (rung_past plan climb.from (rung_of climb) count))) (sym goes.width) ∙ is)
+ahead-word {plan} {cells} climb sub count {word} goes is = grind (arith, climb-is)
 
 -- a caller at a climb, behind so many of them
 abbrev pub behind : WalkData → Caller → ℕ → Climb → ℕ → Caller
@@ -178,9 +162,7 @@ module _ {input : Contents} {plan : PlanData} {cells : CellData} {actor : ℕ} w
   -- one look, as a turn makes it
   pub passed-one : MoreIsPlayed → {history : History} (old : Caller) {new : Caller} → Sees input plan cells history
       → HasLooked input plan history actor old new Visited → HasPassed input plan cells history actor 1 new
-  passed-one more {history} old {new} sees turned =
-      made-one history (λ later. IsCaller input plan later actor new) refl turned.1
-      (sees-more more actor turned.0 sees turned.1) turned.2
+  passed-one more {history} old {new} sees turned = grind (arith, sees-more, made-one)
 
   -- so many looks, one after another
   pub passed-ahead : TicketsGrow → CallersRead → CallerLinesGrow → CallersCount → MoreIsPlayed

@@ -9,7 +9,7 @@ use Rattle.entry_word.specs.declared.visit.Visit.{Visit}
 use Rattle.directory.specs.Settings.{Setting, start}
 use Rattle.directory.specs.Courses.{Course, Step, after_steps, course_at}
 use Rattle.directory.specs.Histories.{History, own, tickets}
-use Rattle.directory.specs.Orders.{next, script_visits, steps_of}
+use Rattle.directory.specs.Orders.{next, steps_of}
 use Rattle.directory.specs.Outcomes.{step_line}
 use Rattle.directory.specs.StepLaws.{slice_get-within, take-more}
 use Rattle.directory.specs.Writes.{visit_of, visits, writes}
@@ -110,18 +110,7 @@ module _ {input : Contents} {plan : PlanData} {history : History} {sub : ℕ} {o
   pub all-written : IsValid input → due (setting_over input plan) old.handset ≡ None
       → length old.lines.items ≡ length (get_or input.scripts sub [])
       → next (setting_over input plan) (scripts_of input) history sub ≡ None
-  all-written valid none same =
-      let whole : begun_steps input sub old ≡ steps_of (scripts_of input) sub =
-      take_all (length old.lines.items) (steps_of (scripts_of input) sub)
-      (omega (
-        arith,
-        same,
-        ap length (steps-are input sub valid low),
-        length-map (get_or input.scripts sub []) step_of,
-      )) in
-      next-sub (setting_over input plan) (scripts_of input) history sub low
-      ∙ slice_get_past (script_visits (setting_over input plan) (scripts_of input) sub) (length (own sub history))
-      (omega (arith, rw (its.its, whole) at (resting none).all))
+  all-written valid none same = grind (arith, steps-are, length-map, take_all, next-sub, resting, slice_get_past)
 
   -- so far it is after the first visit of a step that it begins
   written-first : OwnGrow → TicketsGrow → TicketsAreOwn → {cells after : CellData} {ticket : ℕ} (new : Shown)
@@ -178,22 +167,25 @@ module _ {input : Contents} {plan : PlanData} {history : History} {sub : ℕ} {o
 pub first-visit : (setting : Setting) (sub : ℕ) {n : ℕ} (steps : List Step) (step : Step)
     → n ≡ length (writes setting (course_at (start setting sub)) steps)
     → (visit : Visit) × (slice_get (visits setting sub (steps ++ step ∷ [])) n ≡ Some visit)
-first-visit setting sub {n} steps step all =
-    slice_get-within (visits setting sub (steps ++ step ∷ [])) n
-    (omega (
-      arith,
-      all,
-      visits-longer setting sub steps step,
-      length-map (writes setting (course_at (start setting sub)) steps) (visit_of sub),
-    ))
+first-visit setting sub {n} steps step all = grind (
+  arith,
+  all,
+  length-map (writes setting (course_at (start setting sub)) steps) (visit_of sub),
+  slice_get-within (visits setting sub (steps ++ step ∷ [])) n
+      (omega (
+        arith,
+        all,
+        visits-longer setting sub steps step,
+        length-map (writes setting (course_at (start setting
+            sub)) steps) (visit_of sub),
+      )),
+)
 
 -- a list of writes that is said to be empty is
 pub none-there : (xs : List Ahead) {count : ℕ} {test : Bool} → length xs ≡ count → test ≡ (count == 0)
     → not test ≡ false → xs ≡ []
 none-there [] size is quiet = refl
-none-there (x ∷ xs) {count} size is quiet =
-    let some : (count == 0) ≡ false = ne_eqb count 0 (λ none. omega (arith, size, none)) in
-    let never : true ≡ false = rw (is, some) at quiet in cc
+none-there (x ∷ xs) {count} size is quiet = grind (arith, ne_eqb)
 
 -- where all writes that were ahead are in their cells, the handset is as far as the history
 now-at : {input : Contents} {plan : PlanData} {history : History} {sub : ℕ} {old : Subscriber}

@@ -1,6 +1,6 @@
 -- What is known of a subscriber after a visit of its own: whose turn it was, which step the visit belongs to, whether
 -- it commits a move, and what it adds to the lines of the steps.
-use Rattle.std.proofs.Common.{◌≡◌, inl, inr, ℕ, zero, suc, ◌-◌, ◌<◌, ◌≤◌, ◌^◌, Bool, true, false, List, [], ◌∷◌, ◌++◌, length, map, drop, get_or, refl, sym, ap, ◌∙◌, subst, arith, length-append, ◌==◌, take, append_assoc}
+use Rattle.std.proofs.Common.{◌≡◌, ℕ, zero, suc, ◌-◌, ◌<◌, ◌≤◌, ◌^◌, Bool, true, false, List, [], ◌∷◌, ◌++◌, length, map, drop, get_or, refl, sym, ap, ◌∙◌, subst, arith, length-append, ◌==◌, take, append_assoc}
 use Rattle.std.specs.Option.{is_some}
 use Rattle.std.proofs.lemmas.List.Elements.{All-append, All-cons, All-head, All-map, All-nil, All-tail}
 use Rattle.std.specs.Prelude.{All, Some, slice_get, if◌then◌else◌, ◌==◌}
@@ -62,9 +62,7 @@ IsQuiet sub write = is_commit (visit_of sub write).act ≡ false
 quiet-get : (sub : ℕ) (ys : List Write) (i : ℕ) {visit : Visit} → All (IsQuiet sub) ys
     → slice_get (map (visit_of sub) ys) i ≡ Some visit → is_commit visit.act ≡ false
 quiet-get sub [] i q h = cc
-quiet-get sub (y ∷ ys) zero {visit} q h =
-    let e : visit_of sub y ≡ visit = cc in
-    subst (λ (v : Visit). is_commit v.act ≡ false) e (All-head (IsQuiet sub) y ys q)
+quiet-get sub (y ∷ ys) zero {visit} q h = grind (arith, IsQuiet, All-head)
 quiet-get sub (y ∷ ys) (suc i) q h = quiet-get sub ys i (All-tail (IsQuiet sub) y ys q) h
 
 pub record Tells (commits : Bool) (i place : ℕ) : Type 0 where
@@ -124,15 +122,7 @@ move-commits unpack setting sub course move number from to i {visit} h =
 commit-grows : (seen : List ℕ) (ticket : ℕ) {place : ℕ} (commits : Bool) → Tells commits (length seen) place
     → get_or (seen ++ ticket ∷ []) place 0 ≡ (if commits then ticket else get_or seen place 0)
 commit-grows seen ticket {place} true tells = get_or_push seen ticket 0 place (tells.there refl)
-commit-grows seen ticket {place} false tells =
-    elim (cases_lt place (length seen)) [
-      | inl low ↦ get_or-append seen (ticket ∷ []) 0 place low
-      | inr high ↦ elim (cases_lt (length seen) place) [
-        | inl past ↦ get_or_past (seen ++ ticket ∷ []) place 0 (omega (arith, past, length_push seen ticket))
-            ∙ sym (get_or_past seen place 0 high)
-        | inr same ↦ let commits : false ≡ true = tells.alone (omega (arith, high, same)) in cc
-      ]
-    ]
+commit-grows seen ticket {place} false tells = grind (arith, cases_lt, get_or-append, seen, length_push, get_or_past)
 
 one_get : (xs : Visit) (i : ℕ) {visit : Visit} → slice_get (xs ∷ []) i ≡ Some visit → i < 1
 one_get x zero h = omega arith

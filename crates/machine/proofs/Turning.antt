@@ -1,12 +1,12 @@
 -- What a machine stands for: its subscribers and callers before their first visits, and all of it after a visit.
-use Rattle.std.proofs.Common.{◌≡◌, inl, inr, ℕ, ◌+◌, ◌<◌, ◌≤◌, Bool, true, false, List, [], ◌∷◌, ◌++◌, length, map, take, get_or, refl, sym, ap, ◌∙◌, subst, arith, Vec, Global, ◌≢◌, zero, suc, ◌==◌, append_assoc}
+use Rattle.std.proofs.Common.{◌≡◌, ℕ, ◌+◌, ◌<◌, ◌≤◌, Bool, true, false, List, [], ◌∷◌, ◌++◌, length, map, take, get_or, refl, sym, ap, ◌∙◌, subst, arith, Vec, Global, ◌≢◌, zero, suc, ◌==◌, append_assoc}
 use Rattle.std.specs.Prelude.{None, vec_capacity, Option, Some, replicate, slice_set}
 use Rattle.std.proofs.lemmas.List.{get_or_push, length_push, length-map, get_or-map, append-nil, length-set, map-append, get_or-set_same, get_or-set_other}
 use Rattle.std.proofs.Math.ListN.{get_or-append}
 use Rattle.std.proofs.lemmas.List.Elements.{All-cons, All-nil, All-weaker}
 use Rattle.directory.specs.Finds.{at_origin}
 use Rattle.directory.specs.Histories.{tickets_from, words_after, History, own, tickets, word_after}
-use Rattle.directory.specs.Orders.{finds_of, steps_of, next, IsPlayed}
+use Rattle.directory.specs.Orders.{steps_of, next, IsPlayed}
 use Rattle.directory.specs.Outcomes.{step_lines}
 use Rattle.net_reader.specs.declared.said.Call.{Call}
 use Rattle.net_reader.specs.declared.said.Call.TheVariants as calls
@@ -77,20 +77,13 @@ pub caller-opens : (input : Contents) (plan : PlanData) (actor : ℕ) (caller : 
     → length script ≤ vec_capacity caller.lines → IsCaller input plan [] actor caller
 unfolding words_after tickets_from
 caller-opens input plan actor caller {script} high low same walks first none room =
-    let finds : finds_of (setting_over input plan) (scripts_of input) actor ≡ map find_of script =
-    finds-are input (setting_over input plan) actor refl high low ∙ ap (map find_of) (sym same) in
-    by-parts input plan [] actor caller refl refl (rw finds walks) first none (rw none refl)
-    (omega (arith, room, ap length finds, length-map script find_of))
+    grind (arith, finds-are input (setting_over input plan) actor refl high low, length-map script find_of, by-parts)
 
 -- what holds at each place of a list and of one item more
 pub each-more : {A : Type 0} (P : ℕ → A → Type 0) (xs : List A) {x : A} {n : ℕ} {ys : List A} → ys ≡ xs ++ x ∷ []
     → length xs ≡ n → ((s : ℕ) (d : A) → s < n → P s (get_or xs s d)) → P n x → (s : ℕ) (d : A) → s < n + 1
     → P s (get_or ys s d)
-each-more P xs {x} {n} more count each last s d low = rw more (elim (cases_lt s n) [
-  | inl less ↦ rw (get_or-append xs (x ∷ []) d s (omega (arith, less, count))) (each s d less)
-  | inr high ↦ let same : s ≡ n = omega (arith, low, high) in
-      rw (get_or_push xs x d s (count ∙ sym same)) (subst (λ k. P k x) (sym same) last)
-])
+each-more P xs {x} {n} more count each last s d low = grind (arith, cases_lt, get_or-append, get_or_push)
 
 -- the calls of a valid input are inside
 course-inside : (format n here : ℕ) (off : Bool) (script : List Call) → IsCourse format n here off script
@@ -110,14 +103,7 @@ search-begins n subs call h = absurd h
 
 script-inside : {input : Contents} (actor : ℕ) → IsValid input → actor < length input.scripts
     → BeginInside input.nodes (get_or input.scripts actor [])
-script-inside {input} actor valid low =
-    elim (cases_lt actor (length input.homes)) [
-      | inl sub ↦ course-inside input.format input.nodes (get_or input.homes actor 0) false
-          (get_or input.scripts actor []) (valid.courses actor sub)
-      | inr high ↦ All-weaker (IsSearch input.nodes (length input.homes)) (BeginsInside input.nodes)
-          (search-begins input.nodes (length input.homes)) (get_or input.scripts actor [])
-          (valid.searches actor high low)
-    ]
+script-inside {input} actor valid low = grind (arith, cases_lt, course-inside, search-begins, All-weaker)
 
 pub scripts-inside : {input : Contents} (scripts : List (Vec Call Global)) {n : ℕ} → IsValid input
     → input.scripts ≡ map (λ (s : Vec Call Global). s.items) scripts → n ≡ input.nodes → (k : ℕ) (d : Vec Call Global)
@@ -173,11 +159,7 @@ caller-kept law {input} {plan} {history} {actor} {caller} visit other its =
 each-set : {A : Type 0} (P : ℕ → A → Type 0) (xs ys : List A) (i : ℕ) (x : A) → ys ≡ slice_set xs i x → P i x
     → ((k : ℕ) (d : A) → k < length xs → k ≢ i → P k (get_or xs k d)) → (k : ℕ) (d : A) → k < length xs
     → P k (get_or ys k d)
-each-set P xs ys i x items its others k d low =
-    rw items (elim (cases_eq k i) [
-      | inl same ↦ rw (same, get_or-set_same xs i x d (rw same at low)) its
-      | inr other ↦ rw (get_or-set_other xs i k x d other) (others k d low other)
-    ])
+each-set P xs ys i x items its others k d low = grind (arith, cases_eq, get_or-set_same, get_or-set_other)
 
 -- each visit was its actor's next one, and cells hold what the history leaves
 pub sees-more : MoreIsPlayed → {input : Contents} {plan : PlanData} {cells : CellData} {history : History} (actor : ℕ)
@@ -224,14 +206,12 @@ none-left : VisitsAreFew → MoreIsPlayed → {machine : Machine} {history : His
     → (0 < reach → next (setting_at machine) (scripts_at machine) history actor ≡ None)
     → next (setting_at machine) (scripts_at machine) history actor ≡ None
 none-left few more actor reach None is full same law = same
-none-left few more {machine} {history} actor zero (Some visit) is full same law =
-    absurd (omega (
-      arith,
-      full refl,
-      order-fits few (history ++ visit ∷ []) is
-          (more (setting_at machine) (scripts_at machine) history actor visit same is.sees.played),
-      length_push history visit,
-    ))
+none-left few more {machine} {history} actor zero (Some visit) is full same law = grind (
+  arith,
+  order-fits few (history ++ visit ∷ []) is
+      (more (setting_at machine) (scripts_at machine) history actor visit same is.sees.played),
+  length_push history visit,
+)
 none-left few more actor (suc reach) (Some visit) is full same law = law (omega arith)
 
 -- many visits of an actor, behind the history of a machine

@@ -81,14 +81,7 @@ lines-more : (lines : List Done) (line : Done) (ticket count : ℕ) → 0 < leng
     ≡ set (lines_behind lines line ticket count) (length lines - 1)
     (line_after (get_or (lines_behind lines line ticket count) (length lines - 1) line) false (ticket + count))
 lines-more lines line ticket zero some = refl
-lines-more lines line ticket (suc count) some =
-    let last : ℕ = length lines - 1 in
-    let before : Done = line_after (get_or lines last line) false (ticket + count) in
-    rw (
-      get_or-set_same lines last before line (omega (arith, some)),
-      later-line (get_or lines last line) (ticket + count) (ticket + suc count),
-      set-set lines last before (line_after (get_or lines last line) false (ticket + suc count)),
-    )
+lines-more lines line ticket (suc count) some = grind (arith, get_or-set_same, later-line, set-set)
 
 -- what they leave of the lines
 lines-are : (lines : List Done) (line : Done) (ticket count : ℕ) → 0 < count

@@ -1,4 +1,4 @@
-use Rattle.std.proofs.Common.{◌≡◌, ◌∙◌, [], sym, ap, arith, ℕ, ◌<◌, subst}
+use Rattle.std.proofs.Common.{◌≡◌, ◌∙◌, [], sym, ap, arith, ℕ, ◌<◌}
 use Rattle.handset.specs.Condition.{HandsetData, GoesWith, IsMoveStage}
 use Rattle.handset.specs.StepWrites.{due, due_at, erasure, switch_mark}
 use Rattle.region_plan.specs.Settings.{setting_of}
@@ -11,7 +11,7 @@ use Rattle.entry_word.specs.declared.visit.Act.TheVariants.{Put}
 use Rattle.entry_word.specs.declared.visit.Key.{Key}
 use Rattle.entry_word.specs.declared.visit.Visit.{Visit}
 use Rattle.directory.specs.Keys.{key_sub}
-use Rattle.directory.specs.Writes.{Write, mark_at, new_address, visit_of, write_key, write_word}
+use Rattle.directory.specs.Writes.{Write, mark_at, new_address, visit_of, write_key}
 use Rattle.region_plan.specs.Cells.{IsCell}
 use Rattle.visit_log.specs.Cells.{HasHomes}
 use Rattle.region_plan.specs.Plan.{PlanData, levels_of, nodes_of}
@@ -23,12 +23,7 @@ use Rattle.directory.specs.StepLaws.{key_sub-of_write}
 cell-of : {plan : PlanData} {subs : ℕ} (sub : ℕ) (write : Write) {visit : Visit} {key : Key} {word : ℕ}
     → Some (visit_of sub write) ≡ Some visit → visit.act ≡ Put key word → IsCell plan subs (write_key sub write)
     → IsCell plan subs key × (key_sub key ≡ sub)
-cell-of {plan} {subs} sub write {visit} {key} {word} same act cell =
-    let its : visit_of sub write ≡ visit = cc in
-    let put : Put (write_key sub write) (write_word write) ≡ Put key word =
-    ap (λ (v : Visit). v.act) its ∙ act in
-    let here : write_key sub write ≡ key = cc in
-    subst (λ k. IsCell plan subs k × (key_sub k ≡ sub)) here (cell, key_sub-of_write sub write)
+cell-of {plan} {subs} sub write {visit} {key} {word} same act cell = grind (arith, key_sub-of_write)
 
 cell-at : {plan : PlanData} {handset : HandsetData} (subs : ℕ) {visit : Visit} {key : Key} {word : ℕ}
     → HasHomes plan → GoesWith plan handset → handset.sub < subs → visit.act ≡ Put key word → (stage : Stage)

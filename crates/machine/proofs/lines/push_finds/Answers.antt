@@ -1,5 +1,5 @@
-use Rattle.std.proofs.Common.{◌++◌, ◌∙◌, ap, length, arith}
-use Rattle.std.specs.Prelude.{flat_map, vec_capacity}
+use Rattle.std.proofs.Common.{length, arith}
+use Rattle.std.specs.Prelude.{vec_capacity}
 use Rattle.std.proofs.lemmas.List.{take_all}
 use Rattle.machine.specs.declared.caller.Caller.{Caller}
 use Rattle.machine.proofs.Ending.{part-fits, part-more}
@@ -25,7 +25,4 @@ callers-preserved c =
     }
 
 pub returns-clause-items : goal.returns-clause-items
-returns-clause-items c =
-    c.callers.invariant.items
-    ∙ ap (λ ys. c.args.calls.now.items ++ flat_map (λ (one : Caller). one.lines.items) ys)
-    (take_all c.callers.caller-index c.args.callers.now c.callers-test.false)
+returns-clause-items c = grind (arith, take_all)

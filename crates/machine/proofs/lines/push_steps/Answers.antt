@@ -1,5 +1,5 @@
-use Rattle.std.proofs.Common.{◌++◌, ◌∙◌, ap, length, arith}
-use Rattle.std.specs.Prelude.{flat_map, vec_capacity}
+use Rattle.std.proofs.Common.{length, arith}
+use Rattle.std.specs.Prelude.{vec_capacity}
 use Rattle.std.proofs.lemmas.List.{take_all}
 use Rattle.machine.specs.declared.subscriber.Subscriber.{Subscriber}
 use Rattle.machine.proofs.Ending.{part-fits, part-more}
@@ -26,7 +26,4 @@ subscribers-preserved c =
     }
 
 pub returns-clause-items : goal.returns-clause-items
-returns-clause-items c =
-    c.subscribers.invariant.items
-    ∙ ap (λ ys. c.args.calls.now.items ++ flat_map (λ (one : Subscriber). one.lines.items) ys)
-    (take_all c.subscribers.subscriber-index c.args.subscribers.now c.subscribers-test.false)
+returns-clause-items c = grind (arith, take_all)

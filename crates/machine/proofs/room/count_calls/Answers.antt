@@ -14,19 +14,7 @@ calls-more (x ∷ xs) zero d h = omega arith
 calls-more (x ∷ xs) (suc i) d h = omega (arith, calls-more xs i d (omega (arith, h)))
 
 pub loop-script-preserved : goal.loop-script-preserved
-loop-script-preserved c =
-    let sum = added _ c.checked_add.result _ c.checked_add.ensures c.ok_or.ensures.value c.in_ok-count.was in
-    let step = calls-more c.args.scripts.now c.loop-script.script-index c.script-item.result c.loop-script-test.true in
-    let next : c.loop-script.script-index + 1 ≡ suc c.loop-script.script-index = omega arith in
-    omega (
-      arith,
-      sum,
-      c.loop-script.invariant,
-      c.len.ensures,
-      step,
-      ap (λ (s : Vec Call Global). length s.items) c.script-item.is,
-      ap (λ i. count_calls (map (λ (s : Vec Call Global). s.items) (take i c.args.scripts.now))) next,
-    )
+loop-script-preserved c = grind (arith, added, calls-more)
 
 pub returns : goal.returns
 returns c = c.loop-script.invariant ∙ ap (λ xs. count_calls (map (λ (s : Vec Call Global). s.items) xs))

@@ -14,13 +14,7 @@ visits-more : (f : List Call → ℕ) (xs : List (Vec Call Global)) (i : ℕ) (d
     ≡ sum_by f (map (λ (s : Vec Call Global). s.items) (take i xs)) + f (get_or xs i d).items
 visits-more f [] i d h = absurd (omega (arith, h))
 visits-more f (x ∷ xs) zero d h = omega (arith, sum_by-cons f x.items [])
-visits-more f (x ∷ xs) (suc i) d h =
-    omega (
-      arith,
-      visits-more f xs i d (omega (arith, h)),
-      sum_by-cons f x.items (map (λ (s : Vec Call Global). s.items) (take (suc i) xs)),
-      sum_by-cons f x.items (map (λ (s : Vec Call Global). s.items) (take i xs)),
-    )
+visits-more f (x ∷ xs) (suc i) d h = grind (arith, visits-more f xs i d (omega (arith, h)), sum_by-cons)
 
 pub loop-script-preserved : goal.loop-script-preserved
 loop-script-preserved c = λ starts.

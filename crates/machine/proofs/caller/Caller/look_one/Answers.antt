@@ -52,9 +52,7 @@ low-here c =
     omega (arith, few, ap length (script-here c), c.len.ensures)
 
 pub offset_bounds-script-len : goal.offset_bounds-script-len
-offset_bounds-script-len c =
-    let few = calls-few (seen_input c.args.input.now) c.args.actor c.requires.together.valid in
-    omega (arith, low-here c, few, ap length (script-here c))
+offset_bounds-script-len c = grind (arith, calls-few, low-here, script-here)
 
 pub bounds-script-len : goal.bounds-script-len
 bounds-script-len c = low-here c

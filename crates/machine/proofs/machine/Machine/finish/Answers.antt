@@ -1,5 +1,4 @@
-use Rattle.std.proofs.Common.{◌≡◌, ◌≤◌, ℕ, [], length, map, sym, ap, ◌∙◌, subst, arith, Vec, Global}
-use Rattle.directory.specs.Orders.{after_turn, last_turns}
+use Rattle.std.proofs.Common.{◌≡◌, ◌≤◌, ℕ, length, map, ap, ◌∙◌, subst, arith, Vec, Global}
 use Rattle.std.proofs.lemmas.List.{length-map}
 use Rattle.std.proofs.lemmas.List.Sums.{fold-append}
 use Rattle.net_reader.specs.declared.said.Call.{Call}
@@ -32,7 +31,4 @@ returns-clause-stands c history is =
     (c.actors.invariant.stands history is)
 
 pub returns-clause-order : goal.returns-clause-order
-returns-clause-order c order is =
-    subst (HasHistory c.actors.self) (sym (fold-append (after_turn (setting_at c.args.self.now)
-    (scripts_at c.args.self.now)) [] order (last_turns (setting_at c.args.self.now) (scripts_at c.args.self.now))))
-    (returns-clause-stands c _ is)
+returns-clause-order c order is = grind (arith, fold-append, returns-clause-stands)

@@ -1,4 +1,4 @@
-use Rattle.std.proofs.Common.{◌++◌, arith, refl, ◌∙◌}
+use Rattle.std.proofs.Common.{arith, refl}
 use Rattle.machine.proofs.Making.{made-count, made-next, made-none, may-follow, turns-behind}
 use Rattle.machine.proofs.Written.{ended}
 use Rattle.machine.proofs.subscriber.Subscriber.write.Goals as goal
@@ -41,10 +41,4 @@ returns-in-Finished-clause-taken g c = λ history sees place its.
     its) c.in-Finished.ensures
 
 pub returns-in-Finished-clause-still : goal.returns-in-Finished-clause-still
-returns-in-Finished-clause-still g c = λ none.
-    let stands = c.requires.stands in
-    let made = turns-behind c.writes.invariant.written c.write_plain-made.ensures.made stands.0 stands.1 stands.2
-    stands.3 in
-    (c.in-Finished.ensures (stands.0 ++ made.visits) made.sees
-    (made-count made stands.2) made.its).2
-    ∙ c.write_plain-made.ensures.still (omega (arith, none)) ∙ c.writes.invariant.still (omega (arith, none))
+returns-in-Finished-clause-still g c = grind (arith, turns-behind, made-count)

@@ -4,10 +4,7 @@ use Rattle.machine.proofs.Written.{ended}
 use Rattle.machine.proofs.subscriber.Subscriber.write_alone.Goals as goal
 
 pub returns-then-most-eq0-clause-taken : goal.returns-then-most-eq0-clause-taken
-returns-then-most-eq0-clause-taken c = λ history sees place its. (
-  made-none _ sees its,
-  λ fewer. absurd (omega (arith, fewer, c.if-most-eq0.true)),
-)
+returns-then-most-eq0-clause-taken c = grind (arith, made-none)
 
 pub returns-in-Visited-clause-taken : goal.returns-in-Visited-clause-taken
 returns-in-Visited-clause-taken c = λ history sees place its. (

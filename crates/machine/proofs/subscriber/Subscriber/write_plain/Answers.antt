@@ -1,19 +1,11 @@
-use Rattle.std.proofs.Common.{◌≡◌, ◌+◌, ◌-◌, ◌<◌, ℕ, false, length, set, ap, arith, subst, ◌∙◌}
-use Rattle.net_reader.specs.Seen.{seen_input}
-use Rattle.machine.specs.Owed.{HavePut}
+use Rattle.std.proofs.Common.{◌≡◌, ◌+◌, ◌-◌, ◌<◌, ℕ, false, length, set, ap, arith, ◌∙◌}
 use Rattle.machine.specs.Subscribers.{line_after}
 use Rattle.machine.proofs.Making.{made-none}
 use Rattle.machine.proofs.Written.{line-there, may-put, plain-put}
 use Rattle.machine.proofs.subscriber.Subscriber.write_plain.Goals as goal
 
 pub put_plain-behind-requires-clause-stands : goal.put_plain-behind-requires-clause-stands
-put_plain-behind-requires-clause-stands c =
-    let its = c.requires.stands.3 in (
-      c.args.plan.now,
-      its.handset,
-      c.args.self.now.handset,
-      may-put c.requires.stands.1 its c.as_slice.ensures.value,
-    )
+put_plain-behind-requires-clause-stands c = grind (arith, may-put)
 
 pub overflow_sub-last : goal.overflow_sub-last
 overflow_sub-last c =
@@ -49,14 +41,4 @@ returns-then-made-gt0-clause-made c = λ history sees place its.
     ∙ ap (λ l. line_after l false (c.args.ticket + count - 1)) c.index_mut.ensures.value) ∙ rw size) (omega arith)
 
 pub returns-else-made-gt0-clause-made : goal.returns-else-made-gt0-clause-made
-returns-else-made-gt0-clause-made c = λ history sees place its.
-    let input = seen_input c.args.input.now in
-    let plan = c.args.plan.now in
-    let count : ℕ = c.put_plain-behind.result - c.args.self.now.made in
-    let none : count ≡ 0 = omega (arith, c.if-made-gt0.false) in
-    let come = c.put_plain-behind.ensures.puts c.args.plan.now its.handset c.args.self.now.handset
-    (may-put sees its c.as_slice.ensures.value) in
-    let same : c.put_plain-behind.new.cells ≡ c.args.cells.now =
-    (subst (λ n. HavePut plan its.handset c.args.cells.now n come.handset c.put_plain-behind.new.cells) none come.put).1
-    in
-    rw (none, same) (made-none _ sees its)
+returns-else-made-gt0-clause-made c = grind (arith, may-put, made-none)
