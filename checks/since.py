@@ -1,13 +1,18 @@
 #!/usr/bin/env python3
-"""Tells how many lines of proof are of what stood at a commit, and how many of what came since:
-checks/since.py COMMIT [SHARE], at the top of the repository. It goes over the crates that stood then.
+"""Tells how many lines of proof what stood at a commit takes today: checks/since.py COMMIT, at the
+top of the repository.
 
-A function's answers are of then where a function of its name stood in any crate, and a lemma where
-its crate had one of its name. Another one is of then too where the text is much the same: at least
-SHARE (one in three, if none is given) of its runs of four words stand in one that the crates had.
-The heads of lemma files, with their imports, all count as of then. So what a later commit says
-more fully, or proves anew under an old name, is of then as well; and a new lemma in the place of an
-old one counts as since. It is an estimate, which depends on SHARE.
+It counts the answers of each function that has a name of then, in whatever crate; of each function
+that such a one names, and so on; and each lemma that these answers name, with those that it names,
+and the heads of their files. So what a function of then says more fully today is counted in full, as
+are functions and lemmas that came since and serve it: the number is a bound from above. Names are
+compared as words, so that a function or a lemma that only shares a name is counted too.
+
+A function that got another name since, and that none of these names, is missed: the functions that
+are left out are told, so that one can see that none is such.
+
+Crates that came since have proofs of what came since, and are left out, but for those that took over
+parts of crates of then (PARTS), which count in full.
 """
 import collections
 import os
@@ -16,10 +21,15 @@ import subprocess
 import sys
 import tempfile
 
-HEAD = re.compile(r"(?:unfoldable )?(?:pub )?(?:abbrev )?(?:pub )?([^\s:(){}]+) :")
-FUNCTION = re.compile(r"\bfn (\w+)")
-WORD = re.compile(r"[^\s(){}\[\],;.]+")
-Part = collections.namedtuple("Part", "crate kind name text count")
+# Parts of region_plan, net_reader and machine, and the tests, which stood in the crates that they test.
+PARTS = (
+    "plan_laws scripts test_networks network_tests text_tests actor_tests tracker_tests runner_tests top_tests"
+).split()
+BEGINS = re.compile(r"(?:(?:unfoldable|pub|abbrev|record|data|ruleset) )*([^\s:(){}]+)")
+DECLARED = re.compile(r"^ *(?:(?:unfoldable|pub|abbrev) )*([^\s:(){}]+) :", re.M)
+FUNCTION = re.compile(r"^ *(?:pub(?:\(\w+\))? )?(?:const |unsafe )?fn (\w+)", re.M)
+WORD = re.compile(r"\w+")
+NAME = re.compile(r"[^\s(){}\[\],;.]+")
 
 
 def files(folder, ending):
@@ -31,73 +41,98 @@ def files(folder, ending):
                     yield os.path.relpath(f"{at}/{name}", folder), file.read()
 
 
-def parts_of(crate, path, text):
-    """The parts of a proof file: the answers of a function, or a head and lemmas."""
-    folders = path.split("/")[:-1]
+def functions_in(top, crate):
+    """The functions of a crate: each one's name, and its text up to the next one."""
+    for _, text in files(f"{top}/crates/{crate}/src", ".rt"):
+        begins = list(FUNCTION.finditer(text))
+        ends = [begin.start() for begin in begins[1:]] + [len(text)]
+        for begin, end in zip(begins, ends):
+            yield begin[1], text[begin.start() : end]
+
+
+def reached(first, texts, names):
+    """What is named from the first ones on, where `names` tells the names in a text."""
+    found, left = set(first), list(first)
+    while left:
+        for text in texts[left.pop()]:
+            new = {name for name in names(text) if name in texts} - found
+            found |= new
+            left += new
+    return found
+
+
+def function_of(path):
+    """The function whose answers a file of proofs has, or None for a file of lemmas."""
+    folders = path.split("/")
+    name = folders.pop()
     if folders and folders[-1] == "Answers":
-        folders.pop()
-        path = "Answers.antt"
-    if os.path.basename(path) in ("Answers.antt", "Invariants.antt"):
-        return [Part(crate, "function", folders[-1], text, text.count("\n"))]
-    lines = collections.defaultdict(list)
-    name = ""
+        return folders[-2]
+    return folders[-1] if name in ("Answers.antt", "Invariants.antt") else None
+
+
+def parts_of(text):
+    """The parts of a file of lemmas, its head first: each one's lines, and the names that it declares.
+    A part is a lemma, a record or a whole section (`module _ ..`)."""
+    parts, own = [([], set())], ""
     for line in text.splitlines():
-        begins = HEAD.match(line)
-        name = begins[1] if begins else name
-        lines[name].append(line)
-    kinds = {"": "head"}
-    return [
-        Part(crate, kinds.get(name, "lemma"), name, "\n".join(its), len(its))
-        for name, its in lines.items()
-    ]
+        begins = BEGINS.match(line)
+        if begins and begins[1] not in ("use", "mod", "unfolding", "where", "--", "]", own):
+            own = begins[1]
+            parts.append(([], {own}))
+        parts[-1][0].append(line)
+    for lines, names in parts:
+        names.update(DECLARED.findall("\n".join(lines)))
+    return parts
 
 
-def read(top, crates):
-    """The parts of the crates' proofs, and the names of all functions."""
-    parts, functions = [], set()
-    for crate in crates:
-        for path, text in files(f"{top}/crates/{crate}/proofs", ".antt"):
-            parts += parts_of(crate, path, text)
-        for _, text in files(f"{top}/crates/{crate}/src", ".rt"):
-            functions.update(FUNCTION.findall(text))
-    return parts, functions
+def lines_of(crate, functions, known):
+    """How many lines of proof these functions of a crate take; `known` has all functions."""
+    cited, texts, of_files, count = set(), collections.defaultdict(list), [], 0
+    for path, text in files(f"crates/{crate}/proofs", ".antt"):
+        function = function_of(path)
+        if function is None:
+            head, *parts = parts_of(text)
+            of_files.append((head, parts))
+            for lines, names in parts:
+                for name in names:
+                    texts[name].append("\n".join(lines))
+        elif function in functions or function not in known:
+            cited.update(NAME.findall(text))
+            count += text.count("\n")
+    cited = reached(cited & set(texts), texts, NAME.findall)
+    for head, parts in of_files:
+        used = [lines for lines, names in parts if names & cited]
+        count += sum(map(len, used)) + (len(head[0]) if used else 0)
+    return count
 
 
-def runs_of(text):
-    """The runs of four words of a text, without its imports."""
-    kept = [line for line in text.splitlines() if not line.startswith("use ")]
-    words = WORD.findall("\n".join(kept).replace("-", "_"))
-    return {tuple(words[at : at + 4]) for at in range(len(words) - 3)}
-
-
-def likeness(part, index):
-    """The largest share of the part's runs that one part of then has."""
-    runs = runs_of(part.text)
-    met = collections.Counter(at for run in runs for at in index.get(run, ()))
-    return max(met.values(), default=0) / max(len(runs), 1)
+def lines_in(top, crate):
+    """All lines of a crate's proofs."""
+    return sum(text.count("\n") for _, text in files(f"{top}/crates/{crate}/proofs", ".antt"))
 
 
 def main(words):
-    if len(words) not in (1, 2):
+    if len(words) != 1:
         sys.exit(__doc__)
-    share = float(words[1]) if len(words) == 2 else 1 / 3
     with tempfile.TemporaryDirectory(prefix="since-") as room:
         archive = subprocess.run(["git", "archive", words[0], "crates"], stdout=subprocess.PIPE, check=True)
         subprocess.run(["tar", "-x", "-C", room], input=archive.stdout, check=True)
         crates = sorted(os.listdir(f"{room}/crates"))
-        were, functions = read(room, crates)
-    index = collections.defaultdict(set)
-    for at, part in enumerate(were):
-        for run in runs_of(part.text):
-            index[run].add(at)
-    lemmas = {(part.crate, part.name) for part in were if part.kind == "lemma"}
-    then = since = 0
-    for part in read(".", crates)[0]:
-        stood = part.kind == "head" or part.kind == "function" and part.name in functions
-        stood = stood or (part.crate, part.name) in lemmas or likeness(part, index) >= share
-        then, since = then + part.count * stood, since + part.count * (not stood)
-    print(f"{len(crates)} crates had {sum(part.count for part in were):,} lines of proof at {words[0]}")
-    print(f"they have {then + since:,}: {then:,} of what stood then, {since:,} of what came since")
+        then = {name for crate in crates for name, _ in functions_in(room, crate)}
+        were = sum(lines_in(room, crate) for crate in crates)
+    texts = collections.defaultdict(list)
+    for crate in os.listdir("crates"):
+        for name, text in functions_in(".", crate):
+            texts[name].append(text)
+    functions = reached(then & set(texts), texts, WORD.findall)
+    counts = {crate: lines_of(crate, functions, texts) for crate in crates}
+    for crate in crates:
+        others = sorted({name for name, _ in functions_in(".", crate)} - functions)
+        print(f"{crate}: {counts[crate]:,} of {lines_in('.', crate):,}", *(["without", *others] if others else []))
+    parts = sum(lines_in(".", crate) for crate in PARTS)
+    now = sum(lines_in(".", crate) for crate in crates)
+    print(f"{len(crates)} crates had {were:,} lines of proof at {words[0]}, and have {now:,}")
+    print(f"what stood then takes at most {sum(counts.values()) + parts:,}, {parts:,} of them in crates made of parts")
 
 
 if __name__ == "__main__":

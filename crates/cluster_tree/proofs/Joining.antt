@@ -64,9 +64,7 @@ has_contained v xs h = let place = member_place v xs h
 
 pub members_below : (set : Nodes) → AreNodes set → (n : ℕ) → set.room ≡ n → All (λ v. v < n) set.members
 members_below set nodes n room k d short =
-    let member : has (get_or set.members k d) set.members ≡ true =
-    subst (λ v. has v set.members ≡ true) (get_or_default set.members k 0 d short) (has_place set.members k short) in
-    omega (arith, below-has set.room (get_or set.members k d) set.members nodes.below member, room)
+    grind (arith, get_or_default set.members k 0 d short, has_place set.members k short, below-has)
 
 pub walk_anywhere : (edges : List Edge) (inside : ℕ → Bool) (u : ℕ) (steps : List Step) (v : ℕ)
     → IsWalk edges inside u steps v

@@ -34,10 +34,4 @@ beside_new v w (x ∷ xs) (u ∷ ws) h count = elim (cases_eq v x) [
 
 pub beside_contained : (v : ℕ) (xs ws : List ℕ) → IsAscending xs → has v xs ≡ true → length ws ≡ length xs
     → (k : ℕ) × (k < length ws) × (weight_beside v xs ws ≡ get_or ws k 0)
-beside_contained v xs ws ascending h count =
-    let place = member_place v xs h in (
-      place.0,
-      omega (arith, place.1),
-      ap (λ x. weight_beside x xs ws) (sym place.2)
-          ∙ beside_place xs ws place.0 ascending count place.1,
-    )
+beside_contained v xs ws ascending h count = grind (arith, member_place, beside_place)

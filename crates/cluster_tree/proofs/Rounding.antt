@@ -20,16 +20,7 @@ longer : (p q : ℕ → Bool) (v k : ℕ) → ((x : ℕ) → v ≤ x → x < v +
     → length (sift p v k) ≤ length (sift q v k)
 longer p q v zero follows = omega arith
 longer p q v (suc k) follows =
-    at (p v) (q v) (follows v (omega arith) (omega arith))
-    (longer p q (suc v) k (λ x low high. follows x (omega (arith, low)) (omega (arith, high))))
-  where
-    at : (b c : Bool) → (b ≡ true → c ≡ true) → length (sift p (suc v) k) ≤ length (sift q (suc v) k)
-        → length (cond b (v ∷ sift p (suc v) k) (sift p (suc v) k))
-        ≤ length (cond c (v ∷ sift q (suc v) k) (sift q (suc v) k))
-    at true true h rest = omega (arith, rest)
-    at true false h rest = absurd (false≢true (h refl))
-    at false true h rest = omega (arith, rest)
-    at false false h rest = rest
+    grind (arith, longer p q (suc v) k (λ x low high. follows x (omega (arith, low)) (omega (arith, high))), false≢true)
 
 -- where no fewer pass the first test, each that passes the second passes the first
 as_many : (p q : ℕ → Bool) (v k : ℕ) → ((x : ℕ) → v ≤ x → x < v + k → p x ≡ true → q x ≡ true)
@@ -78,17 +69,10 @@ module _ (members row : List ℕ) (far : ℕ) (ascending : IsAscending members)
   is_member v = has v members
 
   none_past : (v : ℕ) → length row ≤ v → has v members ≡ false
-  none_past v past = elim (cases_Bool (has v members)) [
-    | inl member ↦ absurd (omega (arith, lies_below v member, past))
-    | inr other ↦ other
-  ]
+  none_past v past = grind (arith, cases_Bool, lies_below)
 
   listed : sift is_member 0 (length row) ≡ members
-  listed = same_members (sift is_member 0 (length row)) members (ascending-passing is_member 0 (length row)) ascending
-      (λ v. elim (cases_lt v (length row)) [
-        | inl inside ↦ has-passing is_member v 0 (length row) (omega arith) (omega (arith, inside))
-        | inr past ↦ passing_over is_member v 0 (length row) (omega (arith, past)) ∙ sym (none_past v past)
-      ])
+  listed = grind (arith, ascending-passing, cases_lt, has-passing, passing_over, none_past, same_members)
 
   pub round_by_count : count_within row far ≡ length members → IsRound members row
   round_by_count count u v inside member nearer =
@@ -101,17 +85,12 @@ module _ (members row : List ℕ) (far : ℕ) (ascending : IsAscending members)
 pub within_takes : (row : List ℕ) (far i : ℕ) → slice_index row i ≤ far
     → length (sift (λ v. nat_lt (slice_index row v) (suc far)) 0 (i + 1))
     ≡ length (sift (λ v. nat_lt (slice_index row v) (suc far)) 0 i) + 1
-within_takes row far i near =
-    ap length (passing_takes (λ v. nat_lt (slice_index row v) (suc far)) i
-    (lt-ltb (slice_index row i) (suc far) (omega (arith, near))))
-    ∙ length-append (sift (λ v. nat_lt (slice_index row v) (suc far)) 0 i) (i ∷ [])
+within_takes row far i near = grind (arith, lt-ltb, passing_takes, length-append)
 
 pub within_skips : (row : List ℕ) (far i : ℕ) → far < slice_index row i
     → length (sift (λ v. nat_lt (slice_index row v) (suc far)) 0 (i + 1))
     ≡ length (sift (λ v. nat_lt (slice_index row v) (suc far)) 0 i)
-within_skips row far i past =
-    ap length (passing_skips (λ v. nat_lt (slice_index row v) (suc far)) i
-    (le-ltb (slice_index row i) (suc far) (omega (arith, past))))
+within_skips row far i past = grind (arith, le-ltb, passing_skips)
 
 -- ---- least walks stay inside
 
@@ -135,12 +114,7 @@ module _ (network : Network) (sound : IsNetwork network) (members : List ℕ) (l
       )
 
   lies_in : (v : ℕ) → has v members ≡ true → v < network.nodes
-  lies_in v member =
-      omega (
-        arith,
-        All-contains (λ x. x < length row) members v below (has_contained v members member),
-        distances.count,
-      )
+  lies_in v member = grind (arith, has_contained, All-contains)
 
   pub round_keeps : KeepDistances network members leader row
   round_keeps v member =

@@ -11,49 +11,28 @@ use Rattle.coarse_cover.specs.Coarsening.{is_enough, cluster_of}
 -- ---- fewer than k growths are enough
 
 module _ (balls : List (List ℕ)) (k r a : ℕ) (rest : List ℕ) where
-  not_enough : (j : ℕ) → is_enough balls k r (a ∷ rest) a j ≡ false
-      → r * length (growth balls (a ∷ rest) a j) ^ k < length (growth balls (a ∷ rest) a (suc j)) ^ k
-  unfolding is_enough
-  not_enough j h = leb-false (length (growth balls (a ∷ rest) a (suc j)) ^ k)
-      (r * length (growth balls (a ∷ rest) a j) ^ k) h
-
   pub enough_means : (j : ℕ) → is_enough balls k r (a ∷ rest) a j ≡ true
       → length (growth balls (a ∷ rest) a (suc j)) ^ k ≤ r * length (growth balls (a ∷ rest) a j) ^ k
   unfolding is_enough
-  enough_means j h = leb-true (length (growth balls (a ∷ rest) a (suc j)) ^ k)
-      (r * length (growth balls (a ∷ rest) a j) ^ k) h
+  enough_means j h = leb-true _ _ h
 
   first_size : length (growth balls (a ∷ rest) a 0) ≡ 1
   first_size = ap length (growth_first balls (a ∷ rest) a)
 
   pub growths_few : 0 < k → length (a ∷ rest) ≤ r → least (is_enough balls k r (a ∷ rest) a) k < k
+  unfolding is_enough
   growths_few pos fits =
       elim (cases_lt (least (is_enough balls k r (a ∷ rest) a) k) k) [
         | inl few ↦ few
         | inr many ↦ absurd (omega (
           arith,
           growth_size balls a rest k,
-          outgrows (λ j. length (growth balls (a ∷ rest) a j)) k r (omega arith)
-              (omega (arith, first_size)) pos
-              (λ i h. not_enough i (least_first (is_enough balls k r (a ∷ rest) a) k i (omega arith))),
+          outgrows (λ j. length (growth balls (a ∷ rest) a j)) k r (omega arith) (omega (arith, first_size)) pos
+              (λ i h. leb-false _ _ (least_first (is_enough balls k r (a ∷ rest) a) k i (omega arith))),
         ))
       ]
 
 -- ---- what the loop that grows a cluster needs
-
-pub enough_is : (balls : List (List ℕ)) (k r a : ℕ) (waiting : List ℕ) (j : ℕ)
-    → length (growth balls waiting a (suc j)) ^ k ≤ r * length (growth balls waiting a j) ^ k
-    → is_enough balls k r waiting a j ≡ true
-unfolding is_enough
-enough_is balls k r a waiting j h = le-leb (length (growth balls waiting a (suc j)) ^ k) (r * length
-    (growth balls waiting a j) ^ k) h
-
-pub not_enough_is : (balls : List (List ℕ)) (k r a : ℕ) (waiting : List ℕ) (j : ℕ)
-    → (length (growth balls waiting a (suc j)) ^ k ≤ r * length (growth balls waiting a j) ^ k → ⊥)
-    → is_enough balls k r waiting a j ≡ false
-unfolding is_enough
-not_enough_is balls k r a waiting j h =
-    lt-leb (length (growth balls waiting a (suc j)) ^ k) (r * length (growth balls waiting a j) ^ k) (lt_of_not-le h)
 
 pub cluster_homed : (balls : List (List ℕ)) (k r a : ℕ) (waiting : List ℕ) → (cluster_of balls k r waiting a).homed
     ≡ growth balls waiting a (least (is_enough balls k r waiting a) k)
@@ -83,17 +62,17 @@ module _ (balls : List (List ℕ)) (k r a : ℕ) (waiting : List ℕ) (j more si
     module _ (counted : more ≡ length marks) (sized : size ≡ length (growth balls waiting a j)) where
       pub stops : j < k → ((i : ℕ) → i < j → is_enough balls k r waiting a i ≡ false) → more ^ k ≤ r * size ^ k
           → least (is_enough balls k r waiting a) k ≡ j
+      unfolding is_enough
       stops below none fits =
-          least_is (is_enough balls k r waiting a) k j below
-          (enough_is balls k r a waiting j (rw (counted, next, sized) at fits)) none
+          least_is (is_enough balls k r waiting a) k j below (le-leb _ _ (rw (counted, next, sized) at fits)) none
 
       pub goes_on : ((i : ℕ) → i < j → is_enough balls k r waiting a i ≡ false) → (more ^ k ≤ r * size ^ k → ⊥)
-          → (i : ℕ)
-          → i < suc j → is_enough balls k r waiting a i ≡ false
+          → (i : ℕ) → i < suc j → is_enough balls k r waiting a i ≡ false
+      unfolding is_enough
       goes_on none large i h =
           elim (cases_lt i j) [
             | inl before ↦ none i before
             | inr here ↦
                 let same : i ≡ j = omega arith in
-                rw same (not_enough_is balls k r a waiting j (λ fits. large (rw (counted, next, sized) fits)))
+                rw same (lt-leb _ _ (lt_of_not-le (λ fits. large (rw (counted, next, sized) fits))))
           ]

@@ -1,10 +1,10 @@
 -- One phase: its clusters are disjoint, and the balls that they are homes of are many.
-use Rattle.std.proofs.lemmas.Bool.{cases_Bool, false≢true, false_from_ne_true, not-true, and_from, and_parts}
-use Rattle.std.proofs.Common.{◌≡◌, inl, inr, ℕ, zero, suc, ◌+◌, ◌*◌, ◌^◌, ◌<◌, ◌≤◌, Bool, true, false, cond, not, ◌&&◌, List, [], ◌∷◌, length, filter, refl, sym, ◌∙◌, ap, subst, arith}
+use Rattle.std.proofs.lemmas.Bool.{false≢true, false_from_ne_true, not-true}
+use Rattle.std.proofs.Common.{◌≡◌, ℕ, zero, suc, ◌+◌, ◌*◌, ◌^◌, ◌<◌, ◌≤◌, Bool, true, false, cond, not, ◌&&◌, List, [], ◌∷◌, length, filter, refl, sym, ◌∙◌, ap, arith}
 use Rattle.std.specs.Prelude.{count_by, All}
 use Rattle.std.proofs.lemmas.List.Elements.{All-nil, All-cons, All-head, All-tail}
 use Rattle.std.proofs.lemmas.List.Sums.{sum_by-cons}
-use Rattle.std.proofs.Math.Nat.{le_trans, pow-le-pow_left, mul-le-mul_left}
+use Rattle.std.proofs.Math.Nat.{le_refl, le_trans, pow-le-pow_left, mul-le-mul_left}
 use Rattle.node_set.specs.Ascending.{has, IsBelowAll, share}
 use Rattle.node_set.specs.SetLaws.{share_from, share_gives}
 use Rattle.whole_powers.specs.Bounds.{PowersAdd}
@@ -13,7 +13,7 @@ use Rattle.coarse_cover.specs.Coarsening.{is_enough, cluster_of, phase}
 use Rattle.coarse_cover.specs.HalfMade.{IsReady}
 use Rattle.node_set.specs.Balls.{ball, union_of, touches, growth, least, GrownCluster, IsShaped, is_homed}
 use Rattle.node_set.specs.GrowthLaws.{touching_below}
-use Rattle.node_set.specs.HomeLaws.{homed_here, homed_later, homed_cases}
+use Rattle.node_set.specs.HomeLaws.{homed_here, homed_later}
 use Rattle.node_set.specs.FilterLaws.{filter_keeps, filter-has, filter_twice, filter_halves, filter_fewer, filter_more, some_length, ascending-filter}
 use Rattle.node_set.specs.BallLaws.{HoldCentres, union_from, touches_own, growth_waits, growth_leader, growth_picked, least_passes}
 use Rattle.coarse_cover.proofs.Growth.{growths_few, enough_means}
@@ -39,16 +39,18 @@ pub is_cluster : (balls : List (List ℕ)) (k r a : ℕ) (rest : List ℕ) → 0
     → HoldCentres balls (a ∷ rest) → IsCluster balls k r (a ∷ rest) (cluster_of balls k r (a ∷ rest) a)
 unfolding cluster_of growth
 is_cluster balls k r a rest pos fits below hold =
+    let test = is_enough balls k r (a ∷ rest) a in
+    let j = least test k in
+    let few = growths_few balls k r a rest pos fits in
     record {
-      leads = growth_leader balls a rest hold (least (is_enough balls k r (a ∷ rest) a) k);
-      waits = growth_waits balls a rest (least (is_enough balls k r (a ∷ rest) a) k);
+      leads = growth_leader balls a rest hold j;
+      waits = growth_waits balls a rest j;
       joined = refl;
-      touching = λ v h. touches_own balls v (growth balls (a ∷ rest) a (least (is_enough balls k r (a ∷ rest) a) k)) h
-          (hold v (growth_waits balls a rest (least (is_enough balls k r (a ∷ rest) a) k) v h));
-      few = growths_few balls k r a rest pos fits;
-      enough = enough_means balls k r a rest (least (is_enough balls k r (a ∷ rest) a) k)
-          (least_passes (is_enough balls k r (a ∷ rest) a) k (growths_few balls k r a rest pos fits));
-      picked = growth_picked balls a rest below (least (is_enough balls k r (a ∷ rest) a) k);
+      touching = λ v h.
+          touches_own balls v (growth balls (a ∷ rest) a j) h (hold v (growth_waits balls a rest j v h));
+      few = few;
+      enough = enough_means balls k r a rest j (least_passes test k few);
+      picked = growth_picked balls a rest below j;
       shape = refl;
     }
 
@@ -68,6 +70,18 @@ ready_filter {waiting} p ready = record {
   ascending = ascending-filter p waiting ready.ascending;
   centred = λ v h. ready.centred v (filter_keeps p v waiting h).0;
 }
+
+-- and with as many as are left
+pub ready_shrunk : {balls : List (List ℕ)} {k : ℕ} {left : List ℕ} (p : ℕ → Bool) → IsReady balls k (length left) left
+    → IsReady balls k (length (filter p left)) (filter p left)
+ready_shrunk {left = left} p ready =
+    let all = ready_filter p ready in
+    record {
+      some = all.some;
+      fits = le_refl (length (filter p left));
+      ascending = all.ascending;
+      centred = all.centred;
+    }
 
 pub cluster_ready : {balls : List (List ℕ)} {k r a : ℕ} {rest : List ℕ} → IsReady balls k r (a ∷ rest)
     → IsCluster balls k r (a ∷ rest) (cluster_of balls k r (a ∷ rest) a)
@@ -94,70 +108,49 @@ phase_is zero [] ready enough = refl
 phase_is zero (a ∷ rest) ready enough = absurd (omega arith)
 phase_is (suc more) [] ready enough = refl
 phase_is {balls} {k} {r} (suc more) (a ∷ rest) ready enough =
-    let c : GrownCluster = cluster_of balls k r (a ∷ rest) a in
-    let is : IsCluster balls k r (a ∷ rest) (cluster_of balls k r (a ∷ rest) a) = cluster_ready ready
-    in (
+    let c = cluster_of balls k r (a ∷ rest) a in
+    let is = cluster_ready ready in (
       is,
-      phase_is more (apart balls (cluster_of balls k r (a ∷ rest) a).members (a ∷ rest))
-          (ready_filter (λ v. not (touches balls (cluster_of balls k r (a ∷ rest) a).members v)) ready)
+      phase_is more (apart balls c.members (a ∷ rest)) (ready_filter (λ v. not (touches balls c.members v)) ready)
           (omega (arith, apart_fewer is)),
     )
 
 module _ (balls : List (List ℕ)) (k r : ℕ) where
-  pub homed_waits : (waiting : List ℕ) (cs : List GrownCluster) → IsPhase balls k r waiting cs → (v : ℕ) → is_homed cs v
-      ≡ true → has v waiting ≡ true
-  unfolding is_homed
-  homed_waits waiting [] is v h = absurd (false≢true h)
-  homed_waits waiting (c ∷ cs) is v h =
-      elim (homed_cases c cs v h) [
-        | inl here ↦ is.0.waits v here
-        | inr later ↦ (filter_keeps (λ w. not (touches balls c.members w)) v waiting
-            (homed_waits (apart balls c.members waiting) cs is.1 v later)).0
-      ]
-
   -- the balls of a cluster and those of the later ones are counted apart
   split_homed : (waiting : List ℕ) (c : GrownCluster) (cs : List GrownCluster) → IsCluster balls k r waiting c →
       length c.homed + length (filter (is_homed cs) (apart balls c.members waiting)) ≤ length
       (filter (is_homed (c ∷ cs)) waiting)
   split_homed waiting c cs is =
-      let own : length c.homed ≤ length (filter (λ v. is_homed (c ∷ cs) v && touches balls c.members v) waiting) =
+      let touched = touches balls c.members in
+      let own : length c.homed ≤ length (filter (λ v. is_homed (c ∷ cs) v && touched v) waiting) =
       rw (ap length is.picked)
-      (filter_more (λ v. has v c.homed) (λ v. is_homed (c ∷ cs) v && touches balls c.members v) waiting
-      (λ v here h. and_from (is_homed (c ∷ cs) v) (touches balls c.members v) (homed_here c cs v h) (is.touching v h)))
+      (filter_more (λ v. has v c.homed) (λ v. is_homed (c ∷ cs) v && touched v) waiting
+      (λ v here h. grind (arith, homed_here c cs v h, is.touching v h)))
       in
-      let others : length (filter (λ v. not (touches balls c.members v) && is_homed cs v) waiting) ≤ length
-      (filter (λ v. is_homed (c ∷ cs) v && not (touches balls c.members v)) waiting) =
-      filter_more (λ v. not (touches balls c.members v) && is_homed cs v)
-      (λ v. is_homed (c ∷ cs) v && not (touches balls c.members v)) waiting
-      (λ v here h.
-      let both : (not (touches balls c.members v) ≡ true)
-      × (is_homed cs v ≡ true) = and_parts (not (touches balls c.members v)) (is_homed cs v) h in
-      and_from (is_homed (c ∷ cs) v) (not (touches balls c.members v)) (homed_later c cs v both.1) both.0)
+      let others : length (filter (λ v. not (touched v) && is_homed cs v) waiting)
+      ≤ length (filter (λ v. is_homed (c ∷ cs) v && not (touched v)) waiting) =
+      filter_more (λ v. not (touched v) && is_homed cs v) (λ v. is_homed (c ∷ cs) v && not (touched v)) waiting
+      (λ v here h. grind (arith, h, homed_later c cs v))
       in
       omega (
         arith,
         own,
         others,
-        filter_halves (touches balls c.members) (filter (is_homed (c ∷ cs)) waiting),
-        ap length (filter_twice (touches balls c.members) (is_homed (c ∷ cs)) waiting),
-        ap length (filter_twice (λ v. not (touches balls c.members v)) (is_homed (c ∷ cs)) waiting),
-        ap length (filter_twice (is_homed cs) (λ v. not (touches balls c.members v)) waiting),
+        filter_halves touched (filter (is_homed (c ∷ cs)) waiting),
+        ap length (filter_twice touched (is_homed (c ∷ cs)) waiting),
+        ap length (filter_twice (λ v. not (touched v)) (is_homed (c ∷ cs)) waiting),
+        ap length (filter_twice (is_homed cs) (λ v. not (touched v)) waiting),
       )
 
   pub phase_size : PowersAdd → (waiting : List ℕ) (cs : List GrownCluster) → 0 < k → IsPhase balls k r waiting cs
       → length waiting ^ k ≤ r * length (filter (is_homed cs) waiting) ^ k
-  phase_size adds waiting [] pos is = subst (λ (w : List ℕ). length w ^ k ≤ r * length (filter (is_homed []) w) ^ k)
-      (sym is) (omega (arith, zero_pow k pos))
+  phase_size adds waiting [] pos is = rw is (omega (arith, zero_pow k pos))
   phase_size adds waiting (c ∷ cs) pos is =
-      let sums : (length (filter (touches balls c.members) waiting) + length (apart balls c.members waiting)) ^ k ≤ r *
-      (length c.homed + length (filter (is_homed cs) (apart balls c.members waiting))) ^ k =
-      adds k r (length (filter (touches balls c.members) waiting)) (length (apart balls c.members waiting))
-      (length c.homed) (length (filter (is_homed cs) (apart balls c.members waiting))) pos is.0.enough
-      (phase_size adds (apart balls c.members waiting) cs pos is.1)
-      in
-      le_trans (subst (λ (n : ℕ). n ^ k ≤ r *
-      (length c.homed + length (filter (is_homed cs) (apart balls c.members waiting))) ^ k)
-      (filter_halves (touches balls c.members) waiting) sums)
+      let touching = filter (touches balls c.members) waiting in
+      let rest = apart balls c.members waiting in
+      let sums = adds k r (length touching) (length rest) (length c.homed) (length (filter (is_homed cs) rest)) pos
+      is.0.enough (phase_size adds rest cs pos is.1) in
+      le_trans (rw (filter_halves (touches balls c.members) waiting) at sums)
       (mul-le-mul_left r (pow-le-pow_left (split_homed waiting c cs is.0) k))
 
   pub phase_count : (waiting : List ℕ) (cs : List GrownCluster) → IsPhase balls k r waiting cs
@@ -204,28 +197,26 @@ module _ (balls : List (List ℕ)) (k r : ℕ) where
   none_has : (nodes : List ℕ) (x : ℕ) (cs : List GrownCluster) → has x nodes ≡ true
       → All (λ (d : GrownCluster). share nodes d.members ≡ false) cs → count_by (λ c. has x c.members) cs ≡ 0
   none_has nodes x [] here all = refl
-  none_has nodes x (d ∷ ds) here all =
-      let gone : has x d.members ≡ false =
-      false_from_ne_true (has x d.members)
-      (λ there. false≢true (sym (All-head (λ (d : GrownCluster). share nodes d.members ≡ false) d ds all) ∙
-      share_from x nodes d.members here there)) in
-      sum_by-cons (λ (c : GrownCluster). cond (has x c.members) 1 0) d ds
-      ∙ rw (
-        gone,
-        none_has nodes x ds here
-            (All-tail (λ (d : GrownCluster). share nodes d.members ≡ false) d ds all),
-      ) refl
+  none_has nodes x (d ∷ ds) here all = grind (
+    arith,
+    sum_by-cons (λ (c : GrownCluster). cond (has x c.members) 1 0) d ds,
+    All-head (λ (d : GrownCluster). share nodes d.members ≡ false) d ds all,
+    share_from x nodes d.members here,
+    none_has nodes x ds here (All-tail (λ (d : GrownCluster). share nodes d.members ≡ false) d ds all),
+  )
 
   -- at most one cluster of a phase has the node x
   pub phase_once : (waiting : List ℕ) (cs : List GrownCluster) (x : ℕ) → IsPhase balls k r waiting cs
       → count_by (λ c. has x c.members) cs ≤ 1
   phase_once waiting [] x is = omega arith
-  phase_once waiting (c ∷ cs) x is = elim (cases_Bool (has x c.members)) [
-    | inl e ↦ rw (sum_by-cons (λ (d : GrownCluster). cond (has x d.members) 1 0) c cs, e)
-        (omega (arith, none_has c.members x cs e (phase_apart waiting c cs is)))
-    | inr e ↦ rw (sum_by-cons (λ (d : GrownCluster). cond (has x d.members) 1 0) c cs, e)
-        (omega (arith, phase_once (apart balls c.members waiting) cs x is.1))
-  ]
+  phase_once waiting (c ∷ cs) x is =
+      let none = λ (e : has x c.members ≡ true). none_has c.members x cs e (phase_apart waiting c cs is) in
+      grind (
+        arith,
+        sum_by-cons (λ (d : GrownCluster). cond (has x d.members) 1 0) c cs,
+        none,
+        phase_once (apart balls c.members waiting) cs x is.1,
+      )
 
   -- ---- each cluster is the union of the balls that it is the home of
 

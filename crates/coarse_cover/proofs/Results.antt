@@ -15,7 +15,7 @@ use Rattle.coarse_cover.specs.declared.cover.Cover.{Cover}
 use Rattle.coarse_cover.proofs.Phase.{IsPhase, apart, phase_apart}
 use Rattle.coarse_cover.proofs.Whole.{ArePhases, all_homed, few_have, all_joined, phases_few, clusters_within}
 use Rattle.node_set.specs.HomeLaws.{home_within, home_has}
-use Rattle.node_set.specs.Balls.{ball, union_of, GrownCluster, IsShaped, is_homed, home_of, centres, AreCentred, AreHomes}
+use Rattle.node_set.specs.Balls.{ball, GrownCluster, IsShaped, home_of, centres, AreCentred, AreHomes}
 use Rattle.node_set.specs.BallLaws.{union_has, length-centres, get_or-map_centres, has_centre}
 use Rattle.coarse_cover.proofs.Steps.{phases_of_none, coarsening_phases}
 use Rattle.coarse_cover.specs.CoverLaws.{cluster_list_nodes, count_lists, length-cluster_list}
@@ -27,18 +27,16 @@ pub is_cover : {balls : List (List ℕ)} {k : ℕ} {left : List ℕ} (cover : Co
     → length cover.home.items ≡ length balls → IsCover (length balls) (coarsening balls k) cover
 unfolding cluster_list all_clusters
 is_cover {balls} {k} cover between none sized =
+    let home = home_of (all_clusters (coarsening balls k)) in
     let over : Agrees (length balls) (coarsening balls k) [] [] cover.clusters.items cover.home.items cover.phases =
     rw (phases_of_none balls k) at (rw none at between.so_far)
     in
     record {
       clusters = sym (append-nil cover.clusters.items) ∙ over.clusters_so_far;
-      homes = same_number_lists cover.home.items
-          (map (home_of (all_clusters (coarsening balls k))) (centres (length balls)))
-          (sized ∙ sym (length-map (centres (length balls)) (home_of (all_clusters (coarsening balls k)))
-          ∙ length-centres (length balls)))
+      homes = same_number_lists cover.home.items (map home (centres (length balls)))
+          (sized ∙ sym (length-map (centres (length balls)) home ∙ length-centres (length balls)))
           (λ v h. over.homes_so_far v (omega arith)
-          ∙ sym (get_or-map_centres (home_of (all_clusters (coarsening balls k))) (length balls) v 0
-          (omega arith)));
+          ∙ sym (get_or-map_centres home (length balls) v 0 (omega arith)));
       phases = omega (arith, over.phases_so_far);
     }
 
@@ -63,24 +61,6 @@ pub phases_bounded : CoversAreSparse → (balls : List (List ℕ)) (k : ℕ) {n 
 phases_bounded sparse balls k {n} some centred sized is =
     rw is.phases (rw sized (sparse balls k some centred).0)
 
-pub clusters_few : (balls : List (List ℕ)) (k : ℕ) {n : ℕ} {cover : Cover} → 0 < k → AreCentred balls
-    → IsCover n (coarsening balls k) cover → length cover.clusters.items ≤ length balls
-clusters_few balls k {n} some centred is =
-    omega (
-      arith,
-      ap length is.clusters,
-      length-cluster_list n 0 (coarsening balls k),
-      length-centres (length balls),
-      clusters_within balls k (centres (length balls)) (coarsening balls k) (coarsening_phases balls k some centred),
-    )
-
-pub growths_bounded : (balls : List (List ℕ)) (k : ℕ) → 0 < k → AreCentred balls
-    → All (λ c. c.growths ≤ k - 1) (all_clusters (coarsening balls k))
-growths_bounded balls k some centred =
-    All-weaker (IsShaped balls k) (λ (c : GrownCluster). c.growths ≤ k - 1) (λ c h. omega (arith, h.0))
-    (all_clusters (coarsening balls k))
-    (all_joined balls k (centres (length balls)) (coarsening balls k) (coarsening_phases balls k some centred))
-
 no_cluster : GrownCluster
 no_cluster = record { first = 0; growths = 0; homed = []; members = [] }
 
@@ -97,38 +77,51 @@ home_has_nodes : (balls : List (List ℕ)) (k v x : ℕ) (left : List ℕ) (all 
     → ArePhases balls k left all → has v left ≡ true → has x (ball balls v) ≡ true →
     has x (get_or (all_clusters all) (home_of (all_clusters all) v) no_cluster).members ≡ true
 home_has_nodes balls k v x left all are waits inside =
-    let homed : is_homed (all_clusters all) v ≡ true = all_homed balls k left all are v waits in
-    let within : home_of (all_clusters all) v < length (all_clusters all) =
-    home_within (all_clusters all) v homed in
-    let joined : (get_or (all_clusters all) (home_of (all_clusters all) v) no_cluster).members
-    ≡ union_of balls (get_or (all_clusters all) (home_of (all_clusters all) v) no_cluster).homed =
-    (all_joined balls k left all are (home_of (all_clusters all) v) no_cluster within).1
-    in
-    rw joined (union_has balls x v (get_or (all_clusters all) (home_of (all_clusters all) v) no_cluster).homed
-    (home_has (all_clusters all) v no_cluster homed) inside)
+    let clusters = all_clusters all in
+    let homed = all_homed balls k left all are v waits in
+    let joined = all_joined balls k left all are (home_of clusters v) no_cluster (home_within clusters v homed) in
+    rw (joined.1) (union_has balls x v (get_or clusters (home_of clusters v) no_cluster).homed
+    (home_has clusters v no_cluster homed) inside)
 
-pub homes_hold : (balls : List (List ℕ)) (k : ℕ) {n : ℕ} {cover : Cover} → 0 < k → AreCentred balls → n ≡ length balls
-    → IsCover n (coarsening balls k) cover → AreHomes balls (member_lists cover.clusters.items) cover.home.items
-homes_hold balls k {n} {cover} some centred size is = λ v h.
-    let are : ArePhases balls k (centres (length balls)) (coarsening balls k) =
-    coarsening_phases balls k some centred in
-    let waits : has v (centres (length balls)) ≡ true = has_centre (length balls) v h in
-    let home : get_or cover.home.items v 0
-    ≡ home_of (all_clusters (coarsening balls k)) v = ap (λ (l : List ℕ). get_or l v 0) is.homes
-    ∙ get_or-map_centres (home_of (all_clusters (coarsening balls k))) n v 0 (omega arith) in
-    let within : home_of (all_clusters (coarsening balls k)) v < length (all_clusters (coarsening balls k)) =
-    home_within (all_clusters (coarsening balls k)) v
-    (all_homed balls k (centres (length balls)) (coarsening balls k) are v waits)
-    in
-    let count : length (member_lists cover.clusters.items) ≡ length (all_clusters (coarsening balls k)) =
-    length-map cover.clusters.items (λ (c : Cluster). c.members.members)
-    ∙ (ap length is.clusters ∙ length-cluster_list n 0 (coarsening balls k))
-    in (
-      rw home (rw count within),
-      λ x inside. rw home
-          (rw (nodes_at n (home_of (all_clusters (coarsening balls k)) v) (coarsening balls k) is.clusters within)
-          (home_has_nodes balls k v x (centres (length balls)) (coarsening balls k) are waits inside)),
-    )
+-- what follows of the clusters of a coarsening
+module _ (balls : List (List ℕ)) (k : ℕ) (some : 0 < k) (centred : AreCentred balls) where
+  abbrev made : List (List GrownCluster)
+  made = coarsening balls k
+
+  phases_made : ArePhases balls k (centres (length balls)) made
+  phases_made = coarsening_phases balls k some centred
+
+  pub clusters_few : {n : ℕ} {cover : Cover} → IsCover n made cover → length cover.clusters.items ≤ length balls
+  clusters_few {n} is = omega (
+    arith,
+    ap length is.clusters,
+    length-cluster_list n 0 made,
+    length-centres (length balls),
+    clusters_within balls k (centres (length balls)) made phases_made,
+  )
+
+  pub growths_bounded : All (λ c. c.growths ≤ k - 1) (all_clusters made)
+  growths_bounded =
+      All-weaker (IsShaped balls k) (λ (c : GrownCluster). c.growths ≤ k - 1) (λ c h. omega (arith, h.0))
+      (all_clusters made) (all_joined balls k (centres (length balls)) made phases_made)
+
+  pub homes_hold : {n : ℕ} {cover : Cover} → n ≡ length balls → IsCover n made cover
+      → AreHomes balls (member_lists cover.clusters.items) cover.home.items
+  homes_hold {n} {cover} size is = λ v h.
+      let waits = has_centre (length balls) v h in
+      let home : get_or cover.home.items v 0 ≡ home_of (all_clusters made) v =
+      ap (λ (l : List ℕ). get_or l v 0) is.homes
+      ∙ get_or-map_centres (home_of (all_clusters made)) n v 0 (omega arith) in
+      let within = home_within (all_clusters made) v
+      (all_homed balls k (centres (length balls)) made phases_made v waits) in
+      let count : length (member_lists cover.clusters.items) ≡ length (all_clusters made) =
+      length-map cover.clusters.items (λ (c : Cluster). c.members.members)
+      ∙ (ap length is.clusters ∙ length-cluster_list n 0 made)
+      in (
+        rw home (rw count within),
+        λ x inside. rw home (rw (nodes_at n (home_of (all_clusters made) v) made is.clusters within)
+            (home_has_nodes balls k v x (centres (length balls)) made phases_made waits inside)),
+      )
 
 -- ---- clusters of one phase are apart
 
@@ -181,17 +174,14 @@ nothing_in (x ∷ xs) h = absurd (omega arith)
 
 pub clusters_shaped : ClustersAreShaped
 clusters_shaped balls k some centred =
-    all_joined balls k (centres (length balls)) (coarsening balls k) (coarsening_phases balls k some centred)
+    all_joined balls k (centres (length balls)) (coarsening balls k) (phases_made balls k some centred)
 
 pub homes_found : HomesAreFound
 homes_found balls k v d some centred below =
-    let homed : is_homed (all_clusters (coarsening balls k)) v ≡ true =
-    all_homed balls k (centres (length balls)) (coarsening balls k) (coarsening_phases balls k some centred) v
-    (has_centre (length balls) v below)
-    in (
-      home_within (all_clusters (coarsening balls k)) v homed,
-      home_has (all_clusters (coarsening balls k)) v d homed,
-    )
+    let clusters = all_clusters (coarsening balls k) in
+    let homed = all_homed balls k (centres (length balls)) (coarsening balls k) (phases_made balls k some centred) v
+    (has_centre (length balls) v below) in
+    (home_within clusters v homed, home_has clusters v d homed)
 
 pub covers_sparse : PowersAdd → OnePhase → CoversAreSparse
 covers_sparse adds one_phase balls k some centred =

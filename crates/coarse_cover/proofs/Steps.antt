@@ -1,7 +1,7 @@
 -- What is done, and what the definition gives for the rest.
 use Rattle.std.proofs.Common.{◌≡◌, inl, inr, ℕ, zero, suc, ◌+◌, ◌<◌, ◌≤◌, Bool, true, false, cond, not, ◌&&◌, List, [], ◌∷◌, ◌++◌, length, length-append, append_assoc, filter, get_or, map, refl, sym, ◌∙◌, ap, arith}
 use Rattle.std.proofs.Math.Nat.{le_refl}
-use Rattle.std.proofs.lemmas.Bool.{cases_lt, false≢true, not-true, not_from_false, false_from_ne_true, and_right}
+use Rattle.std.proofs.lemmas.Bool.{cases_lt, false≢true}
 use Rattle.node_set.specs.Ascending.{has}
 use Rattle.node_set.specs.HomeLaws.{home_step}
 use Rattle.node_set.specs.SetLaws.{has-passing, passing_over, ascending-passing}
@@ -11,10 +11,10 @@ use Rattle.coarse_cover.specs.HalfMade.{phase_of, phases_of, IsReady, Agrees, Is
 use Rattle.coarse_cover.specs.declared.cover.Cluster.{Cluster}
 use Rattle.coarse_cover.specs.declared.cover.Cover.{Cover}
 use Rattle.node_set.specs.declared.workspace.Workspace.{Workspace}
-use Rattle.coarse_cover.proofs.Phase.{IsCluster, IsPhase, apart, apart_fewer, cluster_ready, ready_filter, phase_is}
+use Rattle.coarse_cover.proofs.Phase.{IsCluster, apart, apart_fewer, cluster_ready, ready_filter, ready_shrunk}
 use Rattle.node_set.specs.Balls.{touches, GrownCluster, is_homed, home_of, centres, AreCentred}
 use Rattle.node_set.specs.FilterLaws.{filter_keeps, filter-has, filter_twice, filter_same, has-filter}
-use Rattle.coarse_cover.proofs.Whole.{ArePhases, phases_are, ready_left, phase_fewer, some_clusters, clusters_within, phases_within}
+use Rattle.coarse_cover.proofs.Whole.{ArePhases, first_phase, first_phase_is, phases_are, clusters_within, phases_within}
 use Rattle.node_set.specs.BallLaws.{length-centres}
 use Rattle.coarse_cover.specs.CoverLaws.{length-cluster_list}
 
@@ -32,12 +32,11 @@ phase_enough {balls} {k} {r} m n [] ready h g = phase_none balls k r m ∙ sym (
 phase_enough zero n (a ∷ rest) ready h g = absurd (omega arith)
 phase_enough (suc m) zero (a ∷ rest) ready h g = absurd (omega arith)
 phase_enough {balls} {k} {r} (suc m) (suc n) (a ∷ rest) ready h g =
-    let fewer : length (apart balls (cluster_of balls k r (a ∷ rest) a).members (a ∷ rest)) < length (a ∷ rest) =
-    apart_fewer (cluster_ready ready) in
-    ap (λ (cs : List GrownCluster). cluster_of balls k r (a ∷ rest) a ∷ cs)
-    (phase_enough m n (apart balls (cluster_of balls k r (a ∷ rest) a).members (a ∷ rest))
-    (ready_filter (λ v. not (touches balls (cluster_of balls k r (a ∷ rest) a).members v)) ready) (omega arith)
-    (omega arith))
+    let c = cluster_of balls k r (a ∷ rest) a in
+    let fewer = apart_fewer (cluster_ready ready) in
+    ap (λ (cs : List GrownCluster). c ∷ cs)
+    (phase_enough m n (apart balls c.members (a ∷ rest)) (ready_filter (λ v. not (touches balls c.members v)) ready)
+    (omega arith) (omega arith))
 
 pub phase_of_none : (balls : List (List ℕ)) (k r : ℕ) → phase_of balls k r [] ≡ []
 unfolding phase_of phase
@@ -48,13 +47,12 @@ phase_of_lead : {balls : List (List ℕ)} {k r a : ℕ} {rest : List ℕ} → Is
     (apart balls (cluster_of balls k r (a ∷ rest) a).members (a ∷ rest))
 unfolding phase_of phase
 phase_of_lead {balls} {k} {r} {a} {rest} ready =
-    let fewer : length (apart balls (cluster_of balls k r (a ∷ rest) a).members (a ∷ rest)) < length (a ∷ rest) =
-    apart_fewer (cluster_ready ready) in
-    ap (λ (cs : List GrownCluster). cluster_of balls k r (a ∷ rest) a ∷ cs)
-    (phase_enough (length rest) (length (apart balls (cluster_of balls k r (a ∷ rest) a).members (a ∷ rest)))
-    (apart balls (cluster_of balls k r (a ∷ rest) a).members (a ∷ rest))
-    (ready_filter (λ v. not (touches balls (cluster_of balls k r (a ∷ rest) a).members v)) ready) (omega arith)
-    (le_refl (length (apart balls (cluster_of balls k r (a ∷ rest) a).members (a ∷ rest)))))
+    let c = cluster_of balls k r (a ∷ rest) a in
+    let later = apart balls c.members (a ∷ rest) in
+    let fewer = apart_fewer (cluster_ready ready) in
+    ap (λ (cs : List GrownCluster). c ∷ cs)
+    (phase_enough (length rest) (length later) later (ready_filter (λ v. not (touches balls c.members v)) ready)
+    (omega arith) (le_refl (length later)))
 
 pub phase_of_next : {balls : List (List ℕ)} {k r a : ℕ} {waiting rest : List ℕ} → waiting ≡ a ∷ rest
     → IsReady balls k r waiting → phase_of balls k r waiting ≡ cluster_of balls k r waiting a ∷ phase_of balls k r
@@ -67,24 +65,6 @@ unfolding phases
 phases_none balls k zero = refl
 phases_none balls k (suc more) = refl
 
--- the first phase of the balls v ∷ vs
-first_phase : (balls : List (List ℕ)) (k v : ℕ) (vs : List ℕ) → List GrownCluster
-first_phase balls k v vs = phase balls k (length (v ∷ vs)) (length (v ∷ vs)) (v ∷ vs)
-
-first_fewer : {balls : List (List ℕ)} {k v : ℕ} {vs : List ℕ} → IsReady balls k (length (v ∷ vs)) (v ∷ vs)
-    → length (without_home (first_phase balls k v vs) (v ∷ vs)) < length (v ∷ vs)
-unfolding first_phase
-first_fewer {balls} {k} {v} {vs} ready =
-    let is : IsPhase balls k (length (v ∷ vs)) (v ∷ vs) (phase balls k (length (v ∷ vs)) (length (v ∷ vs)) (v ∷ vs)) =
-    phase_is (length (v ∷ vs)) (v ∷ vs) ready (le_refl (length (v ∷ vs))) in
-    fewer (length (without_home (phase balls k (length (v ∷ vs)) (length (v ∷ vs)) (v ∷ vs)) (v ∷ vs)))
-    (length (phase balls k (length (v ∷ vs)) (length (v ∷ vs)) (v ∷ vs))) (length (v ∷ vs))
-    (phase_fewer balls k (length (v ∷ vs)) (v ∷ vs) (phase balls k (length (v ∷ vs)) (length (v ∷ vs)) (v ∷ vs)) is)
-    (some_clusters balls k (length (v ∷ vs)) v vs (phase balls k (length (v ∷ vs)) (length (v ∷ vs)) (v ∷ vs)) is)
-  where
-    fewer : (after taken before : ℕ) → after + taken ≤ before → 0 < taken → after < before
-    fewer after taken before h some = omega arith
-
 phases_enough : {balls : List (List ℕ)} {k : ℕ} (m n : ℕ) (left : List ℕ) → IsReady balls k (length left) left
     → length left ≤ m → length left ≤ n → phases balls k m left ≡ phases balls k n left
 unfolding phases first_phase
@@ -92,13 +72,11 @@ phases_enough {balls} {k} m n [] ready h g = phases_none balls k m ∙ sym (phas
 phases_enough zero n (v ∷ vs) ready h g = absurd (omega arith)
 phases_enough (suc m) zero (v ∷ vs) ready h g = absurd (omega arith)
 phases_enough {balls} {k} (suc m) (suc n) (v ∷ vs) ready h g =
-    ap (λ (later : List (List GrownCluster)). first_phase balls k v vs ∷ later)
-    (phases_enough m n (without_home (first_phase balls k v vs) (v ∷ vs)) (ready_left (first_phase balls k v vs) ready)
-    (less (length (without_home (first_phase balls k v vs) (v ∷ vs))) (length (v ∷ vs)) m (first_fewer ready) h)
-    (less (length (without_home (first_phase balls k v vs) (v ∷ vs))) (length (v ∷ vs)) n (first_fewer ready) g))
-  where
-    less : (a b c : ℕ) → a < b → b ≤ suc c → a ≤ c
-    less a b c h g = omega arith
+    let cs = first_phase balls k v vs in
+    let fewer = (first_phase_is ready).2 in
+    ap (λ (later : List (List GrownCluster)). cs ∷ later)
+    (phases_enough m n (without_home cs (v ∷ vs)) (ready_shrunk (λ w. not (is_homed cs w)) ready) (omega arith)
+    (omega arith))
 
 pub phases_of_none : (balls : List (List ℕ)) (k : ℕ) → phases_of balls k [] ≡ []
 unfolding phases_of phases
@@ -110,14 +88,12 @@ pub phases_of_next : {balls : List (List ℕ)} {k : ℕ} (left : List ℕ) → 0
 unfolding phases_of phase_of phases first_phase
 phases_of_next [] some ready = absurd (omega arith)
 phases_of_next {balls} {k} (v ∷ vs) some ready =
-    ap (λ (later : List (List GrownCluster)). first_phase balls k v vs ∷ later)
-    (phases_enough (length vs) (length (without_home (first_phase balls k v vs) (v ∷ vs)))
-    (without_home (first_phase balls k v vs) (v ∷ vs)) (ready_left (first_phase balls k v vs) ready)
-    (less (length (without_home (first_phase balls k v vs) (v ∷ vs))) (length vs) (first_fewer ready))
-    (le_refl (length (without_home (first_phase balls k v vs) (v ∷ vs)))))
-  where
-    less : (a c : ℕ) → a < suc c → a ≤ c
-    less a c h = omega arith
+    let cs = first_phase balls k v vs in
+    let left = without_home cs (v ∷ vs) in
+    let fewer = (first_phase_is ready).2 in
+    ap (λ (later : List (List GrownCluster)). cs ∷ later)
+    (phases_enough (length vs) (length left) left (ready_shrunk (λ w. not (is_homed cs w)) ready) (omega arith)
+    (le_refl (length left)))
 
 -- ---- one cluster more
 
@@ -131,30 +107,14 @@ pub filter_rest : (t : ℕ → Bool) (xs : List ℕ) → filter (λ v. not (has 
 filter_rest t xs = filter_same (λ v. not (has v (filter t xs))) (λ v. not (t v)) xs
     (λ v h. ap not (has-filter t v xs ∙ ap (λ (b : Bool). b && t v) h))
 
-pub ready_shrunk : {balls : List (List ℕ)} {k : ℕ} {left : List ℕ} (p : ℕ → Bool) → IsReady balls k (length left) left
-    → IsReady balls k (length (filter p left)) (filter p left)
-ready_shrunk {balls} {k} {left} p ready =
-    let all : IsReady balls k (length left) (filter p left) = ready_filter p ready in
-    record {
-      some = all.some;
-      fits = le_refl (length (filter p left));
-      ascending = all.ascending;
-      centred =
-          all.centred;
-    }
-
 -- the balls that the later clusters leave without a home, once those of the first are gone
 unhomed_next : (c : GrownCluster) (cs : List GrownCluster) (left : List ℕ) → without_home (c ∷ cs) left
     ≡ without_home cs (filter (λ v. not (has v c.homed)) left)
 unfolding is_homed
 unhomed_next c cs left =
     filter_same (λ v. not (is_homed (c ∷ cs) v)) (λ v. not (has v c.homed) && not (is_homed cs v)) left
-    (λ v h. at (has v c.homed) (is_homed cs v)) ∙
-    sym (filter_twice (λ v. not (is_homed cs v)) (λ v. not (has v c.homed)) left)
-  where
-    at : (b d : Bool) → not (cond b true d) ≡ (not b && not d)
-    at true d = refl
-    at false d = refl
+    (λ v h. grind arith)
+    ∙ sym (filter_twice (λ v. not (is_homed cs v)) (λ v. not (has v c.homed)) left)
 
 unhomed_none : (left : List ℕ) → without_home [] left ≡ left
 unfolding is_homed
@@ -185,13 +145,7 @@ agrees_cluster {n} {all} {later} {c} {cs} {left} {before} {after} {home} new_hom
 agrees_phase : {n : ℕ} {all later : List (List GrownCluster)} {left : List ℕ} {clusters : List Cluster} {home : List ℕ}
     {p : ℕ} → Agrees n all ([] ∷ later) left clusters home p → Agrees n all later left clusters home (suc p)
 unfolding cluster_list all_clusters
-agrees_phase so_far =
-    record {
-      clusters_so_far = so_far.clusters_so_far;
-      homes_so_far = so_far.homes_so_far;
-      phases_so_far =
-          omega (arith, so_far.phases_so_far);
-    }
+agrees_phase so_far = grind arith
 
 -- ---- a phase: its start, its steps, its end
 
@@ -227,13 +181,10 @@ first_is balls k r a waiting = refl
 pub leader_gone : {balls : List (List ℕ)} {k r a : ℕ} {waiting rest : List ℕ} → waiting ≡ a ∷ rest
     → IsReady balls k r waiting → has a (apart balls (cluster_of balls k r waiting a).members waiting) ≡ false
 leader_gone {balls} {k} {r} {a} {waiting} leads ready =
-    let is : IsCluster balls k r waiting (cluster_of balls k r waiting a) =
-    cluster_is leads ready in
-    let touched : touches balls (cluster_of balls k r waiting a).members a ≡ true =
-    rw (first_is balls k r a waiting) at (is.touching (cluster_of balls k r waiting a).first is.leads)
-    in
-    has-filter (λ v. not (touches balls (cluster_of balls k r waiting a).members v)) a waiting
-    ∙ (ap (λ (b : Bool). has a waiting && not b) touched ∙ and_right (has a waiting) false refl)
+    let c = cluster_of balls k r waiting a in
+    let is = cluster_is leads ready in
+    let touched = rw (first_is balls k r a waiting) at (is.touching c.first is.leads) in
+    grind (arith, touched, has-filter (λ v. not (touches balls c.members v)) a waiting)
 
 pub in_phase_next : {balls : List (List ℕ)} {k r a : ℕ} {rest : List ℕ} {old new : Workspace} {before after : Cover}
     → old.waiting.members ≡ a ∷ rest → IsInPhase balls k r old.waiting.members old.left.members before.clusters.items
@@ -241,29 +192,18 @@ pub in_phase_next : {balls : List (List ℕ)} {k r a : ℕ} {rest : List ℕ} {o
     before after → IsInPhase balls k r new.waiting.members new.left.members after.clusters.items after.home.items
     after.phases
 in_phase_next {balls} {k} {r} {a} {old} {after} leads phase added =
-    let is : IsCluster balls k r old.waiting.members (cluster_of balls k r old.waiting.members a) =
-    cluster_is leads phase.ready in
+    let c = cluster_of balls k r old.waiting.members a in
+    let is = cluster_is leads phase.ready in
     rw (added.waiting, added.left, added.phases) (record {
-      ready = ready_filter (λ v. not (touches balls (cluster_of balls k r old.waiting.members a).members v))
-          phase.ready;
-      left_ready = ready_shrunk (λ v. not (has v (cluster_of balls k r old.waiting.members a).homed)) phase.left_ready;
+      ready = ready_filter (λ v. not (touches balls c.members v)) phase.ready;
+      left_ready = ready_shrunk (λ v. not (has v c.homed)) phase.left_ready;
       waiting_left = λ v h.
-          let w : (has v old.waiting.members ≡ true)
-          × (not (touches balls (cluster_of balls k r old.waiting.members a).members v) ≡ true) =
-          filter_keeps (λ u. not (touches balls (cluster_of balls k r old.waiting.members a).members u)) v
-          old.waiting.members h
-          in
-          filter-has (λ u. not (has u (cluster_of balls k r old.waiting.members a).homed)) v old.left.members
-          (phase.waiting_left v w.0)
-          (not_from_false (has v (cluster_of balls k r old.waiting.members a).homed)
-          (false_from_ne_true (has v (cluster_of balls k r old.waiting.members a).homed) (λ homed.
-          false≢true (sym (not-true (touches balls (cluster_of balls k r old.waiting.members a).members v) w.1)
-          ∙ is.touching v homed))));
+          let w = filter_keeps (λ u. not (touches balls c.members u)) v old.waiting.members h in
+          filter-has (λ u. not (has u c.homed)) v old.left.members (phase.waiting_left v w.0)
+          (grind (arith, w.1, is.touching v));
       so_far = agrees_cluster after.home.items (rw (
         phase_of_next leads phase.ready,
-        unhomed_next (cluster_of balls k r old.waiting.members a)
-            (phase_of balls k r (apart balls (cluster_of balls k r old.waiting.members a).members old.waiting.members))
-            old.left.members,
+        unhomed_next c (phase_of balls k r (apart balls c.members old.waiting.members)) old.left.members,
       ) at phase.so_far) (λ v h. phase.waiting_left v (is.waits v h)) added.clusters added.homes;
     })
 
@@ -304,41 +244,36 @@ between_start balls k home some centred all = rw all (record {
 
 -- ---- bounds on what is done
 
-pub in_phase_numbers : {balls : List (List ℕ)} {k r : ℕ} {waiting left : List ℕ} {clusters : List Cluster}
+pub in_phase_bounds : {balls : List (List ℕ)} {k r : ℕ} {waiting left : List ℕ} {clusters : List Cluster}
     {home : List ℕ} {p : ℕ} → 0 < k → AreCentred balls → IsInPhase balls k r waiting left clusters home p
-    → length clusters ≤ length balls
-in_phase_numbers {balls} {k} {r} {waiting} {left} {clusters} {p} some centred phase =
-    omega (
-      arith,
-      ap length phase.so_far.clusters_so_far,
-      length-append clusters (cluster_list (length balls) p
-          (phase_of balls k r waiting ∷ phases_of balls k (without_home (phase_of balls k r waiting) left))),
-      length-cluster_list (length balls) 0 (coarsening balls k),
-      length-centres (length balls),
-      clusters_within balls k (centres (length balls)) (coarsening balls k) (coarsening_phases balls k some centred),
-    )
-
-pub in_phase_number : {balls : List (List ℕ)} {k r : ℕ} {waiting left : List ℕ} {clusters : List Cluster}
-    {home : List ℕ} {p : ℕ} → 0 < k → AreCentred balls → IsInPhase balls k r waiting left clusters home p
-    → p < length balls
-in_phase_number {balls} {k} some centred phase =
-    omega (
-      arith,
-      phase.so_far.phases_so_far,
-      length-centres (length balls),
-      phases_within balls k (centres (length balls)) (coarsening balls k) (coarsening_phases balls k some centred),
+    → (length clusters ≤ length balls) × (p < length balls)
+in_phase_bounds {balls} {k} {r} {waiting} {left} {clusters} {p} some centred phase =
+    let all = centres (length balls) in
+    let are = coarsening_phases balls k some centred in (
+      omega (
+        arith,
+        ap length phase.so_far.clusters_so_far,
+        length-append clusters (cluster_list (length balls) p
+            (phase_of balls k r waiting ∷ phases_of balls k (without_home (phase_of balls k r waiting) left))),
+        length-cluster_list (length balls) 0 (coarsening balls k),
+        length-centres (length balls),
+        clusters_within balls k all (coarsening balls k) are,
+      ),
+      omega (
+        arith,
+        phase.so_far.phases_so_far,
+        length-centres (length balls),
+        phases_within balls k all (coarsening balls k) are,
+      ),
     )
 
 -- with the cluster gone, none waits up to its leader
 pub none_next : {balls : List (List ℕ)} {k r a : ℕ} {rest old new : List ℕ} → old ≡ a ∷ rest → IsReady balls k r old
     → new ≡ apart balls (cluster_of balls k r old a).members old → ((v : ℕ) → v < a → has v old ≡ false) → (v : ℕ)
     → v < a + 1 → has v new ≡ false
-none_next {balls} {k} {r} {a} {old} leads ready gone none v h =
-    ap (λ (l : List ℕ). has v l) gone ∙ elim (cases_lt v a) [
-      | inl before ↦
-          has-filter (λ u. not (touches balls (cluster_of balls k r old a).members u)) v old
-          ∙ ap (λ (b : Bool). b && not (touches balls (cluster_of balls k r old a).members v)) (none v before)
-      | inr here ↦
-          let same : v ≡ a = omega arith in
-          rw same (leader_gone leads ready)
-    ]
+none_next {balls} {k} {r} {a} {old} leads ready gone none v h = rw gone (grind (
+  arith,
+  has-filter (λ u. not (touches balls (cluster_of balls k r old a).members u)) v old,
+  none v,
+  leader_gone leads ready,
+))

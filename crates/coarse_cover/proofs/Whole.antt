@@ -1,11 +1,10 @@
 -- All phases: how many they are, that each ball finds a home, and how many clusters a node is in.
-use Rattle.node_set.specs.HomeLaws.{homed_cases, homed_here, homed_later}
-use Rattle.std.proofs.Common.{◌≡◌, inl, inr, ℕ, zero, suc, ◌+◌, ◌-◌, ◌*◌, ◌^◌, ◌<◌, ◌≤◌, true, cond, not, List, [], ◌∷◌, ◌++◌, length, length-append, filter, refl, ap, subst, arith}
+use Rattle.std.proofs.Common.{◌≡◌, ℕ, zero, suc, ◌+◌, ◌-◌, ◌*◌, ◌^◌, ◌<◌, ◌≤◌, true, cond, not, List, [], ◌∷◌, ◌++◌, length, length-append, filter, refl, ap, arith}
 use Rattle.std.specs.Prelude.{count_by, All}
 use Rattle.std.proofs.Math.Nat.{le_refl}
 use Rattle.std.proofs.lemmas.List.Elements.{All-nil, All-append}
 use Rattle.std.proofs.lemmas.List.Sums.{sum_by-append}
-use Rattle.std.proofs.lemmas.Bool.{cases_Bool, false≢true, not_from_false}
+use Rattle.std.proofs.lemmas.Bool.{false≢true}
 use Rattle.node_set.specs.Ascending.{has}
 use Rattle.whole_powers.specs.Bounds.{PowersAdd, OnePhase}
 use Rattle.whole_powers.specs.PowerLaws.{zero_pow}
@@ -13,7 +12,7 @@ use Rattle.coarse_cover.specs.Coarsening.{phase, without_home, phases, all_clust
 use Rattle.coarse_cover.specs.HalfMade.{IsReady}
 use Rattle.node_set.specs.Balls.{GrownCluster, IsShaped, is_homed}
 use Rattle.node_set.specs.FilterLaws.{filter-has, filter_halves, filter_fewer}
-use Rattle.coarse_cover.proofs.Phase.{IsPhase, ready_filter, phase_is, phase_size, phase_count, phase_once, phase_joined}
+use Rattle.coarse_cover.proofs.Phase.{IsPhase, ready_shrunk, phase_is, phase_size, phase_count, phase_once, phase_joined}
 
 -- the lists are those of the phases of the balls that are left
 abbrev pub ArePhases : List (List ℕ) → ℕ → List ℕ → List (List GrownCluster) → Type 0
@@ -31,44 +30,35 @@ pub some_clusters : (balls : List (List ℕ)) (k r v : ℕ) (vs : List ℕ) (cs 
 some_clusters balls k r v vs [] is = absurd (omega (arith, ap length is))
 some_clusters balls k r v vs (c ∷ cs) is = omega arith
 
-pub ready_left : {balls : List (List ℕ)} {k : ℕ} {left : List ℕ} (cs : List GrownCluster)
-    → IsReady balls k (length left) left → IsReady balls k (length (without_home cs left)) (without_home cs left)
-ready_left {balls} {k} {left} cs ready =
-    let all : IsReady balls k (length left) (without_home cs left) =
-    ready_filter (λ v. not (is_homed cs v)) ready in
-    record {
-      some = all.some;
-      fits = le_refl (length (without_home cs left));
-      ascending = all.ascending;
-      centred =
-          all.centred;
-    }
+-- the first phase of the balls v ∷ vs
+unfoldable pub first_phase : (balls : List (List ℕ)) (k v : ℕ) (vs : List ℕ) → List GrownCluster
+first_phase balls k v vs = phase balls k (length (v ∷ vs)) (length (v ∷ vs)) (v ∷ vs)
+
+pub first_phase_is : {balls : List (List ℕ)} {k v : ℕ} {vs : List ℕ} → IsReady balls k (length (v ∷ vs)) (v ∷ vs)
+    → (0 < length (first_phase balls k v vs))
+    × IsPhase balls k (length (v ∷ vs)) (v ∷ vs) (first_phase balls k v vs)
+    × (length (without_home (first_phase balls k v vs) (v ∷ vs)) < length (v ∷ vs))
+unfolding first_phase
+first_phase_is {balls} {k} {v} {vs} ready =
+    let left = v ∷ vs in
+    let cs = phase balls k (length left) (length left) left in
+    let is = phase_is (length left) left ready (le_refl (length left)) in
+    let some = some_clusters balls k (length left) v vs cs is in
+    (some, is, omega (arith, some, phase_fewer balls k (length left) left cs is))
 
 pub phases_are : {balls : List (List ℕ)} {k : ℕ} (more : ℕ) (left : List ℕ) → IsReady balls k (length left) left
     → length left ≤ more → ArePhases balls k left (phases balls k more left)
-unfolding phases
+unfolding phases first_phase
 phases_are zero [] ready enough = refl
 phases_are zero (v ∷ vs) ready enough = absurd (omega arith)
 phases_are (suc more) [] ready enough = refl
 phases_are {balls} {k} (suc more) (v ∷ vs) ready enough =
-    let here : IsPhase balls k (length (v ∷ vs)) (v ∷ vs) (phase balls k (length (v ∷ vs)) (length (v ∷ vs)) (v ∷ vs)) =
-    phase_is (length (v ∷ vs)) (v ∷ vs) ready (le_refl (length (v ∷ vs)))
-    in
-    let some : 0 < length (phase balls k (length (v ∷ vs)) (length (v ∷ vs)) (v ∷ vs)) =
-    some_clusters balls k (length (v ∷ vs)) v vs (phase balls k (length (v ∷ vs)) (length (v ∷ vs)) (v ∷ vs)) here
-    in (
-      some,
-      here,
-      phases_are more (without_home (phase balls k (length (v ∷ vs)) (length (v ∷ vs)) (v ∷ vs)) (v ∷ vs))
-          (ready_left (phase balls k (length (v ∷ vs)) (length (v ∷ vs)) (v ∷ vs)) ready)
-          (fewer (length (without_home (phase balls k (length (v ∷ vs)) (length (v ∷ vs)) (v ∷ vs)) (v ∷ vs)))
-          (length (phase balls k (length (v ∷ vs)) (length (v ∷ vs)) (v ∷ vs))) (length (v ∷ vs)) more
-          (phase_fewer balls k (length (v ∷ vs)) (v ∷ vs) (phase balls k (length (v ∷ vs)) (length (v ∷ vs)) (v ∷ vs))
-          here) some enough),
+    let first = first_phase_is ready in (
+      first.0,
+      first.1,
+      phases_are more (without_home (first_phase balls k v vs) (v ∷ vs))
+          (ready_shrunk (λ w. not (is_homed (first_phase balls k v vs) w)) ready) (omega (arith, first.2)),
     )
-  where
-    fewer : (after taken before more : ℕ) → after + taken ≤ before → 0 < taken → before ≤ suc more → after ≤ more
-    fewer after taken before more h some enough = omega arith
 
 module _ (balls : List (List ℕ)) (k : ℕ) where
   pub phases_few : PowersAdd → OnePhase → (left : List ℕ) (all : List (List GrownCluster)) → 0 < k
@@ -109,28 +99,25 @@ module _ (balls : List (List ℕ)) (k : ℕ) where
 
   homed_front : (cs ds : List GrownCluster) (v : ℕ) → is_homed cs v ≡ true → is_homed (cs ++ ds) v ≡ true
   unfolding is_homed
-  homed_front [] ds v h = absurd (false≢true h)
-  homed_front (c ∷ cs) ds v h = elim (homed_cases c cs v h) [
-    | inl here ↦ homed_here c (cs ++ ds) v here
-    | inr later ↦ homed_later c (cs ++ ds) v (homed_front cs ds v later)
-  ]
+  homed_front [] ds v h = cc
+  homed_front (c ∷ cs) ds v h = grind (arith, homed_front cs ds v)
 
   homed_end : (cs ds : List GrownCluster) (v : ℕ) → is_homed ds v ≡ true → is_homed (cs ++ ds) v ≡ true
   unfolding is_homed
   homed_end [] ds v h = h
-  homed_end (c ∷ cs) ds v h = homed_later c (cs ++ ds) v (homed_end cs ds v h)
+  homed_end (c ∷ cs) ds v h = grind (arith, homed_end cs ds v h)
 
   pub all_homed : (left : List ℕ) (all : List (List GrownCluster)) → ArePhases balls k left all → (v : ℕ) → has v left
       ≡ true → is_homed (all_clusters all) v ≡ true
   unfolding all_clusters
-  all_homed left [] are v h = absurd (false≢true (subst (λ (l : List ℕ). has v l ≡ true) are h))
-  all_homed left (cs ∷ later) are v h =
-      elim (cases_Bool (is_homed cs v)) [
-        | inl here ↦ homed_front cs (all_clusters later) v here
-        | inr gone ↦ homed_end cs (all_clusters later) v
-            (all_homed (without_home cs left) later are.2 v
-            (filter-has (λ w. not (is_homed cs w)) v left h (not_from_false (is_homed cs v) gone)))
-      ]
+  all_homed left [] are v h = absurd (false≢true (rw are at h))
+  all_homed left (cs ∷ later) are v h = grind (
+    arith,
+    homed_front cs (all_clusters later) v,
+    homed_end cs (all_clusters later) v,
+    all_homed (without_home cs left) later are.2 v,
+    filter-has (λ w. not (is_homed cs w)) v left h,
+  )
 
   -- ---- how many clusters have a node
 

@@ -1,20 +1,16 @@
 -- The looks of callers: each own visit reads one word, and no caller makes more than the most.
-use Rattle.std.proofs.Common.{◌≡◌, ℕ, ◌+◌, ◌<◌, ◌≤◌, Bool, true, false, cond, ◌==◌, List, [], ◌∷◌, ◌++◌, Option, Some, None, length, take, refl, sym, ap, ◌∙◌, subst, arith}
-use Rattle.std.specs.Prelude.{slice_get, sum_by, option_map}
-use Rattle.std.proofs.lemmas.Bool.{eqb-true}
-use Rattle.std.proofs.lemmas.List.{append-nil, length_push}
+use Rattle.std.proofs.Common.{◌≡◌, ℕ, ◌+◌, ◌<◌, ◌≤◌, List, [], ◌∷◌, ◌++◌, Option, Some, None, refl, sym, ◌∙◌, arith}
+use Rattle.std.specs.Prelude.{sum_by, option_map}
 use Rattle.std.proofs.lemmas.List.Sums.{fold-append, sum_by-cons}
 use Rattle.entry_word.specs.declared.visit.Key.{Key}
 use Rattle.entry_word.specs.declared.visit.Visit.{Visit}
 use Rattle.directory.specs.Settings.{Setting, subs}
-use Rattle.directory.specs.Histories.{History, cell, own, words_of, words_after, words_read}
-use Rattle.directory.specs.Finds.{FindCall, Pursuit, at_origin, after_word, answer_of, most_looks, looks_left}
+use Rattle.directory.specs.Histories.{History}
+use Rattle.directory.specs.Finds.{FindCall, Pursuit, at_origin, most_looks, looks_left}
 use Rattle.directory.specs.Looks.{look_by}
-use Rattle.directory.specs.Orders.{Scripts, finds_of, Caller, caller_at, with_pursuit, read_by, after_read, caller_after, caller_in, key_in, next_key, next, IsPlayed}
+use Rattle.directory.specs.Orders.{Scripts, Caller, caller_at, with_pursuit, read_by, after_read, caller_after, caller_in, key_in, next_key, next}
 use Rattle.directory.specs.declared.answers.Found.{Found}
-use Rattle.directory.proofs.HistoryLaws.{words-push}
 use Rattle.directory.proofs.FindLaws.{looks-fall}
-use Rattle.directory.specs.StepLaws.{by_fronts, own-push}
 use Rattle.directory.specs.HistoryLaws.{next-caller}
 
 -- the most looks that a caller still makes
@@ -33,9 +29,7 @@ pursuit_left : (setting : Setting) (caller : Caller) (call : FindCall) (later : 
     → left_of setting (with_pursuit caller call later pursuit answer).calls
     (with_pursuit caller call later pursuit answer).pursuit
     ≤ looks_left setting call pursuit + sum_by (λ (c : FindCall). most_looks setting c.from) later
-pursuit_left setting caller call later pursuit None same =
-    subst (λ calls. left_of setting calls pursuit ≤ looks_left setting call pursuit + sum_by
-    (λ (c : FindCall). most_looks setting c.from) later) (sym same) (omega arith)
+pursuit_left setting caller call later pursuit None same = grind (arith, left_of)
 pursuit_left setting caller call later pursuit (Some found) same = omega (arith, left_at_origin setting later)
 
 -- each word leaves fewer
@@ -44,13 +38,7 @@ pub read_left : (setting : Setting) (caller : Caller) (calls : List FindCall) (w
     → left_of setting (read_by setting caller calls word).calls
     (read_by setting caller calls word).pursuit < left_of setting calls caller.pursuit
 read_left setting caller [] word key same h = cc
-read_left setting caller (call ∷ later) word key same h =
-    omega (
-      arith,
-      looks-fall setting call caller.pursuit word key h,
-      pursuit_left setting caller call later (after_word setting call caller.pursuit word)
-          (answer_of (after_word setting call caller.pursuit word)) same,
-    )
+read_left setting caller (call ∷ later) word key same h = grind (arith, looks-fall, pursuit_left)
 
 pub caller-push : (setting : Setting) (calls : List FindCall) (words : List ℕ) (word : ℕ)
     → caller_after setting calls (words ++ word ∷ []) ≡ after_read setting (caller_after setting calls words) word
@@ -69,58 +57,3 @@ caller-look setting scripts history actor visit high h = at_key
         → (key : Key) × (next_key (caller_in setting scripts history actor) ≡ Some key) × (visit ≡ look_by actor key)
     at_key None e g = cc
     at_key (Some key) e g = (key, e, cc)
-
--- so a caller has no look more than the most
-pub caller-few : (setting : Setting) (scripts : Scripts) (history : History) (actor : ℕ) → subs setting ≤ actor
-    → IsPlayed setting scripts history
-    → length (own actor history) + left_of setting (caller_in setting scripts history actor).calls
-    (caller_in setting scripts history actor).pursuit
-    ≤ sum_by (λ (call : FindCall). most_looks setting call.from) (finds_of setting scripts actor)
-unfolding words_after
-caller-few setting scripts history actor high played =
-    by_fronts (λ front. length (own actor front) + left_of setting (caller_in setting scripts front actor).calls
-    (caller_in setting scripts front actor).pursuit
-    ≤ sum_by (λ (call : FindCall). most_looks setting call.from) (finds_of setting scripts actor)) history
-    (omega (arith, left_at_origin setting (finds_of setting scripts actor)))
-    (λ t visit h few. step t visit h few (visit.actor == actor) refl)
-  where
-    Few : History → Type 0
-    Few front = length (own actor front) + left_of setting (caller_in setting scripts front actor).calls
-        (caller_in setting scripts front actor).pursuit
-        ≤ sum_by (λ (call : FindCall). most_looks setting call.from) (finds_of setting scripts actor)
-
-    step : (t : ℕ) (visit : Visit) → slice_get history t ≡ Some visit → Few (take t history) → (b : Bool)
-        → (visit.actor == actor) ≡ b → Few (take t history ++ visit ∷ [])
-    step t visit h few true e = at_look (caller-look setting scripts (take t history) actor visit high
-        (ap (λ a. next setting scripts (take t history) a) (sym (eqb-true visit.actor actor e)) ∙ played t visit h))
-      where
-        at_look : (key : Key) × (next_key (caller_in setting scripts (take t history) actor) ≡ Some key)
-            × (visit ≡ look_by actor key) → Few (take t history ++ visit ∷ [])
-        at_look (key, wanted, is_look) =
-            let word : ℕ = cell setting (take t history) key in
-            let read : words_read setting actor (take t history ++ visit ∷ [])
-            ≡ words_read setting actor (take t history) ++ word ∷ [] =
-            words-push setting actor (take t history) visit
-            ∙ (ap (λ b. words_read setting actor (take t history) ++ cond b
-            (words_of setting (take t history) visit.act) []) e
-            ∙ ap (λ (v : Visit). words_read setting actor (take t history) ++ words_of setting (take t history) v.act)
-            is_look) in
-            let made : own actor (take t history ++ visit ∷ [])
-            ≡ own actor (take t history) ++ visit ∷ [] = own-push actor (take t history) visit
-            ∙ ap (λ b. own actor (take t history) ++ cond b (visit ∷ []) []) e in
-            rw (
-              read,
-              made,
-              caller-push setting (finds_of setting scripts actor)
-                  (words_read setting actor (take t history)) word,
-            )
-            (omega (
-              arith,
-              few,
-              length_push (own actor (take t history)) visit,
-              read_left setting (caller_in setting scripts (take t history) actor)
-                  (caller_in setting scripts (take t history) actor).calls word key refl wanted,
-            ))
-    step t visit h few false e =
-        rw (words-push setting actor (take t history) visit, own-push actor (take t history) visit, e)
-        (rw (append-nil (words_read setting actor (take t history)), append-nil (own actor (take t history))) few)

@@ -1,5 +1,6 @@
 -- Cells: which keys are the same, and that the puts for a subscriber alone tell of its cells.
-use Rattle.std.proofs.Common.{◌≡◌, ℕ, Bool, true, false, cond, ◌==◌, ◌&&◌, [], ◌∷◌, fold, refl, ap, ◌∙◌, sym, subst}
+use Rattle.std.proofs.Common.{arith}
+use Rattle.std.proofs.Common.{◌≡◌, ℕ, Bool, true, false, cond, ◌==◌, ◌&&◌, [], ◌∷◌, fold, refl, ap, ◌∙◌, sym}
 use Rattle.std.proofs.lemmas.Bool.{and_parts, and_from, eqb-true, eq-eqb}
 use Rattle.entry_word.specs.declared.visit.Key.{Key}
 use Rattle.entry_word.specs.declared.visit.Key.TheVariants.{Presence, Entry}
@@ -12,14 +13,8 @@ use Rattle.directory.specs.Statements.{CellsOfPuts, SameKey}
 
 -- two keys are the same just where the test says so
 same_key-true : (one other : Key) → same_key one other ≡ true → one ≡ other
-same_key-true (Presence v s) (Presence w t) h =
-    let both : ((v == w) ≡ true) × ((s == t) ≡ true) = and_parts (v == w) (s == t) h in
-    let a : v ≡ w = eqb-true v w both.0 in let b : s ≡ t = eqb-true s t both.1 in cc
-same_key-true (Entry i c s) (Entry j d t) h =
-    let one : ((i == j && c == d) ≡ true) × ((s == t) ≡ true) = and_parts (i == j && c == d) (s == t) h in
-    let two : ((i == j) ≡ true) × ((c == d) ≡ true) = and_parts (i == j) (c == d) one.0 in
-    let x : i ≡ j = eqb-true i j two.0 in let y : c ≡ d = eqb-true c d two.1 in let z : s
-    ≡ t = eqb-true s t one.1 in cc
+same_key-true (Presence v s) (Presence w t) h = grind (arith, and_parts, eqb-true)
+same_key-true (Entry i c s) (Entry j d t) h = grind (arith, and_parts, eqb-true)
 same_key-true one other h = cc
 
 same_key-refl : (key : Key) → same_key key key ≡ true
@@ -28,11 +23,7 @@ same_key-refl (Entry i c s) = and_from (i == i && c == c) (s == s)
     (and_from (i == i) (c == c) (eq-eqb i i refl) (eq-eqb c c refl)) (eq-eqb s s refl)
 
 pub same_key-means : SameKey
-same_key-means one other = (
-  same_key-true one other,
-  λ e. subst (λ key. same_key one key ≡ true) e
-      (same_key-refl one),
-)
+same_key-means one other = grind (arith, same_key-true, same_key-refl)
 
 -- what isn't put for a subscriber changes none of its cells
 act-kept : (key : Key) (word : ℕ) (act : Act) → is_put_for (key_sub key) act ≡ false → word_after key word act ≡ word

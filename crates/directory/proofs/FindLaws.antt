@@ -29,14 +29,11 @@ climb-passes setting call known weight [] later [] same nothing = ap (λ w. clim
     (let e : weight ≡ weight + 0 = omega arith in e)
 climb-passes setting call known weight [] later (word ∷ words) same nothing = absurd (omega arith)
 climb-passes setting call known weight (reader ∷ passed) later [] same nothing = absurd (omega arith)
-climb-passes setting call known weight (reader ∷ passed) later (word ∷ words) same nothing =
-    ap (λ o. fold (after_word setting call) (after_entry setting call known weight reader (passed ++ later) o) words)
-    nothing.0
-    ∙ (climb-passes setting call known (weight + 2 * way_in setting call reader) passed later words
-    (omega arith) nothing.1
-    ∙ ap (λ w. climb known w later) (let e : weight + 2 * way_in setting call reader + climb_weight setting call
-    passed ≡ weight + climb_weight setting call (reader ∷ passed) = omega
-    (arith, sum_by-cons (λ r. 2 * way_in setting call r) reader passed) in e))
+climb-passes setting call known weight (reader ∷ passed) later (word ∷ words) same nothing = grind (
+  arith,
+  climb-passes setting call known (weight + 2 * way_in setting call reader) passed later words (omega arith) nothing.1,
+  sum_by-cons (λ r. 2 * way_in setting call r) reader passed,
+)
 
 -- one hop
 hop-once : (setting : Setting) (known level : Option ℕ) (weight hops node : ℕ) (mark : PresenceMark) (to : ℕ)
@@ -94,9 +91,7 @@ mark-left : (setting : Setting) (call : FindCall) (chase : Chase) (node : ℕ) (
     → looks_left setting call (after_mark setting chase node mark) ≤ chase.hops_left
 mark-left setting call chase node (Gone number to) = hop-left setting call
     (known_with number chase.known) chase.level chase.weight chase.hops_left node to
-mark-left setting call chase node (Coming number from) =
-    both_ways (λ pursuit. looks_left setting call pursuit ≤ chase.hops_left) (is_known number chase.known) (omega arith)
-    (hop-left setting call chase.known chase.level chase.weight chase.hops_left node from)
+mark-left setting call chase node (Coming number from) = grind (arith, hop-left, both_ways)
 mark-left setting call chase node mark = omega arith
 
 entry-left : (setting : Setting) (call : FindCall) (known : Option ℕ) (weight : ℕ) (reader : Reader)

@@ -1,16 +1,16 @@
 -- What a turn adds: to a history, to the lines of a subscriber and to those of a caller.
-use Rattle.std.proofs.Common.{◌≡◌, ℕ, ◌-◌, ◌≤◌, List, [], ◌∷◌, ◌++◌, Option, Some, None, length, map, take, drop, refl, sym, ap, ◌∙◌, arith, inl, inr, length-append, ◌+◌}
+use Rattle.std.proofs.Common.{◌≡◌, ℕ, ◌-◌, ◌≤◌, List, [], ◌∷◌, ◌++◌, Option, Some, None, length, map, take, drop, refl, sym, ap, ◌∙◌, arith, length-append, ◌+◌}
 use Rattle.std.specs.Prelude.{slice_index, replicate, option_map, option_to_list, All}
 use Rattle.std.proofs.lemmas.Bool.{eq-eqb, cases_lt}
 use Rattle.std.proofs.lemmas.List.{append-nil, take_all, take-append-le, drop-append-le, length-drop, map-append, get_or_append_left, get_or_push, nil_from_length, replicate-append-replicate}
 use Rattle.std.proofs.lemmas.List.Elements.{All-head, All-tail, All-replicate}
 use Rattle.directory.specs.Settings.{Setting}
-use Rattle.directory.specs.Histories.{History, cell, tickets, words_read}
+use Rattle.directory.specs.Histories.{History, cell, tickets}
 use Rattle.directory.specs.Courses.{after_step}
 use Rattle.directory.specs.Writes.{step_writes, writes}
 use Rattle.directory.specs.Finds.{Pursuit, after_word, answer_of}
 use Rattle.directory.specs.Looks.{look_by}
-use Rattle.directory.specs.Orders.{Scripts, finds_of, Answer, Caller, with_pursuit, caller_in, after_turns, most_turns, IsDone}
+use Rattle.directory.specs.Orders.{Scripts, finds_of, Answer, Caller, with_pursuit, caller_in, after_turns, IsDone}
 use Rattle.directory.specs.Outcomes.{step_line, step_lines, found_line, answer_line}
 use Rattle.directory.specs.declared.answers.Found.{Found}
 use Rattle.directory.specs.Statements.{TurnsEndAlike, StepLinesGrow, CallersRead, CallerLinesGrow, CallersKept, CallersCount}
@@ -41,20 +41,12 @@ more_turns setting scripts history actor few many h done =
     (many - few) actor done))
 
 pub turns-end : TurnsEndAlike
-turns-end setting scripts history actor k played done =
-    elim (cases_lt k (most_turns setting scripts actor)) [
-      | inl low ↦ sym (more_turns setting scripts history actor k (most_turns setting scripts actor)
-          (omega arith) done)
-      | inr high ↦ more_turns setting scripts history actor (most_turns setting scripts actor) k high
-          (done-after setting scripts actor history played)
-    ]
+turns-end setting scripts history actor k played done = grind (arith, cases_lt, more_turns, done-after)
 
 -- the lines of a subscriber
 pub step_lines-push : StepLinesGrow
 unfolding step_lines writes
-step_lines-push setting sub course [] step seen more count size =
-    let none : seen ≡ [] = nil_from_length seen count in
-    rw (none, take_all (length (step_writes setting course step)) more (omega (arith, size))) refl
+step_lines-push setting sub course [] step seen more count size = grind (arith, seen, nil_from_length, take_all)
 step_lines-push setting sub course (one ∷ done) step seen more count size =
     rw (
       front,
@@ -87,16 +79,10 @@ step_lines-push setting sub course (one ∷ done) step seen more count size =
 
 -- a caller
 pub callers-kept : CallersKept
-callers-kept setting scripts history actor visit apart = (
-  rw (words-push setting actor history visit, apart, append-nil) refl,
-  rw (tickets-push actor history visit, apart, append-nil) refl,
-)
+callers-kept setting scripts history actor visit apart = grind (arith, words-push, append-nil, tickets-push)
 
 pub callers-read : CallersRead
-callers-read setting scripts history actor key =
-    rw (words-push setting actor history (look_by actor key), eq-eqb actor actor refl)
-    (caller-push setting (finds_of setting scripts actor) (words_read setting actor history)
-    (cell setting history key))
+callers-read setting scripts history actor key = grind (arith, words-push, eq-eqb, caller-push)
 
 pub callers-count : CallersCount
 callers-count setting scripts history actor high played =

@@ -1,6 +1,7 @@
 -- Histories, courses and commits, one more at the end; and that being legal has one proof.
-use Rattle.std.proofs.Common.{◌≡◌, ℕ, true, false, cond, ◌==◌, List, [], ◌∷◌, ◌++◌, refl, ap, ◌∙◌, append_assoc}
-use Rattle.std.specs.Prelude.{nat_le, if◌then◌else◌, filter_map}
+use Rattle.std.proofs.Common.{arith}
+use Rattle.std.proofs.Common.{◌≡◌, ℕ, cond, ◌==◌, List, [], ◌∷◌, ◌++◌, append_assoc}
+use Rattle.std.specs.Prelude.{nat_le, if◌then◌else◌}
 use Rattle.std.specs.List.{cons_option}
 use Rattle.std.proofs.lemmas.List.Sums.{fold-append}
 use Rattle.std.proofs.lemmas.List.{append-nil}
@@ -9,7 +10,7 @@ use Rattle.entry_word.specs.declared.visit.Visit.{Visit}
 use Rattle.directory.specs.Settings.{Setting}
 use Rattle.directory.specs.Keys.{opening}
 use Rattle.directory.specs.StepLaws.{puts-push}
-use Rattle.directory.specs.Histories.{History, word_after, is_put_for, puts_to, words_of, words_after, words_read}
+use Rattle.directory.specs.Histories.{History, word_after, is_put_for, words_of, words_after, words_read}
 use Rattle.directory.specs.Courses.{Move, base}
 use Rattle.directory.specs.Puts.{node_put, mark_put}
 use Rattle.directory.specs.Standing.{commit_of, commits}
@@ -31,11 +32,7 @@ words_after-push : (setting : Setting) (actor : ℕ) (seen history : History) (v
 unfolding words_after
 words_after-push setting actor seen [] visit = rw (append-nil seen) (append-nil _)
 words_after-push setting actor seen (first ∷ later) visit =
-    rw (
-      words_after-push setting actor (seen ++ first ∷ []) later visit,
-      append_assoc seen (first ∷ []) later,
-      append_assoc,
-    ) refl
+    grind (arith, words_after-push setting actor (seen ++ first ∷ []) later visit, append_assoc)
 
 pub words-push : (setting : Setting) (actor : ℕ) (history : History) (visit : Visit)
     → words_read setting actor (history ++ visit ∷ [])
@@ -46,10 +43,4 @@ words-push setting actor history visit = words_after-push setting actor [] histo
 pub commits-after : (sub : ℕ) (history : History) (visit : Visit) → commits sub (history ++ visit ∷ [])
     ≡ commits sub history ++ cond (is_put_for sub visit.act)
     (cons_option (commit_of (node_put visit.act) (mark_put visit.act)) []) []
-commits-after sub history visit =
-    ap (filter_map (λ (v : Visit). commit_of (node_put v.act) (mark_put v.act))) (puts-push sub history visit)
-    ∙ (filter_map-append (λ (v : Visit). commit_of (node_put v.act) (mark_put v.act)) (puts_to sub history)
-    (cond (is_put_for sub visit.act) (visit ∷ []) [])
-    ∙ ap (λ cs. commits sub history ++ cs) (elim (is_put_for sub visit.act)
-    as (λ b. filter_map (λ (v : Visit). commit_of (node_put v.act) (mark_put v.act)) (cond b (visit ∷ []) [])
-    ≡ cond b (cons_option (commit_of (node_put visit.act) (mark_put visit.act)) []) []) [ true ↦ refl | false ↦ refl ]))
+commits-after sub history visit = grind (arith, puts-push, filter_map-append)

@@ -1,13 +1,13 @@
 -- What a move does to the levels: those that it renews have its node and have gathered nothing, the others go on.
 use Rattle.std.proofs.Common.{sym, ◌≡◌, ℕ, suc, ◌+◌, ◌≤◌, Bool, true, false, cond, List, [], ◌∷◌, ◌++◌, length, map, drop, fold, ap, ◌∙◌, arith, length-append}
-use Rattle.std.specs.Prelude.{◌==◌, ◌&&◌, not, None, nat_le, sum_by, get_or}
+use Rattle.std.specs.Prelude.{◌==◌, not, None, nat_le, sum_by, get_or}
 use Rattle.std.proofs.lemmas.List.Sums.{sum_by_push}
 use Rattle.std.proofs.Math.ListN.{drop_of_length-le}
 use Rattle.std.proofs.lemmas.List.{drop-append-le, get_or_append_left, get_or_at, length-map, map-append}
-use Rattle.node_set.specs.Ascending.{has, sift}
-use Rattle.entry_word.specs.declared.mark.PresenceMark.TheVariants.{Empty, Here, Gone}
+use Rattle.node_set.specs.Ascending.{sift}
+use Rattle.entry_word.specs.declared.mark.PresenceMark.TheVariants.{Here, Gone}
 use Rattle.directory.specs.Settings.{Setting}
-use Rattle.directory.specs.Writes.{mark_at, entry_at, numbers_from, new_address, old_home, erasure_writes, purge_writes, trail, step_writes}
+use Rattle.directory.specs.Writes.{mark_at, entry_at, numbers_from, new_address, old_home, erasure_writes, purge_writes}
 use Rattle.directory.specs.Courses.{Step, move_to, Move, Course, course_at, stop, base, address_node, gathered_weight, next_move, after_step, after_steps}
 use Rattle.directory.proofs.HistoryLaws.{base-after}
 use Rattle.directory.specs.StepLaws.{highest-low}
@@ -49,9 +49,7 @@ base-low level n low (move ∷ later) h f =
 
 base-few : (level : ℕ) (course : Course) → AreNumbered 0 course.moves
     → base level course.moves ≤ length course.moves
-base-few level course numbered =
-    let e : base level course.moves ≤ 0 + length course.moves = base-low level 0 0 course.moves
-    (omega arith) numbered in omega (arith, e)
+base-few level course numbered = grind (arith, base-low level 0 0 course.moves (omega arith) numbered)
 
 -- what a move does to a level
 pub gathered-after : (setting : Setting) (course : Course) (node level : ℕ) → AreNumbered 0 course.moves
@@ -121,42 +119,23 @@ address_by_move setting first steps node level = address-after setting (course_o
 
 purging-short : (setting : Setting) (course : Course) (move : Move)
     → length (purge_writes setting course move) ≤ setting.nodes
-purging-short setting course move =
-    both_ways (λ ws. length ws ≤ setting.nodes) (move.renewed == setting.top) (omega (
-      arith,
-      length-map (sift kept 0 setting.nodes) (λ node. mark_at node Empty),
-      length-passing-le kept 0 setting.nodes,
-    )) (omega arith)
-  where
-    kept : ℕ → Bool
-    kept node = has node (trail setting course move) && not (node == move.to)
+purging-short setting course move = grind (arith, length-map, length-passing-le, both_ways)
 
 pub move-short : MovesAreShort
 move-short setting course node =
     let move : Move = next_move setting course node in
     let low : move.renewed ≤ setting.top = highest-low _ setting.top in
-    let one : length (map (new_address setting move) (numbers_from 0 (suc move.renewed))) ≤ suc move.renewed =
+    let levels : List ℕ = numbers_from 0 (suc move.renewed) in
+    let moved : ℕ → Bool = λ level. not (old_home setting course level == setting.home level move.to) in
     omega (
       arith,
-      length-map (numbers_from 0 (suc move.renewed)) (new_address setting move),
+      length-map levels (new_address setting move),
       length-passing-le (λ p. true) 0 (suc move.renewed),
-    ) in
-    let two : length (erasure_writes setting course move) ≤ suc move.renewed =
-    omega (
-      arith,
-      length-map (sift (λ level. not (old_home setting course level == setting.home level move.to)) 0
-          (suc move.renewed)) (λ level. entry_at level (old_home setting course level) None),
-      length-passing-le (λ level. not (old_home setting course level == setting.home level move.to)) 0
-          (suc move.renewed),
-    ) in
-    let three : length (purge_writes setting course move) ≤ setting.nodes = purging-short setting course move in
-    let ends : length (erasure_writes setting course move ++ purge_writes setting course move)
-    ≡ length (erasure_writes setting course move) + length (purge_writes setting course move) = length-append
-    (erasure_writes setting course move) (purge_writes setting course move) in
-    let all : length (step_writes setting course (move_to node))
-    ≡ suc (length (map (new_address setting move) (numbers_from 0 (suc move.renewed))) + suc
-    (suc (length (erasure_writes setting course move ++ purge_writes setting course move)))) =
-    ap suc (length-append (map (new_address setting move) (numbers_from 0 (suc move.renewed)))
-    (mark_at move.from (Gone move.number move.to) ∷
-    (mark_at move.to (Here move.number) ∷ (erasure_writes setting course move ++ purge_writes setting course move)))) in
-    omega (arith, low, one, two, three, ends, all)
+      length-map (sift moved 0 (suc move.renewed)) (λ level. entry_at level (old_home setting course level) None),
+      length-passing-le moved 0 (suc move.renewed),
+      purging-short setting course move,
+      length-append (erasure_writes setting course move) (purge_writes setting course move),
+      length-append (map (new_address setting move) levels) (mark_at move.from (Gone move.number move.to) ∷
+          (mark_at move.to (Here move.number)
+          ∷ (erasure_writes setting course move ++ purge_writes setting course move))),
+    )

@@ -19,21 +19,12 @@ use Rattle.directory.proofs.UnderWay.{IsAnswered, seen_of, under_way}
 -- the lines of a caller
 index-first : (ticketed : List ℕ) (first count : ℕ) → 1 ≤ count
     → slice_index (take count (drop first ticketed)) 0 ≡ slice_index ticketed first
-index-first ticketed first count some = get_or-take count (drop first ticketed) 0 0 some
-    ∙ (get_or-drop first ticketed 0 0 ∙ ap (λ n. slice_index ticketed n)
-    (let e : first + 0 ≡ first = omega arith in e))
+index-first ticketed first count some = grind (arith, get_or-take, get_or-drop)
 
 index-last : (ticketed : List ℕ) (first last : ℕ) → first ≤ last → last < length ticketed
     → slice_index (take (suc last - first) (drop first ticketed))
     (length (take (suc last - first) (drop first ticketed)) - 1) ≡ slice_index ticketed last
-index-last ticketed first last order within =
-    ap (λ n. slice_index (take (suc last - first) (drop first ticketed)) (n - 1)) count
-    ∙ (get_or-take (suc last - first) (drop first ticketed) (suc last - first - 1) 0 (omega arith)
-    ∙ (get_or-drop first ticketed (suc last - first - 1) 0
-    ∙ ap (λ n. slice_index ticketed n) (let e : first + (suc last - first - 1) ≡ last = omega arith in e)))
-  where
-    count : length (take (suc last - first) (drop first ticketed)) ≡ suc last - first
-    count = length-take-le (suc last - first) (drop first ticketed) (omega (arith, length-drop first ticketed))
+index-last ticketed first last order within = grind (arith, get_or-take, get_or-drop, length-drop, length-take-le)
 
 find_made : (setting : Setting) (scripts : Scripts) (history : History) (actor first last : ℕ) (call : FindCall)
     (found : Found)

@@ -1,24 +1,21 @@
 -- The next visits of actors, and histories in which each visit was its actor's next one.
-use Rattle.std.proofs.Common.{◌≡◌, ℕ, zero, suc, ◌<◌, Bool, true, false, cond, ◌==◌, List, [], ◌∷◌, ◌++◌, Option, Some, None, length, take, map, refl, sym, ap, ◌∙◌, subst, arith, inl, inr}
-use Rattle.std.specs.Prelude.{slice_get, option_map, option_to_list, All}
+use Rattle.std.proofs.Common.{◌≡◌, ℕ, ◌+◌, ◌<◌, Bool, true, false, ◌==◌, List, [], ◌∷◌, ◌++◌, Option, Some, None, length, take, map, refl, sym, ap, ◌∙◌, subst, arith, inl, inr}
+use Rattle.std.specs.Prelude.{slice_get, option_to_list, All}
 use Rattle.std.proofs.lemmas.Bool.{eqb-true, ne_eqb, cases_lt}
 use Rattle.std.proofs.lemmas.List.{append-nil, take_all, take-append-le, length_push}
-use Rattle.std.proofs.lemmas.Option.{slice_get_within}
+use Rattle.std.proofs.lemmas.Option.{slice_get-map, slice_get_within}
 use Rattle.std.proofs.lemmas.List.Elements.{All-head, All-tail}
-use Rattle.entry_word.specs.declared.visit.Key.{Key}
-use Rattle.entry_word.specs.declared.visit.Act.TheVariants.{Look}
 use Rattle.entry_word.specs.declared.visit.Visit.{Visit}
 use Rattle.directory.specs.Settings.{Setting, subs}
 use Rattle.directory.specs.Histories.{History, is_put_for, puts_to, own}
-use Rattle.directory.specs.Looks.{look_by}
 use Rattle.directory.specs.Writes.{Write, mark_at, entry_at, visit_of}
 use Rattle.directory.specs.Legal.{ArePuts}
-use Rattle.directory.specs.Orders.{Scripts, steps_of, script_visits, caller_in, next_key, next, after_turn, after_turns, last_turns, IsPlayed, IsDone}
+use Rattle.directory.specs.Orders.{Scripts, steps_of, script_visits, next, after_turn, after_turns, last_turns, IsPlayed, IsDone}
 use Rattle.directory.proofs.StepLaws.{script-legal}
 use Rattle.entry_word.specs.Marks.{MarksUnpack}
 use Rattle.directory.specs.Statements.{OrdersArePlayed, OwnPutsAlone, ScriptsInOrder, PlayedIsLegal, MoreIsPlayed}
-use Rattle.directory.specs.StepLaws.{by_fronts, own-push, puts-push, take-more}
-use Rattle.directory.specs.ListLaws.{slice_get-right}
+use Rattle.directory.specs.StepLaws.{by_fronts, own-push, puts-push, slice_get-within, take-more}
+use Rattle.directory.specs.ListLaws.{option_map-some, same_some, slice_get-left, slice_get-right}
 use Rattle.directory.specs.HistoryLaws.{next-sub, next-caller, none-played, turn-none}
 
 -- a subscriber's write is a put for itself alone
@@ -26,33 +23,21 @@ write-puts : (sub s : ℕ) (write : Write) → is_put_for s (visit_of sub write)
 write-puts sub s (mark_at node mark) = refl
 write-puts sub s (entry_at level cluster address) = refl
 
-abbrev IsOwn : ℕ → ℕ → Visit → Type 0
-IsOwn sub s visit = (visit.actor ≡ sub) × (is_put_for s visit.act ≡ (sub == s))
+own-write : (sub : ℕ) (writes : List Write) (i : ℕ) (visit : Visit)
+    → slice_get (map (visit_of sub) writes) i ≡ Some visit
+    → (visit.actor ≡ sub) × ((s : ℕ) → is_put_for s visit.act ≡ (sub == s))
+own-write sub writes i visit h = grind (arith, slice_get-map, option_map-some, write-puts)
 
-slice_get-of_map : (sub s : ℕ) (writes : List Write) (i : ℕ) (visit : Visit)
-    → slice_get (map (visit_of sub) writes) i ≡ Some visit → IsOwn sub s visit
-slice_get-of_map sub s [] i visit h = cc
-slice_get-of_map sub s (write ∷ writes) zero visit h =
-    let e : visit_of sub write ≡ visit = cc in
-    subst (λ (v : Visit). (v.actor ≡ sub) × (is_put_for s v.act ≡ (sub == s))) e (refl, write-puts sub s write)
-slice_get-of_map sub s (write ∷ writes) (suc i) visit h = slice_get-of_map sub s writes i visit h
+-- the next visit of an actor is its own, and a put into a cell of a subscriber just where that is the actor
+next-own : (setting : Setting) (scripts : Scripts) (history : History) (actor : ℕ) (visit : Visit)
+    → next setting scripts history actor ≡ Some visit → (visit.actor ≡ actor)
+    × ((s : ℕ) → s < subs setting → is_put_for s visit.act ≡ (actor == s))
+next-own setting scripts history actor visit h =
+    grind (arith, cases_lt, next-sub, own-write, next-caller, option_map-some, ne_eqb)
 
-pub look-next : (actor : ℕ) (wanted : Option Key) (visit : Visit) → option_map (look_by actor) wanted ≡ Some visit
-    → (key : Key) × (visit ≡ record { actor = actor; act = Look key })
-look-next actor None visit h = cc
-look-next actor (Some key) visit h = (key, cc)
-
--- the next visit of an actor is its own
 pub next-actor : (setting : Setting) (scripts : Scripts) (history : History) (actor : ℕ) (visit : Visit)
     → next setting scripts history actor ≡ Some visit → visit.actor ≡ actor
-next-actor setting scripts history actor visit h =
-    elim (cases_lt actor (subs setting)) [
-      | inl low ↦ (slice_get-of_map actor 0 _ (length (own actor history)) visit
-          (sym (next-sub setting scripts history actor low) ∙ h)).0
-      | inr high ↦ let found = look-next actor (next_key (caller_in setting scripts history actor)) visit
-          (sym (next-caller setting scripts history actor high) ∙ h) in
-          let e : visit ≡ record { actor = actor; act = Look found.0 } = found.1 in ap (λ (v : Visit). v.actor) e
-    ]
+next-actor setting scripts history actor visit h = (next-own setting scripts history actor visit h).0
 
 pub turn-some : (setting : Setting) (scripts : Scripts) (history : History) (actor : ℕ) (visit : Visit)
     → next setting scripts history actor ≡ Some visit → after_turn setting scripts history actor
@@ -67,8 +52,8 @@ kept_by_turn setting scripts P history actor more now = at_next (next setting sc
   where
     at_next : (n : Option Visit) → next setting scripts history actor ≡ n
         → P (after_turn setting scripts history actor)
-    at_next None e = subst P (sym (turn-none setting scripts history actor e)) now
-    at_next (Some visit) e = subst P (sym (turn-some setting scripts history actor visit e)) (more visit e)
+    at_next None e = rw (turn-none setting scripts history actor e) now
+    at_next (Some visit) e = rw (turn-some setting scripts history actor visit e) (more visit e)
 
 pub kept_by_play : (setting : Setting) (scripts : Scripts) (P : History → Type 0)
     → ((history : History) (actor : ℕ) (visit : Visit) → next setting scripts history actor ≡ Some visit → P history
@@ -83,25 +68,21 @@ kept_by_play setting scripts P more (actor ∷ order) history now =
 pub played-push : MoreIsPlayed
 played-push setting scripts history actor visit e played ticket found h =
     elim (cases_lt ticket (length history)) [
-      | inl low ↦ rw (take-append-le ticket history (visit ∷ []) (omega arith))
-          (played ticket found (sym (get-left history (visit ∷ []) ticket low) ∙ h))
+      | inl low ↦
+          let here = slice_get-within history ticket low in
+          rw (take-append-le ticket history (visit ∷ []) (omega arith)) (played ticket found
+          (here.1 ∙ (sym (slice_get-left history (visit ∷ []) ticket here.0 here.1) ∙ h)))
       | inr high ↦
-          let within : ticket < length (history ++ visit ∷ []) = slice_get_within
-          (history ++ visit ∷ []) ticket found h in
-          let same : ticket ≡ length history = omega (arith, length_push history visit) in
-          let at_end : Some visit ≡ Some found = sym (slice_get-right history (visit ∷ []) ticket 0
-          (omega (arith, same))) ∙ h in
-          let is_found : visit ≡ found = cc in
-          let own_one : visit.actor ≡ actor = next-actor setting scripts history actor visit e in
-          rw (take-append-le ticket history (visit ∷ []) (omega arith), take_all ticket history (omega arith))
-          (subst (λ (v : Visit). next setting scripts history v.actor ≡ Some v) is_found
-          (ap (λ a. next setting scripts history a) own_one ∙ e))
+          let within : ticket < length (history ++ visit ∷ []) =
+          slice_get_within (history ++ visit ∷ []) ticket found h in
+          let same : ticket ≡ length history + 0 = omega (arith, length_push history visit) in
+          let is_found : visit ≡ found = same_some (sym (slice_get-right history (visit ∷ []) ticket 0 same) ∙ h) in
+          rw (
+            take-append-le ticket history (visit ∷ []) (omega arith),
+            take_all ticket history (omega arith),
+            ← is_found,
+          ) (ap (next setting scripts history) (next-actor setting scripts history actor visit e) ∙ e)
     ]
-  where
-    get-left : (xs ys : History) (i : ℕ) → i < length xs → slice_get (xs ++ ys) i ≡ slice_get xs i
-    get-left [] ys i h = absurd (omega arith)
-    get-left (x ∷ xs) ys zero h = refl
-    get-left (x ∷ xs) ys (suc i) h = get-left xs ys i (omega arith)
 
 -- each visit of the history of an order was its actor's next one
 pub played-of_play : (setting : Setting) (scripts : Scripts) (order : List ℕ)
@@ -120,37 +101,17 @@ after_turns-done setting scripts history (actor ∷ idle) done =
     rw (turn-none setting scripts history actor (All-head (IsDone setting scripts history) actor idle done))
     (after_turns-done setting scripts history idle (All-tail (IsDone setting scripts history) actor idle done))
 
--- what a next visit is to a subscriber: a put into a cell of its own just where it is its own visit
-next-puts : (setting : Setting) (scripts : Scripts) (history : History) (actor sub : ℕ) (visit : Visit)
-    → sub < subs setting → next setting scripts history actor ≡ Some visit
-    → is_put_for sub visit.act ≡ (visit.actor == sub)
-next-puts setting scripts history actor sub visit below h =
-    elim (cases_lt actor (subs setting)) [
-      | inl low ↦ let found = slice_get-of_map actor sub _ (length (own actor history)) visit
-          (sym (next-sub setting scripts history actor low) ∙ h) in
-          found.1 ∙ sym (ap (λ a. a == sub) found.0)
-      | inr high ↦ let found = look-next actor (next_key (caller_in setting scripts history actor)) visit
-          (sym (next-caller setting scripts history actor high) ∙ h) in
-          let e : visit ≡ record { actor = actor; act = Look found.0 } = found.1 in
-          let apart : (actor == sub) ≡ false = ne_eqb actor sub (λ same. omega arith) in
-          subst (λ (v : Visit). is_put_for sub v.act ≡ (v.actor == sub)) (sym e) (sym apart)
-    ]
-
 -- in such a history what is put for a subscriber are its own visits, and these are the first of its script
 pub played-puts : OwnPutsAlone
 played-puts setting scripts history sub below played =
     by_fronts (λ front. puts_to sub front ≡ own sub front) history refl
     (λ t visit h same. puts-push sub (take t history) visit
-    ∙ (ap (λ xs. xs ++ cond (is_put_for sub visit.act) (visit ∷ []) []) same
-    ∙ (ap (λ b. own sub (take t history) ++ cond b (visit ∷ []) [])
-    (next-puts setting scripts (take t history) visit.actor sub visit below (played t visit h))
-    ∙ sym (own-push sub (take t history) visit))))
+    ∙ rw (same, (next-own setting scripts (take t history) visit.actor visit (played t visit h)).1 sub below)
+    (sym (own-push sub (take t history) visit)))
 
 front-push : (whole made : History) (visit : Visit) → slice_get whole (length made) ≡ Some visit
     → made ≡ take (length made) whole → made ++ visit ∷ [] ≡ take (length (made ++ visit ∷ [])) whole
-front-push whole made visit next_one so_far =
-    let count : length (made ++ visit ∷ []) ≡ suc (length made) = omega (arith, length_push made visit) in
-    rw count (ap (λ xs. xs ++ visit ∷ []) so_far ∙ sym (take-more whole (length made) visit next_one))
+front-push whole made visit next_one so_far = grind (arith, length_push, take-more)
 
 pub played-own : ScriptsInOrder
 played-own setting scripts history sub below played =
@@ -162,21 +123,13 @@ played-own setting scripts history sub below played =
         → own sub (take t history) ≡ take (length (own sub (take t history))) (script_visits setting scripts sub)
         → (b : Bool) → (visit.actor == sub) ≡ b → own sub (take t history ++ visit ∷ [])
         ≡ take (length (own sub (take t history ++ visit ∷ []))) (script_visits setting scripts sub)
-    step t visit h so_far true e =
-        let pushed : own sub (take t history ++ visit ∷ [])
-        ≡ own sub (take t history) ++ visit ∷ [] = own-push sub (take t history) visit
-        ∙ ap (λ b. own sub (take t history) ++ cond b (visit ∷ []) []) e in
-        let mine : visit.actor ≡ sub = eqb-true visit.actor sub e in
-        let its_next : next setting scripts (take t history) sub
-        ≡ Some visit = ap (λ a. next setting scripts (take t history) a) (sym mine) ∙ played t visit h in
-        subst (λ (xs : History). xs ≡ take (length xs) (script_visits setting scripts sub)) (sym pushed)
+    step t visit h so_far true e = rw (own-push sub (take t history) visit, e)
         (front-push (script_visits setting scripts sub) (own sub (take t history)) visit
-        (sym (next-sub setting scripts (take t history) sub below) ∙ its_next) so_far)
+        (sym (next-sub setting scripts (take t history) sub below)
+        ∙ (ap (λ a. next setting scripts (take t history) a) (sym (eqb-true visit.actor sub e)) ∙ played t visit h))
+        so_far)
     step t visit h so_far false e =
-        let kept : own sub (take t history ++ visit ∷ [])
-        ≡ own sub (take t history) = own-push sub (take t history) visit
-        ∙ (ap (λ b. own sub (take t history) ++ cond b (visit ∷ []) []) e ∙ append-nil _) in
-        subst (λ (xs : History). xs ≡ take (length xs) (script_visits setting scripts sub)) (sym kept) so_far
+        rw (own-push sub (take t history) visit, e, append-nil (own sub (take t history))) so_far
 
 -- so it is legal for each subscriber
 pub played-legal : MarksUnpack → PlayedIsLegal

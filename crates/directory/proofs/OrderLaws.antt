@@ -1,7 +1,7 @@
 -- The histories of orders: turns of actors until they are done, and orders of the actors of histories.
-use Rattle.std.proofs.Common.{◌≡◌, ℕ, zero, suc, ◌+◌, ◌-◌, ◌<◌, ◌≤◌, Bool, true, false, cond, ◌==◌, List, [], ◌∷◌, ◌++◌, Option, Some, None, length, take, map, fold, refl, sym, ap, ◌∙◌, subst, arith, inl, inr, ◌⊎◌, ◌||◌}
+use Rattle.std.proofs.Common.{◌≡◌, ℕ, zero, suc, ◌+◌, ◌-◌, ◌<◌, ◌≤◌, true, false, cond, ◌==◌, List, [], ◌∷◌, ◌++◌, Option, Some, None, length, take, map, fold, refl, sym, ap, ◌∙◌, subst, arith, inl, inr, ◌⊎◌}
 use Rattle.std.specs.Prelude.{sum_by, flat_map, replicate, option_map}
-use Rattle.std.proofs.lemmas.Bool.{eqb-true, lt-ltb, le-ltb, ne_eqb, eq-eqb, cases_lt}
+use Rattle.std.proofs.lemmas.Bool.{eqb-true, or_cases, lt-ltb, le-ltb, ne_eqb, eq-eqb, cases_lt}
 use Rattle.std.proofs.lemmas.List.{append-nil, length_push, get_or_past, map-append}
 use Rattle.std.proofs.lemmas.List.Sums.{fold-append}
 use Rattle.std.proofs.lemmas.Option.{slice_get_within}
@@ -13,14 +13,14 @@ use Rattle.directory.specs.Settings.{Setting, subs}
 use Rattle.directory.specs.Histories.{History, own, words_read}
 use Rattle.directory.specs.Finds.{FindCall, most_looks}
 use Rattle.directory.specs.Looks.{look_by}
-use Rattle.directory.specs.Writes.{numbers_from}
 use Rattle.directory.specs.Orders.{actors, Scripts, finds_of, script_visits, caller_at, after_read, caller_after, caller_in, next_key, next, after_turn, after_turns, most_turns, last_turns, history_of, IsPlayed, IsDone}
 use Rattle.directory.proofs.HistoryLaws.{words-push}
 use Rattle.directory.specs.Statements.{OrdersAreDone, HistoriesAreOrdered, OrdersAreOwn, TurnsAreFew}
 use Rattle.directory.specs.StepLaws.{by_fronts, own-push}
-use Rattle.directory.proofs.NextLaws.{kept_by_play, next-actor, played-of_play, played-push, turn-some}
-use Rattle.directory.proofs.CallerLaws.{caller-few, caller-look, read_left}
-use Rattle.directory.specs.HistoryLaws.{next-sub, next-caller, turn-none}
+use Rattle.directory.proofs.NextLaws.{after_turns-done, kept_by_play, next-actor, played-of_play, played-push, turn-some}
+use Rattle.directory.proofs.CallerLaws.{caller-look, read_left}
+use Rattle.directory.proofs.UnderWay.{under_way}
+use Rattle.directory.specs.HistoryLaws.{next-sub, next-caller, tickets-count, turn-none}
 
 -- an actor that isn't done has made fewer visits than it may
 pub next-few : TurnsAreFew
@@ -40,7 +40,8 @@ next-few setting scripts history actor visit played h =
     wanting (key, wanted, is_look) high =
         omega (
           arith,
-          caller-few setting scripts history actor high played,
+          (under_way setting scripts history actor high played).few,
+          tickets-count actor history,
           read_left setting (caller_in setting scripts history actor)
               (caller_in setting scripts history actor).calls 0 key refl wanted,
         )
@@ -49,24 +50,16 @@ next-few setting scripts history actor visit played h =
 next-kept : (setting : Setting) (scripts : Scripts) (history : History) (actor : ℕ) (visit : Visit)
     → (visit.actor == actor) ≡ false → next setting scripts (history ++ visit ∷ []) actor
     ≡ next setting scripts history actor
-next-kept setting scripts history actor visit e =
-    rw (own-push actor history visit, words-push setting actor history visit, e)
-    (rw (append-nil (own actor history), append-nil (words_read setting actor history)) refl)
+next-kept setting scripts history actor visit e = grind (arith, own-push, words-push, append-nil)
 
 -- an actor that is done stays done
 pub done-kept : (setting : Setting) (scripts : Scripts) (actor : ℕ) (order : List ℕ) (history : History)
     → IsDone setting scripts history actor → IsDone setting scripts (after_turns setting scripts history order) actor
 done-kept setting scripts actor order history done = kept_by_play setting scripts
-    (λ h. IsDone setting scripts h actor) more order history done
-  where
-    more : (h : History) (other : ℕ) (visit : Visit) → next setting scripts h other ≡ Some visit
-        → IsDone setting scripts h actor → IsDone setting scripts (h ++ visit ∷ []) actor
-    more h other visit e now = next-kept setting scripts h actor visit (ne_eqb visit.actor actor (λ same. clash same))
-        ∙ now
-      where
-        clash : visit.actor ≡ actor → ⊥
-        clash same = let its : other ≡ actor = sym (next-actor setting scripts h other visit e)
-            ∙ same in let both : Some visit ≡ None = sym e ∙ (ap (λ a. next setting scripts h a) its ∙ now) in cc
+    (λ h. IsDone setting scripts h actor) (λ h other visit e now.
+    next-kept setting scripts h actor visit (ne_eqb visit.actor actor (λ same.
+    let its : other ≡ actor = sym (next-actor setting scripts h other visit e) ∙ same in
+    let both : Some visit ≡ None = sym e ∙ (ap (next setting scripts h) its ∙ now) in cc)) ∙ now) order history done
 
 -- after so many turns an actor is done, or has made a visit at each
 abbrev IsCounted : Setting → Scripts → ℕ → ℕ → History → History → Type 0
@@ -132,21 +125,12 @@ done-each setting scripts actor [] history inside played = cc
 done-each setting scripts actor (first ∷ others) history inside played =
     rw (after_turns-append setting scripts history (replicate (most_turns setting scripts first) first)
     (turns_of setting scripts others))
-    (at_test (actor == first) refl inside (done-each setting scripts actor others))
-  where
-    behind : History
-    behind = after_turns setting scripts history (replicate (most_turns setting scripts first) first)
-
-    at_test : (b : Bool) → (actor == first) ≡ b → (b || has actor others) ≡ true
-        → ((h : History) → has actor others ≡ true → IsPlayed setting scripts h
-        → IsDone setting scripts (after_turns setting scripts h (turns_of setting scripts others)) actor)
-        → IsDone setting scripts (after_turns setting scripts behind (turns_of setting scripts others)) actor
-    at_test true e h later = done-kept setting scripts actor (turns_of setting scripts others) behind
-        (subst (λ a. IsDone setting scripts (after_turns setting scripts history
-        (replicate (most_turns setting scripts a) a)) actor) (eqb-true actor first e)
-        (done-after setting scripts actor history played))
-    at_test false e h later = later behind h (played-kept setting scripts
-        (replicate (most_turns setting scripts first) first) history played)
+    (elim (or_cases (actor == first) (has actor others) inside) [
+      | inl e ↦ done-kept setting scripts actor (turns_of setting scripts others) _
+          (rw (← eqb-true actor first e) (done-after setting scripts actor history played))
+      | inr later ↦ done-each setting scripts actor others _ later
+          (played-kept setting scripts (replicate (most_turns setting scripts first) first) history played)
+    ])
 
 -- one who is no actor has no visit
 stranger-done : (setting : Setting) (scripts : Scripts) (history : History) (actor : ℕ)
@@ -168,25 +152,13 @@ stranger-done setting scripts history actor high =
 -- when an order is played to its end all scripts are done
 pub all-done : OrdersAreDone
 all-done setting scripts order actor =
-    elim (cases_lt actor (actors setting scripts)) [
-      | inl low ↦ rw (after_turns-append setting scripts [] order (last_turns setting scripts))
-          (done-each setting scripts actor (numbers_from 0 (actors setting scripts))
-          (after_turns setting scripts [] order) (has-passing (λ p. true) actor 0 (actors setting scripts)
-          (omega arith) (omega arith)) (played-of_play setting scripts order))
-      | inr high ↦ stranger-done setting scripts (history_of setting scripts order) actor high
-    ]
-
-all-idle : (setting : Setting) (scripts : Scripts) (history : History) (idle : List ℕ)
-    → ((actor : ℕ) → IsDone setting scripts history actor) → after_turns setting scripts history idle ≡ history
-all-idle setting scripts history [] done = refl
-all-idle setting scripts history (actor ∷ idle) done = rw (turn-none setting scripts history actor (done actor))
-    (all-idle setting scripts history idle done)
+    grind (arith, cases_lt, after_turns-append, has-passing, played-of_play, done-each, stranger-done)
 
 -- more turns after the end change nothing
 pub history-longer : (setting : Setting) (scripts : Scripts) (order more : List ℕ)
     → after_turns setting scripts (history_of setting scripts order) more ≡ history_of setting scripts order
-history-longer setting scripts order more = all-idle setting scripts (history_of setting scripts order) more
-    (all-done setting scripts order)
+history-longer setting scripts order more = after_turns-done setting scripts
+    (history_of setting scripts order) more (λ k d low. all-done setting scripts order _)
 
 -- an order that names the actor of each of its visits, or one that is done, is its own
 own-order : (setting : Setting) (scripts : Scripts) (history : History) → IsPlayed setting scripts history
@@ -203,14 +175,10 @@ own-order setting scripts history played =
 
 -- a played history, whoever made it, becomes the history of the order of its actors
 pub completed : HistoriesAreOrdered
-completed setting scripts history played =
-    rw (
-      after_turns-append setting scripts [] (map (λ (visit : Visit). visit.actor) history)
-          (last_turns setting scripts),
-      own-order setting scripts history played,
-    ) refl
+completed setting scripts history played = grind (arith, after_turns-append, own-order)
 
 -- the order of the actors of a history that is played to its end gives that history again
 pub same-again : OrdersAreOwn
 same-again setting scripts history played done =
-    completed setting scripts history played ∙ all-idle setting scripts history (last_turns setting scripts) done
+    completed setting scripts history played ∙ after_turns-done setting scripts history
+    (last_turns setting scripts) (λ k d low. done _)

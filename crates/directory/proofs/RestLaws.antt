@@ -1,9 +1,8 @@
 -- Where nobody moves; what the last commit tells; and that finds are short.
-use Rattle.std.proofs.Common.{◌≡◌, ◌≢◌, false, ℕ, suc, ◌<◌, ◌≤◌, cond, List, [], ◌∷◌, ◌++◌, Some, None, length, take, fold, refl, sym, ap, ◌∙◌, subst, arith, inl, inr, ◌⊎◌}
+use Rattle.std.proofs.Common.{◌≡◌, ◌≢◌, false, ℕ, suc, ◌<◌, ◌≤◌, cond, List, [], ◌∷◌, ◌++◌, Some, None, length, take, fold, refl, sym, ap, ◌∙◌, arith, inl, inr, ◌⊎◌}
 use Rattle.std.specs.Prelude.{slice_get}
 use Rattle.std.specs.List.{last_or, list_any}
 use Rattle.std.proofs.lemmas.List.Sums.{fold-append}
-use Rattle.entry_word.specs.declared.visit.Key.{Key}
 use Rattle.entry_word.specs.declared.visit.Visit.{Visit}
 use Rattle.directory.specs.Settings.{Setting, subs, start}
 use Rattle.directory.specs.Keys.{opening}
@@ -13,8 +12,8 @@ use Rattle.directory.specs.Writes.{writes, visits}
 use Rattle.directory.specs.Puts.{node_put, mark_put}
 use Rattle.directory.specs.Standing.{Commit, commits, confirms, standing, passage_of, passage}
 use Rattle.directory.specs.Finds.{FindCall, Pursuit, after_word, looks_left}
-use Rattle.directory.specs.Looks.{look_by, AreLooks}
-use Rattle.directory.specs.Orders.{steps_of, caller_in, next_key, next}
+use Rattle.directory.specs.Looks.{AreLooks}
+use Rattle.directory.specs.Orders.{next}
 use Rattle.directory.proofs.HistoryLaws.{cell-after}
 use Rattle.directory.proofs.CallerLaws.{caller-look}
 use Rattle.directory.proofs.FindLaws.{looks-fall}
@@ -51,24 +50,15 @@ rest-keeps setting scripts history key still played =
         → next setting scripts front visit.actor ≡ Some visit
         → word_after key (opening setting key) visit.act ≡ opening setting key
     a_look front visit (inl low) h =
-        let due : slice_get (visits setting visit.actor (steps_of scripts visit.actor))
-        (length (own visit.actor front)) ≡ Some visit = sym (next-sub setting scripts front visit.actor low)
-        ∙ h in
-        let none : slice_get (visits setting visit.actor []) (length (own visit.actor front))
-        ≡ Some visit = subst (λ steps. slice_get (visits setting visit.actor steps)
-        (length (own visit.actor front)) ≡ Some visit) (still visit.actor) due in cc
-    a_look front visit (inr high) h = looked (caller-look setting scripts front visit.actor visit high h)
-      where
-        looked : (k : Key) × (next_key (caller_in setting scripts front visit.actor) ≡ Some k)
-            × (visit ≡ look_by visit.actor k) → word_after key (opening setting key) visit.act ≡ opening setting key
-        looked (k, wanted, is_look) = ap (λ (v : Visit). word_after key (opening setting key) v.act) is_look
+        let none : slice_get (visits setting visit.actor []) (length (own visit.actor front)) ≡ Some visit =
+        rw (still visit.actor) at (sym (next-sub setting scripts front visit.actor low) ∙ h) in cc
+    a_look front visit (inr high) h = ap (λ (v : Visit). word_after key (opening setting key) v.act)
+        (caller-look setting scripts front visit.actor visit high h).2
 
 -- what the last commit tells
 pub stands-at_last : (setting : Setting) (sub : ℕ) (history : History) (earlier : List Commit) (last : Commit)
     → commits sub history ≡ earlier ++ last ∷ [] → standing setting sub history ≡ last.to
-stands-at_last setting sub history earlier last h = ap
-    (fold (λ node (commit : Commit). commit.to) (start setting sub)) h
-    ∙ fold-append (λ node (commit : Commit). commit.to) (start setting sub) earlier (last ∷ [])
+stands-at_last setting sub history earlier last h = grind (arith, fold-append)
 
 pub stands-at_start : (setting : Setting) (sub : ℕ) (history : History) → commits sub history ≡ []
     → standing setting sub history ≡ start setting sub
@@ -92,10 +82,9 @@ pub looks-short : (setting : Setting) (history : History) (actor : ℕ) (call : 
     → AreLooks setting history actor call earliest pursuit tickets → length tickets ≤ looks_left setting call pursuit
 unfolding AreLooks
 looks-short setting history actor call earliest pursuit [] looks = omega arith
-looks-short setting history actor call earliest pursuit (ticket ∷ later) (first, (key, wanted, is_look, rest)) =
-    omega (
-      arith,
-      looks-fall setting call pursuit (cell setting (before ticket history) key) key wanted,
-      looks-short setting history actor call (suc ticket)
-          (after_word setting call pursuit (cell setting (before ticket history) key)) later rest,
-    )
+looks-short setting history actor call earliest pursuit (ticket ∷ later) (first, (key, wanted, is_look, rest)) = grind (
+  arith,
+  looks-short setting history actor call (suc ticket)
+      (after_word setting call pursuit (cell setting (before ticket history) key)) later rest,
+  looks-fall,
+)

@@ -1,9 +1,8 @@
 -- A cell after a legal history holds what the writes that are made have left; and these fit into their words.
-use Rattle.std.proofs.Common.{◌≡◌, ℕ, ◌<◌, ◌≤◌, ◌^◌, Bool, true, false, cond, ◌==◌, ◌&&◌, List, [], ◌∷◌, Option, None, length, map, fold, refl, ap, ◌∙◌, arith}
+use Rattle.std.proofs.Common.{◌≡◌, ℕ, ◌<◌, ◌≤◌, ◌^◌, Bool, false, ◌==◌, ◌&&◌, List, [], ◌∷◌, Option, None, length, map, fold, refl, ap, ◌∙◌, arith}
 use Rattle.std.specs.Prelude.{unwrap_or, filter_map, All}
 use Rattle.std.proofs.lemmas.List.Elements.{All-append, All-cons, All-head, All-nil, All-tail, All-take}
 use Rattle.directory.proofs.Tests.{both_ways}
-use Rattle.std.specs.List.{cons_option}
 use Rattle.std.proofs.lemmas.Bool.{eq-eqb}
 use Rattle.std.proofs.lemmas.List.{take-map}
 use Rattle.entry_word.specs.Marks.{mark_word, mark_in, says_off, IsSmallMark, MarksUnpack}
@@ -16,7 +15,7 @@ use Rattle.entry_word.specs.declared.visit.Visit.{Visit}
 use Rattle.directory.specs.Settings.{Setting, start}
 use Rattle.directory.specs.Keys.{is_start, is_start_home}
 use Rattle.directory.specs.Histories.{History, word_after, cell, puts_to}
-use Rattle.directory.specs.Courses.{Step, move_to, switch_off, switch_on, Course, course_at, last_stop, next_move, after_step, MayStep, MaySteps}
+use Rattle.directory.specs.Courses.{Step, move_to, Course, course_at, last_stop, next_move, after_step, MayStep, MaySteps}
 use Rattle.directory.specs.Writes.{Write, mark_at, entry_at, visit_of, step_writes, writes}
 use Rattle.directory.specs.Puts.{mark_put, node_put, steps_in}
 use Rattle.directory.specs.Standing.{commit_of, off}
@@ -31,18 +30,14 @@ use Rattle.entry_word.specs.MarkLaws.{read-mark}
 mark-write : (sub node : ℕ) (mark : PresenceMark) (write : Write)
     → word_after (Presence node sub) (mark_word mark) (visit_of sub write).act
     ≡ mark_word (mark_after node mark write)
-mark-write sub node mark (mark_at other new) = rw (eq-eqb sub sub refl)
-    (elim (node == other) as (λ b. cond (b && true) (mark_word new) (mark_word mark) ≡ mark_word (cond b new mark))
-    [ true ↦ refl | false ↦ refl ])
+mark-write sub node mark (mark_at other new) = grind (arith, eq-eqb)
 mark-write sub node mark (entry_at level cluster address) = refl
 
 entry-write : (sub level cluster : ℕ) (address : Option Address) (write : Write)
     → word_after (Entry level cluster sub) (address_word address) (visit_of sub write).act
     ≡ address_word (entry_after level cluster address write)
 entry-write sub level cluster address (mark_at node mark) = refl
-entry-write sub level cluster address (entry_at other c new) = rw (eq-eqb sub sub refl)
-    (elim (level == other && cluster == c) as (λ b. cond (b && true) (address_word new) (address_word address)
-    ≡ address_word (cond b new address)) [ true ↦ refl | false ↦ refl ])
+entry-write sub level cluster address (entry_at other c new) = grind (arith, eq-eqb)
 
 -- some writes: a cell holds the word of what they leave
 writes-left : {A : Type 0} (f : ℕ → Visit → ℕ) (after : A → Write → A) (word : A → ℕ) (sub : ℕ)
@@ -95,8 +90,7 @@ small-writes setting course (step ∷ steps) sound may =
         All-cons IsSmallWrite _ (after_coming setting course move) (h.few, from)
         (all-after IsSmallWrite setting course move (λ level. (h.few, to)) (h.few, to) h.few (λ level cluster. tt)
         (λ node. tt))
-    at_step switch_off h = All-cons IsSmallWrite _ [] sound.few (All-nil IsSmallWrite)
-    at_step switch_on h = All-cons IsSmallWrite _ [] sound.few (All-nil IsSmallWrite)
+    at_step _ h = All-cons IsSmallWrite _ [] sound.few (All-nil IsSmallWrite)
 
 small-each : (ws : List Write) → All IsSmallWrite ws → AreSmall ws
 unfolding AreSmall
@@ -159,9 +153,7 @@ commits-of_visits : MarksUnpack → (sub : ℕ) (ws : List Write) → AreSmall w
 unfolding AreSmall
 commits-of_visits unpacks sub [] small = refl
 commits-of_visits unpacks sub (mark_at node mark ∷ ws) small =
-    ap (λ m. cons_option (commit_of node m) (filter_map (λ (v : Visit). commit_of (node_put v.act) (mark_put v.act))
-    (map (visit_of sub) ws))) (read-mark unpacks mark small.0)
-    ∙ ap (cons_option (commit_of node mark)) (commits-of_visits unpacks sub ws small.1)
+    rw (read-mark unpacks mark small.0, commits-of_visits unpacks sub ws small.1)
 commits-of_visits unpacks sub (entry_at level cluster address ∷ ws) small = commits-of_visits unpacks sub ws small.1
 
 off-of_visits : MarksUnpack → (sub : ℕ) (off : Bool) (ws : List Write) → AreSmall ws

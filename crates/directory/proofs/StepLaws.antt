@@ -1,24 +1,23 @@
 -- Steps: more of them add writes at the end, puts show which were begun, and a front of legal puts is legal.
-use Rattle.std.proofs.Common.{◌≡◌, ℕ, zero, suc, ◌+◌, ◌-◌, ◌<◌, ◌≤◌, ◌^◌, false, List, [], ◌∷◌, ◌++◌, Some, None, length, map, take, fold, refl, sym, ap, ◌∙◌, subst, arith, length-append, ◌==◌}
+use Rattle.std.proofs.Common.{◌≡◌, ℕ, zero, suc, ◌+◌, ◌-◌, ◌<◌, ◌≤◌, ◌^◌, false, List, [], ◌∷◌, ◌++◌, Some, None, length, map, take, fold, refl, sym, ap, ◌∙◌, subst, arith, length-append, ◌==◌, append_assoc, inl, inr}
 use Rattle.std.specs.Prelude.{slice_get, All}
+use Rattle.std.proofs.Math.Seq.{take-nil}
+use Rattle.std.proofs.lemmas.Bool.{cases_lt}
 use Rattle.std.proofs.lemmas.List.Elements.{All-append, All-cons, All-head, All-map, All-nil, All-tail, All-take}
 use Rattle.directory.proofs.Tests.{both_ways}
-use Rattle.std.specs.List.{cons_option}
-use Rattle.std.proofs.lemmas.List.{take-append-le, take_all, map-append}
+use Rattle.std.proofs.lemmas.List.{append-nil, length-map, map-append, take-append-le, take-map, take_all, take_at}
 use Rattle.std.proofs.lemmas.List.Sums.{fold-append}
-use Rattle.entry_word.specs.Marks.{mark_word, mark_in, says_off, IsSmallMark, MarksUnpack}
+use Rattle.entry_word.specs.Marks.{says_off, IsSmallMark, MarksUnpack}
 use Rattle.entry_word.specs.declared.mark.PresenceMark.{PresenceMark}
 use Rattle.entry_word.specs.declared.mark.PresenceMark.TheVariants.{Empty, Here, Gone, Coming, Off}
 use Rattle.entry_word.specs.declared.visit.Visit.{Visit}
 use Rattle.directory.specs.Settings.{Setting, start}
-use Rattle.directory.specs.Histories.{IsFront}
 use Rattle.directory.specs.Courses.{Step, move_to, switch_off, switch_on, Move, Course, course_at, last_stop, next_move, after_step, after_steps, MayStep, MaySteps}
 use Rattle.directory.specs.Writes.{Write, mark_at, entry_at, visit_of, numbers_from, new_address, erasure_writes, purge_writes, step_writes, writes, visits}
 use Rattle.directory.specs.Puts.{node_put, mark_put, mark_step, steps_from, steps_in, course_in}
 use Rattle.directory.specs.Legal.{IsScript, ArePuts}
 use Rattle.directory.specs.Statements.{FrontsAreLegal, ScriptsAreLegal, DueIsLegal, BeginningIsLegal, NextIsDecided}
 use Rattle.directory.specs.StepLaws.{steps-append, take-append, visits-append, visits_in, take-more, may-take}
-use Rattle.directory.specs.ListLaws.{slice_get-right}
 use Rattle.entry_word.specs.MarkLaws.{read-mark}
 
 -- a put that begins no step, when no Off was put before it, and is none itself
@@ -32,8 +31,7 @@ unfolding steps_from
 plain-skipped [] ys all = refl
 plain-skipped (x ∷ xs) ys all =
     let one = All-head IsPlain x xs all in
-    ap (λ o. cons_option o (steps_from (says_off (mark_put x.act)) (xs ++ ys))) one.0
-    ∙ (ap (λ b. steps_from b (xs ++ ys)) one.1 ∙ plain-skipped xs ys (All-tail IsPlain x xs all))
+    rw (one.0, one.1) (plain-skipped xs ys (All-tail IsPlain x xs all))
 
 plain-mark : MarksUnpack → (sub node : ℕ) (mark : PresenceMark) → IsSmallMark mark → mark_step false node mark ≡ None
     → says_off mark ≡ false → IsPlain (visit_of sub (mark_at node mark))
@@ -82,13 +80,6 @@ plain-after unpacks setting sub course move few low =
     (plain-mark unpacks sub move.to (Here move.number) few refl refl) (λ level cluster. (refl, refl))
     (λ node. (refl, refl)))
 
--- the steps that the first k visits of some steps begin: they show just these, and are visits of these
-pub record AreBegun (setting : Setting) (sub : ℕ) (course : Course) (steps : List Step) (k : ℕ) : Type 0 where
-  pub count : ℕ
-  pub few : count ≤ length steps
-  pub shown : steps_from course.is_off (take k (visits_in setting sub course steps)) ≡ take count steps
-  pub enough : take k (visits_in setting sub course steps) ≡ take k (visits_in setting sub course (take count steps))
-
 -- what is known of a course
 pub record IsCourse (setting : Setting) (course : Course) : Type 0 where
   pub low : setting.nodes ≤ 2 ^ 16
@@ -113,10 +104,6 @@ course-after setting course (move_to node) sound may =
     }
 course-after setting course _ sound may = record { low = sound.low; inside = sound.inside; few = sound.few }
 
-pub nothing-taken : {A : Type 0} (k : ℕ) → take {A = A} k [] ≡ []
-nothing-taken zero = refl
-nothing-taken (suc k) = refl
-
 -- the first visits of a step, with others after them when it is done
 pub one-begun : MarksUnpack → (setting : Setting) (sub : ℕ) (course : Course) (step : Step) (k : ℕ)
     (later : List Visit) → IsCourse setting course → MayStep setting course step
@@ -127,67 +114,115 @@ one-begun unpacks setting sub course (move_to node) k later sound may =
     let few : suc (length course.moves) < 2 ^ 32 = may.few in
     let from : last_stop course < 2 ^ 16 = omega (arith, sound.low, sound.inside) in
     let low : node < 2 ^ 16 = omega (arith, sound.low, may.inside) in
-    let read : mark_in (mark_word (Coming (suc (length course.moves)) (last_stop course)))
-    ≡ Coming (suc (length course.moves)) (last_stop course) =
-    read-mark unpacks (Coming (suc (length course.moves)) (last_stop course)) (few, from) in
     let rest : List Visit = map (visit_of sub) (after_coming setting course (next_move setting course node)) in
-    ap (λ m. cons_option (mark_step course.is_off node m) (steps_from (says_off m) (take k rest ++ later))) read
-    ∙ ap (λ xs. move_to node ∷ xs) (plain-skipped (take k rest) later
-    (All-take IsPlain k rest (plain-after unpacks setting sub course (next_move setting course node) few low))
-    ∙ ap (λ b. steps_from b later) (sym may.is_on))
+    rw (read-mark unpacks (Coming (suc (length course.moves)) (last_stop course)) (few, from), may.is_on)
+    (ap (λ xs. move_to node ∷ xs) (plain-skipped (take k rest) later
+    (All-take IsPlain k rest (plain-after unpacks setting sub course (next_move setting course node) few low))))
 one-begun unpacks setting sub course switch_off k later sound may =
-    ap (λ vs. steps_from course.is_off (visit_of sub (mark_at (last_stop course) (Off (length course.moves))) ∷
-    (vs ++ later))) (nothing-taken {A = Visit} k)
-    ∙ ap (λ m. cons_option (mark_step course.is_off (last_stop course) m) (steps_from (says_off m) later))
-    (read-mark unpacks (Off (length course.moves)) sound.few)
+    rw (take-nil {A = Visit} k, read-mark unpacks (Off (length course.moves)) sound.few)
 one-begun unpacks setting sub course switch_on k later sound may =
-    ap (λ vs. steps_from course.is_off (visit_of sub (mark_at (last_stop course) (Here (length course.moves))) ∷
-    (vs ++ later))) (nothing-taken {A = Visit} k)
-    ∙ (ap (λ m. cons_option (mark_step course.is_off (last_stop course) m) (steps_from (says_off m) later))
-    (read-mark unpacks (Here (length course.moves)) sound.few)
-    ∙ ap (λ b. cons_option (mark_step b (last_stop course) (Here (length course.moves))) (steps_from false later))
-    may)
+    rw (take-nil {A = Visit} k, read-mark unpacks (Here (length course.moves)) sound.few, may)
 
-pub begun : MarksUnpack → (setting : Setting) (sub : ℕ) (course : Course) (steps : List Step) (k : ℕ)
-    → IsCourse setting course → MaySteps setting course steps → AreBegun setting sub course steps k
+-- how far the first visits of steps are
+pub record AreAmid (setting : Setting) (sub : ℕ) (course : Course) (steps : List Step) (k : ℕ) : Type 0 where
+  pub before : List Step
+  pub under : List Step
+  pub made : ℕ
+  pub shown : steps_from course.is_off (take k (visits_in setting sub course steps)) ≡ before ++ under
+  pub one : length under ≤ 1
+  pub some : length under ≤ made
+  pub few : made ≤ length (writes setting (after_steps setting course before) under)
+  pub later : List Step
+  pub whole : steps ≡ (before ++ under) ++ later
+  pub enough : take k (writes setting course (before ++ under)) ≡ take k (writes setting course steps)
+  pub front : take k (writes setting course steps) ≡ writes setting course before ++ take made
+      (writes setting (after_steps setting course before) under)
+
+pub amid : MarksUnpack → (setting : Setting) (sub : ℕ) (course : Course) (steps : List Step) (k : ℕ)
+    → IsCourse setting course → MaySteps setting course steps
+    → AreAmid setting sub course steps k
 unfolding writes steps_from MaySteps
-begun unpacks setting sub course (step ∷ steps) (suc k) sound may =
-    more (begun unpacks setting sub (after_step setting course step) steps (suc k - length mine)
-    (course-after setting course step sound may.0) may.1)
+amid unpacks setting sub course (step ∷ steps) (suc k) sound may = elim (cases_lt (length mine) (suc k)) [
+  | inr low ↦ record {
+    before = [];
+    under = step ∷ [];
+    made = suc k;
+    shown = shows ∙ ap (λ n. step ∷ steps_from (after_step setting course step).is_off
+        (take n (visits_in setting sub (after_step setting course step) steps)))
+        (let e : suc k - length mine ≡ 0 = omega arith in e);
+    one = omega arith;
+    some = omega arith;
+    few = omega (arith, length-append mine (writes setting (after_step setting course step) []));
+    later = steps;
+    whole = refl;
+    enough = sym (cut low);
+    front = cut low;
+  }
+  | inl high ↦
+      let far = amid unpacks setting sub (after_step setting course step) steps (suc k - length mine)
+      (course-after setting course step sound may.0) may.1 in
+      record {
+        before = step ∷ far.before;
+        under = far.under;
+        made = far.made;
+        shown = shows ∙ ap (λ xs. step ∷ xs) far.shown;
+        one = far.one;
+        some = far.some;
+        few = far.few;
+        later = far.later;
+        whole = ap (λ xs. step ∷ xs) far.whole;
+        enough = take-append (suc k) mine _
+            ∙ (ap (λ ws. take (suc k) mine ++ ws) far.enough ∙ sym (take-append (suc k) mine rest));
+        front = take-append (suc k) mine rest
+            ∙ (ap (λ ws. ws ++ take (suc k - length mine) rest) (take_all (suc k) mine (omega (arith, high)))
+            ∙ (ap (λ ws. mine ++ ws) far.front ∙ sym (append_assoc mine
+            (writes setting (after_step setting course step) far.before)
+            (take far.made (writes setting (after_steps setting (after_step setting course step) far.before)
+            far.under)))));
+      }
+]
   where
-    mine : List Visit
-    mine = map (visit_of sub) (step_writes setting course step)
+    mine : List Write
+    mine = step_writes setting course step
 
-    parted : (xs : List Step) → take (suc k) (visits_in setting sub course (step ∷ xs))
-        ≡ take (suc k) mine ++ take (suc k - length mine) (visits_in setting sub (after_step setting course step) xs)
-    parted xs = ap (take (suc k)) (map-append (visit_of sub) (step_writes setting course step)
-        (writes setting (after_step setting course step) xs))
-        ∙ take-append (suc k) mine (visits_in setting sub (after_step setting course step) xs)
+    rest : List Write
+    rest = writes setting (after_step setting course step) steps
 
-    more : AreBegun setting sub (after_step setting course step) steps (suc k - length mine)
-        → AreBegun setting sub course (step ∷ steps) (suc k)
-    more later = record {
-      count = suc later.count;
-      few = omega (arith, later.few);
-      shown = ap (steps_from course.is_off) (parted steps)
-          ∙ (one-begun unpacks setting sub course step k
-          (take (suc k - length mine) (visits_in setting sub (after_step setting course step) steps)) sound may.0
-          ∙ ap (λ xs. step ∷ xs) later.shown);
-      enough = parted steps ∙ (ap (λ vs. take (suc k) mine ++ vs) later.enough
-          ∙ sym (parted (take later.count steps)));
-    }
-begun unpacks setting sub course steps k sound may =
-    let none : take {A = Visit} k [] ≡ [] = nothing-taken k in
-    record { count = 0; few = omega arith; shown = ap (steps_from course.is_off) none; enough = refl }
+    parted : take (suc k) (visits_in setting sub course (step ∷ steps))
+        ≡ take (suc k) (map (visit_of sub) mine) ++ take (suc k - length mine) (map (visit_of sub) rest)
+    parted = rw (
+      map-append (visit_of sub) mine rest,
+      take-append (suc k) (map (visit_of sub) mine) (map (visit_of sub) rest),
+      length-map mine (visit_of sub),
+    )
+
+    shows : steps_from course.is_off (take (suc k) (visits_in setting sub course (step ∷ steps)))
+        ≡ step ∷ steps_from (after_step setting course step).is_off
+        (take (suc k - length mine) (visits_in setting sub (after_step setting course step) steps))
+    shows = ap (steps_from course.is_off) parted ∙ one-begun unpacks setting sub course step k
+        (take (suc k - length mine) (map (visit_of sub) rest)) sound may.0
+
+    cut : suc k ≤ length mine → take (suc k) (mine ++ rest) ≡ take (suc k) (mine ++ [])
+    cut low = take-append-le (suc k) mine rest low ∙ ap (take (suc k)) (sym (append-nil mine))
+amid unpacks setting sub course steps k sound may = record {
+  before = [];
+  under = [];
+  made = 0;
+  shown = ap (steps_from course.is_off) (take-nil k);
+  one = omega arith;
+  some = omega arith;
+  few = omega arith;
+  later = steps;
+  whole = refl;
+  enough = refl;
+  front = take-nil k;
+}
 
 -- a front has as many as it has
-own_length : {A : Type 0} (xs ys : List A) (n : ℕ) → xs ≡ take n ys → xs ≡ take (length xs) ys
-own_length {A = A} xs ys n same = subst (λ (zs : List A). zs ≡ take (length zs) ys) (sym same) (itself n ys)
-  where
-    itself : (n : ℕ) (ys : List A) → take n ys ≡ take (length (take n ys)) ys
-    itself zero ys = refl
-    itself (suc n) [] = refl
-    itself (suc n) (y ∷ ys) = ap (λ zs. y ∷ zs) (itself n ys)
+front-taken : {A : Type 0} (n : ℕ) (ys : List A) → take n ys ≡ take (length (take n ys)) ys
+front-taken zero ys = refl
+front-taken (suc n) [] = refl
+front-taken (suc n) (y ∷ ys) = ap (λ zs. y ∷ zs) (front-taken n ys)
 
 take-both : {A : Type 0} (m n : ℕ) (xs : List A) → m ≤ n → take m (take n xs) ≡ take m xs
 take-both zero n xs h = refl
@@ -199,17 +234,21 @@ take-both (suc m) (suc n) (x ∷ xs) h = ap (λ zs. x ∷ zs) (take-both m n xs 
 pub script-legal : MarksUnpack → ScriptsAreLegal
 script-legal unpacks setting sub steps k low script =
     let course = course_at (start setting sub) in
-    let sound : IsCourse setting course = record { low = low; inside = script.begins; few = omega arith } in
-    let first = begun unpacks setting sub course steps k sound script.allowed in
+    let far = amid unpacks setting sub course steps k
+    (record { low = low; inside = script.begins; few = omega arith }) script.allowed in
+    let shown : List Step = far.before ++ far.under in
+    let taken : take (length shown) steps ≡ shown =
+    ap (take (length shown)) far.whole ∙ take_at shown far.later (length shown) refl in
+    let same : take k (visits setting sub steps) ≡ take k (visits setting sub shown) =
+    take-map (visit_of sub) k (writes setting course steps) ∙ (ap (map (visit_of sub)) (sym far.enough)
+    ∙ sym (take-map (visit_of sub) k (writes setting course shown))) in
     record {
       script = record {
         known = script.known;
         begins = script.begins;
-        allowed = subst (MaySteps setting course) (sym first.shown) (may-take setting course steps first.count
-            script.allowed);
+        allowed = rw (far.shown, ← taken) (may-take setting course steps (length shown) script.allowed);
       };
-      front = subst (λ xs. IsFront (take k (visits setting sub steps)) (visits setting sub xs)) (sym first.shown)
-          (own_length (take k (visits setting sub steps)) (visits setting sub (take first.count steps)) k first.enough);
+      front = rw (far.shown, same) (front-taken k (visits setting sub shown));
     }
 
 -- a front of legal puts is legal
@@ -252,6 +291,13 @@ unfolding MaySteps
 may-append setting course [] ys f g = g
 may-append setting course (x ∷ xs) ys f g = (f.0, may-append setting (after_step setting course x) xs ys f.1 g)
 
+-- the first of more visits behind some
+grown : (vs more : List Visit) (visit : Visit) → slice_get more 0 ≡ Some visit
+    → vs ++ visit ∷ [] ≡ take (suc (length vs)) (vs ++ more)
+grown [] [] visit first = cc
+grown [] (v ∷ more) visit first = cc
+grown (v ∷ vs) more visit first = ap (λ ws. v ∷ ws) (grown vs more visit first)
+
 -- and so does the first put of a further step, where no step is under way
 pub begin-legal : MarksUnpack → BeginningIsLegal
 unfolding MaySteps
@@ -267,26 +313,11 @@ begin-legal unpacks setting sub puts step visit low legal rest may first =
           (may, tt);
     }
 
-    whole : (xs : List Visit) (n : ℕ) → n ≡ length xs → take n xs ≡ xs
-    whole xs n e = take_all n xs (omega (arith, e))
-
-    joined : visits setting sub (steps_in puts ++ step ∷ [])
-        ≡ visits setting sub (steps_in puts) ++ visits_in setting sub (course_in setting sub puts) (step ∷ [])
-    joined = visits-append setting sub (course_at (start setting sub)) (steps_in puts) (step ∷ [])
+    all : puts ≡ visits setting sub (steps_in puts)
+    all = legal.front ∙ take_all (length puts) (visits setting sub (steps_in puts)) (omega (arith, rest))
 
     same : puts ++ visit ∷ [] ≡ take (suc (length puts)) (visits setting sub (steps_in puts ++ step ∷ []))
-    same =
-        let all : puts ≡ visits setting sub (steps_in puts) = legal.front
-        ∙ whole (visits setting sub (steps_in puts)) (length puts) rest in
-        let front : puts ≡ take (length puts) (visits setting sub (steps_in puts ++ step ∷ [])) =
-        legal.front ∙ (sym (take-append-le (length puts) (visits setting sub (steps_in puts))
-        (visits_in setting sub (course_in setting sub puts) (step ∷ [])) (omega (arith, rest)))
-        ∙ ap (take (length puts)) (sym joined)) in
-        let due : slice_get (visits setting sub (steps_in puts ++ step ∷ [])) (length puts) ≡ Some visit =
-        ap (λ xs. slice_get xs (length puts)) joined ∙ (ap
-        (λ n. slice_get (visits setting sub (steps_in puts) ++ visits_in setting sub (course_in setting sub puts)
-        (step ∷ [])) n) rest
-        ∙ (slice_get-right (visits setting sub (steps_in puts))
-        (visits_in setting sub (course_in setting sub puts) (step ∷ [])) _ 0 (omega arith) ∙ first)) in
-        ap (λ xs. xs ++ visit ∷ []) front ∙ sym (take-more (visits setting sub (steps_in puts ++ step ∷ []))
-        (length puts) visit due)
+    same = ap (λ xs. xs ++ visit ∷ []) all
+        ∙ (grown (visits setting sub (steps_in puts)) (visits_in setting sub (course_in setting sub puts) (step ∷ []))
+        visit first
+        ∙ rw (rest, visits-append setting sub (course_at (start setting sub)) (steps_in puts) (step ∷ [])))

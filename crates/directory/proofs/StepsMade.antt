@@ -1,5 +1,5 @@
 -- The lines of a subscriber are made by its visits: each step's by all the writes of the step.
-use Rattle.std.proofs.Common.{◌≡◌, ℕ, ◌<◌, List, [], ◌∷◌, ◌++◌, Option, Some, length, map, take, drop, refl, sym, ap, ◌∙◌, subst, append_assoc}
+use Rattle.std.proofs.Common.{◌≡◌, ℕ, ◌<◌, List, [], ◌∷◌, ◌++◌, Option, Some, length, map, take, drop, refl, sym, ap, ◌∙◌, append_assoc}
 use Rattle.std.specs.Prelude.{slice_get, All}
 use Rattle.std.proofs.lemmas.List.{take_at, drop_at, take-map, drop-map, length-map, map-append, take_all}
 use Rattle.std.proofs.lemmas.List.Sums.{fold-append}
@@ -64,12 +64,9 @@ steps_made setting scripts history sub done (step ∷ left) seen script ascendin
       made = parts.0;
       tells = refl;
     }))
-    (subst (λ (c : Course). All (IsMade setting scripts history) (step_lines setting sub c left (drop count seen)))
-    further
-    (steps_made setting scripts history sub (done ++ step ∷ []) left (drop count seen)
+    (rw further at (steps_made setting scripts history sub (done ++ step ∷ []) left (drop count seen)
     (script ∙ sym (append_assoc done (step ∷ []) left)) (ascending_drop count seen ascending)
-    (subst (λ (c : Course). map (slice_get history) (drop count seen)
-    ≡ map (λ write. Some (visit_of sub write)) (writes setting c left)) (sym further) parts.1)))
+    (rw further parts.1)))
   where
     course : Course
     course = after_steps setting (course_at (start setting sub)) done

@@ -4,7 +4,7 @@ use Rattle.std.specs.Prelude.{slice_get}
 use Rattle.std.proofs.lemmas.List.{length_push}
 use Rattle.node_set.specs.Ascending.{IsBelowAll, IsAscending}
 use Rattle.entry_word.specs.declared.visit.Visit.{Visit}
-use Rattle.directory.specs.Histories.{History, own, tickets_from, tickets}
+use Rattle.directory.specs.Histories.{History, own, tickets_from}
 use Rattle.node_set.specs.SetLaws.{below_weaker}
 use Rattle.directory.specs.Statements.{TicketsGrow, TicketsAreOwn, TicketsAscend}
 
@@ -91,20 +91,16 @@ unfolding tickets_from
 push_from actor ticket [] visit = ap (λ n. cond (visit.actor == actor) (n ∷ []) [])
     (let e : ticket ≡ ticket + 0 = omega arith in e)
 push_from actor ticket (first ∷ later) visit =
-    at_test (first.actor == actor) (push_from actor (suc ticket) later visit
-    ∙ ap (λ n. tickets_from actor (suc ticket) later ++ cond (visit.actor == actor) (n ∷ []) [])
-    (let e : suc ticket + length later ≡ ticket + suc (length later) = omega arith in e))
+    let e : suc ticket + length later ≡ ticket + suc (length later) = omega arith in
+    rw (push_from actor (suc ticket) later visit, e) (elim (first.actor == actor)
+    as (λ b. cond b (ticket ∷ (rest ++ one)) (rest ++ one) ≡ cond b (ticket ∷ rest) rest ++ one)
+    [ true ↦ refl | false ↦ refl ])
   where
-    at_test : (b : Bool) → tickets_from actor (suc ticket) (later ++ visit ∷ [])
-        ≡ tickets_from actor (suc ticket) later ++ cond (visit.actor == actor) ((ticket + suc (length later)) ∷ []) []
-        → cond b (ticket ∷ tickets_from actor (suc ticket) (later ++ visit ∷ []))
-        (tickets_from actor (suc ticket) (later ++ visit ∷ []))
-        ≡ cond b (ticket ∷ tickets_from actor (suc ticket) later) (tickets_from actor (suc ticket) later) ++ cond
-        (visit.actor == actor) ((ticket + suc (length later)) ∷ []) []
-    at_test true h = ap (λ ts. ticket ∷ ts) h
-    at_test false h = h
+    rest : List ℕ
+    rest = tickets_from actor (suc ticket) later
+
+    one : List ℕ
+    one = cond (visit.actor == actor) ((ticket + suc (length later)) ∷ []) []
 
 pub tickets-push : TicketsGrow
-tickets-push actor history visit = push_from actor 0 history visit
-    ∙ ap (λ n. tickets actor history ++ cond (visit.actor == actor) (n ∷ []) [])
-    (let e : 0 + length history ≡ length history = omega arith in e)
+tickets-push actor history visit = grind (arith, push_from)

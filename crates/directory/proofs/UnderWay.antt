@@ -1,8 +1,9 @@
 -- How far a caller is before a ticket: what it has looked at for its find, and that each find that was answered before
 -- has its looks.
-use Rattle.std.proofs.Common.{◌≡◌, ℕ, suc, ◌-◌, ◌<◌, ◌≤◌, Bool, true, false, ◌==◌, List, [], ◌∷◌, ◌++◌, Option, Some, None, length, map, take, drop, fold, refl, sym, ap, ◌∙◌, subst, arith, append_assoc, length-append}
-use Rattle.std.specs.Prelude.{slice_get, flat_map, All}
+use Rattle.std.proofs.Common.{◌≡◌, ℕ, suc, ◌-◌, ◌<◌, ◌≤◌, Bool, true, false, ◌==◌, ◌+◌, List, [], ◌∷◌, ◌++◌, Option, Some, None, length, map, take, drop, refl, sym, ap, ◌∙◌, arith, append_assoc, length-append}
+use Rattle.std.specs.Prelude.{slice_get, sum_by, All}
 use Rattle.std.proofs.lemmas.Bool.{eqb-true}
+use Rattle.std.proofs.lemmas.Grind.{flat_map-append}
 use Rattle.std.proofs.lemmas.List.{append-nil, map-append, length_push, length-drop, length-take-le, take_all, take-append-le, drop-append-le}
 use Rattle.std.proofs.lemmas.List.Sums.{fold-append}
 use Rattle.std.proofs.Math.ListN.{drop_of_length-le}
@@ -11,14 +12,15 @@ use Rattle.std.proofs.lemmas.Option.{slice_get_within}
 use Rattle.entry_word.specs.declared.visit.Key.{Key}
 use Rattle.entry_word.specs.declared.visit.Visit.{Visit}
 use Rattle.directory.specs.Settings.{Setting, subs}
-use Rattle.directory.specs.Histories.{History, before, cell, tickets_from, tickets, words_of, words_by, words_at, words_after, words_read}
-use Rattle.directory.specs.Finds.{FindCall, Pursuit, at_origin, after_word, key_of, answer_of}
+use Rattle.directory.specs.Histories.{History, before, cell, tickets_from, tickets, words_of, words_after, words_read}
+use Rattle.directory.specs.Finds.{FindCall, Pursuit, at_origin, after_word, key_of, answer_of, most_looks}
+use Rattle.directory.proofs.FindLaws.{looks-fall}
 use Rattle.directory.specs.Looks.{look_by, AreLooks, IsFind}
 use Rattle.directory.specs.Orders.{Scripts, finds_of, Answer, Caller, with_pursuit, read_by, caller_in, key_in, next_key, next, IsPlayed}
 use Rattle.directory.specs.Outcomes.{FollowEachOther}
 use Rattle.directory.specs.declared.answers.Found.{Found}
 use Rattle.directory.proofs.HistoryLaws.{words-push}
-use Rattle.directory.proofs.CallerLaws.{caller-look, caller-push}
+use Rattle.directory.proofs.CallerLaws.{caller-look, caller-push, left_at_origin, left_of}
 use Rattle.directory.proofs.TicketLaws.{tickets-push}
 use Rattle.directory.specs.StepLaws.{by_fronts}
 use Rattle.directory.specs.LookLaws.{pursuit_after, pursuit-step, answer-ends}
@@ -27,29 +29,12 @@ abbrev pub after_last : ℕ → List ℕ → ℕ
 after_last earliest [] = earliest
 after_last earliest (ticket ∷ later) = after_last (suc ticket) later
 
-words_at-look : (setting : Setting) (history : History) (actor ticket : ℕ) (key : Key)
-    → slice_get history ticket ≡ Some (look_by actor key)
-    → words_at setting history ticket ≡ cell setting (before ticket history) key ∷ []
-words_at-look setting history actor ticket key h = ap (words_by setting (before ticket history)) h
-
-flat_map-push : {A B : Type 0} (f : A → List B) (xs : List A) (x : A)
-    → flat_map f (xs ++ x ∷ []) ≡ flat_map f xs ++ f x
-flat_map-push f [] x = append-nil (f x)
-flat_map-push f (y ∷ xs) x = ap (λ zs. f y ++ zs) (flat_map-push f xs x)
-    ∙ sym (append_assoc (f y) (flat_map f xs) (f x))
-
 pursuit-push : (setting : Setting) (history : History) (actor : ℕ) (call : FindCall) (pursuit : Pursuit)
-    (sofar : List ℕ)
-    (ticket : ℕ) (key : Key) → slice_get history ticket ≡ Some (look_by actor key)
+    (sofar : List ℕ) (ticket : ℕ) (key : Key) → slice_get history ticket ≡ Some (look_by actor key)
     → pursuit_after setting history call pursuit (sofar ++ ticket ∷ [])
     ≡ after_word setting call (pursuit_after setting history call pursuit sofar)
     (cell setting (before ticket history) key)
-pursuit-push setting history actor call pursuit sofar ticket key h =
-    ap (fold (after_word setting call) pursuit) (flat_map-push (words_at setting history) sofar ticket
-    ∙ ap (λ ws. flat_map (words_at setting history) sofar ++ ws)
-    (words_at-look setting history actor ticket key h))
-    ∙ fold-append (after_word setting call) pursuit (flat_map (words_at setting history) sofar)
-    (cell setting (before ticket history) key ∷ [])
+pursuit-push setting history actor call pursuit sofar ticket key h = grind (arith, flat_map-append, fold-append)
 
 -- one look more
 looks-push : (setting : Setting) (history : History) (actor : ℕ) (call : FindCall) (sofar : List ℕ) (earliest : ℕ)
@@ -70,8 +55,7 @@ looks-push setting history actor call (t ∷ sofar) earliest pursuit ticket key
         its_look,
         looks-push setting history actor call sofar (suc t)
             (after_word setting call pursuit (cell setting (before t history) k)) ticket key rest low
-            (subst (λ (s : Pursuit). key_of call s ≡ Some key)
-            (pursuit-step setting history actor call pursuit t k sofar its_look) wanted) is_look,
+            (rw (pursuit-step setting history actor call pursuit t k sofar its_look) at wanted) is_look,
       ),
     )
 
@@ -120,6 +104,8 @@ pub record IsUnderWay (setting : Setting) (history : History) (actor : ℕ) (fin
     (now : ℕ) (caller : Caller) : Type 0 where
   pub count : caller.next ≡ length ticketed
   pub low : caller.first ≤ caller.next
+  pub few : length ticketed + left_of setting caller.calls caller.pursuit
+      ≤ sum_by (λ (call : FindCall). most_looks setting call.from) finds
   pub done : All (IsAnswered setting history actor ticketed) caller.answers
   pub script : finds ≡ map (λ (answer : Answer). answer.call) caller.answers ++ caller.calls
   pub current : (call : FindCall) (later : List FindCall) → caller.calls ≡ call ∷ later
@@ -135,10 +121,7 @@ later_than h far = record { looks = far.looks; reads = far.reads; low = omega (a
 -- the tickets of a find that was answered stay
 seen-more : (ticketed more : List ℕ) (answer : Answer) → answer.first ≤ answer.last → answer.last < length ticketed
     → seen_of (ticketed ++ more) answer ≡ seen_of ticketed answer
-seen-more ticketed more answer order within =
-    ap (take (suc answer.last - answer.first)) (drop-append-le answer.first ticketed more (omega arith))
-    ∙ take-append-le (suc answer.last - answer.first) (drop answer.first ticketed) more
-    (omega (arith, length-drop answer.first ticketed))
+seen-more ticketed more answer order within = grind (arith, drop-append-le, length-drop, take-append-le)
 
 answered-more : (setting : Setting) (history : History) (actor : ℕ) (ticketed more : List ℕ) (answers : List Answer)
     → All (IsAnswered setting history actor ticketed) answers
@@ -148,8 +131,7 @@ answered-more setting history actor ticketed more answers =
     (λ answer h. record {
       within = omega (arith, h.within, length-append ticketed more);
       order = h.order;
-      find = subst (IsFind setting history actor answer.call answer.found)
-          (sym (seen-more ticketed more answer h.order h.within)) h.find;
+      find = rw (seen-more ticketed more answer h.order h.within) h.find;
     }) answers
 
 -- one look more of a caller
@@ -178,7 +160,7 @@ look_more setting history actor finds ticketed now caller call later key far cal
     pushed : IsAt setting history actor call (suc now) pursuit (drop caller.first ticketed ++ now ∷ [])
     pushed = record {
       looks = looks-push setting history actor call (drop caller.first ticketed) 0 at_origin now key so_far.looks
-          so_far.low (subst (λ (s : Pursuit). key_of call s ≡ Some key) (sym so_far.reads) wanted) is_look;
+          so_far.low (rw so_far.reads wanted) is_look;
       reads = pursuit-push setting history actor call at_origin (drop caller.first ticketed) now key is_look
           ∙ ap (λ s. after_word setting call s (cell setting (before now history) key)) so_far.reads;
       low = omega (arith, after_last-push 0 (drop caller.first ticketed) now);
@@ -187,24 +169,43 @@ look_more setting history actor finds ticketed now caller call later key far cal
     counted : suc caller.next ≡ length (ticketed ++ now ∷ [])
     counted = omega (arith, far.count, length_push ticketed now)
 
+    -- the look leaves fewer
+    fewer : left_of setting (call ∷ later) caller.pursuit ≡ left_of setting caller.calls caller.pursuit
+    fewer = ap (λ cs. left_of setting cs caller.pursuit) (sym calls)
+
     at_answer : (o : Option Found) → answer_of pursuit ≡ o
         → IsUnderWay setting history actor finds (ticketed ++ now ∷ []) (suc now)
         (with_pursuit caller call later pursuit o)
     at_answer None e = record {
       count = counted;
       low = omega (arith, far.low);
+      few = rw calls (omega (
+        arith,
+        far.few,
+        fewer,
+        length_push ticketed now,
+        looks-fall setting call caller.pursuit
+            (cell setting (before now history) key) key wanted,
+      ));
       done = answered-more setting history actor ticketed (now ∷ []) caller.answers far.done;
       script = far.script;
       current = λ c l same. let its : call ∷ later ≡ c ∷ l = sym calls ∙ same in let is_call : call ≡ c = cc in
-          subst (λ (x : FindCall). IsAt setting history actor x (suc now) pursuit
-          (drop caller.first (ticketed ++ now ∷ []))) is_call
-          (subst (λ seen. IsAt setting history actor call (suc now) pursuit seen) (sym longer) pushed);
+          rw (longer, ← is_call) pushed;
       follow = far.follow;
       ends = far.ends;
     }
     at_answer (Some found) e = record {
       count = counted;
       low = omega arith;
+      few = omega (
+        arith,
+        far.few,
+        fewer,
+        length_push ticketed now,
+        left_at_origin setting later,
+        looks-fall setting
+            call caller.pursuit (cell setting (before now history) key) key wanted,
+      );
       done = All-append (IsAnswered setting history actor (ticketed ++ now ∷ [])) caller.answers (mine ∷ [])
           (answered-more setting history actor ticketed (now ∷ []) caller.answers far.done)
           (All-cons (IsAnswered setting history actor (ticketed ++ now ∷ [])) mine [] is_mine
@@ -212,8 +213,7 @@ look_more setting history actor finds ticketed now caller call later key far cal
       script = far.script ∙ (ap (λ cs. map (λ (a : Answer). a.call) caller.answers ++ cs) calls
           ∙ (sym (append_assoc (map (λ (a : Answer). a.call) caller.answers) (call ∷ []) later)
           ∙ ap (λ cs. cs ++ later) (sym (map-append (λ (a : Answer). a.call) caller.answers (mine ∷ [])))));
-      current = λ c l same. subst (λ seen. IsAt setting history actor c (suc now) at_origin seen) (sym none_left)
-          (record { looks = tt; reads = refl; low = omega arith });
+      current = λ c l same. rw none_left (record { looks = tt; reads = refl; low = omega arith });
       follow = follow-push 0 caller.answers mine far.follow far.ends far.low;
       ends = omega (arith, end_place-push 0 caller.answers mine);
     }
@@ -236,8 +236,7 @@ look_more setting history actor finds ticketed now caller call later key far cal
         is_mine = record {
           within = omega (arith, counted);
           order = far.low;
-          find = subst (λ seen. IsFind setting history actor call found seen) (sym all_seen)
-              (record { looks = pushed.looks; answer = pushed.reads ∙ answer-ends pursuit found e });
+          find = rw all_seen (record { looks = pushed.looks; answer = pushed.reads ∙ answer-ends pursuit found e });
         }
 
         none_left : drop (suc caller.next) (ticketed ++ now ∷ []) ≡ []
@@ -254,6 +253,7 @@ under_way setting scripts history actor high played =
     (record {
       count = refl;
       low = omega arith;
+      few = omega (arith, left_at_origin setting (finds_of setting scripts actor));
       done = All-nil
           (IsAnswered setting history actor []);
       script = refl;
@@ -276,6 +276,7 @@ under_way setting scripts history actor high played =
         (record {
           count = far.count;
           low = far.low;
+          few = far.few;
           done = far.done;
           script = far.script;
           current = λ call later same. later_than (omega (arith, length_push (take t history) visit))
@@ -321,6 +322,5 @@ under_way setting scripts history actor high played =
             at_calls (call ∷ later) same k =
                 look_more setting history actor (finds_of setting scripts actor)
                 (tickets actor (take t history)) t caller call later key
-                (subst (λ n. IsUnderWay setting history actor (finds_of setting scripts actor)
-                (tickets actor (take t history)) n caller) here far) same k (h ∙ ap Some is_look)
+                (rw here at far) same k (h ∙ ap Some is_look)
                 (answer_of (after_word setting call caller.pursuit (cell setting (before t history) key))) refl

@@ -1,5 +1,5 @@
 -- The table that elimination begins with, and what it ends with.
-use Rattle.std.proofs.Common.{◌≡◌, ℕ, ◌+◌, ◌*◌, ◌<◌, ◌≤◌, List, length, replicate, take, ◌++◌, refl, sym, ◌∙◌, ap, subst, inl, inr, arith}
+use Rattle.std.proofs.Common.{◌≡◌, ℕ, ◌+◌, ◌*◌, ◌<◌, ◌≤◌, List, length, replicate, take, ◌++◌, refl, sym, ◌∙◌, ap, subst₂, inl, inr, arith}
 use Rattle.std.proofs.lemmas.List.{get_or-replicate, length-replicate, take_at}
 use Rattle.std.proofs.lemmas.List.Elements.{All-contains, All-replicate}
 use Rattle.std.proofs.lemmas.Nat.{same_from_place, row_fits}
@@ -26,7 +26,7 @@ arcs_step {n} width {u} {edges} {arcs} are so_far lowered =
     (λ i w (arc, has, (at, weight)). (
       arc.target,
       (All-contains (IsArc n) arcs arc are.limits has).below,
-      subst (λ x. Joins edges u arc.target x) (sym weight) (are.sound arc.target arc.weight has),
+      rw weight (are.sound arc.target arc.weight has),
       at,
     )) (λ i w (v, below, joined, at). (make_arc v w, are.whole v w joined, (at, refl))) lowered)
 
@@ -47,8 +47,7 @@ first_done network width {table} wide lowered =
             (omega (arith, row_fits u width n width u_below (omega arith), wide, v_below)))
         | inr (x, x_below, (y, y_below, joined, at)) ↦
             let place = same_from_place u v x y width (omega (arith, wide)) (omega (arith, wide)) at in
-            inr (subst (λ i. Joins network.edges i v (cell_at width table u v)) (sym place.0)
-            (subst (λ i. Joins network.edges x i (cell_at width table u v)) (sym place.1) joined))
+            inr (subst₂ (λ a b. Joins network.edges a b (cell_at width table u v)) (sym place.0) (sym place.1) joined)
       ];
       whole = λ u v w u_below v_below joined. lowered.reached (u * width + v) w
           (u, u_below, (v, v_below, joined, refl));
@@ -59,11 +58,12 @@ module _ (network : Network) (sound : IsNetwork network) (width : ℕ) (wide : n
   turned_below : (u v : ℕ) → u < network.nodes → v < network.nodes
       → cell_at width table v u ≤ cell_at width table u v
   turned_below u v u_below v_below = elim (first.sound u v u_below v_below) [
-    | inl far ↦
-        let most : cell_at width table v u ≤ FAR =
-        first.light (v * width + u) 0 (omega
-        (arith, first.count, row_fits v width network.nodes width v_below (omega arith), wide, u_below)) in
-        omega arith
+    | inl far ↦ omega (
+      arith,
+      far,
+      first.light (v * width + u) 0
+          (omega (arith, first.count, row_fits v width network.nodes width v_below (omega arith), wide, u_below)),
+    )
     | inr joined ↦ first.whole v u (cell_at width table u v) v_below u_below
         (join_turned network.edges u v (cell_at width table u v) joined)
   ]
@@ -72,12 +72,12 @@ module _ (network : Network) (sound : IsNetwork network) (width : ℕ) (wide : n
     pub begun : KeepsLengths (λ x. x < network.nodes) (cell_at width table) d
     begun = record {
       sound = λ a b a_below b_below. elim (first.sound a b a_below b_below) [
-        | inl far ↦ omega (arith, (lengths bounds network sound d least).light a b a_below b_below)
-        | inr joined ↦ step_length bounds network sound d least a b (cell_at width table a b) a_below b_below joined
+        | inl far ↦ omega (arith, (lengths network sound d least bounds).light a b a_below b_below)
+        | inr joined ↦ step_length network sound d least a b (cell_at width table a b) a_below b_below joined
       ];
       turned = λ a b a_below b_below. omega (arith, turned_below a b a_below b_below, turned_below b a b_below a_below);
       goes_on = λ a b a_below b_below apart.
-          let g = begins bounds network sound d least a b a_below b_below apart in
+          let g = begins network sound d least a b a_below b_below apart in
           record {
             next = g.next;
             is_left = g.below;
@@ -86,34 +86,26 @@ module _ (network : Network) (sound : IsNetwork network) (width : ℕ) (wide : n
           };
     }
 
-pub rows_of : LeastWeightsAreFound → LeastWeightsAreBounded → {network : Network} → IsNetwork network → {width : ℕ}
-    → network.nodes ≤ width → {first rows table : List ℕ} → IsFirstTable network width first
-    → IsEliminated network.nodes width first rows → AreClosed network.nodes width rows table → AreRowsOf network table
-rows_of least_of bounds {network} sound {width} wide {first} {table} is_first eliminated closed =
-    let d : ℕ → ℕ → ℕ = least_weight network everywhere in
-    let least : AreLeast network d = least_there least_of network sound in
-    let is : (a b : ℕ) → a < network.nodes → b < network.nodes → cell_at network.nodes table a b ≡ d a b =
-    λ a b a_below b_below. closed.each a b a_below b_below
-    ∙ eliminated.each d (lengths bounds network sound d least)
-    (begun network sound width wide first is_first bounds d least) a b a_below b_below in
-    record {
-      count = closed.count;
-      each = λ a v a_below v_below.
-          rw (is a v a_below v_below) (least a v a_below v_below);
-      bounded = λ a v a_below v_below.
-          rw (is a v a_below v_below)
-          (bounded bounds network sound d least a v a_below v_below);
-    }
-
 -- the table as the code has it
 pub rows_made : LeastWeightsAreFound → LeastWeightsAreBounded → {network : Network} → IsNetwork network → {n : ℕ}
     → n ≡ network.nodes → {width : ℕ} → n ≤ width → {first seen filled : List ℕ} (more : List ℕ) {wide closed : List ℕ}
     {k : ℕ} → IsFirstTable network width first → seen ≡ first → length seen ≡ k → IsEliminated n width seen filled
     → wide ≡ take k (filled ++ more) → AreClosed n width wide closed → AreRowsOf network closed
-rows_made least_of bounds {network} sound {n} is_n {width} n_wide {first} {filled} more {wide} {closed} {k} is_first
-    seen_is
-    count eliminated wide_is is_closed =
+rows_made least_of bounds {network} sound {n} is_n {width} n_wide {first} {filled = filled} more {wide} {closed} {k}
+    is_first seen_is count eliminated wide_is is_closed =
     let here : IsEliminated network.nodes width first filled = rw (← is_n, ← seen_is) eliminated in
     let same : length filled ≡ k = here.count ∙ sym is_first.count ∙ sym (ap length seen_is) ∙ count in
     let rows_are : wide ≡ filled = wide_is ∙ take_at filled more k same in
-    rows_of least_of bounds sound (rw (← is_n) n_wide) is_first here (rw (← is_n, ← rows_are) is_closed)
+    let rows : AreClosed network.nodes width filled closed = rw (← is_n, ← rows_are) is_closed in
+    let d : ℕ → ℕ → ℕ = least_weight network everywhere in
+    let least : AreLeast network d = least_there least_of network sound in
+    let is : (a b : ℕ) → a < network.nodes → b < network.nodes → cell_at network.nodes closed a b ≡ d a b =
+    λ a b a_below b_below. rows.each a b a_below b_below
+    ∙ here.each d (lengths network sound d least bounds)
+    (begun network sound width (rw (← is_n) n_wide) first is_first bounds d least) a b a_below b_below in
+    record {
+      count = rows.count;
+      each = λ a v a_below v_below. rw (is a v a_below v_below) (least a v a_below v_below);
+      bounded = λ a v a_below v_below.
+          rw (is a v a_below v_below) (bounded network sound d least bounds a v a_below v_below);
+    }

@@ -34,12 +34,9 @@ pub record Begins (edges : List Edge) (n : ℕ) (d : ℕ → ℕ → ℕ) (a b :
   pub joined : Joins edges a next weight
   pub below : next < n
   pub other : next ≢ a
-  pub positive : 1 ≤ weight
-  pub light : weight ≤ MAX_WEIGHT
   pub short : weight + d next b ≤ d a b
 
-module _ (bounds : LeastWeightsAreBounded) (network : Network) (sound : IsNetwork network) (d : ℕ → ℕ → ℕ)
-    (least : AreLeast network d) where
+module _ (network : Network) (sound : IsNetwork network) (d : ℕ → ℕ → ℕ) (least : AreLeast network d) where
   begins_with : (a b : ℕ) → a < network.nodes → b < network.nodes → a ≢ b → (steps : List Step)
       → IsWalk network.edges everywhere a steps b
       → weight_of steps ≤ d a b → Begins network.edges network.nodes d a b
@@ -55,8 +52,6 @@ module _ (bounds : LeastWeightsAreBounded) (network : Network) (sound : IsNetwor
         other = λ same.
             let again : d a b ≤ weight_of steps = subst (λ i. d i b ≤ weight_of steps) same short in
             absurd (omega (arith, edge.2.positive));
-        positive = edge.2.positive;
-        light = edge.2.light;
         short = omega arith;
       }
 
@@ -65,15 +60,20 @@ module _ (bounds : LeastWeightsAreBounded) (network : Network) (sound : IsNetwor
       let w = (least a b a_below b_below).attained in
       begins_with a b a_below b_below apart w.steps w.walk (omega (arith, w.sum))
 
-  zero_length : (u : ℕ) → u < network.nodes → d u u ≡ 0
+  pub zero_length : (u : ℕ) → u < network.nodes → d u u ≡ 0
   zero_length u below = omega (arith, (least u u below below).least [] (refl, refl))
 
-  turned_length : (u v : ℕ) → u < network.nodes → v < network.nodes → d u v ≡ d v u
+  pub positive_length : (u v : ℕ) → u < network.nodes → v < network.nodes → u ≢ v → 1 ≤ d u v
+  positive_length u v u_below v_below apart =
+      least_positive network.nodes network.edges everywhere u v (d u v) sound.limits.edges apart
+      (least u v u_below v_below)
+
+  pub turned_length : (u v : ℕ) → u < network.nodes → v < network.nodes → d u v ≡ d v u
   turned_length u v u_below v_below = least_weight_one network.edges everywhere u v (d u v) (d v u)
       (least u v u_below v_below)
       (least_weight_back network.edges everywhere v u (d v u) (least v u v_below u_below))
 
-  triangle_length : (u v x : ℕ) → u < network.nodes → v < network.nodes → x < network.nodes → d u x ≤ d u v + d v x
+  pub triangle_length : (u v x : ℕ) → u < network.nodes → v < network.nodes → x < network.nodes → d u x ≤ d u v + d v x
   triangle_length u v x u_below v_below x_below = triangle network.edges everywhere u v x (d u v) (d v x) (d u x)
       (least u v u_below v_below) (least v x v_below x_below) (least u x u_below x_below)
 
@@ -85,16 +85,16 @@ module _ (bounds : LeastWeightsAreBounded) (network : Network) (sound : IsNetwor
             (refl, joined, (refl, refl)),
       )
 
-  pub bounded : (a b : ℕ) → a < network.nodes → b < network.nodes → d a b ≤ (network.nodes - 1) * MAX_WEIGHT
-  bounded a b a_below b_below =
-      bounds network.nodes network.edges everywhere a b (d a b) sound.limits.edges (least a b a_below b_below)
+  module _ (bounds : LeastWeightsAreBounded) where
+    pub bounded : (a b : ℕ) → a < network.nodes → b < network.nodes → d a b ≤ (network.nodes - 1) * MAX_WEIGHT
+    bounded a b a_below b_below =
+        bounds network.nodes network.edges everywhere a b (d a b) sound.limits.edges (least a b a_below b_below)
 
-  pub lengths : AreLengths network.nodes d
-  lengths = record {
-    zero = zero_length;
-    positive = λ u v u_below v_below apart. least_positive network.nodes network.edges everywhere u v
-        (d u v) sound.limits.edges apart (least u v u_below v_below);
-    turned = turned_length;
-    triangle = triangle_length;
-    light = λ u v u_below v_below. omega (arith, bounded u v u_below v_below, sound.limits.few);
-  }
+    pub lengths : AreLengths network.nodes d
+    lengths = record {
+      zero = zero_length;
+      positive = positive_length;
+      turned = turned_length;
+      triangle = triangle_length;
+      light = λ u v u_below v_below. omega (arith, bounded u v u_below v_below, sound.limits.few);
+    }

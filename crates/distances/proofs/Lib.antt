@@ -1,4 +1,3 @@
-mod Balls
 mod Filling
 mod OneLess
 mod Lengths

@@ -1,33 +1,16 @@
 -- Leaving a node out keeps what the lengths between the other nodes are made of.
-use Rattle.std.proofs.Common.{◌≡◌, ◌≢◌, ℕ, ◌+◌, ◌<◌, ◌≤◌, min, List, sym, subst, inl, inr, arith}
+use Rattle.std.proofs.Common.{◌≡◌, ◌≢◌, ℕ, ◌+◌, ◌<◌, ◌≤◌, min, List, sym, inl, inr, arith}
 use Rattle.std.specs.Prelude.{Contains}
 use Rattle.std.proofs.lemmas.Bool.{cases_eq}
 use Rattle.distances.specs.declared.near_nodes.Near.{Near}
 use Rattle.distances.specs.declared.weights.TheConstants.{FAR}
-use Rattle.distances.specs.NodesLeftOut.{AreLengths, GoesOn, KeepsLengths, IsLeftOut, make_near}
+use Rattle.distances.specs.NodesLeftOut.{AreLengths, KeepsLengths, IsLeftOut, make_near}
 
 module _ (n : ℕ) (d : ℕ → ℕ → ℕ) (lengths : AreLengths n d) (old new : ℕ → Type 0) (v : ℕ)
     (within : (x : ℕ) → old x → x < n) (v_old : old v)
     (fewer : (x : ℕ) → new x → old x × (x ≢ v)) (rest : (x : ℕ) → old x → x ≢ v → new x)
     (c e : ℕ → ℕ → ℕ) (keeps : KeepsLengths old c d) where
   module _ (lowered : (a b : ℕ) → new a → new b → e a b ≡ min (c a b) (c v a + c v b)) where
-    around : (a b y : ℕ) → new a → new b → old y → y ≢ v → c a v + d v b ≤ d a b → c v y + d y b ≤ d v b
-        → GoesOn new e d a b
-    around a b y a_new b_new y_old other first second =
-        let a_old = fewer a a_new in
-        let turned : c a v ≡ c v a = keeps.turned a v a_old.0 v_old in
-        elim (cases_eq y a) [
-          | inl same ↦
-              let here : c v a + d a b ≤ d v b = subst (λ i. c v i + d i b ≤ d v b) same second in
-              let some : 1 ≤ d a v = lengths.positive a v (within a a_old.0) (within v v_old) a_old.1 in
-              let sound : d a v ≤ c a v = keeps.sound a v a_old.0 v_old in
-              absurd (omega arith)
-          | inr apart ↦
-              let y_new : new y = rest y y_old other in
-              let low : e a y ≡ min (c a y) (c v a + c v y) = lowered a y a_new y_new in
-              record { next = y; is_left = y_new; other = apart; short = omega arith }
-        ]
-
     pub kept_without : KeepsLengths new e d
     kept_without = record {
       sound = λ a b a_new b_new.
@@ -57,16 +40,37 @@ module _ (n : ℕ) (d : ℕ → ℕ → ℕ) (lengths : AreLengths n d) (old new
           elim (cases_eq g.next v) [
             | inl same ↦
                 let h = keeps.goes_on v b v_old b_old.0 (λ is. b_old.1 (sym is)) in
-                around a b h.next a_new b_new h.is_left h.other (subst (λ i. c a i + d i b ≤ d a b) same g.short)
-                h.short
+                let through : c a v + d v b ≤ d a b = rw same at g.short in
+                elim (cases_eq h.next a) [
+                  | inl back ↦ absurd (grind (
+                    arith,
+                    through,
+                    h.short,
+                    lengths.positive a v (within a a_old.0) (within v v_old) a_old.1,
+                    keeps.sound a v a_old.0 v_old,
+                    keeps.turned a v a_old.0 v_old,
+                  ))
+                  | inr on ↦
+                      let next_new = rest h.next h.is_left h.other in
+                      record {
+                        next = h.next;
+                        is_left = next_new;
+                        other = on;
+                        short = omega (
+                          arith,
+                          h.short,
+                          lowered a h.next a_new next_new,
+                          keeps.turned a v a_old.0 v_old,
+                        );
+                      }
+                ]
             | inr other ↦
-                let next_new : new g.next = rest g.next g.is_left other in
+                let next_new = rest g.next g.is_left other in
                 record {
                   next = g.next;
                   is_left = next_new;
                   other = g.other;
-                  short =
-                      omega (arith, lowered a g.next a_new next_new, g.short);
+                  short = omega (arith, lowered a g.next a_new next_new, g.short);
                 }
           ];
     }

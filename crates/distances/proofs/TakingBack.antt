@@ -1,9 +1,9 @@
 -- Taking back the nodes that were left out, the last one first.
-use Rattle.std.proofs.Common.{◌≡◌, ◌≢◌, ℕ, ◌+◌, ◌*◌, ◌<◌, ◌≤◌, List, Some, Ok, Err, Result, [], ◌∷◌, ◌++◌, length, get_or, set, replicate, refl, sym, ◌∙◌, ap, subst, inl, inr, arith}
+use Rattle.std.proofs.Common.{◌≡◌, ◌≢◌, ℕ, ◌+◌, ◌*◌, ◌<◌, ◌≤◌, List, Some, Ok, Err, Result, [], ◌∷◌, ◌++◌, length, get_or, set, replicate, refl, sym, ◌∙◌, ap, inl, inr, arith}
 use Rattle.std.specs.Prelude.{All, Contains, OnOk}
 use Rattle.std.specs.declared.alloc.AllocError.{AllocError}
 use Rattle.std.proofs.lemmas.List.{get_or-set_same, get_or-set_other, get_or-replicate, length-replicate, same_from_push, length-append, get_or_default}
-use Rattle.std.proofs.lemmas.List.Elements.{All-nil, All-pop, All-push, All-same, Contains-append_left, Contains-push}
+use Rattle.std.proofs.lemmas.List.Elements.{All-nil, All-pop, All-push, Contains-append_left, Contains-push}
 use Rattle.std.proofs.lemmas.Bool.{cases_eq}
 use Rattle.distances.specs.declared.near_nodes.Near.{Near}
 use Rattle.distances.specs.declared.elimination.LeftOut.{LeftOut}
@@ -43,27 +43,16 @@ module _ (n width : ℕ) (d : ℕ → ℕ → ℕ) (lengths : AreLengths n d) (f
       let b_below = within b b_fresh in
       let on = holds.leads_on b b_fresh in
       let by = holds.sound on.node on.weight on.is_near in
-      let up : get_or mine b 0 ≤ on.weight + cell_at width table on.node b =
-      lowered.reached b (on.weight + cell_at width table on.node b) (
-        make_near on.node on.weight,
-        on.is_near,
-        (b_below, refl),
-      )
-      in
+      let up = lowered.reached b (on.weight + cell_at width table on.node b)
+      (make_near on.node on.weight, on.is_near, (b_below, refl)) in
       let down : d v b ≤ get_or mine b 0 = elim (lowered.cause b) [
         | inl kept ↦ omega (arith, get_or-replicate n b FAR 0 b_below, lengths.light v b v_below b_below)
         | inr (x, has, (below, sum)) ↦
             let is = holds.sound x.node x.weight has in
-            omega (
-              arith,
-              sum,
-              known x.node b is.0 b_fresh,
-              is.1,
-              lengths.triangle v x.node b v_below
-                  (within x.node is.0) b_below,
-            )
+            let past = lengths.triangle v x.node b v_below (within x.node is.0) b_below in
+            omega (arith, sum, known x.node b is.0 b_fresh, is.1, past)
       ] in
-      omega (arith, known on.node b by.0 b_fresh, on.short)
+      omega (arith, up, known on.node b by.0 b_fresh, on.short)
 
 -- a row in which its own node is at 0
 module _ {v : ℕ} (folded : List ℕ) {mine : List ℕ} (zeroed : mine ≡ set folded v 0) where
@@ -73,67 +62,81 @@ module _ {v : ℕ} (folded : List ℕ) {mine : List ℕ} (zeroed : mine ≡ set 
   at_other : (x : ℕ) → x ≢ v → get_or mine x 0 ≡ get_or folded x 0
   at_other x other = ap (λ xs. get_or xs x 0) zeroed ∙ get_or-set_other folded v x 0 0 other
 
+-- no cell rises above FAR
+pub written_light : {n width v : ℕ} {back mine old table : List ℕ} → IsNodeWritten n width v back mine old table
+    → All (λ w. w ≤ FAR) old → ((x : ℕ) → x < n → get_or mine x 0 ≤ FAR) → All (λ w. w ≤ FAR) table
+written_light {table} written light mine_light i d i_below = elim (written.cause i) [
+  | inl kept ↦ omega (arith, get_or_default table i d 0 i_below, kept, light i 0 (omega (arith, written.count)))
+  | inr (x, x_below, is) ↦ omega (arith, get_or_default table i d 0 i_below, is, mine_light x x_below)
+]
+
 -- one more node is back
 module _ (n width : ℕ) (all : List LeftOut) (left_out earlier : List LeftOut) (s : LeftOut)
     (is : left_out ≡ earlier ++ s ∷ []) (back old : List ℕ)
-    (so_far : IsFilling n width all left_out back old) (folded mine table : List ℕ)
-    (lowered : IsLowered (Among s.near.items (RowOffer n width old)) (replicate n FAR) folded)
-    (zeroed : mine ≡ set folded s.node 0)
-    (written : IsNodeWritten n width s.node back mine old table) (light : All (λ w. w ≤ FAR) table) where
+    (so_far : IsFilling n width all left_out back old) where
   parts : All (IsLeftOutWithin n) earlier × IsLeftOutWithin n s
   parts = All-pop (IsLeftOutWithin n) left_out earlier (Some s) is so_far.within
 
+  pub left_out_within : IsLeftOutWithin n s
+  left_out_within = parts.1
+
   still : (x : ℕ) → IsFresh n earlier x → x ≢ s.node → IsFresh n left_out x
-  still x fresh other = (
-    fresh.0,
-    All-same (λ (t : LeftOut). t.node ≢ x) left_out (earlier ++ s ∷ []) is
-        (All-push (λ (t : LeftOut). t.node ≢ x) earlier s fresh.1 (λ e. other (sym e))),
-  )
+  still x fresh other =
+      (fresh.0, rw is (All-push (λ (t : LeftOut). t.node ≢ x) earlier s fresh.1 (λ e. other (sym e))))
 
-  module _ (d : ℕ → ℕ → ℕ) (lengths : AreLengths n d) (begun : AreLeftOut n d all)
-      (none_fresh : (x : ℕ) → IsFresh n all x → ⊥) where
-    from_node : (b : ℕ) → IsFresh n earlier b → b ≢ s.node → get_or mine b 0 ≡ d s.node b
-    from_node b fresh other =
-        at_other folded zeroed b other
-        ∙ row_known n width d lengths (IsFresh n left_out) s.node s.near.items parts.1.node (λ x h. h.0)
-        (last_left_out earlier s (so_far.holds d lengths begun) is).1 old folded
-        (so_far.lengths d lengths begun none_fresh) lowered
-        b (still b fresh other)
+  module _ (mine table : List ℕ) (taken : IsTakenBack n width s back mine old table) where
+    own_zero : get_or mine s.node 0 ≡ 0
+    own_zero = at_node taken.folded taken.zeroed
+        (omega (arith, taken.lowered.count, length-replicate n FAR, parts.1.node))
 
-    next_lengths : (a b : ℕ) → IsFresh n earlier a → IsFresh n earlier b → cell_at width table a b ≡ d a b
-    next_lengths a b a_fresh b_fresh = elim (cases_eq a s.node) [
-      | inl a_is ↦ subst (λ i. cell_at width table i b ≡ d i b) (sym a_is)
-          (written.row b b_fresh.0 ∙ elim (cases_eq b s.node) [
-            | inl b_is ↦ rw b_is
-                (at_node folded zeroed (omega (arith, lowered.count, length-replicate n FAR, parts.1.node))
-                ∙ sym (lengths.zero s.node parts.1.node))
-            | inr b_other ↦ from_node b b_fresh b_other
-          ])
-      | inr a_other ↦ elim (cases_eq b s.node) [
-        | inl b_is ↦ subst (λ i. cell_at width table a i ≡ d a i) (sym b_is)
-            (written.column a (so_far.fresh_is_back none_fresh a (still a a_fresh a_other)) ∙ from_node a a_fresh
-            a_other ∙ lengths.turned s.node a parts.1.node a_fresh.0)
-        | inr b_other ↦ written.other a b a_fresh.0 b_fresh.0 a_other b_other
-            ∙ so_far.lengths d lengths begun none_fresh a b (still a a_fresh a_other) (still b b_fresh b_other)
+    module _ (d : ℕ → ℕ → ℕ) (lengths : AreLengths n d) (begun : AreLeftOut n d all)
+        (none_fresh : (x : ℕ) → IsFresh n all x → ⊥) where
+      from_node : (b : ℕ) → IsFresh n earlier b → b ≢ s.node → get_or mine b 0 ≡ d s.node b
+      from_node b fresh other =
+          at_other taken.folded taken.zeroed b other
+          ∙ row_known n width d lengths (IsFresh n left_out) s.node s.near.items parts.1.node (λ x h. h.0)
+          (last_left_out earlier s (so_far.holds d lengths begun) is).1 old taken.folded
+          (so_far.lengths d lengths begun none_fresh) taken.lowered b (still b fresh other)
+
+      next_lengths : (a b : ℕ) → IsFresh n earlier a → IsFresh n earlier b → cell_at width table a b ≡ d a b
+      next_lengths a b a_fresh b_fresh = elim (cases_eq a s.node) [
+        | inl a_is ↦ rw a_is (taken.written.row b b_fresh.0 ∙ elim (cases_eq b s.node) [
+          | inl b_is ↦ rw b_is (own_zero ∙ sym (lengths.zero s.node parts.1.node))
+          | inr b_other ↦ from_node b b_fresh b_other
+        ])
+        | inr a_other ↦ elim (cases_eq b s.node) [
+          | inl b_is ↦ rw b_is
+              (taken.written.column a (so_far.fresh_is_back none_fresh a (still a a_fresh a_other))
+              ∙ from_node a a_fresh a_other ∙ lengths.turned s.node a parts.1.node a_fresh.0)
+          | inr b_other ↦ taken.written.other a b a_fresh.0 b_fresh.0 a_other b_other
+              ∙ so_far.lengths d lengths begun none_fresh a b (still a a_fresh a_other) (still b b_fresh b_other)
+        ]
       ]
+
+    next_back : ((x : ℕ) → IsFresh n all x → ⊥) → (x : ℕ) → IsFresh n earlier x → Contains (back ++ s.node ∷ []) x
+    next_back none_fresh x fresh = elim (cases_eq x s.node) [
+      | inl same ↦ rw same (Contains-push back s.node)
+      | inr other ↦ Contains-append_left back (s.node ∷ []) x (so_far.fresh_is_back none_fresh x (still x fresh other))
     ]
 
-  next_back : ((x : ℕ) → IsFresh n all x → ⊥) → (x : ℕ) → IsFresh n earlier x → Contains (back ++ s.node ∷ []) x
-  next_back none_fresh x fresh = elim (cases_eq x s.node) [
-    | inl same ↦ subst (λ i. Contains (back ++ s.node ∷ []) i) (sym same) (Contains-push back s.node)
-    | inr other ↦ Contains-append_left back (s.node ∷ []) x (so_far.fresh_is_back none_fresh x (still x fresh other))
-  ]
+    mine_light : (x : ℕ) → x < n → get_or mine x 0 ≤ FAR
+    mine_light x below = elim (cases_eq x s.node) [
+      | inl same ↦ rw same (omega (arith, own_zero))
+      | inr other ↦
+          let kept = at_other taken.folded taken.zeroed x other in
+          omega (arith, kept, taken.lowered.falls x, get_or-replicate n x FAR 0 below)
+    ]
 
-  pub fill_step : IsFilling n width all earlier (back ++ s.node ∷ []) table
-  fill_step = record {
-    count = written.count ∙ so_far.count;
-    light = light;
-    within = parts.0;
-    holds = λ d lengths begun. (last_left_out earlier s (so_far.holds d lengths begun) is).0;
-    fresh_is_back = next_back;
-    back_within = All-push (λ x. x < n) back s.node so_far.back_within parts.1.node;
-    lengths = next_lengths;
-  }
+    pub fill_next : IsFilling n width all earlier (back ++ s.node ∷ []) table
+    fill_next = record {
+      count = taken.written.count ∙ so_far.count;
+      light = written_light taken.written so_far.light mine_light;
+      within = parts.0;
+      holds = λ d lengths begun. (last_left_out earlier s (so_far.holds d lengths begun) is).0;
+      fresh_is_back = next_back;
+      back_within = All-push (λ x. x < n) back s.node so_far.back_within parts.1.node;
+      lengths = next_lengths;
+    }
 
 pub fill_begins : (n width : ℕ) (all : List LeftOut) (table : List ℕ) → length table ≡ n * width → All (λ w. w ≤ FAR)
     table
@@ -148,40 +151,6 @@ fill_begins n width all table count light within = record {
   back_within = All-nil (λ x. x < n);
   lengths = λ d lengths begun none_fresh a b a_fresh b_fresh. absurd (none_fresh a a_fresh);
 }
-
--- no cell rises above FAR
-pub written_light : {n width v : ℕ} {back mine old table : List ℕ} → IsNodeWritten n width v back mine old table
-    → All (λ w. w ≤ FAR) old → ((x : ℕ) → x < n → get_or mine x 0 ≤ FAR) → All (λ w. w ≤ FAR) table
-written_light {table} written light mine_light i d i_below =
-    let here : get_or table i d ≡ get_or table i 0 = get_or_default table i d 0 i_below in
-    subst (λ w. w ≤ FAR) (sym here) (elim (written.cause i) [
-      | inl kept ↦ subst (λ w. w ≤ FAR) (sym kept) (light i 0 (omega (arith, written.count)))
-      | inr (x, x_below, is) ↦ subst (λ w. w ≤ FAR) (sym is) (mine_light x x_below)
-    ])
-
--- the step as the code has it
-module _ (n width : ℕ) (all : List LeftOut) (left_out earlier : List LeftOut) (s : LeftOut)
-    (is : left_out ≡ earlier ++ s ∷ []) (back old : List ℕ)
-    (so_far : IsFilling n width all left_out back old) where
-  pub left_out_within : IsLeftOutWithin n s
-  left_out_within = (All-pop (IsLeftOutWithin n) left_out earlier (Some s) is so_far.within).1
-
-  module _ (mine table : List ℕ) (taken : IsTakenBack n width s back mine old table) where
-    mine_light : (x : ℕ) → x < n → get_or mine x 0 ≤ FAR
-    mine_light x below = elim (cases_eq x s.node) [
-      | inl same ↦
-          let zero_there = at_node taken.folded taken.zeroed
-          (omega (arith, taken.lowered.count, length-replicate n FAR, left_out_within.node)) in
-          rw same (omega (arith, zero_there))
-      | inr other ↦
-          let kept = at_other taken.folded taken.zeroed x other in
-          omega (arith, kept, taken.lowered.falls x, get_or-replicate n x FAR 0 below)
-    ]
-
-    pub fill_next : IsFilling n width all earlier (back ++ s.node ∷ []) table
-    fill_next = fill_step n width all left_out earlier s is back old so_far taken.folded mine table taken.lowered
-        taken.zeroed taken.written
-        (written_light taken.written so_far.light mine_light)
 
 -- out and back
 pub both_ways : {n width : ℕ} {first : List ℕ} (table : List ℕ) {left_out : List LeftOut}

@@ -1,7 +1,7 @@
 -- What a handset stands for goes on with each step that it begins.
 use Rattle.std.proofs.Common.{◌≡◌, ℕ, suc, ◌+◌, ◌<◌, ◌≤◌, Bool, true, false, cond, List, [], ◌∷◌, ◌++◌, length, map, fold, take, drop, replicate, refl, sym, ap, ◌∙◌, subst, arith, length-append}
 use Rattle.std.specs.Prelude.{get_or, nat_le, slice_set, ◌==◌, ◌||◌}
-use Rattle.std.proofs.Math.Bool.{or-false}
+use Rattle.std.proofs.lemmas.Bool.Decides.{nat_tests}
 use Rattle.std.proofs.lemmas.List.{append-nil, take-append-le, get_or-replicate, length-replicate, length-set}
 use Rattle.node_set.specs.Ascending.{has}
 use Rattle.entry_word.specs.declared.mark.PresenceMark.TheVariants.{Off, Here}
@@ -37,15 +37,7 @@ switch-writes : {setting : Setting} {handset : HandsetData} {steps : List Step} 
     → StandsAt setting handset Resting steps made → map (visit_of handset.sub)
     (step_writes setting (course_of setting handset.sub steps) (switch_to off)) ≡ map (visit_of handset.sub)
     (left_at setting handset (Switching off))
-switch-writes {setting} {handset} {steps} off f =
-    let over : course_of setting handset.sub steps ≡ course_of setting handset.sub f.over =
-    ap (course_of setting handset.sub) (f.begun ∙ append-nil f.over) in
-    ap (map (visit_of handset.sub)) (switch-is setting (course_of setting handset.sub steps) off)
-    ∙ (ap (λ (c : Course). visit_of handset.sub
-    (mark_at (last_stop c) (cond off (Off (length c.moves)) (Here (length c.moves)))) ∷ []) over
-    ∙ (ap (λ node. visit_of handset.sub (mark_at node (cond off (Off (length (course_of setting handset.sub
-    f.over).moves)) (Here (length (course_of setting handset.sub f.over).moves)))) ∷ []) (sym f.place)
-    ∙ ap (λ n. visit_of handset.sub (mark_at handset.place (cond off (Off n) (Here n))) ∷ []) (sym f.number)))
+switch-writes {setting} {handset} {steps} off f = grind (arith, append-nil, switch-is)
 
 switch-gathered : (setting : Setting) (sub : ℕ) (steps : List Step) (off : Bool) (level : ℕ)
     → gathered_weight (course_of setting sub (steps ++ switch_to off ∷ [])) level
@@ -92,21 +84,14 @@ pub switch-stands : (setting : Setting) (handset : HandsetData) (steps : List St
     → StandsForSteps setting (record handset { stage = Switching off }) (steps ++ switch_to off ∷ []) made
 switch-stands setting handset steps made off rests stands =
     let f = at_rest setting handset steps made rests stands in
-    record {
-      over = f.over;
-      begun = ap (λ xs. xs ++ switch_to off ∷ []) (f.begun ∙ append-nil f.over);
-      move = tt;
-      place = f.place;
-      number = f.number;
-      is_off = f.is_off;
-      addresses = f.addresses;
-      gathered = λ level h. f.gathered level h ∙ sym (switch-gathered setting handset.sub steps off level);
-      trail = f.trail;
-      shows = begun-shows (record handset { stage = Switching off }) steps made (switch_to off) refl refl refl refl
-          f.few f.shows;
-      few = few-more setting handset.sub steps made (switch_to off) f.few;
-      left = left-more setting handset.sub steps made (switch_to off) f.few f.left ∙ switch-writes off f;
-    }
+    let after : HandsetData = record handset { stage = Switching off } in
+    let begun = ap (λ (xs : List Step). xs ++ switch_to off ∷ []) (f.begun ∙ append-nil f.over) in
+    let gathered = λ (level : ℕ) (h : level < levels setting). f.gathered level h
+    ∙ sym (switch-gathered setting handset.sub steps off level) in
+    let shows = begun-shows after steps made (switch_to off) refl refl refl refl f.few f.shows in
+    let few = few-more setting handset.sub steps made (switch_to off) f.few in
+    let left = left-more setting handset.sub steps made (switch_to off) f.few f.left ∙ switch-writes off f in
+    search
 
 -- a move
 same-move : {a b c d e f g h : ℕ} (to : ℕ) → a ≡ b → c ≡ d → e ≡ f → g ≡ h
@@ -117,11 +102,7 @@ same-move to p q r s = cc
 same-renewal : (setting : Setting) (course : Course) (xs : List ℕ) {weight other : ℕ} → weight ≡ other
     → ((level : ℕ) → level < levels setting → get_or xs level 0 ≡ gathered_weight course level)
     → renewal_in setting xs weight ≡ renewal setting course other
-same-renewal setting course xs {weight} {other} same kept =
-    highest-same (λ level. nat_le (setting.threshold level) (get_or xs level 0 + weight)) (λ level. nat_le
-    (setting.threshold level) (gathered_weight course level + other)) (levels setting)
-    (λ level h. ap (λ w. nat_le (setting.threshold level) (w + weight)) (kept level h)
-    ∙ ap (λ w. nat_le (setting.threshold level) (gathered_weight course level + w)) same)
+same-renewal setting course xs {weight} {other} same kept = grind (arith, highest-same)
 
 pub begin-stands : (setting : Setting) (handset : HandsetData) (steps : List Step) (made to : ℕ)
     → AddressLaw setting → GatheredLaw setting
@@ -201,10 +182,10 @@ new-stands setting plan sub {home} nodes count starts inside = record {
         (nodes_of plan) false) home true) node false ≡ (node == start setting sub || false)
     at_start node h =
         let count = length-replicate (nodes_of plan) false in
-        marked (replicate (nodes_of plan) false) false home node (omega (arith, inside, count))
-        (omega (arith, h, count))
-        ∙ (ap (λ b. b || node == home) (get_or-replicate (nodes_of plan) node false false h)
-        ∙ (sym (or-false (node == home)) ∙ ap (λ n. node == n || false) (sym starts)))
+        let told = marked (replicate (nodes_of plan) false) false home node (omega (arith, inside, count))
+        (omega (arith, h, count)) in
+        let none = get_or-replicate (nodes_of plan) node false false h in
+        grind (arith, nat_tests)
 
 -- it goes with its plan
 pub new-goes : {plan : PlanData} (sub home : ℕ) → IsKept plan → home < nodes_of plan

@@ -7,6 +7,7 @@ use Rattle.entry_word.specs.MarkLaws.{read-mark}
 use Rattle.entry_word.specs.declared.mark.PresenceMark.{PresenceMark}
 use Rattle.entry_word.specs.declared.mark.PresenceMark.TheVariants.{Empty, Here, Gone, Coming as ComingMark, Off}
 use Rattle.entry_word.specs.declared.visit.Visit.{Visit}
+use Rattle.directory.specs.ListLaws.{same_some}
 use Rattle.directory.specs.Standing.{commit_of}
 use Rattle.directory.specs.Writes.{mark_at, new_address, visit_of}
 use Rattle.region_plan.specs.Plan.{PlanData, nodes_of}
@@ -23,18 +24,15 @@ pub commits-is : MarksUnpack → {plan : PlanData} {handset : HandsetData} {visi
     → is_committing handset.stage ≡ is_commit visit.act
 commits-is unpack {plan} {handset} {visit} goes small wants = at_stage handset.stage goes.counted wants
   where
-    same : (x y : Visit) → Some x ≡ Some y → x ≡ y
-    same x y h = cc
-
     by_mark : (node : ℕ) (mark : PresenceMark) (commits : Bool) → IsSmallMark mark
         → is_some (commit_of node mark) ≡ commits → Some (visit_of handset.sub (mark_at node mark)) ≡ Some visit
         → commits ≡ is_commit visit.act
     by_mark node mark commits fits says is =
         sym says ∙ (ap (λ m. is_some (commit_of node m)) (sym (read-mark unpack mark fits))
-        ∙ ap (λ (v : Visit). is_commit v.act) (same (visit_of handset.sub (mark_at node mark)) visit is))
+        ∙ ap (λ (v : Visit). is_commit v.act) (same_some is))
 
     by_entry : (put : Visit) → is_commit put.act ≡ false → Some put ≡ Some visit → false ≡ is_commit visit.act
-    by_entry put quiet is = sym quiet ∙ ap (λ (v : Visit). is_commit v.act) (same put visit is)
+    by_entry put quiet is = sym quiet ∙ ap (λ (v : Visit). is_commit v.act) (same_some is)
 
     at_stage : (stage : Stage) → handset.last.number ≡ begun_at stage handset.number
         → option_map (visit_of handset.sub) (due_at (setting_of plan []) handset stage) ≡ Some visit

@@ -1,5 +1,5 @@
 -- Courses: what one step more makes of the visits, the place, the levels and the trail.
-use Rattle.std.proofs.Common.{◌≡◌, ℕ, suc, ◌≤◌, Bool, true, false, cond, List, [], ◌∷◌, ◌++◌, length, map, drop, sym, ap, ◌∙◌, subst, arith, length-append}
+use Rattle.std.proofs.Common.{◌≡◌, ℕ, suc, ◌≤◌, Bool, true, false, cond, List, [], ◌∷◌, ◌++◌, length, map, drop, ap, ◌∙◌, arith, length-append}
 use Rattle.std.specs.Prelude.{nat_le, ◌==◌, ◌||◌}
 use Rattle.std.proofs.lemmas.List.{map-append, drop-append-le, drop_at}
 use Rattle.std.proofs.lemmas.List.Sums.{fold-append}
@@ -7,7 +7,7 @@ use Rattle.std.proofs.Math.Bool.{or-false}
 use Rattle.node_set.specs.Ascending.{has}
 use Rattle.node_set.specs.SetLaws.{has-append}
 use Rattle.directory.specs.Settings.{Setting, start}
-use Rattle.directory.specs.Courses.{Step, move_to, switch_off, switch_on, Move, Course, course_at, base, next_move, after_step, after_steps}
+use Rattle.directory.specs.Courses.{Step, move_to, Move, Course, course_at, base, next_move, after_step, after_steps}
 use Rattle.directory.specs.Writes.{trail}
 use Rattle.directory.specs.Amid.{course_of}
 use Rattle.directory.specs.StepLaws.{last_stop-moved}
@@ -29,19 +29,11 @@ base-small : (setting : Setting) (course : Course) (steps : List Step) (level : 
     → base level (after_steps setting course steps).moves ≤ length (after_steps setting course steps).moves
 base-small setting course [] level h = h
 base-small setting course (move_to node ∷ steps) level h =
-    base-small setting (after_step setting course (move_to node)) steps level (subst (λ b. b ≤ length
-    (course.moves ++ move ∷ [])) (sym (base-more level course.moves move)) (at_test (nat_le level move.renewed)))
-  where
-    move : Move
-    move = next_move setting course node
-
-    at_test : (b : Bool) → cond b move.number (base level course.moves) ≤ length (course.moves ++ move ∷ [])
-    at_test true = omega (arith, length-append course.moves (move ∷ []))
-    at_test false = omega (arith, h, length-append course.moves (move ∷ []))
-base-small setting course (switch_off ∷ steps) level h = base-small setting
-    (after_step setting course switch_off) steps level h
-base-small setting course (switch_on ∷ steps) level h = base-small setting
-    (after_step setting course switch_on) steps level h
+    let move = next_move setting course node in
+    let more = base-more level course.moves move in
+    let longer = length-append course.moves (move ∷ []) in
+    base-small setting (after_step setting course (move_to node)) steps level (grind arith)
+base-small setting course (step ∷ steps) level h = base-small setting (after_step setting course step) steps level h
 
 pub base-within : (setting : Setting) (sub : ℕ) (steps : List Step) (level : ℕ)
     → base level (course_of setting sub steps).moves ≤ length (course_of setting sub steps).moves

@@ -1,11 +1,11 @@
 -- A handset goes with its plan after each of its writes.
-use Rattle.std.proofs.Common.{◌≡◌, ℕ, suc, ◌+◌, ◌*◌, ◌-◌, ◌^◌, ◌<◌, ◌≤◌, Bool, true, false, cond, List, [], ◌++◌, Option, Some, None, length, drop, replicate, refl, sym, ap, ◌∙◌, subst, arith, length-append}
-use Rattle.std.specs.Prelude.{get_or, nat_le, nat_lt, slice_set, ◌&&◌}
+use Rattle.std.proofs.Common.{◌≡◌, ℕ, suc, ◌+◌, ◌*◌, ◌-◌, ◌^◌, ◌<◌, ◌≤◌, Bool, true, false, cond, List, [], ◌++◌, Option, Some, None, length, drop, replicate, refl, ap, ◌∙◌, subst, arith, length-append}
+use Rattle.std.specs.Prelude.{get_or, nat_le, nat_lt, slice_set}
 use Rattle.std.proofs.lemmas.Bool.Decides.{nat_tests}
 use Rattle.std.proofs.lemmas.List.{length-map, length-set, length-drop, length-replicate, get_or_append_left, get_or-replicate, get_or-append_right, get_or-drop}
 use Rattle.directory.specs.Courses.{Move}
 use Rattle.directory.specs.Writes.{numbers_from}
-use Rattle.region_plan.specs.Plan.{PlanData, nodes_of, levels_of, distance}
+use Rattle.region_plan.specs.Plan.{PlanData, nodes_of, levels_of}
 use Rattle.region_plan.specs.Kept.{IsKept}
 use Rattle.region_plan.specs.Settings.{setting_of}
 use Rattle.handset.specs.declared.stage.Stage.{Stage}
@@ -54,21 +54,8 @@ erasing-is-late plan handset level = late-erasing plan handset level _ refl
 pub readdressed : (xs : List ℕ) (renewed to level : ℕ) → level < length xs
     → get_or (replicate (suc renewed) to ++ drop (suc renewed) xs) level 0 ≡ cond (nat_lt renewed level)
     (get_or xs level 0) to
-readdressed xs renewed to level h = at_test (nat_lt renewed level) refl
-  where
-    at_test : (b : Bool) → nat_lt renewed level ≡ b → get_or (replicate (suc renewed) to ++ drop
-        (suc renewed) xs) level 0 ≡ cond b (get_or xs level 0) to
-    at_test true test =
-        let low : suc renewed ≤ level = grind (arith, nat_tests) in
-        let e : suc renewed + (level - suc renewed) ≡ level = omega arith in
-        get_or-append_right (replicate (suc renewed) to) (drop (suc renewed) xs) (suc renewed) level 0
-        (length-replicate (suc renewed) to) low
-        ∙ (get_or-drop (suc renewed) xs (level - suc renewed) 0 ∙ ap (λ n. get_or xs n 0) e)
-    at_test false test =
-        let low : level < suc renewed = grind (arith, nat_tests) in
-        let small : level < length (replicate (suc renewed) to) = omega (arith, length-replicate (suc renewed) to) in
-        get_or_append_left (replicate (suc renewed) to) (drop (suc renewed) xs) 0 level small
-        ∙ get_or-replicate (suc renewed) level to 0 low
+readdressed xs renewed to level h =
+    grind (arith, length-replicate, get_or_append_left, get_or-replicate, get_or-append_right, get_or-drop)
 
 trail-length : (b : Bool) (trail : List Bool) (to : ℕ) → length (slice_set (cond b (replicate
     (length trail) false) trail) to true) ≡ length trail
@@ -78,53 +65,13 @@ trail-length false trail to = length-set trail to true
 
 pub goes-settled : {plan : PlanData} {handset : HandsetData} → GoesWith plan handset
     → handset.last.number ≡ handset.number → GoesWith plan (settle (setting_of plan []) handset)
-goes-settled {plan} {handset} goes done = record {
-  addresses = omega (
-    arith,
-    length-append (replicate (suc handset.last.renewed) handset.last.to) (drop
-        (suc handset.last.renewed) handset.addresses),
-    length-replicate (suc handset.last.renewed) handset.last.to,
-    length-drop (suc handset.last.renewed) handset.addresses,
-    goes.addresses,
-    goes.renewed,
-  );
-  gathered = goes.gathered;
-  trail = trail-length _ handset.trail handset.last.to ∙ goes.trail;
-  place = goes.place;
-  from = goes.from;
-  to = goes.to;
-  renewed = goes.renewed;
-  inside = λ level h. subst (λ n. n < nodes_of plan) (sym (readdressed handset.addresses handset.last.renewed
-      handset.last.to level (omega (arith, h, goes.addresses)))) (at_test level h
-      (nat_lt handset.last.renewed level));
-  light = goes.light;
-  counted = done;
-  numbered = goes.numbered;
-  stage = tt;
-}
-  where
-    at_test : (level : ℕ) → level < levels_of plan → (b : Bool)
-        → cond b (get_or handset.addresses level 0) handset.last.to < nodes_of plan
-    at_test level h true = goes.inside level h
-    at_test level h false = goes.to
+goes-settled {plan} {handset} goes done =
+    grind (arith, length-append, length-replicate, length-drop, trail-length, readdressed)
 
 pub goes-late : {plan : PlanData} {handset : HandsetData} (next : Stage) → GoesWith plan handset
     → handset.last.number ≡ begun_at next handset.number → IsMoveStage (nodes_of plan) handset.last next
     → GoesWith plan (record handset { stage = next })
-goes-late next goes counted within = record {
-  addresses = goes.addresses;
-  gathered = goes.gathered;
-  trail = goes.trail;
-  place = goes.place;
-  from = goes.from;
-  to = goes.to;
-  renewed = goes.renewed;
-  inside = goes.inside;
-  light = goes.light;
-  counted = counted;
-  numbered = goes.numbered;
-  stage = within;
-}
+goes-late next goes counted within = assumption
 
 pub goes-on : {plan : PlanData} {handset : HandsetData} (next : Stage) → GoesWith plan handset
     → handset.last.number ≡ handset.number → IsLate (nodes_of plan) handset.last next
@@ -138,9 +85,7 @@ goes-on stage goes done late = absurd late
 pub goes-next : {plan : PlanData} {handset after : HandsetData} {stage : Stage} (next : Stage) → GoesWith plan handset
     → handset.stage ≡ stage → begun_at stage handset.number ≡ handset.number
     → IsLate (nodes_of plan) handset.last next → after ≡ go_on (setting_of plan []) handset next → GoesWith plan after
-goes-next {plan} {handset} next goes at committed late same =
-    subst (GoesWith plan) (sym same)
-    (goes-on next goes (goes.counted ∙ (ap (λ s. begun_at s handset.number) at ∙ committed)) late)
+goes-next {plan} {handset} next goes at committed late same = grind (arith, goes-on)
 
 pub purging-by-count : (plan : PlanData) (handset : HandsetData) (node : ℕ) {count : ℕ} → count ≡ nodes_of plan
     → IsLate (nodes_of plan) handset.last (purging_at (first_with (is_behind handset) node (count - node)))
@@ -151,58 +96,32 @@ purging-by-count plan handset node same =
 pub light-after : (xs : List ℕ) {ys : List ℕ} {levels : ℕ} (n : ℕ) {more : ℕ} (renewed weight : ℕ) → length xs ≡ levels
     → ((level : ℕ) → level < levels → get_or xs level 0 ≤ n * 2 ^ 30) → weight ≤ 2 ^ 30 → more ≡ n + 1
     → ys ≡ gathered_after xs renewed weight → (level : ℕ) → level < levels → get_or ys level 0 ≤ more * 2 ^ 30
-light-after xs {ys} n {more} renewed weight count light small next same level h =
-    let one : get_or ys level 0 ≡ gathered_then (get_or xs level 0) renewed weight level =
-    ap (λ zs. get_or zs level 0) same ∙ numbers-from-zero (λ k. gathered_then (get_or xs k 0) renewed weight k)
-    (length xs) level (omega (arith, h, count)) in
-    subst (λ w. w ≤ more * 2 ^ 30) (sym one) (at_test (nat_le level renewed))
-  where
-    at_test : (b : Bool) → cond b 0 (get_or xs level 0 + weight) ≤ more * 2 ^ 30
-    at_test true = omega arith
-    at_test false = omega (arith, light level h, small, next)
+light-after xs {ys} n {more} renewed weight count light small next same level h = grind (arith, numbers-from-zero)
 
 -- a handset that begins a move goes with its plan
 light-weight : {plan : PlanData} (u v : ℕ) → IsKept plan → (setting_of plan []).distance u v ≤ 2 ^ 30
-light-weight {plan} u v kept = at_tests (nat_lt u (nodes_of plan)) (nat_lt v (nodes_of plan)) refl refl
-  where
-    at_tests : (a b : Bool) → nat_lt u (nodes_of plan) ≡ a → nat_lt v (nodes_of plan) ≡ b
-        → cond (a && b) (distance plan u v) 0 ≤ 2 ^ 30
-    at_tests true true h l =
-        let inside : u < nodes_of plan = grind (arith, nat_tests) in
-        let other : v < nodes_of plan = grind (arith, nat_tests) in
-        omega (arith, kept.metric.bounded u v inside other, kept.metric.few)
-    at_tests true false h l = omega arith
-    at_tests false true h l = omega arith
-    at_tests false false h l = omega arith
+light-weight {plan} u v kept = grind (arith, nat_tests, kept.metric.bounded u v, kept.metric.few)
 
 pub goes-begun : {plan : PlanData} {handset : HandsetData} (to : ℕ) → IsKept plan → GoesWith plan handset
     → to < nodes_of plan → handset.stage ≡ Resting → suc handset.number < 2 ^ 32
     → GoesWith plan (begin_move (setting_of plan []) handset to)
 goes-begun {plan} {handset} to kept goes inside rests few =
     let done : handset.last.number ≡ handset.number = goes.counted ∙ ap (λ s. begun_at s handset.number) rests in
-    record {
-      addresses = goes.addresses;
-      gathered = length-map (numbers_from 0 (length handset.gathered)) (λ k. gathered_then
-          (get_or handset.gathered k 0) move.renewed move.weight k) ∙ (length-passing_all 0 (length handset.gathered)
-          ∙ goes.gathered);
-      trail = goes.trail;
-      place = goes.place;
-      from = goes.place;
-      to = inside;
-      renewed = omega (
-        arith,
-        kept.some,
-        highest-low (λ level. nat_le ((setting_of plan []).threshold level)
-            (get_or handset.gathered level 0 + move.weight)) (levels_of plan - 1),
-      );
-      inside = goes.inside;
-      light = light-after handset.gathered handset.number move.renewed move.weight goes.gathered
-          (λ level h. subst (λ n. get_or handset.gathered level 0 ≤ n * 2 ^ 30) done (goes.light level h))
-          (light-weight handset.place to kept) (omega arith) refl;
-      counted = refl;
-      numbered = few;
-      stage = tt;
-    }
+    let gathered = length-map (numbers_from 0 (length handset.gathered)) (λ k. gathered_then
+    (get_or handset.gathered k 0) move.renewed move.weight k) ∙ (length-passing_all 0 (length handset.gathered)
+    ∙ goes.gathered) in
+    let renewed : move.renewed < levels_of plan = omega (
+      arith,
+      kept.some,
+      highest-low (λ level. nat_le ((setting_of plan []).threshold level)
+          (get_or handset.gathered level 0 + move.weight)) (levels_of plan - 1),
+    ) in
+    let after = begin_move (setting_of plan []) handset to in
+    let light : (level : ℕ) → level < levels_of plan → get_or after.gathered level 0 ≤ after.last.number * 2 ^ 30 =
+    light-after handset.gathered handset.number move.renewed move.weight goes.gathered
+    (λ level h. subst (λ n. get_or handset.gathered level 0 ≤ n * 2 ^ 30) done (goes.light level h))
+    (light-weight handset.place to kept) (omega arith) refl in
+    assumption
   where
     move : Move
     move = journey_to (setting_of plan []) handset to

@@ -1,10 +1,8 @@
 -- What a handset stands for at a stage, and at the stages that follow it.
-use Rattle.std.proofs.Common.{◌≡◌, ℕ, ◌^◌, ◌<◌, ◌≤◌, false, List, ◌++◌, length, map, take, drop, ap, ◌∙◌}
-use Rattle.std.specs.Prelude.{get_or}
-use Rattle.node_set.specs.Ascending.{has}
+use Rattle.std.proofs.Common.{◌≡◌, ℕ, ◌^◌, ◌<◌, ◌≤◌, List, ◌++◌, length, map, take, drop, refl, ap, ◌∙◌}
 use Rattle.directory.specs.Settings.{Setting, levels}
-use Rattle.directory.specs.Courses.{Step, Move, Course, address_node, gathered_weight, next_move}
-use Rattle.directory.specs.Writes.{visit_of, visits, trail}
+use Rattle.directory.specs.Courses.{Step, Move, Course}
+use Rattle.directory.specs.Writes.{visit_of, visits}
 use Rattle.handset.specs.declared.stage.Stage.{Stage}
 use Rattle.handset.specs.Condition.{HandsetData}
 use Rattle.handset.specs.StepWrites.{left_at}
@@ -23,23 +21,6 @@ pub record Fits (setting : Setting) (handset : HandsetData) : Type 0 where
   pub numbered : handset.last.number < 2 ^ 32
   pub number : handset.number < 2 ^ 32
 
--- what a handset stands for at a stage, but for the visits that it has made
-pub record Keeps (setting : Setting) (handset : HandsetData) (stage : Stage) (steps : List Step) : Type 0 where
-  pub over : List Step
-  pub begun : steps ≡ over ++ under_way handset.last stage
-  pub move : ComesNext setting (course_of setting handset.sub over) handset.last stage
-  pub place : handset.place ≡ place_at (course_of setting handset.sub over) handset.last stage
-  pub number : handset.number ≡ number_at (course_of setting handset.sub over) handset.last stage
-  pub is_off : handset.is_off ≡ (course_of setting handset.sub over).is_off
-  pub addresses : (level : ℕ) → level < levels setting
-      → get_or handset.addresses level 0 ≡ address_node (course_of setting handset.sub over) level
-  pub gathered : (level : ℕ) → level < levels setting
-      → get_or handset.gathered level 0 ≡ gathered_weight (course_of setting handset.sub steps) level
-  pub trail : (to node : ℕ) → node < setting.nodes
-      → get_or handset.trail node false
-      ≡ has node (trail setting (course_of setting handset.sub over) (next_move setting
-      (course_of setting handset.sub over) to))
-
 -- at two stages a step is as far, but for its visits
 abbrev pub AreAlike : Setting → Move → Stage → Stage → Type 0
 AreAlike setting move stage next =
@@ -48,39 +29,19 @@ AreAlike setting move stage next =
     × ((course : Course) → place_at course move stage ≡ place_at course move next)
     × ((course : Course) → number_at course move stage ≡ number_at course move next)
 
--- so what a handset stands for at one it stands for at the other
-pub keeps-at : {setting : Setting} {handset : HandsetData} {stage : Stage} (next : Stage) {steps : List Step} {made : ℕ}
-    → AreAlike setting handset.last stage next → StandsAt setting handset stage steps made
-    → Keeps setting handset next steps
-keeps-at {setting} {handset} next alike f = record {
-  over = f.over;
-  begun = f.begun ∙ ap (λ under. f.over ++ under) alike.0;
-  move = alike.1 (course_of setting handset.sub f.over) f.move;
-  place = f.place ∙ alike.2 (course_of setting handset.sub f.over);
-  number = f.number ∙ alike.3 (course_of setting handset.sub f.over);
-  is_off = f.is_off;
-  addresses = f.addresses;
-  gathered = f.gathered;
-  trail = f.trail;
-}
+pub alike : (setting : Setting) (move : Move) (stage : Stage) → AreAlike setting move stage stage
+alike setting move stage = (refl, λ c m. m, λ c. refl, λ c. refl)
 
+-- so a handset that stands for something at one stands for it at the other, with the visits that are made then
 pub stands-of : {setting : Setting} {handset : HandsetData} {stage : Stage} (next : Stage) {steps : List Step}
-    → AreAlike setting handset.last stage next → (made : ℕ) → Keeps setting handset stage steps
-    → Shows setting handset (take made (visits setting handset.sub steps))
+    {before : ℕ} → AreAlike setting handset.last stage next → (made : ℕ)
+    → StandsAt setting handset stage steps before → Shows setting handset (take made (visits setting handset.sub steps))
     → made ≤ length (visits setting handset.sub steps) → drop made (visits setting handset.sub steps)
     ≡ map (visit_of handset.sub) (left_at setting (record handset { stage = next }) next)
     → StandsForSteps setting (record handset { stage = next }) steps made
-stands-of {setting} {handset} next alike made f shows few left = record {
-  over = f.over;
-  begun = f.begun ∙ ap (λ under. f.over ++ under) alike.0;
-  move = alike.1 (course_of setting handset.sub f.over) f.move;
-  place = f.place ∙ alike.2 (course_of setting handset.sub f.over);
-  number = f.number ∙ alike.3 (course_of setting handset.sub f.over);
-  is_off = f.is_off;
-  addresses = f.addresses;
-  gathered = f.gathered;
-  trail = f.trail;
-  shows = record { place = shows.place; number = shows.number; is_off = shows.is_off };
-  few = few;
-  left = left;
-}
+stands-of {setting} {handset} next same made f shows few left =
+    let begun = f.begun ∙ ap (λ under. f.over ++ under) same.0 in
+    let move = same.1 (course_of setting handset.sub f.over) f.move in
+    let place = f.place ∙ same.2 (course_of setting handset.sub f.over) in
+    let number = f.number ∙ same.3 (course_of setting handset.sub f.over) in
+    search

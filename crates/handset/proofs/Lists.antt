@@ -1,9 +1,14 @@
 -- Lists: the first number that passes a test, numbers one after another, and what is left of a list.
-use Rattle.std.proofs.Common.{◌≡◌, ◌≢◌, ℕ, zero, suc, ◌+◌, ◌-◌, ◌<◌, ◌≤◌, Bool, true, false, cond, List, [], ◌∷◌, ◌++◌, Some, None, length, map, take, drop, refl, sym, ap, ◌∙◌, arith}
+use Rattle.std.proofs.Common.{◌≡◌, ◌≢◌, ℕ, zero, suc, ◌+◌, ◌-◌, ◌<◌, ◌≤◌, Bool, true, false, cond, List, [], ◌∷◌, ◌++◌, Some, None, length, map, take, drop, refl, ap, ◌∙◌, arith, add-one}
+use Rattle.std.proofs.Math.Seq.{drop-cons}
+use Rattle.std.proofs.lemmas.List.{drop-append-le, drop-drop, get_or-map, length-drop}
+use Rattle.std.proofs.lemmas.Option.{slice_get-get_or, slice_get_past}
 use Rattle.std.proofs.lemmas.Bool.Decides.{nat_tests}
 use Rattle.std.specs.Prelude.{slice_get, get_or, not, nat_le, ◌==◌}
 use Rattle.node_set.specs.Ascending.{sift}
+use Rattle.node_set.specs.SetLaws.{length-passing_all, passing_all-each}
 use Rattle.directory.specs.Courses.{highest}
+use Rattle.directory.specs.StepLaws.{take-more}
 use Rattle.directory.specs.Writes.{numbers_from}
 use Rattle.handset.specs.StepWrites.{first_with}
 
@@ -14,18 +19,15 @@ first-step test x limit h = let e : limit - x ≡ suc (limit - suc x) = omega ar
 
 pub first-here : (test : ℕ → Bool) (x limit : ℕ) → x < limit → test x ≡ true → first_with test x (limit - x)
     ≡ Some x
-first-here test x limit h passes = first-step test x limit h ∙ ap (λ b. cond b (Some x) (first_with test (suc x)
-    (limit - suc x))) passes
+first-here test x limit h passes = rw (first-step test x limit h, passes)
 
 pub first-later : (test : ℕ → Bool) (x limit : ℕ) → x < limit → test x ≡ false
     → first_with test (suc x) (limit - suc x) ≡ first_with test x (limit - x)
-first-later test x limit h fails = sym (first-step test x limit h ∙ ap (λ b. cond b (Some x) (first_with test
-    (suc x) (limit - suc x))) fails)
+first-later test x limit h fails = rw (first-step test x limit h, fails)
 
 pub first-next : (test : ℕ → Bool) (x limit : ℕ) → x < limit → test x ≡ false → first_with test (x + 1) (limit -
     (x + 1)) ≡ first_with test x (limit - x)
-first-next test x limit h fails = let e : x + 1 ≡ suc x = omega arith in ap (λ y. first_with test y
-    (limit - y)) e ∙ first-later test x limit h fails
+first-next test x limit h fails = rw add-one (first-later test x limit h fails)
 
 pub differ : (a b : ℕ) → a ≢ b → not (a == b) ≡ true
 differ a b h = grind (arith, nat_tests)
@@ -33,28 +35,17 @@ differ a b h = grind (arith, nat_tests)
 pub agree : {a b : ℕ} → a ≡ b → not (a == b) ≡ false
 agree h = grind (arith, nat_tests)
 
-pub numbers-at : (f : ℕ → ℕ) (first count k : ℕ) → k < count → get_or (map f (numbers_from first count)) k 0
-    ≡ f (first + k)
-numbers-at f first zero k h = absurd (omega arith)
-numbers-at f first (suc count) zero h = let e : first ≡ first + 0 = omega arith in ap f e
-numbers-at f first (suc count) (suc k) h = numbers-at f (suc first) count k (omega arith) ∙ (let e : suc first + k
-    ≡ first + suc k = omega arith in ap f e)
-
 pub highest-here : (test : ℕ → Bool) (limit : ℕ) → 0 < limit → test (limit - 1) ≡ true → limit - 1
     ≡ highest test limit
 unfolding highest
 highest-here test zero h passes = absurd (omega arith)
-highest-here test (suc level) h passes =
-    let e : suc level - 1 ≡ level = omega arith in
-    e ∙ sym (ap (λ b. cond b level (highest test level)) (ap test (sym e) ∙ passes))
+highest-here test (suc level) h passes = grind arith
 
 pub highest-later : (test : ℕ → Bool) (limit : ℕ) → 0 < limit → test (limit - 1) ≡ false
     → highest test (limit - 1) ≡ highest test limit
 unfolding highest
 highest-later test zero h fails = absurd (omega arith)
-highest-later test (suc level) h fails =
-    let e : suc level - 1 ≡ level = omega arith in
-    ap (highest test) e ∙ sym (ap (λ b. cond b level (highest test level)) (ap test (sym e) ∙ fails))
+highest-later test (suc level) h fails = grind arith
 
 pub highest-none : (test : ℕ → Bool) (limit : ℕ) → limit ≤ 0 → 0 ≡ highest test limit
 unfolding highest
@@ -66,104 +57,66 @@ pub le-passes : (a b : ℕ) → a ≤ b → nat_le a b ≡ true
 le-passes a b h = grind (arith, nat_tests)
 
 pub numbers-from-zero : (f : ℕ → ℕ) (count k : ℕ) → k < count → get_or (map f (numbers_from 0 count)) k 0 ≡ f k
-numbers-from-zero f count k h = numbers-at f 0 count k h ∙ (let e : 0 + k ≡ k = omega arith in ap f e)
+numbers-from-zero f count k h =
+    get_or-map f (numbers_from 0 count) k 0 0 (omega (arith, h, length-passing_all 0 count))
+    ∙ ap f (passing_all-each 0 count k 0 h ∙ omega arith)
 
 -- the first number that passes, and all that do
 pub first-inside : (test : ℕ → Bool) (x k : ℕ) {y : ℕ} → first_with test x k ≡ Some y → (x ≤ y) × (y < x + k)
 first-inside test x zero h = cc
-first-inside test x (suc k) {y} h = at_test (first-inside test (suc x) k) (test x) h
-  where
-    at_test : (first_with test (suc x) k ≡ Some y → (suc x ≤ y) × (y < suc x + k)) → (b : Bool)
-        → cond b (Some x) (first_with test (suc x) k) ≡ Some y → (x ≤ y) × (y < x + suc k)
-    at_test later true same = let e : x ≡ y = cc in (omega (arith, e), omega (arith, e))
-    at_test later false same = let deep : (suc x ≤ y) × (y < suc x + k) = later same in (
-      omega (arith, deep.0),
-      omega (arith, deep.1),
-    )
+first-inside test x (suc k) {y} h =
+    let later = λ (e : first_with test (suc x) k ≡ Some y). first-inside test (suc x) k e in
+    grind arith
 
 pub passing-none : (test : ℕ → Bool) (x k : ℕ) → first_with test x k ≡ None → sift test x k ≡ []
 passing-none test x zero h = refl
-passing-none test x (suc k) h = at_test (passing-none test (suc x) k) (test x) h
-  where
-    at_test : (first_with test (suc x) k ≡ None → sift test (suc x) k ≡ []) → (b : Bool)
-        → cond b (Some x) (first_with test (suc x) k) ≡ None → cond b (x ∷ sift test (suc x) k) (sift test
-        (suc x) k) ≡ []
-    at_test later true same = cc
-    at_test later false same = later same
+passing-none test x (suc k) h =
+    let later = λ (e : first_with test (suc x) k ≡ None). passing-none test (suc x) k e in
+    grind arith
 
 pub passing-some : (test : ℕ → Bool) (x k : ℕ) {y : ℕ} → first_with test x k ≡ Some y
     → sift test x k ≡ y ∷ sift test (suc y) (x + k - suc y)
 passing-some test x zero h = cc
-passing-some test x (suc k) {y} h = at_test (passing-some test (suc x) k) (test x) h
-  where
-    at_test : (first_with test (suc x) k ≡ Some y → sift test (suc x) k ≡ y ∷ sift test (suc y)
-        (suc x + k - suc y)) → (b : Bool) → cond b (Some x) (first_with test (suc x) k) ≡ Some y
-        → cond b (x ∷ sift test (suc x) k) (sift test (suc x) k) ≡ y ∷ sift test (suc y) (x + suc k - suc y)
-    at_test later true same =
-        let e : x ≡ y = cc in let f : k ≡ x + suc k - suc x = omega arith in
-        ap (λ n. x ∷ sift test (suc x) n) f ∙ ap (λ z. z ∷ sift test (suc z) (x + suc k - suc z)) e
-    at_test later false same =
-        let f : suc x + k - suc y ≡ x + suc k - suc y = omega arith in
-        later same ∙ ap (λ n. y ∷ sift test (suc y) n) f
+passing-some test x (suc k) {y} h =
+    let later = λ (e : first_with test (suc x) k ≡ Some y). passing-some test (suc x) k e in
+    grind arith
 
 -- tests and functions that agree on some numbers make the same list
 pub map-passing-same : {A : Type 0} (p q : ℕ → Bool) (f g : ℕ → A) (x k : ℕ)
     → ((y : ℕ) → x ≤ y → y < x + k → p y ≡ q y) → ((y : ℕ) → x ≤ y → y < x + k → f y ≡ g y)
     → map f (sift p x k) ≡ map g (sift q x k)
 map-passing-same p q f g x zero same equal = refl
-map-passing-same p q f g x (suc k) same equal =
-    ap (λ b. map f (cond b (x ∷ sift p (suc x) k) (sift p (suc x) k))) (same x (omega arith) (omega arith))
-    ∙ at_test (map-passing-same p q f g (suc x) k (λ y h l. same y (omega (arith, h)) (omega (arith, l)))
-    (λ y h l. equal y (omega (arith, h)) (omega (arith, l)))) (q x)
-  where
-    at_test : map f (sift p (suc x) k) ≡ map g (sift q (suc x) k) → (b : Bool) → map f (cond b (x ∷ sift p
-        (suc x) k) (sift p (suc x) k)) ≡ map g (cond b (x ∷ sift q (suc x) k) (sift q (suc x) k))
-    at_test deep true = ap (λ z. z ∷ map f (sift p (suc x) k)) (equal x (omega arith) (omega arith))
-        ∙ ap (λ zs. g x ∷ zs) deep
-    at_test deep false = deep
+map-passing-same p q f g x (suc k) same equal = grind (
+  arith,
+  map-passing-same p q f g (suc x) k (λ y h l. same y (omega (arith, h)) (omega (arith, l)))
+      (λ y h l. equal y (omega (arith, h)) (omega (arith, l))),
+)
 
 pub highest-same : (p q : ℕ → Bool) (limit : ℕ) → ((y : ℕ) → y < limit → p y ≡ q y) → highest p limit
     ≡ highest q limit
 unfolding highest
 highest-same p q zero same = refl
-highest-same p q (suc limit) same =
-    ap (λ b. cond b limit (highest p limit)) (same limit (omega arith))
-    ∙ ap (λ n. cond (q limit) limit n) (highest-same p q limit (λ y h. same y (omega (arith, h))))
+highest-same p q (suc limit) same = grind (arith, highest-same p q limit (λ y h. same y (omega (arith, h))))
 
 -- what is left of a list: its head, and the rest
 pub drop-head : {A : Type 0} (n : ℕ) (xs : List A) {y : A} {ys : List A} → drop n xs ≡ y ∷ ys → slice_get xs n ≡ Some y
-drop-head zero [] h = cc
-drop-head zero (x ∷ xs) h = cc
-drop-head (suc n) [] h = cc
-drop-head (suc n) (x ∷ xs) h = drop-head n xs h
+drop-head n xs {y} h =
+    let inside : n < length xs = omega (arith, length-drop n xs, ap length h) in
+    let first = drop-cons xs n y inside in
+    slice_get-get_or xs n y inside ∙ cc
 
 pub drop-tail : {A : Type 0} (n : ℕ) (xs : List A) {y : A} {ys : List A} → drop n xs ≡ y ∷ ys → drop (suc n) xs ≡ ys
-drop-tail zero [] h = cc
-drop-tail zero (x ∷ xs) h = cc
-drop-tail (suc n) [] h = cc
-drop-tail (suc n) (x ∷ xs) h = drop-tail n xs h
+drop-tail n xs h = rw (← add-one n, ← drop-drop 1 n xs, h)
 
 pub drop-inside : {A : Type 0} (n : ℕ) (xs : List A) {y : A} {ys : List A} → drop n xs ≡ y ∷ ys → suc n ≤ length xs
-drop-inside zero [] h = cc
-drop-inside zero (x ∷ xs) h = omega arith
-drop-inside (suc n) [] h = cc
-drop-inside (suc n) (x ∷ xs) h = omega (arith, drop-inside n xs h)
+drop-inside n xs h = omega (arith, length-drop n xs, ap length h)
 
 pub drop-none : {A : Type 0} (n : ℕ) (xs : List A) → drop n xs ≡ [] → slice_get xs n ≡ None
-drop-none zero [] h = refl
-drop-none zero (x ∷ xs) h = cc
-drop-none (suc n) [] h = refl
-drop-none (suc n) (x ∷ xs) h = drop-none n xs h
+drop-none n xs h = slice_get_past xs n (omega (arith, length-drop n xs, ap length h))
 
 pub drop-spent : {A : Type 0} (n : ℕ) (xs ys : List A) → n ≤ length xs → drop n xs ≡ [] → drop n (xs ++ ys) ≡ ys
-drop-spent zero [] ys few h = refl
-drop-spent zero (x ∷ xs) ys few h = cc
-drop-spent (suc n) [] ys few h = absurd (omega arith)
-drop-spent (suc n) (x ∷ xs) ys few h = drop-spent n xs ys (omega arith) h
+drop-spent n xs ys few h = rw (drop-append-le n xs ys few, h)
 
 pub take-next : {A : Type 0} (n : ℕ) (xs : List A) {y : A} {ys : List A} → drop n xs ≡ y ∷ ys
     → take (suc n) xs ≡ take n xs ++ y ∷ []
-take-next zero [] h = cc
-take-next zero (x ∷ xs) {y} h = let e : x ≡ y = cc in ap (λ z. z ∷ []) e
-take-next (suc n) [] h = cc
-take-next (suc n) (x ∷ xs) h = ap (λ zs. x ∷ zs) (take-next n xs h)
+take-next n xs h = take-more xs n _ (drop-head n xs h)

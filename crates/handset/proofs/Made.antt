@@ -21,7 +21,7 @@ use Rattle.handset.proofs.Lists.{drop-head, drop-tail, drop-inside, drop-none}
 use Rattle.handset.proofs.Going.{IsLate, erasing-is-late, purging-is-late}
 use Rattle.handset.proofs.Showing.{mark-shown, entry-shown, commit-shown}
 use Rattle.handset.proofs.CourseLaws.{course-more}
-use Rattle.handset.proofs.Keeping.{Fits, Keeps, keeps-at, stands-of}
+use Rattle.handset.proofs.Keeping.{AreAlike, Fits, alike, stands-of}
 use Rattle.handset.proofs.Settling.{AddressLaw, settled-stands}
 use Rattle.handset.proofs.Writing.{purging-left, erasing-left, renewing-left, renewing-first}
 use Rattle.entry_word.specs.Marks.{MarksUnpack}
@@ -40,28 +40,30 @@ next-stands setting handset steps made stands = sym (head-due setting handset ha
     (visits setting handset.sub steps) stands.left)
 
 -- a handset that goes on behind the confirm
-gone-on-stands : {setting : Setting} {handset : HandsetData} (next : Stage) (nodes : ℕ) {steps : List Step} (made : ℕ)
-    → AddressLaw setting → Fits setting handset → Keeps setting handset Confirming steps
+gone-on-stands : {setting : Setting} {handset : HandsetData} {stage : Stage} (next : Stage) (nodes : ℕ)
+    {steps : List Step} {before : ℕ} (made : ℕ) → AddressLaw setting → Fits setting handset
+    → AreAlike setting handset.last stage Confirming → StandsAt setting handset stage steps before
     → Shows setting handset (take made (visits setting handset.sub steps)) → IsLate nodes handset.last next
     → made ≤ length (visits setting handset.sub steps) → drop made (visits setting handset.sub steps) ≡ map
     (visit_of handset.sub) (left_at setting handset next) → StandsForSteps setting (go_on setting handset next) steps
     made
-gone-on-stands Resting nodes made law fits f shows late few left =
-    settled-stands made law fits f shows few left
-gone-on-stands (Erasing level) nodes made law fits f shows late few left =
-    stands-of (Erasing level) (refl, λ c m. m, λ c. refl, λ c. refl) made f shows few left
-gone-on-stands (Purging node) nodes made law fits f shows late few left =
-    stands-of (Purging node) (refl, λ c m. m, λ c. refl, λ c. refl) made f shows few left
-gone-on-stands stage nodes made law fits f shows late few left = absurd late
+gone-on-stands Resting nodes made law fits same f shows late few left =
+    settled-stands made law fits same f shows few left
+gone-on-stands (Erasing level) nodes made law fits same f shows late few left =
+    stands-of (Erasing level) same made f shows few left
+gone-on-stands (Purging node) nodes made law fits same f shows late few left =
+    stands-of (Purging node) same made f shows few left
+gone-on-stands stage nodes made law fits same f shows late few left = absurd late
 
 -- a handset goes on before the commit
-renewing-stands : {setting : Setting} {handset : HandsetData} (level : ℕ) {steps : List Step} (made : ℕ)
-    → Keeps setting handset Coming steps → Shows setting handset (take made (visits setting handset.sub steps))
+renewing-stands : {setting : Setting} {handset : HandsetData} {stage : Stage} (level : ℕ) {steps : List Step}
+    {before : ℕ} (made : ℕ) → AreAlike setting handset.last stage Coming → StandsAt setting handset stage steps before
+    → Shows setting handset (take made (visits setting handset.sub steps))
     → made ≤ length (visits setting handset.sub steps) → drop made (visits setting handset.sub steps) ≡ map
     (visit_of handset.sub) (renew_from setting handset (suc level))
     → StandsForSteps setting (after_write setting handset (Renewing level)) steps made
-renewing-stands {setting} {handset} level {steps} made f shows few left = at_test (nat_lt level handset.last.renewed)
-    refl
+renewing-stands {setting} {handset} level {steps} made alike f shows few left =
+    at_test (nat_lt level handset.last.renewed) refl
   where
     left_then : (b : Bool) → nat_lt level handset.last.renewed ≡ b → drop made (visits setting handset.sub steps)
         ≡ map (visit_of handset.sub) (left_at setting handset (cond b (Renewing (suc level)) Committing))
@@ -71,9 +73,9 @@ renewing-stands {setting} {handset} level {steps} made f shows few left = at_tes
     at_test : (b : Bool) → nat_lt level handset.last.renewed ≡ b → StandsForSteps setting (record handset {
       stage = cond b (Renewing (suc level)) Committing;
     }) steps made
-    at_test true same = stands-of (Renewing (suc level)) (refl, λ c m. m, λ c. refl, λ c. refl) made f shows few
+    at_test true same = stands-of (Renewing (suc level)) alike made f shows few
         (left_then true same)
-    at_test false same = stands-of Committing (refl, λ c m. m, λ c. refl, λ c. refl) made f shows few
+    at_test false same = stands-of Committing alike made f shows few
         (left_then false same)
 
 -- a switch leaves the course but for whether it is off
@@ -119,53 +121,41 @@ after-stands : {setting : Setting} {handset : HandsetData} (stage : Stage) (node
     (suc made)
 after-stands Resting nodes unpacks law fits erasing purging going f = absurd (going refl)
 after-stands {setting} {handset} Coming nodes {steps} {made} unpacks law fits erasing purging going f =
-    stands-of (Renewing 0) (refl, λ c m. m, λ c. refl, λ c. refl) (suc made)
-    (keeps-at Coming (refl, λ c m. m, λ c. refl, λ c. refl) f)
+    stands-of (Renewing 0) (alike setting handset.last Coming) (suc made) f
     (mark-shown unpacks (visits setting handset.sub steps) made handset.last.to
     (ComingMark handset.last.number handset.last.from) f.left (fits.numbered, omega (arith, fits.low, fits.from)) refl
     (f.is_off ∙ f.move.1) f.shows) (drop-inside made _ f.left)
     (drop-tail made _ f.left ∙ ap (map (visit_of handset.sub)) (renewing-first setting handset))
 after-stands {setting} {handset} (Renewing level) nodes {steps} {made} unpacks law fits erasing purging going f =
-    renewing-stands level (suc made) (keeps-at Coming (refl, λ c m. m, λ c. refl, λ c. refl) f)
+    renewing-stands level (suc made) (alike setting handset.last Coming) f
     (entry-shown (visits setting handset.sub steps) made level _
     (Some (record { number = handset.last.number; node = handset.last.to })) f.left (f.is_off ∙ f.move.1) f.shows)
     (drop-inside made _ f.left) (drop-tail made _ f.left)
 after-stands {setting} {handset} Committing nodes {steps} {made} unpacks law fits erasing purging going f =
-    record {
-      over = f.over;
-      begun = f.begun;
-      move = f.move;
-      place = refl;
-      number = refl;
-      is_off = f.is_off;
-      addresses = f.addresses;
-      gathered = f.gathered;
-      trail = f.trail;
-      shows =
-          let first : handset.last.number ≡ suc (length (course_of setting handset.sub f.over).moves) =
-          ap (λ m. m.number) f.move.0 in
-          let more : handset.last.number ≡ handset.number + 1 = omega (arith, first, f.number) in
-          commit-shown unpacks _ (visits setting handset.sub steps) made handset.last.from
-          (Gone handset.last.number handset.last.to) f.left (fits.numbered, omega (arith, fits.low, fits.to)) refl refl
-          more (f.is_off ∙ f.move.1) f.shows;
-      few = drop-inside made _ f.left;
-      left = drop-tail made _ f.left;
-    }
+    let first : handset.last.number ≡ suc (length (course_of setting handset.sub f.over).moves) =
+    ap (λ m. m.number) f.move.0 in
+    let more : handset.last.number ≡ handset.number + 1 = omega (arith, first, f.number) in
+    let shows = commit-shown unpacks (after_write setting handset Committing) (visits setting handset.sub steps) made
+    handset.last.from (Gone handset.last.number handset.last.to) f.left
+    (fits.numbered, omega (arith, fits.low, fits.to)) refl refl more (f.is_off ∙ f.move.1) f.shows in
+    let few = drop-inside made _ f.left in
+    let left = drop-tail made _ f.left in
+    search
 after-stands {setting} {handset} Confirming nodes {steps} {made} unpacks law fits erasing purging going f =
     gone-on-stands (erasing_from setting handset 0) nodes (suc made) law fits
-    (keeps-at Confirming (refl, λ c m. m, λ c. refl, λ c. refl) f)
+    (alike setting handset.last Confirming) f
     (mark-shown unpacks (visits setting handset.sub steps) made handset.last.to (Here handset.last.number) f.left
     fits.numbered refl (f.is_off ∙ f.move.1) f.shows) (erasing 0) (drop-inside made _ f.left)
     (drop-tail made _ f.left ∙ ap (map (visit_of handset.sub)) (erasing-left setting handset 0))
 after-stands {setting} {handset} (Erasing level) nodes {steps} {made} unpacks law fits erasing purging going f =
     gone-on-stands (erasing_from setting handset (suc level)) nodes (suc made) law fits
-    (keeps-at Confirming (refl, λ c m. m, λ c. refl, λ c. refl) f)
+    (alike setting handset.last Confirming) f
     (entry-shown (visits setting handset.sub steps) made level _ None f.left (f.is_off ∙ f.move.1) f.shows)
     (erasing (suc level)) (drop-inside made _ f.left) (drop-tail made _ f.left
     ∙ ap (map (visit_of handset.sub)) (erasing-left setting handset (suc level)))
 after-stands {setting} {handset} (Purging node) nodes {steps} {made} unpacks law fits erasing purging going f =
     gone-on-stands (purging_from setting handset (suc node)) nodes (suc made) law fits
-    (keeps-at Confirming (refl, λ c m. m, λ c. refl, λ c. refl) f)
+    (alike setting handset.last Confirming) f
     (mark-shown unpacks (visits setting handset.sub steps) made node Empty f.left tt refl (f.is_off ∙ f.move.1) f.shows)
     (purging (suc node)) (drop-inside made _ f.left) (drop-tail made _ f.left
     ∙ ap (map (visit_of handset.sub)) (purging-left setting handset (suc node)))

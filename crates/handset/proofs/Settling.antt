@@ -1,21 +1,21 @@
 -- What a handset stands for when its move is over.
-use Rattle.std.proofs.Common.{◌≡◌, ℕ, suc, ◌+◌, ◌<◌, ◌≤◌, Bool, true, false, cond, List, [], ◌∷◌, ◌++◌, length, take, drop, replicate, refl, sym, ap, ◌∙◌, arith, length-append}
+use Rattle.std.proofs.Common.{◌≡◌, ℕ, ◌+◌, ◌<◌, ◌≤◌, Bool, true, false, cond, List, [], ◌∷◌, ◌++◌, length, take, drop, replicate, refl, sym, ap, ◌∙◌, arith, length-append}
 use Rattle.std.specs.Prelude.{get_or, nat_le, nat_lt, slice_set, ◌==◌, ◌||◌}
-use Rattle.std.proofs.Math.Bool.{or-false, or-true}
 use Rattle.std.proofs.lemmas.Bool.Decides.{nat_tests}
 use Rattle.std.proofs.lemmas.List.{append-nil, get_or-set_same, get_or-set_other, get_or-replicate, length-replicate}
 use Rattle.node_set.specs.Ascending.{has}
 use Rattle.directory.specs.Settings.{Setting, start}
 use Rattle.directory.specs.Courses.{Step, move_to, Course, course_at, last_stop, address_node, gathered_weight, next_move, after_step, after_steps}
 use Rattle.directory.specs.Writes.{visits, trail}
+use Rattle.handset.specs.declared.stage.Stage.{Stage}
 use Rattle.handset.specs.declared.stage.Stage.TheVariants.{Confirming}
 use Rattle.handset.specs.Condition.{HandsetData}
 use Rattle.handset.specs.StepWrites.{settle}
 use Rattle.directory.specs.Amid.{course_of}
-use Rattle.handset.specs.Stands.{Shows, StandsForSteps}
+use Rattle.handset.specs.Stands.{IsNextMove, Shows, StandsAt, StandsForSteps}
 use Rattle.handset.proofs.Going.{readdressed}
 use Rattle.handset.proofs.CourseLaws.{course-more, trail-after}
-use Rattle.handset.proofs.Keeping.{Fits, Keeps}
+use Rattle.handset.proofs.Keeping.{AreAlike, Fits}
 use Rattle.directory.specs.StepLaws.{last_stop-moved}
 
 -- the law of the levels
@@ -44,65 +44,37 @@ top-renewed top renewed h = grind (arith, nat_tests)
 pub marked : (trail : List Bool) (renews : Bool) (to node : ℕ) → to < length trail → node < length trail
     → get_or (slice_set (cond renews (replicate (length trail) false) trail) to true) node false
     ≡ (cond renews false (get_or trail node false) || node == to)
-marked trail renews to node h l = at_test (node == to) refl
-  where
-    count : length (cond renews (replicate (length trail) false) trail) ≡ length trail
-    count = elim renews as (λ b. length (cond b (replicate (length trail) false) trail)
-        ≡ length trail) [ true ↦ length-replicate (length trail) false | false ↦ refl ]
-
-    kept : get_or (cond renews (replicate (length trail) false) trail) node false ≡ cond renews false
-        (get_or trail node false)
-    kept = elim renews as (λ b. get_or (cond b (replicate (length trail) false) trail) node false
-        ≡ cond b false (get_or trail node false)) [
-          | true ↦ get_or-replicate
-              (length trail) node false false l
-          | false ↦ refl
-        ]
-
-    at_test : (b : Bool) → (node == to) ≡ b → get_or (slice_set (cond renews (replicate
-        (length trail) false) trail) to true) node false ≡ (cond renews false (get_or trail node false) || b)
-    at_test true test =
-        let same : node ≡ to = grind (arith, nat_tests) in
-        let inside : to < length (cond renews (replicate (length trail) false) trail) = omega (arith, h, count) in
-        ap (λ n. get_or (slice_set (cond renews (replicate (length trail) false) trail) to true) n false) same
-        ∙ (get_or-set_same (cond renews (replicate (length trail) false) trail) to true false inside
-        ∙ sym (or-true (cond renews false (get_or trail node false))))
-    at_test false test =
-        let other : node ≡ to → ⊥ = λ e. (let t : (node == to) ≡ true = grind (arith, nat_tests) in cc) in
-        get_or-set_other (cond renews (replicate (length trail) false) trail) to node true false other
-        ∙ (kept ∙ sym (or-false (cond renews false (get_or trail node false))))
+marked trail renews to node h l = grind (arith, length-replicate, get_or-set_same, get_or-set_other, get_or-replicate)
 
 -- a move that is over
-pub settled-stands : {setting : Setting} {handset : HandsetData} {steps : List Step} (made : ℕ) → AddressLaw setting
-    → Fits setting handset → Keeps setting handset Confirming steps
+pub settled-stands : {setting : Setting} {handset : HandsetData} {stage : Stage} {steps : List Step} {before : ℕ}
+    (made : ℕ) → AddressLaw setting → Fits setting handset → AreAlike setting handset.last stage Confirming
+    → StandsAt setting handset stage steps before
     → Shows setting handset (take made (visits setting handset.sub steps))
     → made ≤ length (visits setting handset.sub steps) → drop made (visits setting handset.sub steps) ≡ []
     → StandsForSteps setting (settle setting handset) steps made
-settled-stands {setting} {handset} {steps} made law fits f shows few left = record {
+settled-stands {setting} {handset} {steps} made law fits same f shows few left = record {
   over = steps;
   begun = sym (append-nil steps);
   move = tt;
-  place = f.place ∙ sym (ap last_stop course_is ∙ last_stop-moved setting before handset.last.to);
-  number = f.number ∙ (ap (λ m. m.number) f.move.0 ∙ sym (ap (λ c. length c.moves) course_is
-      ∙ (let e : length (before.moves ++ next_move setting before handset.last.to ∷ [])
-      ≡ suc (length before.moves) = omega (
-        arith,
-        length-append before.moves
-            (next_move setting before handset.last.to ∷ []),
-      ) in e)));
+  place = f.place ∙ same.2 before ∙ sym (ap last_stop course_is ∙ last_stop-moved setting before handset.last.to);
+  number =
+      let longer = length-append before.moves (next_move setting before handset.last.to ∷ []) in
+      let moves = ap (λ c. length c.moves) course_is in
+      omega (arith, f.number, same.3 before, ap (λ m. m.number) next.0);
   is_off = f.is_off ∙ sym (ap (λ c. c.is_off) course_is);
   addresses = λ level h.
       readdressed handset.addresses handset.last.renewed handset.last.to level (omega (arith, h, fits.addresses))
       ∙ (turned handset.last.renewed level (get_or handset.addresses level 0) handset.last.to
       ∙ (ap (λ n. cond (nat_le level handset.last.renewed) handset.last.to n) (f.addresses level h)
-      ∙ (ap (λ r. cond (nat_le level r) handset.last.to (address_node before level)) (ap (λ m. m.renewed) f.move.0)
+      ∙ (ap (λ r. cond (nat_le level r) handset.last.to (address_node before level)) (ap (λ m. m.renewed) next.0)
       ∙ sym (ap (λ c. address_node c level) course_is
       ∙ law (start setting handset.sub) f.over handset.last.to level))));
   gathered = f.gathered;
   trail = λ to node h.
       ap (λ b. get_or (slice_set (cond b (replicate (length handset.trail) false) handset.trail) handset.last.to
       true) node false)
-      (top-renewed setting.top handset.last.renewed fits.renewed ∙ ap (λ m. nat_le setting.top m.renewed) f.move.0)
+      (top-renewed setting.top handset.last.renewed fits.renewed ∙ ap (λ m. nat_le setting.top m.renewed) next.0)
       ∙ (marked handset.trail (nat_le setting.top (next_move setting before handset.last.to).renewed)
       handset.last.to node (omega (arith, fits.to, fits.trail)) (omega (arith, h, fits.trail))
       ∙ (ap (λ b. cond (nat_le setting.top (next_move setting before handset.last.to).renewed) false b || node ==
@@ -117,6 +89,10 @@ settled-stands {setting} {handset} {steps} made law fits f shows few left = reco
     before : Course
     before = course_of setting handset.sub f.over
 
+    next : IsNextMove setting before handset.last
+    next = same.1 before f.move
+
     course_is : course_of setting handset.sub steps ≡ after_step setting before (move_to handset.last.to)
-    course_is = ap (course_of setting handset.sub) f.begun ∙ course-more setting handset.sub f.over
+    course_is = ap (course_of setting handset.sub) (f.begun ∙ ap (λ under. f.over ++ under) same.0)
+        ∙ course-more setting handset.sub f.over
         (move_to handset.last.to)

@@ -1,6 +1,6 @@
 -- The trail as a set of nodes: what is told of each node, and the first of those that are left.
-use Rattle.std.proofs.Common.{◌≡◌, ◌≢◌, inl, inr, ℕ, zero, suc, ◌+◌, ◌-◌, ◌<◌, ◌≤◌, Bool, true, false, cond, [], Option, Some, None, IfSome, IfNone, length, replicate, set, refl, sym, ap, ◌∙◌, arith}
-use Rattle.std.specs.Prelude.{get_or, not, ◌==◌, ◌&&◌, ◌||◌}
+use Rattle.std.proofs.Common.{◌≡◌, ◌≢◌, ℕ, zero, suc, ◌+◌, ◌-◌, ◌<◌, ◌≤◌, Bool, true, false, cond, [], Option, Some, None, IfSome, IfNone, length, replicate, set, refl, sym, ap, ◌∙◌, arith}
+use Rattle.std.specs.Prelude.{get_or, not, ◌==◌, ◌&&◌}
 use Rattle.std.proofs.lemmas.Bool.{cases_eq, cases_lt}
 use Rattle.std.proofs.lemmas.Bool.Decides.{nat_tests}
 use Rattle.std.proofs.lemmas.List.{ext_get_or, get_or-map, get_or-replicate, get_or-set_same, get_or-set_other, length-map, length-replicate, length-set}
@@ -11,7 +11,7 @@ use Rattle.node_set.specs.SetLaws.{has-inserted, length-passing_all, passing_all
 use Rattle.directory.specs.Writes.{numbers_from}
 use Rattle.handset.specs.StepWrites.{first_with}
 use Rattle.handset.specs.Trails.{flags}
-use Rattle.handset.proofs.Lists.{agree, differ}
+use Rattle.handset.proofs.Lists.{differ}
 
 -- one flag for each node
 pub flag-count : (trail : Nodes) → length (flags trail) ≡ trail.room
@@ -23,9 +23,7 @@ flag-count trail =
 pub flag-at : (trail : Nodes) (x : ℕ) → x < trail.room → get_or (flags trail) x false ≡ has x trail.members
 unfolding flags
 flag-at trail x below =
-    let inside : x < length (numbers_from 0 trail.room) = omega (arith, below, length-passing_all 0 trail.room) in
-    get_or-map (λ v. has v trail.members) (numbers_from 0 trail.room) x 0 false inside
-    ∙ ap (λ v. has v trail.members) (passing_all-each 0 trail.room x 0 below ∙ (let e : 0 + x ≡ x = omega arith in e))
+    grind (arith, length-passing_all 0 trail.room, passing_all-each 0 trail.room x 0 below, get_or-map)
 
 -- the flags of no node
 pub flags-none : (room : ℕ) → flags (record { room = room; members = [] }) ≡ replicate room false
@@ -44,31 +42,25 @@ flags-more trail v inside =
     ext_get_or false (flags more) (set (flags trail) v true)
     (flag-count more ∙ sym (length-set (flags trail) v true ∙ flag-count trail))
     (λ i h. let below : i < trail.room = omega (arith, h, flag-count more) in
-    flag-at more i below ∙ has-inserted i v trail.members
-    ∙ elim (cases_eq i v) [
-      | inl same ↦
-          let test : (i == v) ≡ true = grind (arith, nat_tests) in
-          ap (λ b. b || has i trail.members) test
-          ∙ sym (ap (λ k. get_or (set (flags trail) v true) k false) same
-          ∙ get_or-set_same (flags trail) v true false here)
-      | inr other ↦
-          let test : (i == v) ≡ false = grind (arith, nat_tests) in
-          ap (λ b. b || has i trail.members) test
-          ∙ sym (get_or-set_other (flags trail) v i true false other ∙ flag-at trail i below)
-    ])
+    grind (
+      arith,
+      nat_tests,
+      flag-at more i below,
+      has-inserted i v trail.members,
+      get_or-set_same (flags trail) v true false here,
+      get_or-set_other (flags trail) v i true false,
+      flag-at trail i below,
+    ))
 
 -- the first number that passes, where none before it does
 pub first-found : (test : ℕ → Bool) (from k v : ℕ) → from ≤ v → v < from + k → test v ≡ true
     → ((x : ℕ) → from ≤ x → x < v → test x ≡ false) → first_with test from k ≡ Some v
 first-found test from zero v low high passes fails = absurd (omega arith)
-first-found test from (suc k) v low high passes fails = elim (cases_eq from v) [
-  | inl here ↦
-      ap (λ b. cond b (Some from) (first_with test (suc from) k)) (ap test here ∙ passes) ∙ ap (λ x. Some x) here
-  | inr later ↦
-      ap (λ b. cond b (Some from) (first_with test (suc from) k)) (fails from (omega arith) (omega arith))
-      ∙ first-found test (suc from) k v (omega arith) (omega arith) passes
-      (λ x l h. fails x (omega (arith, l)) h)
-]
+first-found test from (suc k) v low high passes fails =
+    let later : from ≢ v → first_with test (suc from) k ≡ Some v = λ ne.
+    first-found test (suc from) k v (omega arith) (omega arith) passes (λ x l h. fails x (omega (arith, l)) h) in
+    let here = fails from in
+    grind arith
 
 -- where none passes, there is no first
 pub first-missing : (test : ℕ → Bool) (from k : ℕ) → ((x : ℕ) → from ≤ x → x < from + k → test x ≡ false)
@@ -88,11 +80,7 @@ not-there trail to x below none = ap (λ b. b && not (x == to)) (flag-at trail x
 
 -- the new node
 new-node : (trail : Nodes) {to x : ℕ} → x ≡ to → is_left trail to x ≡ false
-new-node trail {to} {x} same = hidden (get_or (flags trail) x false) (not (x == to)) (agree same)
-  where
-    hidden : (a b : Bool) → b ≡ false → (a && b) ≡ false
-    hidden true b e = e
-    hidden false b e = refl
+new-node trail same = grind (arith, nat_tests)
 
 -- another node of the trail
 still-there : (trail : Nodes) (to x : ℕ) → x < trail.room → has x trail.members ≡ true → x ≢ to
@@ -103,9 +91,7 @@ still-there trail to x below there other =
 -- where no node is left from one on
 pub none-behind : (trail : Nodes) (to from : ℕ) → IsNoneFrom trail.members from
     → None ≡ first_with (is_left trail to) from (length (flags trail) - from)
-none-behind trail to from none =
-    sym (first-missing (is_left trail to) from (length (flags trail) - from)
-    (λ x low high. not-there trail to x (omega (arith, low, high, flag-count trail)) (none x low)))
+none-behind trail to from none = grind (arith, is_left, flag-count, not-there, first-missing)
 
 -- where the next node isn't the new one
 pub next-behind : (trail : Nodes) (to : ℕ) {from node : ℕ} → IsNext trail.members from node → node < trail.room
@@ -119,13 +105,7 @@ next-behind trail to {from} {node} next below other =
 -- between a number and the next node behind the new one no node is left
 between : (trail : Nodes) {to from node : ℕ} → IsNext trail.members from node → node < trail.room → node ≡ to → (x : ℕ)
     → from ≤ x → x < trail.room → (node + 1 ≤ x → has x trail.members ≡ false) → is_left trail to x ≡ false
-between trail {to} {node} next inside same x low below later = elim (cases_lt x node) [
-  | inl before ↦ not-there trail to x below (next.first x low before)
-  | inr past ↦ elim (cases_eq x to) [
-    | inl is ↦ new-node trail is
-    | inr other ↦ not-there trail to x below (later (omega (arith, past, other, same)))
-  ]
-]
+between trail {to} {node} next inside same x low below later = grind (arith, cases_lt, not-there, cases_eq, new-node)
 
 -- where the next node is the new one, the one behind it is the first
 pub behind-next : (trail : Nodes) {to from node : ℕ} (rest : Option ℕ) → IsNext trail.members from node

@@ -41,21 +41,12 @@ ending-left setting handset false = refl
 erase-left : (setting : Setting) (handset : HandsetData) (level : ℕ) (o : Option ℕ)
     → first_with (is_old setting handset) level (suc handset.last.renewed - level) ≡ o
     → erase_from setting handset level ≡ left_at setting handset (erasing_at setting handset o)
-erase-left setting handset level None h =
-    ap (λ xs. map (erasure setting handset) xs ++ purge_from setting handset 0) (passing-none
-    (is_old setting handset) level (suc handset.last.renewed - level) h)
-    ∙ ending-left setting handset (handset.last.renewed == setting.top)
-erase-left setting handset level (Some x) h =
-    let inside : (level ≤ x) × (x < level + (suc handset.last.renewed - level)) =
-    first-inside (is_old setting handset) level (suc handset.last.renewed - level) h in
-    let e : level + (suc handset.last.renewed - level) - suc x ≡ suc handset.last.renewed - suc x = omega (
-      arith,
-      inside.0,
-      inside.1,
-    ) in
-    ap (λ xs. map (erasure setting handset) xs ++ purge_from setting handset 0)
-    (passing-some (is_old setting handset) level (suc handset.last.renewed - level) h
-    ∙ ap (λ n. x ∷ sift (is_old setting handset) (suc x) n) e)
+erase-left setting handset level None h = grind (arith, passing-none, ending-left)
+erase-left setting handset level (Some x) h = grind (
+  arith,
+  first-inside (is_old setting handset) level (suc handset.last.renewed - level) h,
+  passing-some (is_old setting handset) level (suc handset.last.renewed - level) h,
+)
 
 pub erasing-left : (setting : Setting) (handset : HandsetData) (level : ℕ) → erase_from setting handset level
     ≡ left_at setting handset (erasing_from setting handset level)
@@ -81,9 +72,7 @@ renewing-left setting handset level = at_test (nat_lt level handset.last.renewed
 
 pub renewing-first : (setting : Setting) (handset : HandsetData) → renew_from setting handset 0
     ≡ left_at setting handset (Renewing 0)
-renewing-first setting handset =
-    let e : suc handset.last.renewed - 0 ≡ suc (suc handset.last.renewed - suc 0) = omega arith in
-    ap (λ n. map (new_address setting handset.last) (numbers_from 0 n) ++ commit setting handset) e
+renewing-first setting handset = grind arith
 
 -- all writes of a move, where the handset keeps the addresses and the trail of the course
 pub coming-left : (setting : Setting) (course : Course) (handset : HandsetData) → handset.last.renewed ≤ setting.top

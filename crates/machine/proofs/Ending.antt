@@ -1,14 +1,17 @@
--- The end: when no actor has a visit left, the lines of all actors are those of the outcome.
-use Rattle.std.proofs.Common.{◌≡◌, ℕ, suc, ◌+◌, ◌<◌, ◌≤◌, List, [], ◌∷◌, ◌++◌, length, map, drop, fold, get_or, refl, sym, ap, ◌∙◌, arith, length-append, Option, take-append-drop}
-use Rattle.std.specs.Prelude.{None, Some, flat_map, vec_capacity}
+-- The end: when no actor has a visit left, the lines of all actors, one behind the other, are those of the outcome,
+-- they are right, and their numbers rise.
+use Rattle.std.proofs.Common.{◌≡◌, ◌+◌, ◌<◌, ◌≤◌, ℕ, List, ◌++◌, length, take, drop, get_or, ap, sym, ◌∙◌, arith, add-one, append_assoc, append-nil, drop-cons, length-append, suc, [], ◌∷◌, map, fold, refl, Option, take-append-drop}
+use Rattle.std.specs.Prelude.{flat_map, None, Some, vec_capacity, All}
+use Rattle.std.proofs.Math.Seq.{take-suc}
+use Rattle.std.proofs.lemmas.Grind.{flat_map-append}
 use Rattle.std.proofs.lemmas.List.{length-map, length-drop, take_all, get_or-drop}
 use Rattle.directory.specs.Settings.{Setting, start}
-use Rattle.directory.specs.Courses.{Course, Step, after_step, after_steps, course_at}
-use Rattle.directory.specs.Histories.{History, own, tickets, words_read}
-use Rattle.directory.specs.Finds.{FindCall, Pursuit, after_word, answer_of}
-use Rattle.directory.specs.Writes.{numbers_from, step_writes, visit_of, visits, writes}
-use Rattle.directory.specs.Orders.{Caller as Seeker, after_read, caller_at, caller_in, finds_of, read_by, script_visits, steps_of, with_pursuit, IsDone}
-use Rattle.directory.specs.Outcomes.{answer_line, caller_lines, outcome_in, sub_lines}
+use Rattle.directory.specs.Courses.{Course, Step, course_at}
+use Rattle.directory.specs.Histories.{History, own}
+use Rattle.directory.specs.Finds.{FindCall, Pursuit}
+use Rattle.directory.specs.Writes.{numbers_from, visit_of, visits, writes}
+use Rattle.directory.specs.Orders.{Caller as Seeker, after_read, finds_of, read_by, script_visits, steps_of, with_pursuit, IsDone}
+use Rattle.directory.specs.Outcomes.{caller_lines, outcome_in, sub_lines}
 use Rattle.directory.specs.StepLaws.{writes-append, past-end}
 use Rattle.directory.specs.declared.answers.Done.{Done}
 use Rattle.directory.specs.declared.answers.Found.{Found}
@@ -20,30 +23,47 @@ use Rattle.machine.specs.declared.caller.Caller.{Caller}
 use Rattle.machine.specs.declared.subscriber.Subscriber.{Subscriber}
 use Rattle.machine.specs.declared.machine.Machine.{Machine}
 use Rattle.scripts.specs.Scripts.{scripts_of, step_of, find_of}
-use Rattle.machine.specs.Stands.{setting_over}
+use Rattle.machine.specs.Stands.{setting_over, over}
 use Rattle.machine.specs.Subscribers.{IsSubscriber, begun_steps, shown_at}
 use Rattle.machine.specs.Machines.{HasHistory, input_at, scripts_at, setting_at}
-use Rattle.scripts.specs.ScriptLaws.{finds-are, steps-are}
-use Rattle.machine.specs.ScriptVisits.{some-write}
+use Rattle.scripts.specs.ScriptLaws.{finds-are, steps-are, few-nodes}
 use Rattle.directory.specs.HistoryLaws.{next-sub}
+use Rattle.entry_word.specs.declared.visit.Visit.{Visit}
+use Rattle.trail_laws.specs.RightOutcomes.{IsRightLine, NumbersRise, OutcomesAreRight, TellRisingNumbers}
+use Rattle.region_plan.specs.Matched.{IsMatched}
+use Rattle.directory.specs.Statements.{OrdersAreOwn}
+use Rattle.scripts.specs.Laws.{ScriptsAreValid}
+use Rattle.walk.specs.ReaderLaws.{reads-top}
+
+module _ {A B : Type 0} (f : A → List B) (xs : List A) (i : ℕ) (item : A) (part : List B) (low : i < length xs)
+    (is : item ≡ get_or xs i item) (its : part ≡ f item) where
+  its-part : f (get_or xs i item) ≡ part
+  its-part = ap f (sym is) ∙ sym its
+
+  -- the parts that are left begin with that of the item
+  parts-left : length (flat_map f (drop i xs)) ≡ length part + length (flat_map f (drop (i + 1) xs))
+  parts-left =
+      rw (drop-cons xs i item low, its-part, add-one i, length-append)
+
+  pub part-fits : (held capacity : ℕ) → held + length (flat_map f (drop i xs)) ≤ capacity
+      → held + length part ≤ capacity
+  part-fits held capacity fits = omega (arith, fits, parts-left)
+
+  pub part-more : (old : List B) {now new : List B} (held capacity : ℕ) → now ≡ old ++ flat_map f (take i xs)
+      → new ≡ now ++ part → length now + length (flat_map f (drop i xs)) ≤ held → held ≤ capacity
+      → (new ≡ old ++ flat_map f (take (i + 1) xs))
+      × (length new + length (flat_map f (drop (i + 1) xs)) ≤ capacity)
+  part-more old {now} held capacity items added fits wide = (
+    rw (added, items, add-one i, take-suc xs i item low, flat_map-append, append-nil, its-part, append_assoc),
+    omega (arith, fits, wide, parts-left, ap length added, length-append now part),
+  )
 
 none-left : (setting : Setting) (course : Course) (before left : List Step) (made : ℕ)
     → length (writes setting course (before ++ left)) ≤ made → made ≤ length (writes setting course before)
     → left ≡ []
 unfolding writes
 none-left setting course before [] made all few = refl
-none-left setting course before (step ∷ later) made all few =
-    absurd (omega (
-      arith,
-      all,
-      few,
-      ap length (writes-append setting course before (step ∷ later)),
-      length-append (writes setting course before)
-          (writes setting (after_steps setting course before) (step ∷ later)),
-      length-append (step_writes setting (after_steps setting course before) step)
-          (writes setting (after_step setting (after_steps setting course before) step) later),
-      some-write setting (after_steps setting course before) step,
-    ))
+none-left setting course before (step ∷ later) made all few = grind (arith, writes-append, length-append)
 
 pub lines-done : (input : Contents) (plan : PlanData) (history : History) (sub : ℕ) (subscriber : Subscriber)
     → sub < length input.homes → IsSubscriber input plan history sub subscriber
@@ -97,58 +117,42 @@ flat-few f (x ∷ xs) (script ∷ scripts) each within =
       flat-few f xs scripts (λ i d h. each (suc i) d (omega (arith, h))) (omega (arith, within)),
     )
 
--- a caller has no more answers than finds
-pursuit-count : (caller : Seeker) {call : FindCall} {later : List FindCall} (pursuit : Pursuit) (answer : Option Found)
-    → caller.calls ≡ call ∷ later → length (with_pursuit caller call later pursuit answer).answers + length
-    (with_pursuit caller call later pursuit answer).calls ≡ length caller.answers + length caller.calls
-pursuit-count caller pursuit None same = refl
-pursuit-count caller {call} pursuit (Some found) same =
-    omega (
-      arith,
-      length-append caller.answers (record {
-        call = call;
-        found = found;
-        first = caller.first;
-        last = caller.next;
-      } ∷ []),
-      ap length same,
-    )
+-- a caller's answers and the finds that it has left stay as many
+abbrev all_finds : Seeker → ℕ
+all_finds caller = length caller.answers + length caller.calls
 
-read-count : (setting : Setting) (caller : Seeker) (word : ℕ)
-    → length (after_read setting caller word).answers + length (after_read setting caller word).calls
-    ≡ length caller.answers + length caller.calls
-read-count setting caller word = at_calls caller.calls refl
-  where
-    at_calls : (calls : List FindCall) → caller.calls ≡ calls
-        → length (read_by setting caller calls word).answers + length (read_by setting caller calls word).calls
-        ≡ length caller.answers + length caller.calls
-    at_calls [] same = refl
-    at_calls (call ∷ later) same = pursuit-count caller (after_word setting call caller.pursuit word)
-        (answer_of (after_word setting call caller.pursuit word)) same
+pursuit-count : (caller : Seeker) {call : FindCall} {later : List FindCall} (pursuit : Pursuit) (answer : Option Found)
+    → caller.calls ≡ call ∷ later → all_finds (with_pursuit caller call later pursuit answer) ≡ all_finds caller
+pursuit-count caller pursuit None same = refl
+pursuit-count caller pursuit (Some found) same = simp length-append (omega (arith, ap length same))
+
+read-count : (setting : Setting) (caller : Seeker) (calls : List FindCall) (word : ℕ) → caller.calls ≡ calls
+    → all_finds (read_by setting caller calls word) ≡ all_finds caller
+read-count setting caller [] word same = refl
+read-count setting caller (call ∷ later) word same = grind (arith, pursuit-count)
 
 words-count : (setting : Setting) (words : List ℕ) (caller : Seeker)
-    → length (fold (after_read setting) caller words).answers + length (fold (after_read setting) caller words).calls
-    ≡ length caller.answers + length caller.calls
+    → all_finds (fold (after_read setting) caller words) ≡ all_finds caller
 words-count setting [] caller = refl
-words-count setting (word ∷ words) caller = words-count setting words (after_read setting caller word)
-    ∙ read-count setting caller word
+words-count setting (word ∷ words) caller =
+    words-count setting words (after_read setting caller word) ∙ read-count setting caller caller.calls word refl
 
 caller-few : (input : Contents) (plan : PlanData) (history : History) (actor : ℕ)
     → length (caller_lines (setting_over input plan) (scripts_of input) history actor)
     ≤ length (finds_of (setting_over input plan) (scripts_of input) actor)
-caller-few input plan history actor =
-    omega (
-      arith,
-      length-map (caller_in (setting_over input plan) (scripts_of input) history actor).answers
-          (answer_line actor (tickets actor history)),
-      words-count (setting_over input plan) (words_read (setting_over input plan) actor history)
-          (caller_at (finds_of (setting_over input plan) (scripts_of input) actor)),
-    )
+caller-few input plan history actor = grind (arith, length-map, words-count)
+
+-- the lines of some subscribers, and of some callers
+abbrev pub of_steps : List Subscriber → List Done
+of_steps some = flat_map (λ (one : Subscriber). one.lines.items) some
+
+abbrev pub of_finds : List Caller → List Done
+of_finds some = flat_map (λ (one : Caller). one.lines.items) some
 
 -- there is room for the lines of the subscribers, and then for those of the callers
 pub room-for_both : {machine : Machine} {history : History} → HasHistory machine history
-    → length (flat_map (λ (one : Subscriber). one.lines.items) machine.subscribers.items) + length
-    (flat_map (λ (one : Caller). one.lines.items) machine.callers.items) ≤ vec_capacity machine.calls
+    → length (of_steps machine.subscribers.items) + length (of_finds machine.callers.items)
+    ≤ vec_capacity machine.calls
 room-for_both {machine} {history} is =
     let input : Contents = input_at machine in
     omega (
@@ -186,8 +190,7 @@ room-for_both {machine} {history} is =
 -- the lines of all actors are those of the outcome
 pub lines-all : {machine : Machine} {history : History} → HasHistory machine history
     → ((actor : ℕ) → IsDone (setting_at machine) (scripts_at machine) history actor)
-    → flat_map (λ (one : Subscriber). one.lines.items) machine.subscribers.items ++ flat_map
-    (λ (one : Caller). one.lines.items) machine.callers.items
+    → of_steps machine.subscribers.items ++ of_finds machine.callers.items
     ≡ (outcome_in (setting_at machine) (scripts_at machine) history).calls
 lines-all {machine} {history} is done =
     let input : Contents = input_at machine in
@@ -208,3 +211,27 @@ lines-all {machine} {history} is done =
       is.callers_count,
       finds_count,
     )
+
+pub right-outcome : OutcomesAreRight → OrdersAreOwn → ScriptsAreValid → {machine : Machine} {history : History}
+    → IsMatched machine.plan.now → HasHistory machine history
+    → ((actor : ℕ) → IsDone (setting_at machine) (scripts_at machine) history actor)
+    → All (IsRightLine (setting_at machine) history) (outcome_in (setting_at machine) (scripts_at machine)
+    history).calls
+right-outcome right own valid {machine} {history} matched is done =
+    rw (← own (setting_at machine) (scripts_at machine) history is.sees.played done)
+    (right (setting_at machine) (scripts_at machine) (map (λ (visit : Visit). visit.actor) history)
+    (omega (arith, is.together.nodes, few-nodes (input_at machine) is.together.valid))
+    (reads-top machine.plan.now (input_at machine).homes matched)
+    (valid (input_at machine) (setting_at machine) is.together.valid
+    (over (input_at machine) machine.plan.now machine.distances.now is.together)))
+
+-- and later lines tell no lower numbers
+pub rising-outcome : NumbersRise → OrdersAreOwn → ScriptsAreValid → {machine : Machine} {history : History}
+    → HasHistory machine history → ((actor : ℕ) → IsDone (setting_at machine) (scripts_at machine) history actor)
+    → TellRisingNumbers (outcome_in (setting_at machine) (scripts_at machine) history).calls
+rising-outcome rise own valid {machine} {history} is done =
+    rw (← own (setting_at machine) (scripts_at machine) history is.sees.played done)
+    (rise (setting_at machine) (scripts_at machine) (map (λ (visit : Visit). visit.actor) history)
+    (omega (arith, is.together.nodes, few-nodes (input_at machine) is.together.valid))
+    (valid (input_at machine) (setting_at machine) is.together.valid
+    (over (input_at machine) machine.plan.now machine.distances.now is.together)))

@@ -1,43 +1,155 @@
--- How far a caller is after a look.
-use Rattle.std.proofs.Common.{◌≡◌, ℕ, suc, ◌≤◌, true, false, List, [], ◌∷◌, ◌++◌, length, drop, refl, sym, ap, ◌∙◌, arith, Option, inl, inr}
-use Rattle.std.specs.Prelude.{Some, None, slice_index, nat_lt, option_map, vec_capacity, unwrap_or, if◌then◌else◌}
-use Rattle.std.proofs.lemmas.Bool.{eq-eqb, cases_lt, lt-ltb, le-ltb}
-use Rattle.std.proofs.lemmas.Bool.Decides.{nat_tests}
-use Rattle.std.proofs.lemmas.List.{append-nil, length_push, get_or_push}
-use Rattle.std.proofs.Math.ListN.{get_or-append}
+-- A caller's look: which cell it is at, which nodes its word names, and how far the caller is after it.
+use Rattle.std.proofs.Common.{◌≡◌, ℕ, ◌-◌, ◌^◌, ◌<◌, ◌≤◌, true, false, List, [], ◌∷◌, length, map, drop, get_or, refl, sym, ap, ◌∙◌, subst, arith, Vec, Global, suc, ◌++◌, Option}
+use Rattle.std.specs.Prelude.{Some, vec_capacity, vec_len, Result, Ok, Err, None, slice_index, nat_lt, option_map, unwrap_or, if◌then◌else◌}
+use Rattle.std.proofs.lemmas.List.{get_or-map, length-map, length-drop, append-nil, length_push, get_or_push}
 use Rattle.entry_word.specs.declared.visit.Key.{Key}
-use Rattle.directory.specs.Settings.{Setting}
 use Rattle.directory.specs.Histories.{History, cell, tickets}
-use Rattle.directory.specs.Finds.{FindCall, Pursuit, after_word, answer_of, at_origin, key_of}
-use Rattle.directory.specs.Looks.{look_by}
-use Rattle.directory.specs.Orders.{Caller as Seeker, Scripts, caller_in, finds_of, next, with_pursuit}
-use Rattle.directory.specs.Outcomes.{caller_lines, found_line}
-use Rattle.directory.specs.Statements.{CallerLinesGrow, CallersCount, CallersRead, TicketsGrow}
-use Rattle.directory.specs.declared.answers.Done.{Done}
-use Rattle.directory.specs.declared.answers.Found.{Found}
+use Rattle.directory.specs.Finds.{FindCall, key_of, Pursuit, after_word, answer_of, at_origin}
+use Rattle.directory.specs.Orders.{AreValid, Caller as Seeker, IsFindCall, caller_in, finds_of, next_key, Scripts, next, with_pursuit}
+use Rattle.directory.specs.Statements.{PlayedIsLegal, CallerLinesGrow, CallersCount, CallersRead, TicketsGrow}
+use Rattle.trail_laws.specs.Trail.{EntriesTell, MarksTell}
+use Rattle.region_plan.specs.Matched.{IsMatched}
+use Rattle.region_plan.specs.Plan.{PlanData, nodes_of}
+use Rattle.region_plan.specs.Cells.{IsCell}
+use Rattle.walk.specs.Walks.{IsWalkOver, IsWordBelow, WalkData, call_of, pursuit_of}
+use Rattle.std.specs.Result.{is_err, is_ok}
+use Rattle.walk.specs.LookLaws.{cell-wanted, word-wanted}
+use Rattle.distances.specs.Table.{DistanceTable}
+use Rattle.net_reader.specs.declared.said.Call.{Call}
 use Rattle.net_reader.specs.Input.{Contents}
-use Rattle.region_plan.specs.Plan.{PlanData}
-use Rattle.region_plan.specs.Settings.{setting_of}
-use Rattle.walk.specs.Walks.{IsWalkOver, WalkData, call_of, pursuit_of}
 use Rattle.visit_log.specs.Cells.{CellData}
 use Rattle.machine.specs.declared.caller.Caller.{Caller}
-use Rattle.scripts.specs.Scripts.{scripts_of}
-use Rattle.machine.specs.Stands.{IsWalking, Sees, setting_over}
-use Rattle.machine.specs.Callers.{IsCaller, first_ticket}
-use Rattle.machine.specs.WalkingLaws.{Walks, drop-more, read-on, walking}
-use Rattle.machine.proofs.Looking.{key-wanted}
+use Rattle.scripts.specs.Scripts.{find_of, scripts_of}
+use Rattle.machine.specs.Stands.{BelongTogether, Sees, over, setting_over, IsWalking}
+use Rattle.machine.specs.Callers.{HasLooked, IsCaller, first_ticket}
+use Rattle.machine.specs.WalkingLaws.{Walks, drop-more, walking, read-on}
+use Rattle.scripts.specs.Laws.{ScriptsAreValid}
+use Rattle.scripts.specs.ScriptLaws.{finds-are}
+use Rattle.std.proofs.lemmas.Bool.{eq-eqb, cases_lt, lt-ltb, le-ltb}
+use Rattle.std.proofs.lemmas.Bool.Decides.{nat_tests}
+use Rattle.std.proofs.Math.ListN.{get_or-append}
+use Rattle.directory.specs.Settings.{Setting}
+use Rattle.directory.specs.Looks.{look_by}
+use Rattle.directory.specs.Outcomes.{caller_lines, found_line}
+use Rattle.directory.specs.declared.answers.Done.{Done}
+use Rattle.directory.specs.declared.answers.Found.{Found}
+use Rattle.region_plan.specs.Settings.{setting_of}
 use Rattle.directory.specs.HistoryLaws.{next-caller}
+use Rattle.machine.specs.declared.turn.Turn.TheVariants.{Visited}
+
+pub key-wanted : {plan : PlanData} (seeker : Seeker) {walk : WalkData} → Walks plan seeker.calls seeker.pursuit walk
+    → key_of (call_of walk) (pursuit_of plan walk) ≡ next_key seeker
+key-wanted seeker {walk} at =
+    rw (at.so_far, at.its, at.calls_are)
+
+-- the find that a caller is at is one of its script
+pub call-known : (input : Contents) (plan : PlanData) (actor n : ℕ) {call : FindCall} {later : List FindCall}
+    → AreValid (setting_over input plan) (scripts_of input) → length input.homes ≤ actor → actor < length input.scripts
+    → call ∷ later ≡ drop n (finds_of (setting_over input plan) (scripts_of input) actor)
+    → IsFindCall (setting_over input plan) call
+call-known input plan actor n {call} {later} valid high low left =
+    let at = drop-more n (finds_of (setting_over input plan) (scripts_of input) actor) call later left in
+    let short : actor - length input.homes < length (scripts_of input).finds =
+    omega (
+      arith,
+      high,
+      low,
+      length-map (drop (length input.homes) input.scripts) (map find_of),
+      length-drop (length input.homes) input.scripts,
+    ) in
+    subst (IsFindCall (setting_over input plan)) (at.2 call)
+    (valid.finds (actor - length input.homes) [] short n call at.0)
+
+-- a caller that has a walk
+module _ {input : Contents} {plan : PlanData} {history : History} {actor : ℕ} {caller : Caller} {walk : WalkData}
+    (its : IsCaller input plan history actor caller) (held : caller.walk ≡ Some walk) where
+  its-walk : Walks plan (caller_in (setting_over input plan) (scripts_of input) history actor).calls
+      (caller_in (setting_over input plan) (scripts_of input) history actor).pursuit walk
+  its-walk = walking plan (caller_in (setting_over input plan) (scripts_of input) history actor).calls
+      (caller_in (setting_over input plan) (scripts_of input) history actor).pursuit caller.walk walk held its.walk
+
+  -- the walk goes with the plan
+  pub walks-over : IsWalkOver plan walk
+  walks-over = its-walk.goes
+
+  -- the subscriber that it looks for
+  pub sub-known : ScriptsAreValid → {distances : DistanceTable} → BelongTogether input plan distances
+      → length input.homes ≤ actor → actor < length input.scripts → walk.sub < length input.homes
+  sub-known scripts {distances} together high low =
+      subst (λ (c : FindCall). c.sub < length input.homes) (sym its-walk.its)
+      (call-known input plan actor (length caller.lines.items)
+      (scripts input (setting_over input plan) together.valid (over input plan distances together)) high low
+      (sym its-walk.calls_are ∙ its.left)).known
+
+  -- it has lines for fewer finds than it makes
+  finds-left : length caller.lines.items < length (finds_of (setting_over input plan) (scripts_of input) actor)
+  finds-left = grind (arith, drop-more)
+
+  -- so there is room for one more
+  pub room-left : vec_capacity caller.lines ≤ vec_len caller.lines → ⊥
+  room-left full = omega (arith, finds-left, its.room, full, caller.lines.ok.0)
+
+  -- and for fewer than its script has
+  pub place-low : length input.homes ≤ actor → actor < length input.scripts
+      → length caller.lines.items < length (get_or input.scripts actor [])
+  place-low high low =
+      omega (
+        arith,
+        finds-left,
+        ap length (finds-are input (setting_over input plan) actor refl high low),
+        length-map (get_or input.scripts actor []) find_of,
+      )
+
+-- what a caller's look leans on
+pub record Wanted (input : Contents) (plan : PlanData) (cells : CellData) (history : History) (walk : WalkData)
+    (key : Key) : Type 0 where
+  pub is_cell : IsCell plan cells.subs key
+  pub is_below : IsWordBelow (nodes_of plan) walk.progress (cell (setting_over input plan) history key)
+
+pub wanted : MarksTell → EntriesTell → PlayedIsLegal → ScriptsAreValid
+    → {input : Contents} {plan : PlanData} {distances : DistanceTable} {cells : CellData} {history : History}
+    {actor : ℕ} {caller : Caller} {walk : WalkData} {key : Key} → BelongTogether input plan distances → IsMatched plan
+    → length input.homes ≤ actor → actor < length input.scripts → Sees input plan cells history
+    → IsCaller input plan history actor caller → caller.walk ≡ Some walk
+    → key_of (call_of walk) (pursuit_of plan walk) ≡ Some key → Wanted input plan cells history walk key
+wanted marks entries legal scripts {input} {plan} {distances} {cells} {history} {walk} {key} together matched high low
+    sees its held wants =
+    let known = sub-known its held scripts together high low in
+    let small : nodes_of plan ≤ 2 ^ 16 = omega (arith, matched.metric.few) in
+    record {
+      is_cell = cell-wanted plan walk cells.subs key matched (walks-over its held)
+          (omega (arith, known, sees.hold.subs)) wants;
+      is_below = word-wanted marks entries plan input.homes history walk key matched small
+          (legal (setting_over input plan) (scripts_of input) history walk.sub small
+          (scripts input (setting_over input plan) together.valid (over input plan distances together)) known
+          sees.played) (walks-over its held) wants;
+    }
+
+pub scripts-low : (scripts : List (Vec Call Global)) (actor : ℕ) → actor < length scripts
+    → actor < length (map (λ (s : Vec Call Global). s.items) scripts)
+scripts-low scripts actor low = omega (arith, low, length-map scripts (λ (s : Vec Call Global). s.items))
+
+-- the call at that place is the find that it is at
+pub call-at : (input : Contents) (plan : PlanData) (actor n : ℕ) {script : List Call} {call : FindCall}
+    {later : List FindCall} (default : Call) → length input.homes ≤ actor → actor < length input.scripts
+    → script ≡ get_or input.scripts actor [] → n < length script
+    → call ∷ later ≡ drop n (finds_of (setting_over input plan) (scripts_of input) actor)
+    → find_of (get_or script n default) ≡ call
+call-at input plan actor n {script} {call} {later} default high low same short left =
+    let more = drop-more n (finds_of (setting_over input plan) (scripts_of input) actor) call later left in
+    sym (get_or-map find_of script n default call short)
+    ∙ rw (same, ← finds-are input (setting_over input plan) actor refl high low) (more.2 call)
+
+-- a push that didn't fail
+pub ok-of : {T E : Type 0} (r : Result T E) → is_err r ≡ false → is_ok r ≡ true
+ok-of (Ok x) h = refl
+ok-of (Err e) h = cc
 
 -- the ticket of the first look
 pub first-is : (first : ℕ) {next : ℕ} (ticket : ℕ) (seen : List ℕ) {kept : Option ℕ}
     → kept ≡ (if nat_lt first next then Some (slice_index seen first) else None) → length seen ≡ next → first ≤ next
     → unwrap_or kept ticket ≡ slice_index (seen ++ ticket ∷ []) first
-first-is first {next} ticket seen same count low = elim (cases_lt first next) [
-  | inl less ↦ rw (same, lt-ltb first next less)
-      (sym (get_or-append seen (ticket ∷ []) 0 first (omega (arith, less, count))))
-  | inr over ↦ rw (same, le-ltb first next over)
-      (sym (get_or_push seen ticket 0 first (omega (arith, count, low, over))))
-]
+first-is first {next} ticket seen same count low = grind (arith, cases_lt, lt-ltb, get_or-append, le-ltb, get_or_push)
 
 -- a caller by its parts
 pub by-parts : (input : Contents) (plan : PlanData) (history : History) (actor : ℕ) {seeker : Seeker} {seen : List ℕ}
@@ -78,8 +190,7 @@ pub looks : TicketsGrow → {input : Contents} {plan : PlanData} {history : Hist
     (pursuit_of plan walk) word → Looks input plan history actor caller key next_walk
 looks grow {input} {plan} {history} {actor} {caller} {walk} next_walk {key} high its held wants reads same saw =
     let seeker : Seeker = caller_in (setting_over input plan) (scripts_of input) history actor in
-    let at : Walks plan seeker.calls seeker.pursuit walk =
-    walking plan seeker.calls seeker.pursuit caller.walk walk held its.walk in
+    let at = its-walk its held in
     record {
       call = at.call;
       later = at.later;
@@ -97,8 +208,7 @@ pub looked-on : CallersRead → CallerLinesGrow → CallersCount → {input : Co
     → Sees input plan cells history → length history ≡ ticket → IsCaller input plan history actor old
     → Looks input plan history actor old key walk → IsWalkOver plan walk → None ≡ answer_of (pursuit_of plan walk)
     → new ≡ record old { walk = Some walk; first = Some (unwrap_or old.first ticket) }
-    → (k : Key) × (next (setting_over input plan) (scripts_of input) history actor ≡ Some (look_by actor k)) × IsCaller
-    input plan (history ++ look_by actor k ∷ []) actor new
+    → HasLooked input plan history actor old new Visited
 looked-on read grow count {input} {plan} {history} {actor} {ticket} {old} {key} {walk} high sees place its at goes none
     same =
     let setting : Setting = setting_over input plan in
@@ -137,8 +247,7 @@ pub looked-up : CallersRead → CallerLinesGrow → CallersCount → {input : Co
     → new.lines.items ≡ old.lines.items ++ line ∷ [] → left ≡ suc (length old.lines.items)
     → vec_capacity old.lines ≤ vec_capacity new.lines → new.first ≡ None
     → IsWalking plan (drop left (finds_of (setting_over input plan) (scripts_of input) actor)) at_origin new.walk
-    → (k : Key) × (next (setting_over input plan) (scripts_of input) history actor ≡ Some (look_by actor k)) × IsCaller
-    input plan (history ++ look_by actor k ∷ []) actor new
+    → HasLooked input plan history actor old new Visited
 looked-up read grow count {input} {plan} {history} {actor} {ticket} {old} new {key} {found} {line} high sees place its
     at
     answered line_is lines left_is room first_is walks =

@@ -1,17 +1,28 @@
--- The writes that a subscriber has ahead: one more of them, and one that goes into its cell.
-use Rattle.std.proofs.Common.{◌≡◌, ℕ, suc, ◌<◌, false, List, [], ◌∷◌, ◌++◌, length, drop, get_or, refl, sym, ap, ◌∙◌, subst, arith, drop-cons}
+-- The writes that a subscriber has ahead: one more of them, those of the entries of a move, as loops over its levels
+-- find them, and one that goes into its cell.
+use Rattle.std.proofs.Common.{◌≡◌, ℕ, suc, ◌<◌, false, List, [], ◌∷◌, ◌++◌, length, drop, get_or, refl, sym, ap, ◌∙◌, subst, arith, drop-cons, ◌+◌, ◌-◌, ◌≤◌, Bool, true, Some}
 use Rattle.std.specs.Prelude.{vec_capacity}
 use Rattle.std.specs.Global.{Vec}
 use Rattle.std.proofs.lemmas.List.{length_push}
 use Rattle.entry_word.specs.declared.visit.Act.TheVariants.{Put}
 use Rattle.entry_word.specs.declared.visit.Key.{Key}
-use Rattle.entry_word.specs.declared.visit.Visit.{Visit}
 use Rattle.directory.specs.Histories.{History}
-use Rattle.region_plan.specs.Plan.{PlanData}
+use Rattle.region_plan.specs.Plan.{PlanData, home, levels_of, nodes_of}
 use Rattle.handset.specs.Condition.{GoesWith, HandsetData}
 use Rattle.visit_log.specs.Cells.{CellData, GoWith, Hold, IsPlaceOf}
 use Rattle.machine.specs.declared.ahead.Ahead.{Ahead}
-use Rattle.machine.specs.Owed.{HasCome, IsAhead, IsNextAhead, MayPut, Owes}
+use Rattle.machine.specs.Owed.{HasCome, HasPut, IsAhead, IsNextAhead, MayPut, Owes}
+use Rattle.std.proofs.lemmas.Bool.{lt-ltb}
+use Rattle.entry_word.specs.Addresses.{address_word}
+use Rattle.region_plan.specs.Settings.{setting_of}
+use Rattle.handset.specs.Entries.{at_entry, entry_write, stage_at, EntryWrite, entry_put}
+use Rattle.handset.specs.StepWrites.{first_with}
+use Rattle.handset.specs.declared.entries.EntryStage.{EntryStage}
+use Rattle.handset.specs.declared.entries.EntryStage.TheVariants as entries
+use Rattle.entry_word.specs.declared.visit.Key.TheVariants.{Entry}
+use Rattle.handset.specs.NextEntries.{IsNextEntry}
+use Rattle.region_plan.specs.Matched.{IsMatched}
+use Rattle.visit_log.specs.Homes.{home_place}
 
 -- one write more
 pub owes-push : {plan : PlanData} {subs : ℕ} (start : HandsetData) {old new : HandsetData} {write : Ahead}
@@ -74,18 +85,25 @@ next-of plan subs old new writes place {write} low same owes =
       its = subst (IsNextAhead plan subs old found.0) (sym same) found.2;
     }
 
--- what the cells hold behind it
-pub holds-next : {plan : PlanData} {subs : ℕ} {old new : HandsetData} {write : Ahead} {cells after : CellData}
-    (its : IsNextAhead plan subs old new write) → ((starts : List ℕ) (history : History) (actor : ℕ)
+-- a put of a write into its cell tells what cells hold behind it
+abbrev pub Puts : PlanData → ℕ → CellData → CellData → Ahead → Type 0
+Puts plan sub cells after write =
+    (key : Key) → IsPlaceOf plan cells.subs sub write.place key → (starts : List ℕ) (history : History) (actor : ℕ)
     → Hold plan starts cells history
-    → Hold plan starts after (history ++ record { actor = actor; act = Put its.key write.word } ∷ []))
-    → (starts : List ℕ) (history : History) → Hold plan starts cells history
-    → Hold plan starts after (history ++ its.visit ∷ [])
-holds-next {plan} {write} {after} its put starts history held =
-    let same : record { actor = its.visit.actor; act = Put its.key write.word } ≡ its.visit =
-    ap (λ a. record { actor = its.visit.actor; act = a }) (sym its.act) in
-    subst (λ (v : Visit). Hold plan starts after (history ++ v ∷ [])) same
-    (put starts history its.visit.actor held)
+    → Hold plan starts after (history ++ record { actor = actor; act = Put key write.word } ∷ [])
+
+-- so the handset has made it
+abbrev pub put-next : {plan : PlanData} {sub : ℕ} {old new : HandsetData} {write : Ahead} {cells after : CellData}
+    → IsNextAhead plan cells.subs old new write → old.sub ≡ sub → Puts plan sub cells after write
+    → HasPut plan old new cells after
+put-next its mine put =
+    record {
+      visit = its.visit;
+      next = its.next;
+      stands = its.stands;
+      hold = λ starts history held.
+          rw (← its.act) at (put its.key (rw mine at its.cell) starts history its.visit.actor held);
+    }
 
 -- none of them
 pub come-none : {plan : PlanData} {sub : ℕ} {old new : HandsetData} {cells : CellData} {left : List Ahead}
@@ -96,9 +114,7 @@ come-none {old} may = record { handset = old; put = (refl, refl); may = may }
 pub come-more : {plan : PlanData} {sub : ℕ} {old new : HandsetData} {cells between after : CellData} {count : ℕ}
     (place : ℕ) (writes : List Ahead) {write : Ahead} → place < length writes → write ≡ get_or writes place write
     → write.commits ≡ false → HasCome plan sub old new cells between count (drop place writes)
-    → ((key : Key) → IsPlaceOf plan between.subs sub write.place key → (starts : List ℕ) (history : History) (actor : ℕ)
-    → Hold plan starts between history
-    → Hold plan starts after (history ++ record { actor = actor; act = Put key write.word } ∷ [])) → GoWith plan after
+    → Puts plan sub between after write → GoWith plan after
     → ((key : Key) → IsPlaceOf plan between.subs sub write.place key → after.subs ≡ between.subs)
     → HasCome plan sub old new cells after (suc count) (drop (suc place) writes)
 come-more {plan} {sub} {new} {between} place writes {write} low same plain come put over subs =
@@ -114,12 +130,7 @@ come-more {plan} {sub} {new} {between} place writes {write} low same plain come 
         between,
         come.put,
         record {
-          put = record {
-            visit = its.visit;
-            next = its.next;
-            stands = its.stands;
-            hold = holds-next its (put its.key cell);
-          };
+          put = put-next its come.may.its put;
           plain = sym its.commits ∙ plain;
           goes = its.goes;
           its = its.its;
@@ -133,3 +144,50 @@ come-more {plan} {sub} {new} {between} place writes {write} low same plain come 
             (sym (subs its.key cell)) next.owes;
       };
     }
+
+-- the next old level from one on is this one
+pub first-found : (test : ℕ → Bool) (above last : ℕ) → above ≤ last → test above ≡ true
+    → first_with test above (suc last - above) ≡ Some above
+first-found test above last low is = grind arith
+
+-- or it is the next one from the level above on
+pub first-passed : (test : ℕ → Bool) (above last : ℕ) → above ≤ last → test above ≡ false
+    → first_with test above (suc last - above) ≡ first_with test (above + 1) (suc last - (above + 1))
+first-passed test above last low is = grind arith
+
+-- the new address of a level below the last one that the move renews
+pub renewal-at : (plan : PlanData) (handset : HandsetData) (at : ℕ) {cluster word : ℕ} → at < handset.last.renewed
+    → home plan at handset.last.to ≡ cluster
+    → address_word (Some (record { number = handset.last.number; node = handset.last.to })) ≡ word
+    → entry_write (setting_of plan []) handset (entries.Renewing at)
+    ≡ Some (record { level = at; cluster = cluster; word = word; next = entries.Renewing (suc at) })
+renewal-at plan handset at below home_is word_is =
+    rw (← home_is, ← word_is, lt-ltb at handset.last.renewed below)
+
+-- the write of the entry that comes next is one ahead
+pub entry-ahead : {plan : PlanData} {handset : HandsetData} {at : EntryStage} {write : EntryWrite} {subs : ℕ}
+    (node : ℕ) {place word : ℕ} → IsMatched plan → IsNextEntry plan handset at write → handset.sub < subs
+    → write.level < levels_of plan → node < nodes_of plan → write.cluster ≡ home plan write.level node
+    → place ≡ home_place plan node write.level → word ≡ write.word
+    → IsNextAhead plan subs (at_entry handset at) (at_entry handset write.next)
+    (record { place = place; commits = false; word = word })
+entry-ahead {handset = handset} {write = write} node matched its known low inside cluster_is place_is word_is = record {
+  visit = entry_put handset.sub write;
+  key = Entry write.level write.cluster handset.sub;
+  act = ap (Put (Entry write.level write.cluster handset.sub)) (sym word_is);
+  commits = refl;
+  cell = record {
+    cell = record { place = (low, rw cluster_is (matched.homes write.level node low inside)); known = known };
+    owner = refl;
+    place = rw cluster_is place_is;
+  };
+  next = its.visit;
+  stands = its.stands;
+  goes = its.goes;
+  its = refl;
+}
+
+-- a handset that is at an entry
+pub at-stage : (handset : HandsetData) (at : EntryStage) → handset.stage ≡ stage_at at
+    → handset ≡ at_entry handset at
+at-stage handset at is = ap (λ s. record handset { stage = s }) is

@@ -1,30 +1,116 @@
--- What a machine stands for after a visit.
-use Rattle.std.proofs.Common.{◌≡◌, ◌≢◌, inl, inr, ℕ, zero, suc, ◌+◌, ◌<◌, ◌≤◌, ◌==◌, false, List, [], ◌∷◌, ◌++◌, length, map, get_or, refl, sym, ap, ◌∙◌, arith, append_assoc, Vec, Global}
-use Rattle.std.specs.Prelude.{None, Option, Some, replicate, slice_set, vec_capacity}
-use Rattle.std.proofs.lemmas.Bool.{cases_eq, ne_eqb}
-use Rattle.std.proofs.lemmas.List.{append-nil, length-map, length-append, length-replicate, length-set, length_push, map-append, get_or-set_same, get_or-set_other}
+-- What a machine stands for: its subscribers and callers before their first visits, and all of it after a visit.
+use Rattle.std.proofs.Common.{◌≡◌, ℕ, ◌+◌, ◌<◌, ◌≤◌, Bool, true, false, List, [], ◌∷◌, ◌++◌, length, map, take, get_or, refl, sym, ap, ◌∙◌, subst, arith, Vec, Global, ◌≢◌, zero, suc, ◌==◌, append_assoc}
+use Rattle.std.specs.Prelude.{None, vec_capacity, Option, Some, replicate, slice_set}
+use Rattle.std.proofs.lemmas.List.{get_or_push, length_push, length-map, get_or-map, append-nil, length-set, map-append, get_or-set_same, get_or-set_other}
+use Rattle.std.proofs.Math.ListN.{get_or-append}
+use Rattle.std.proofs.lemmas.List.Elements.{All-cons, All-nil, All-weaker}
+use Rattle.directory.specs.Finds.{at_origin}
+use Rattle.directory.specs.Histories.{tickets_from, words_after, History, own, tickets, word_after}
+use Rattle.directory.specs.Orders.{steps_of, next, IsPlayed}
+use Rattle.directory.specs.Outcomes.{step_lines}
+use Rattle.net_reader.specs.declared.said.Call.{Call}
+use Rattle.net_reader.specs.declared.said.Call.TheVariants as calls
+use Rattle.net_reader.specs.Input.{Contents}
+use Rattle.net_reader.specs.Valid.{IsCourse, IsSearch, IsValid}
+use Rattle.region_plan.specs.Plan.{PlanData}
+use Rattle.handset.specs.Condition.{GoesWith}
+use Rattle.handset.specs.Stands.{StandsForSteps}
+use Rattle.machine.specs.declared.caller.Caller.{Caller}
+use Rattle.machine.specs.declared.subscriber.Subscriber.{Subscriber}
+use Rattle.scripts.specs.Scripts.{find_of, scripts_of, step_of}
+use Rattle.machine.specs.Stands.{BeginInside, BeginsInside, IsWalking, setting_over, Sees, over, AreMade}
+use Rattle.machine.specs.Callers.{IsCaller, MayLook}
+use Rattle.machine.specs.Subscribers.{IsShown, IsSubscriber, Shown, begun_steps, shown_at, MayTakeTurn}
+use Rattle.machine.proofs.Looked.{by-parts}
+use Rattle.scripts.specs.ScriptLaws.{finds-are, steps-are}
+use Rattle.std.proofs.lemmas.Bool.{cases_lt, cases_eq, ne_eqb}
 use Rattle.std.proofs.lemmas.List.Sums.{fold-append}
 use Rattle.entry_word.specs.declared.visit.Key.{Key}
 use Rattle.entry_word.specs.declared.visit.Visit.{Visit}
-use Rattle.directory.specs.Histories.{History, own, tickets, word_after}
 use Rattle.directory.specs.Keys.{opening}
 use Rattle.directory.specs.Looks.{look_by}
-use Rattle.directory.specs.Orders.{next}
 use Rattle.directory.specs.Statements.{CallersKept, TicketsGrow, OwnGrow, MoreIsPlayed}
-use Rattle.net_reader.specs.Input.{Contents}
-use Rattle.region_plan.specs.Plan.{PlanData}
-use Rattle.region_plan.specs.Settings.{setting_of}
-use Rattle.visit_log.specs.Cells.{CellData, Hold}
-use Rattle.machine.specs.declared.caller.Caller.{Caller}
+use Rattle.visit_log.specs.Cells.{CellData}
 use Rattle.machine.specs.declared.machine.Machine.{Machine}
-use Rattle.machine.specs.declared.subscriber.Subscriber.{Subscriber}
-use Rattle.scripts.specs.Scripts.{scripts_of}
 use Rattle.scripts.specs.Laws.{VisitsAreFew}
-use Rattle.machine.specs.Stands.{Sees, over, setting_over}
-use Rattle.machine.specs.Callers.{IsCaller}
-use Rattle.machine.specs.Subscribers.{IsShown, IsSubscriber, Shown}
-use Rattle.machine.specs.Machines.{HasHistory, input_at, scripts_at, setting_at}
-use Rattle.machine.proofs.Looked.{by-parts}
+use Rattle.machine.specs.Machines.{IsStill, HasHistory, input_at, scripts_at, setting_at, HasMade, HasStridden}
+use Rattle.machine.proofs.Making.{made-count, no-visits}
+
+shown-opens : {input : Contents} {plan : PlanData} {sub : ℕ} (shown : Shown) → IsValid input → sub < length input.homes
+    → StandsForSteps (setting_over input plan) shown.handset [] 0 → GoesWith plan shown.handset
+    → shown.handset.sub ≡ sub → shown.lines.items ≡ [] → length (get_or input.scripts sub []) ≤ vec_capacity shown.lines
+    → IsShown input plan [] sub shown
+unfolding step_lines
+shown-opens {input} {plan} {sub} shown valid low stands goes its none room =
+    let begun : begun_steps input sub shown ≡ [] =
+    ap (λ n. take n (steps_of (scripts_of input) sub)) (ap length none) in
+    record {
+      handset = rw begun stands;
+      goes = goes;
+      its = its;
+      lines = rw (begun, none);
+      few = omega (arith, ap length none);
+      under = λ before step split. absurd (omega (arith, ap length (sym begun ∙ split), length_push before step));
+      room = omega
+          (arith, room, ap length (steps-are input sub valid low), length-map (get_or input.scripts sub []) step_of);
+    }
+
+pub sub-opens : {input : Contents} {plan : PlanData} {sub : ℕ} (subscriber : Subscriber) → IsValid input
+    → sub < length input.homes → StandsForSteps (setting_over input plan) subscriber.handset [] 0
+    → GoesWith plan subscriber.handset → subscriber.handset.sub ≡ sub → subscriber.ahead.items ≡ []
+    → subscriber.made ≡ 0 → 1 ≤ vec_capacity subscriber.ahead → subscriber.lines.items ≡ []
+    → length (get_or input.scripts sub []) ≤ vec_capacity subscriber.lines → IsSubscriber input plan [] sub subscriber
+sub-opens {input} {plan} subscriber valid low stands goes its empty none space no_lines room =
+    record {
+      handset = subscriber.handset;
+      shown = shown-opens (shown_at subscriber.handset subscriber) valid low stands goes its no_lines room;
+      owes = rw (none, empty) refl;
+      goes = goes;
+      its = its;
+      within = omega (arith, none);
+      space = space;
+    }
+
+pub caller-opens : (input : Contents) (plan : PlanData) (actor : ℕ) (caller : Caller) {script : List Call}
+    → length input.homes ≤ actor → actor < length input.scripts → script ≡ get_or input.scripts actor []
+    → IsWalking plan (map find_of script) at_origin caller.walk → caller.first ≡ None → caller.lines.items ≡ []
+    → length script ≤ vec_capacity caller.lines → IsCaller input plan [] actor caller
+unfolding words_after tickets_from
+caller-opens input plan actor caller {script} high low same walks first none room =
+    grind (arith, finds-are input (setting_over input plan) actor refl high low, length-map script find_of, by-parts)
+
+-- what holds at each place of a list and of one item more
+pub each-more : {A : Type 0} (P : ℕ → A → Type 0) (xs : List A) {x : A} {n : ℕ} {ys : List A} → ys ≡ xs ++ x ∷ []
+    → length xs ≡ n → ((s : ℕ) (d : A) → s < n → P s (get_or xs s d)) → P n x → (s : ℕ) (d : A) → s < n + 1
+    → P s (get_or ys s d)
+each-more P xs {x} {n} more count each last s d low = grind (arith, cases_lt, get_or-append, get_or_push)
+
+-- the calls of a valid input are inside
+course-inside : (format n here : ℕ) (off : Bool) (script : List Call) → IsCourse format n here off script
+    → BeginInside n script
+course-inside format n here off [] its = All-nil (BeginsInside n)
+course-inside format n here off (calls.Move to ∷ script) its =
+    All-cons (BeginsInside n) (calls.Move to) script tt (course-inside format n to off script its.3)
+course-inside format n here off (calls.Find from sub ∷ script) its = absurd its
+course-inside format n here off (calls.Off ∷ script) its =
+    All-cons (BeginsInside n) calls.Off script tt (course-inside format n here true script its.2)
+course-inside format n here off (calls.On ∷ script) its =
+    All-cons (BeginsInside n) calls.On script tt (course-inside format n here false script its.2)
+
+search-begins : (n subs : ℕ) (call : Call) → IsSearch n subs call → BeginsInside n call
+search-begins n subs (calls.Find from sub) h = h.0
+search-begins n subs call h = absurd h
+
+script-inside : {input : Contents} (actor : ℕ) → IsValid input → actor < length input.scripts
+    → BeginInside input.nodes (get_or input.scripts actor [])
+script-inside {input} actor valid low = grind (arith, cases_lt, course-inside, search-begins, All-weaker)
+
+pub scripts-inside : {input : Contents} (scripts : List (Vec Call Global)) {n : ℕ} → IsValid input
+    → input.scripts ≡ map (λ (s : Vec Call Global). s.items) scripts → n ≡ input.nodes → (k : ℕ) (d : Vec Call Global)
+    → k < length scripts → BeginInside n (get_or scripts k d).items
+scripts-inside {input} scripts valid same nodes k d low =
+    rw (nodes, ← get_or-map (λ (s : Vec Call Global). s.items) scripts k d [] low, ← same)
+    (script-inside k valid (omega (arith, low, ap length same, length-map scripts (λ (s : Vec Call Global). s.items))))
 
 -- a visit of another changes nothing of what is seen of a subscriber
 shown-kept : OwnGrow → TicketsGrow → {input : Contents} {plan : PlanData} {history : History} {sub : ℕ} {shown : Shown}
@@ -73,21 +159,7 @@ caller-kept law {input} {plan} {history} {actor} {caller} visit other its =
 each-set : {A : Type 0} (P : ℕ → A → Type 0) (xs ys : List A) (i : ℕ) (x : A) → ys ≡ slice_set xs i x → P i x
     → ((k : ℕ) (d : A) → k < length xs → k ≢ i → P k (get_or xs k d)) → (k : ℕ) (d : A) → k < length xs
     → P k (get_or ys k d)
-each-set P xs ys i x items its others k d low =
-    rw items (elim (cases_eq k i) [
-      | inl same ↦ rw (same, get_or-set_same xs i x d (rw same at low)) its
-      | inr other ↦ rw (get_or-set_other xs i k x d other) (others k d low other)
-    ])
-
-hold-look : {plan : PlanData} {starts : List ℕ} {cells : CellData} {history : History} (actor : ℕ) (key : Key)
-    → Hold plan starts cells history → Hold plan starts cells (history ++ look_by actor key ∷ [])
-hold-look {plan} {starts} {history} actor key hold =
-    record {
-      subs = hold.subs;
-      words = λ at its. hold.words at its
-          ∙ sym (fold-append (λ word (v : Visit). word_after at word v.act)
-          (opening (setting_of plan starts) at) history (look_by actor key ∷ []));
-    }
+each-set P xs ys i x items its others k d low = grind (arith, cases_eq, get_or-set_same, get_or-set_other)
 
 -- each visit was its actor's next one, and cells hold what the history leaves
 pub sees-more : MoreIsPlayed → {input : Contents} {plan : PlanData} {cells : CellData} {history : History} (actor : ℕ)
@@ -97,7 +169,12 @@ sees-more more {input} {plan} {history} actor key sees wants =
     record {
       played = more (setting_over input plan) (scripts_of input) history actor (look_by actor key) wants sees.played;
       goes = sees.goes;
-      hold = hold-look actor key sees.hold;
+      hold = record {
+        subs = sees.hold.subs;
+        words = λ at its. sees.hold.words at its
+            ∙ sym (fold-append (λ word (v : Visit). word_after at word v.act)
+            (opening (setting_over input plan) at) history (look_by actor key ∷ []));
+      };
     }
 
 -- what a visit of an actor keeps, many keep
@@ -111,138 +188,145 @@ kept-all P {actor} (visit ∷ visits) (suc count) {history} step same is =
     let rest : map (λ (v : Visit). v.actor) visits ≡ replicate count actor = cc in
     rw append_assoc at (kept-all P visits count step rest (step history visit its is))
 
--- after visits of a subscriber
-pub sub-turned : OwnGrow → TicketsGrow → CallersKept → {old : Machine} {history : History} {actor : ℕ} (count : ℕ)
-    (visits : List Visit) {subscriber : Subscriber} {cells : CellData} (subscribers : Vec Subscriber Global)
-    (order : Vec ℕ Global) → HasHistory old history → actor < length (input_at old).homes
-    → map (λ (v : Visit). v.actor) visits ≡ replicate count actor
-    → Sees (input_at old) old.plan.now cells (history ++ visits)
-    → IsSubscriber (input_at old) old.plan.now (history ++ visits) actor subscriber
-    → subscribers.items ≡ slice_set old.subscribers.items actor subscriber
-    → order.items ≡ old.order.items ++ replicate count actor → vec_capacity old.order ≤ vec_capacity order
-    → HasHistory (record old { cells = cells; subscribers = subscribers; order = order }) (history ++ visits)
-sub-turned own_law ticket_law kept {old} {history} {actor} count visits {subscriber} subscribers order stands low actors
-    sees its items pushed room =
-    record {
-      together = stands.together;
-      homes = stands.homes;
-      routes = stands.routes;
-      sees = sees;
-      order = rw (map-append, actors, ← stands.order) pushed;
-      room = omega (arith, stands.room, room);
-      subscribers_count = rw (items, length-set) stands.subscribers_count;
-      callers_count = stands.callers_count;
-      subscribers = λ s d below. each-set (IsSubscriber (input_at old) old.plan.now (history ++ visits))
-          old.subscribers.items subscribers.items actor subscriber items its
-          (λ k e within other. kept-all
-          (λ h. IsSubscriber (input_at old) old.plan.now h k (get_or old.subscribers.items k e)) visits count
-          (λ before visit same. sub-kept own_law ticket_law visit
-          (ne_eqb visit.actor k (λ q. other (sym q ∙ same)))) actors
-          (stands.subscribers k e (omega (arith, within, stands.subscribers_count)))) s d
-          (omega (arith, below, stands.subscribers_count));
-      callers = λ c d below.
-          kept-all (λ h. IsCaller (input_at old) old.plan.now h (length (input_at old).homes + c)
-          (get_or old.callers.items c d)) visits count (λ before visit same. caller-kept kept visit
-          (ne_eqb visit.actor (length (input_at old).homes + c) (λ e. omega (arith, e, same, low)))) actors
-          (stands.callers c d below);
-      calls = stands.calls;
-      total = stands.total;
-    }
-
--- after visits of a caller
-pub caller-turned : OwnGrow → TicketsGrow → CallersKept → {old : Machine} {history : History} {actor : ℕ}
-    (place count : ℕ) (visits : List Visit) {caller : Caller} (callers : Vec Caller Global) (order : Vec ℕ Global)
-    → HasHistory old history → actor ≡ length (input_at old).homes + place → actor < length (input_at old).scripts
-    → map (λ (v : Visit). v.actor) visits ≡ replicate count actor
-    → Sees (input_at old) old.plan.now old.cells (history ++ visits)
-    → IsCaller (input_at old) old.plan.now (history ++ visits) actor caller
-    → callers.items ≡ slice_set old.callers.items place caller → order.items ≡ old.order.items ++ replicate count actor
-    → vec_capacity old.order ≤ vec_capacity order
-    → HasHistory (record old { callers = callers; order = order }) (history ++ visits)
-caller-turned own_law ticket_law kept {old} {history} {actor} place count visits {caller} callers order stands at low
-    actors sees
-    its items pushed room =
-    record {
-      together = stands.together;
-      homes = stands.homes;
-      routes = stands.routes;
-      sees = sees;
-      order = rw (map-append, actors, ← stands.order) pushed;
-      room = omega (arith, stands.room, room);
-      subscribers_count = stands.subscribers_count;
-      callers_count = rw (items, length-set) stands.callers_count;
-      subscribers =
-          λ s d below. kept-all (λ h. IsSubscriber (input_at old) old.plan.now h s (get_or old.subscribers.items s d))
-          visits count (λ before visit same. sub-kept own_law ticket_law visit
-          (ne_eqb visit.actor s (λ e. omega (arith, same, e, at, below)))) actors (stands.subscribers s d below);
-      callers = λ c d below. each-set
-          (λ k x. IsCaller (input_at old) old.plan.now (history ++ visits) (length (input_at old).homes + k) x)
-          old.callers.items callers.items place caller items (rw at at its)
-          (λ k e within other. kept-all (λ h. IsCaller (input_at old) old.plan.now h (length (input_at old).homes + k)
-          (get_or old.callers.items k e)) visits count
-          (λ before visit same. caller-kept kept visit
-          (ne_eqb visit.actor (length (input_at old).homes + k) (λ q. other (omega (arith, same, q, at))))) actors
-          (stands.callers k e (omega (arith, within, stands.callers_count)))) c d
-          (omega (arith, below, stands.callers_count));
-      calls = stands.calls;
-      total = stands.total;
-    }
-
--- what a turn leans on
-pub at-sub : {machine : Machine} {history : History} (actor : ℕ) {x : Subscriber} → HasHistory machine history
-    → actor < length (input_at machine).homes → x ≡ get_or machine.subscribers.items actor x
-    → IsSubscriber (input_at machine) machine.plan.now history actor x
-at-sub actor {x} stands low same = rw same (stands.subscribers actor x low)
-
-pub at-caller : {machine : Machine} {history : History} {actor : ℕ} (place : ℕ) {x : Caller}
-    → HasHistory machine history → actor ≡ length (input_at machine).homes + place
-    → actor < length (input_at machine).scripts → x ≡ get_or machine.callers.items place x
-    → IsCaller (input_at machine) machine.plan.now history actor x
-at-caller place {x} stands at low same =
-    rw (at, same) (stands.callers place x (omega (arith, at, low, stands.together.valid.scripts)))
-
-pub ticket-is : {machine : Machine} {history : History} (ticket : ℕ) → HasHistory machine history
-    → ticket ≡ length machine.order.items → length history ≡ ticket
-ticket-is ticket stands same = sym (rw (same, stands.order, length-map))
-
--- the order has room for one visit more
-pub room-left : VisitsAreFew → MoreIsPlayed → {machine : Machine} {history : History} (actor : ℕ) {visit : Visit}
-    → HasHistory machine history → next (setting_at machine) (scripts_at machine) history actor ≡ Some visit
-    → length history < vec_capacity machine.order
-room-left few more {machine} {history} actor {visit} is wants =
+-- a history that is played has room in the order
+order-fits : VisitsAreFew → {machine : Machine} {history : History} (later : History) → HasHistory machine history
+    → IsPlayed (setting_at machine) (scripts_at machine) later → length later ≤ vec_capacity machine.order
+order-fits few {machine} later is played =
     omega (
       arith,
-      few (input_at machine) (setting_at machine) (history ++ visit ∷ []) is.together.valid
-          (over (input_at machine) machine.plan.now machine.distances.now is.together)
-          (more (setting_at machine) (scripts_at machine) history actor visit wants is.sees.played),
-      length_push history visit,
-      is.room,
-    )
-
--- and for many, which are those of a played history
-pub rooms-left : VisitsAreFew → {machine : Machine} {cells : CellData} {history : History} (actor count : ℕ)
-    (visits : List Visit) → HasHistory machine history → map (λ (v : Visit). v.actor) visits ≡ replicate count actor
-    → Sees (input_at machine) machine.plan.now cells (history ++ visits)
-    → length history + count ≤ vec_capacity machine.order
-rooms-left few {machine} {history} actor count visits is actors sees =
-    omega (
-      arith,
-      few (input_at machine) (setting_at machine) (history ++ visits) is.together.valid
-          (over (input_at machine) machine.plan.now machine.distances.now is.together) sees.played,
-      length-append history visits,
-      length-map visits (λ (v : Visit). v.actor),
-      ap length actors,
-      length-replicate count actor,
+      few (input_at machine) (setting_at machine) later is.together.valid
+          (over (input_at machine) machine.plan.now machine.distances.now is.together) played,
       is.room,
     )
 
 -- an actor that makes none of the visits that the order has room for has none left
-pub none-left : VisitsAreFew → MoreIsPlayed → {machine : Machine} {history : History} (actor reach : ℕ)
+none-left : VisitsAreFew → MoreIsPlayed → {machine : Machine} {history : History} (actor reach : ℕ)
     (wants : Option Visit) → HasHistory machine history → (reach ≡ 0 → vec_capacity machine.order ≤ length history)
     → next (setting_at machine) (scripts_at machine) history actor ≡ wants
     → (0 < reach → next (setting_at machine) (scripts_at machine) history actor ≡ None)
     → next (setting_at machine) (scripts_at machine) history actor ≡ None
 none-left few more actor reach None is full same law = same
-none-left few more actor zero (Some visit) is full same law =
-    absurd (omega (arith, full refl, room-left few more actor is same))
+none-left few more {machine} {history} actor zero (Some visit) is full same law = grind (
+  arith,
+  order-fits few (history ++ visit ∷ []) is
+      (more (setting_at machine) (scripts_at machine) history actor visit same is.sees.played),
+  length_push history visit,
+)
 none-left few more actor (suc reach) (Some visit) is full same law = law (omega arith)
+
+-- many visits of an actor, behind the history of a machine
+module _ {old : Machine} {history : History} {actor count : ℕ} {cells : CellData} {Holds : History → Type 0}
+    (stands : HasHistory old history)
+    (made : AreMade (input_at old) old.plan.now cells history actor count Holds) where
+  -- the order has room for them
+  pub rooms-left : VisitsAreFew → length history + count ≤ vec_capacity old.order
+  rooms-left few = omega (arith, order-fits few (history ++ made.visits) stands made.sees.played, made-count made refl)
+
+  -- where they were none, none is left
+  pub stridden : VisitsAreFew → MoreIsPlayed → {new : Machine} (reach : ℕ) → HasMade old new history actor count
+      → (reach ≡ 0 → vec_capacity old.order ≤ length history) → (count < reach
+      → next (setting_at old) (scripts_at old) (history ++ made.visits) actor ≡ None) → (count ≡ 0 → IsStill old new)
+      → HasStridden old new history actor count
+  stridden few more reach turned full ends still = (
+    turned,
+    λ none. (
+      none-left few more actor reach (next (setting_at old) (scripts_at old) history actor) stands full refl
+          (λ some. rw (no-visits made none, append-nil) at (ends (omega (arith, some, none)))),
+      still none,
+    ),
+  )
+
+  -- what the machine stands for then
+  turned : (subscribers : Vec Subscriber Global) (callers : Vec Caller Global) (order : Vec ℕ Global)
+      → order.items ≡ old.order.items ++ replicate count actor → vec_capacity old.order ≤ vec_capacity order
+      → length subscribers.items ≡ length old.subscribers.items → length callers.items ≡ length old.callers.items
+      → ((s : ℕ) (d : Subscriber) → s < length (input_at old).homes
+      → IsSubscriber (input_at old) old.plan.now (history ++ made.visits) s (get_or subscribers.items s d))
+      → ((c : ℕ) (d : Caller) → c < (input_at old).callers → IsCaller (input_at old) old.plan.now
+      (history ++ made.visits) (length (input_at old).homes + c) (get_or callers.items c d))
+      → HasMade old (record old { cells = cells; subscribers = subscribers; callers = callers; order = order }) history
+      actor count
+  turned subscribers callers order pushed room subs_count callers_count subs_are callers_are = record {
+    stands = subst (HasHistory _) (sym made.turns) (record {
+      together = stands.together;
+      homes = stands.homes;
+      routes = stands.routes;
+      sees = made.sees;
+      order = rw (map-append, made.actors, ← stands.order) pushed;
+      room = omega (arith, stands.room, room);
+      subscribers_count = subs_count ∙ stands.subscribers_count;
+      callers_count = callers_count ∙ stands.callers_count;
+      subscribers = subs_are;
+      callers = callers_are;
+      calls = stands.calls;
+      total = stands.total;
+    });
+    made = ap length made.turns ∙ made-count made refl;
+  }
+
+  -- the other actors are as far as they were
+  subs-stay : OwnGrow → TicketsGrow → (s : ℕ) (d : Subscriber) → s < length (input_at old).homes → s ≢ actor
+      → IsSubscriber (input_at old) old.plan.now (history ++ made.visits) s (get_or old.subscribers.items s d)
+  subs-stay own_law ticket_law s d low other =
+      kept-all (λ h. IsSubscriber (input_at old) old.plan.now h s (get_or old.subscribers.items s d)) made.visits count
+      (λ before visit same. sub-kept own_law ticket_law visit (ne_eqb visit.actor s (λ e. other (sym e ∙ same))))
+      made.actors (stands.subscribers s d low)
+
+  callers-stay : CallersKept → (c : ℕ) (d : Caller) → c < (input_at old).callers
+      → length (input_at old).homes + c ≢ actor → IsCaller (input_at old) old.plan.now (history ++ made.visits)
+      (length (input_at old).homes + c) (get_or old.callers.items c d)
+  callers-stay kept c d low other =
+      kept-all (λ h. IsCaller (input_at old) old.plan.now h (length (input_at old).homes + c)
+      (get_or old.callers.items c d)) made.visits count (λ before visit same. caller-kept kept visit
+      (ne_eqb visit.actor (length (input_at old).homes + c) (λ e. other (sym e ∙ same)))) made.actors
+      (stands.callers c d low)
+
+  -- so after visits of a subscriber
+  pub sub-turned : OwnGrow → TicketsGrow → CallersKept → {subscriber : Subscriber} (subscribers : Vec Subscriber Global)
+      (order : Vec ℕ Global) → actor < length (input_at old).homes
+      → IsSubscriber (input_at old) old.plan.now (history ++ made.visits) actor subscriber
+      → subscribers.items ≡ slice_set old.subscribers.items actor subscriber
+      → order.items ≡ old.order.items ++ replicate count actor → vec_capacity old.order ≤ vec_capacity order
+      → HasMade old (record old { cells = cells; subscribers = subscribers; order = order }) history actor count
+  sub-turned own_law ticket_law kept {subscriber} subscribers order low its items pushed room =
+      turned subscribers old.callers order pushed room (rw (items, length-set)) refl
+      (λ s d below. each-set (IsSubscriber (input_at old) old.plan.now (history ++ made.visits)) old.subscribers.items
+      subscribers.items actor subscriber items its (λ k e within. subs-stay own_law ticket_law k e
+      (omega (arith, within, stands.subscribers_count))) s d (omega (arith, below, stands.subscribers_count)))
+      (λ c d below. callers-stay kept c d below (λ e. omega (arith, e, low)))
+
+  -- and of a caller
+  pub caller-turned : OwnGrow → TicketsGrow → CallersKept → (place : ℕ) {caller : Caller} (callers : Vec Caller Global)
+      (order : Vec ℕ Global) → actor ≡ length (input_at old).homes + place
+      → IsCaller (input_at old) old.plan.now (history ++ made.visits) actor caller
+      → callers.items ≡ slice_set old.callers.items place caller
+      → order.items ≡ old.order.items ++ replicate count actor → vec_capacity old.order ≤ vec_capacity order
+      → HasMade old (record old { cells = cells; callers = callers; order = order }) history actor count
+  caller-turned own_law ticket_law kept place {caller} callers order at its items pushed room =
+      turned old.subscribers callers order pushed room refl (rw (items, length-set))
+      (λ s d below. subs-stay own_law ticket_law s d below (λ e. omega (arith, e, at, below)))
+      (λ c d below. each-set (λ k x. IsCaller (input_at old) old.plan.now (history ++ made.visits)
+      (length (input_at old).homes + k) x) old.callers.items callers.items place caller items (rw at at its)
+      (λ k e within other. callers-stay kept k e (omega (arith, within, stands.callers_count))
+      (λ q. other (omega (arith, q, at)))) c d (omega (arith, below, stands.callers_count)))
+
+-- a subscriber of a machine may have its turn
+abbrev pub sub-may : {machine : Machine} {history : History} (actor : ℕ) {ticket : ℕ} {x : Subscriber}
+    → HasHistory machine history → actor < length (input_at machine).homes → ticket ≡ length machine.order.items
+    → x ≡ get_or machine.subscribers.items actor x
+    → MayTakeTurn (input_at machine) machine.plan.now machine.cells ticket actor x
+sub-may {history = history} actor {x = x} stands low count same =
+    (history, stands.sees, sym (rw (count, stands.order, length-map)), rw same (stands.subscribers actor x low))
+
+-- and a caller
+abbrev pub caller-may : {machine : Machine} {history : History} {actor : ℕ} (place : ℕ) {ticket : ℕ} {x : Caller}
+    → HasHistory machine history → actor ≡ length (input_at machine).homes + place
+    → actor < length (input_at machine).scripts → ticket ≡ length machine.order.items
+    → x ≡ get_or machine.callers.items place x
+    → MayLook (input_at machine) machine.plan.now machine.cells ticket actor x
+caller-may {history = history} place {x = x} stands at low count same = (
+  history,
+  stands.sees,
+  sym (rw (count, stands.order, length-map)),
+  rw (at, same) (stands.callers place x (omega (arith, at, low, stands.together.valid.scripts))),
+)

@@ -1,33 +1,28 @@
 -- Rows of arcs that lie one behind another are a network with the walks of the edges.
-use Rattle.std.proofs.Common.{◌≡◌, ℕ, ◌+◌, ◌<◌, ◌≤◌, List, length, get_or, sym, subst, inl, inr, arith}
+use Rattle.std.proofs.Common.{ℕ, ◌+◌, ◌≤◌, List, sym, inl, inr, arith}
 use Rattle.std.specs.Prelude.{All}
 use Rattle.net_graph.specs.declared.edge.Edge.{Edge}
 use Rattle.net_graph.specs.declared.edge.TheConstants.{MAX_NODES}
 use Rattle.net_graph.specs.declared.neighbours.Arc.{Arc}
 use Rattle.net_graph.specs.Walks.{Joins}
 use Rattle.net_graph.specs.Network.{IsEdge, SameJoins, SameWalks}
-use Rattle.net_graph.specs.Layout.{row, edges_from, IsArc, IsLaidOut}
-use Rattle.net_graph.specs.Notes.{HaveRoom, JoinsOther, AreArcsBy, AreRows, notes_of, row_of}
+use Rattle.net_graph.specs.Layout.{edges_from, IsArc, IsLaidOut}
+use Rattle.net_graph.specs.Notes.{JoinsOther, AreRows, notes_of, row_of}
 use Rattle.net_graph.proofs.Noting.{row_is}
-use Rattle.net_graph.specs.StartLaws.{starts_rise}
+use Rattle.net_graph.specs.Starts.{AreRowsOf}
 use Rattle.net_graph.proofs.Rows.{edges_have_row, row_has_edge}
 use Rattle.net_graph.specs.WalkLaws.{join_edge, join_turned}
 use Rattle.net_graph.proofs.Replacing.{same_walks}
 
 -- the rows of all nodes, once each has its arcs in its places
-pub rows_made : (n : ℕ) (edges : List Edge) (starts : List ℕ) (arcs : List Arc) → HaveRoom n (notes_of edges) starts
-    → length arcs ≡ get_or starts n 0 → ((v : ℕ) → v < n → row starts arcs v ≡ row_of v (notes_of edges))
-    → All (IsArc n) arcs → AreRows n (JoinsOther edges) starts arcs
-rows_made n edges starts arcs room sized rows limits = record {
-  count = room.count;
-  ordered = λ k below. omega (arith, room.each k below);
-  within = λ k below.
-      omega (
-        arith,
-        sized,
-        starts_rise n (λ v. length (row_of v (notes_of edges))) starts room (k + 1) n (omega arith) (omega arith),
-      );
-  are = λ k below. subst (λ xs. AreArcsBy (JoinsOther edges) k xs) (sym (rows k below)) (row_is edges k);
+pub rows_made : (n : ℕ) (edges : List Edge) (starts : List ℕ) (arcs : List Arc)
+    → AreRowsOf n (λ v. row_of v (notes_of edges)) starts arcs → All (IsArc n) arcs
+    → AreRows n (JoinsOther edges) starts arcs
+rows_made n edges starts arcs rows limits = record {
+  count = rows.count;
+  ordered = rows.order;
+  within = λ k below. rows.within (k + 1) (omega (arith, below));
+  are = λ k below. rw (rows.each k below) (row_is edges k);
   limits = limits;
 }
 

@@ -10,7 +10,7 @@ use Rattle.net_graph.specs.declared.edge.Edge.{Edge}
 use Rattle.net_graph.specs.declared.edge.TheConstants.{MAX_WEIGHT}
 use Rattle.net_graph.specs.LeastWeights.{first_passing, leads_on, reaches, walk_weighs, LeastWeightsAreBounded, LeastWeightsAreFound}
 use Rattle.net_graph.specs.Network.{IsEdge}
-use Rattle.net_graph.specs.Walks.{Joins, make_edge, Step, IsWalk, weight_of, IsWalkWeight, IsLeastWeight}
+use Rattle.net_graph.specs.Walks.{Joins, Step, IsWalk, weight_of, IsWalkWeight, IsLeastWeight}
 use Rattle.net_graph.specs.WalkLaws.{join_edge, least_weight_one}
 
 -- ---- what is tested is there
@@ -69,32 +69,20 @@ reaches-sound edges inside v (suc k) m u e =
 
 leads_on-true : (goes : ℕ → ℕ → Bool) {m : ℕ} (u to w rest : ℕ) → m ≡ w + rest → goes rest to ≡ true
     → leads_on goes m u u to w ≡ true
-leads_on-true goes {m} u to w rest sum e =
-    let le : nat_le w m ≡ true = grind (arith, nat_tests) in
-    let left : m - w ≡ rest = omega arith in
-    and_from (u == u) (nat_le w m && goes (m - w) to) (eq-eqb u u refl)
-    (and_from (nat_le w m) (goes (m - w) to) le (rw left e))
+leads_on-true goes {m} u to w rest sum e = grind (arith, rest, eq-eqb u u refl)
 
 -- an edge of the list that joins the nodes passes the test
 edge_passes : (edges : List Edge) (goes : ℕ → ℕ → Bool) {m : ℕ} (u x w rest : ℕ) → Joins edges u x w → m ≡ w + rest
     → goes rest x ≡ true → list_any (leads goes m u) edges ≡ true
-edge_passes edges goes {m} u x w rest (inl h) sum e =
-    list_any_at (leads goes m u) edges h.0 (make_edge u x w) h.1
-    (subst (λ d. leads goes m u d ≡ true) (sym h.2)
-    (or_left (leads_on goes m u u x w) (leads_on goes m u x u w) (leads_on-true goes u x w rest sum e)))
-edge_passes edges goes {m} u x w rest (inr h) sum e =
-    list_any_at (leads goes m u) edges h.0 (make_edge x u w) h.1
-    (subst (λ d. leads goes m u d ≡ true) (sym h.2)
-    (or_right (leads_on goes m u x u w) (leads_on goes m u u x w) (leads_on-true goes u x w rest sum e)))
+edge_passes edges goes {m} u x w rest (inl h) sum e = grind (arith, leads, leads_on-true, or_left, list_any_at)
+edge_passes edges goes {m} u x w rest (inr h) sum e = grind (arith, leads, leads_on-true, or_right, list_any_at)
 
 reaches-whole : (edges : List Edge) (inside : ℕ → Bool) (u : ℕ) (steps : List Step) (v k : ℕ)
     → IsWalk edges inside u steps v → length steps < k
     → reaches edges inside v k (weight_of steps) u ≡ true
 unfolding reaches
 reaches-whole edges inside u steps v zero walk lt = absurd (omega arith)
-reaches-whole edges inside u [] v (suc k) walk lt =
-    and_from (inside u) _ walk.0 (or_left (0 == 0 && u == v) _
-    (and_from (0 == 0) (u == v) refl (eq-eqb u v walk.1)))
+reaches-whole edges inside u [] v (suc k) walk lt = grind (arith, eq-eqb, and_from, or_left)
 reaches-whole edges inside u (step ∷ steps) v (suc k) walk lt =
     let goes = reaches edges inside v k in
     let m = step.weight + weight_of steps in
@@ -144,10 +132,8 @@ least_of_first : (n : ℕ) (edges : List Edge) (inside : ℕ → Bool) (u v : �
     → IsFirst (walk_weighs edges inside u v) w → IsLeastWeight edges inside u v w
 least_of_first n edges inside u v {w} all is = record {
   attained = reaches-sound edges inside v (w + 1) w u is.passes;
-  least = λ steps walk. elim (cases_lt (weight_of steps) w) [
-    | inr le ↦ le
-    | inl lt ↦ absurd (false≢true (sym (is.first (weight_of steps) lt) ∙ passes_test n edges inside u v all steps walk))
-  ];
+  least = λ steps walk.
+      grind (arith, cases_lt (weight_of steps) w, passes_test n edges inside u v all steps walk, false≢true);
 }
 
 -- of so many tries, the first number that a walk weighs, where one weighs less

@@ -1,7 +1,8 @@
 -- The arcs that lead from a node, among those that a list of edges notes.
 use Rattle.std.proofs.Common.{◌≡◌, ◌≢◌, ◌⊎◌, ℕ, ◌+◌, ◌<◌, ◌≤◌, List, [], ◌∷◌, ◌++◌, length, get_or, take, refl, sym, ◌∙◌, ap, subst, inl, inr, arith}
 use Rattle.std.specs.Prelude.{Contains, ◌==◌}
-use Rattle.std.proofs.lemmas.Bool.{cases_Bool, cases_eq, eq-eqb, eqb-true, ne_eqb}
+use Rattle.std.proofs.lemmas.Bool.{cases_Bool, cases_eq, eq-eqb, ne_eqb}
+use Rattle.std.proofs.lemmas.Bool.Decides.{nat_tests}
 use Rattle.std.proofs.lemmas.Grind.{flat_map-append}
 use Rattle.std.proofs.lemmas.List.{append-nil, length-append, take_more}
 use Rattle.std.proofs.lemmas.List.Concat.{flat_map-cons}
@@ -17,18 +18,7 @@ use Rattle.net_graph.specs.Notes.{Note, note_of, notes_by, notes_of, row_of, Joi
 
 pub row-append : (u : ℕ) (xs ys : List Note) → row_of u (xs ++ ys) ≡ row_of u xs ++ row_of u ys
 row-append u [] ys = refl
-row-append u (x ∷ xs) ys = elim (cases_Bool (x.from == u)) [
-  | inl is ↦ rw is (ap (λ arcs. x.arc ∷ arcs) (row-append u xs ys))
-  | inr is ↦ rw is (row-append u xs ys)
-]
-
--- a row has no more arcs than there are notes
-pub row-short : (u : ℕ) (xs : List Note) → length (row_of u xs) ≤ length xs
-row-short u [] = omega arith
-row-short u (x ∷ xs) = elim (cases_Bool (x.from == u)) [
-  | inl is ↦ rw is (omega (arith, row-short u xs))
-  | inr is ↦ rw is (omega (arith, row-short u xs))
-]
+row-append u (x ∷ xs) ys = grind (arith, row-append u xs ys)
 
 pub row-at : {u : ℕ} (note : Note) (rest : List Note) → u ≡ note.from → row_of u (note ∷ rest) ≡ note.arc ∷ row_of u
     rest
@@ -51,13 +41,7 @@ edge-notes edge apart = rw (ne_eqb edge.a edge.b apart) refl
 
 -- one edge has at most one arc from each node
 few-arcs : (u : ℕ) (edge : Edge) → length (row_of u (notes_by edge)) ≤ 1
-few-arcs u edge = elim (cases_eq edge.a edge.b) [
-  | inl same ↦ rw (loop-notes edge same) (omega arith)
-  | inr apart ↦ rw (edge-notes edge apart) (elim (cases_Bool (edge.a == u)) [
-    | inl here ↦ rw (here, ne_eqb edge.b u (λ same. apart (eqb-true edge.a u here ∙ sym same))) (omega arith)
-    | inr away ↦ rw away (row-short u (note_of edge.b edge.a edge.weight ∷ []))
-  ])
-]
+few-arcs u edge = grind (arith, nat_tests)
 
 pub notes-push : (edges : List Edge) (i : ℕ) (d : Edge) → i < length edges
     → notes_of (take (i + 1) edges) ≡ notes_of (take i edges) ++ notes_by (get_or edges i d)
@@ -78,13 +62,12 @@ noted u x = record { from = u; arc = x }
 -- each arc of a row is noted with its node
 row-note : (u : ℕ) (notes : List Note) (x : Arc) → Contains (row_of u notes) x → Contains notes (noted u x)
 row-note u [] x has = nothing_there x has
-row-note u (note ∷ notes) x has = elim (cases_Bool (note.from == u)) [
-  | inl here ↦ elim (first_or_later x note.arc (row_of u notes) (rw here at has)) [
-    | inl is ↦
-        (0, omega arith, ap (λ v. noted v note.arc) (eqb-true note.from u here) ∙ ap (noted u) is)
+row-note u (note ∷ notes) x has = elim (cases_eq note.from u) [
+  | inl here ↦ elim (first_or_later x note.arc (row_of u notes) (rw (eq-eqb note.from u here) at has)) [
+    | inl is ↦ (0, omega arith, ap (λ v. noted v note.arc) here ∙ ap (noted u) is)
     | inr behind ↦ later (noted u x) note notes (row-note u notes x behind)
   ]
-  | inr away ↦ later (noted u x) note notes (row-note u notes x (rw away at has))
+  | inr away ↦ later (noted u x) note notes (row-note u notes x (rw (ne_eqb note.from u away) at has))
 ]
 
 note-row : (u : ℕ) (notes : List Note) (x : Arc) → Contains notes (noted u x) → Contains (row_of u notes) x
@@ -100,23 +83,7 @@ note-row u (note ∷ notes) x has = elim (first_or_later (noted u x) note notes 
 -- what one edge notes
 edge-noted : (edge : Edge) (u v w : ℕ) → Contains (notes_by edge) (note_of u v w)
     → (u ≢ v) × ((edge ≡ make_edge u v w) ⊎ (edge ≡ make_edge v u w))
-edge-noted edge u v w has = elim (cases_eq edge.a edge.b) [
-  | inl same ↦ nothing_there (note_of u v w) (rw (loop-notes edge same) at has)
-  | inr apart ↦ elim (first_or_later (note_of u v w) (note_of edge.a edge.b edge.weight)
-      (note_of edge.b edge.a edge.weight ∷ []) (rw (edge-notes edge apart) at has)) [
-        | inl is ↦ (
-          subst (λ (n : Note). n.from ≢ n.arc.target) is apart,
-          inl (ap (λ (n : Note). make_edge n.from n.arc.target n.arc.weight) is),
-        )
-        | inr last ↦ elim (first_or_later (note_of u v w) (note_of edge.b edge.a edge.weight) [] last) [
-          | inl is ↦ (
-            subst (λ (n : Note). n.from ≢ n.arc.target) is (λ same. apart (sym same)),
-            inr (ap (λ (n : Note). make_edge n.arc.target n.from n.arc.weight) is),
-          )
-          | inr none ↦ nothing_there (note_of u v w) none
-        ]
-      ]
-]
+edge-noted edge u v w has = grind (arith, cases_eq edge.a edge.b)
 
 -- ---- the row of a node has the arcs by which it is joined
 
@@ -137,13 +104,7 @@ from_edge (edge ∷ edges) note has =
     ]
 
 joined : (edges : List Edge) (u v w : ℕ) → Contains (notes_of edges) (note_of u v w) → JoinsOther edges u v w
-joined edges u v w has =
-    let e = from_edge edges (note_of u v w) has in
-    let is = edge-noted e.0 u v w e.2 in
-    elim is.1 [
-      | inl way ↦ (is.0, inl (subst (Contains edges) way e.1))
-      | inr way ↦ (is.0, inr (subst (Contains edges) way e.1))
-    ]
+joined edges u v w has = grind (arith, from_edge edges (note_of u v w) has, edge-noted)
 
 of_edge : (edges : List Edge) {edge : Edge} (note : Note) → Contains edges edge → Contains (notes_by edge) note
     → Contains (notes_of edges) note
@@ -165,14 +126,7 @@ in_notes edges u v w apart (inr h) = of_edge edges (note_of u v w) h
 -- a node has no more arcs than there are edges
 pub few_arcs : (edges : List Edge) (u : ℕ) → length (row_of u (notes_of edges)) ≤ length edges
 few_arcs [] u = omega arith
-few_arcs (edge ∷ edges) u =
-    omega (
-      arith,
-      ap (length {A = Arc}) (row-cons u edge edges),
-      length-append (row_of u (notes_by edge)) (row_of u (notes_of edges)),
-      few-arcs u edge,
-      few_arcs edges u,
-    )
+few_arcs (edge ∷ edges) u = grind (arith, few_arcs edges u, row-cons, length-append, few-arcs)
 
 pub row_is : (edges : List Edge) (u : ℕ) → AreArcsBy (JoinsOther edges) u (row_of u (notes_of edges))
 row_is edges u v w = (

@@ -65,15 +65,13 @@ pub more_neighbours : {n : ℕ} {edges : List Edge} {v : ℕ} {arcs : List Arc} 
     → AreLeastNeighbours edges weights v parents → next ≡ parents ++ least ∷ []
     → AreLeastNeighbours edges weights (v + 1) next
 more_neighbours {edges} {v} {weights} {parents} {least} of_node found so_far is =
-    subst (λ xs. AreLeastNeighbours edges weights (v + 1) xs) (sym is) (record {
+    rw is (record {
       count = omega (arith, length_push parents least, so_far.count);
       each = λ u below. elim (cases_lt u v) [
-        | inl less ↦ subst (λ o. IsLeastNeighbour edges weights u o)
-            (sym (get_or_append_left parents (least ∷ []) None u (omega (arith, so_far.count)))) (so_far.each u less)
-        | inr more ↦ let same : v ≡ u = omega arith in
-            subst (λ i. IsLeastNeighbour edges weights i (at_node (parents ++ least ∷ []) i)) same
-            (subst (λ o. IsLeastNeighbour edges weights v o) (sym (get_or_push parents least None v so_far.count))
-            (neighbour of_node found))
+        | inl less ↦ rw (get_or_append_left parents (least ∷ []) None u (omega (arith, so_far.count)))
+            (so_far.each u less)
+        | inr more ↦ let same : u ≡ v = omega arith in
+            rw (same, get_or_push parents least None v so_far.count) (neighbour of_node found)
       ];
     })
 

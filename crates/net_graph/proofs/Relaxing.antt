@@ -1,10 +1,11 @@
 -- What one step of the search does to the weights.
 use Rattle.std.proofs.Common.{◌≡◌, ◌≢◌, ◌++◌, take, get_or, ℕ, ◌+◌, ◌<◌, ◌≤◌, Bool, true, false, List, [], ◌∷◌, Option, None, Some, length, set, refl, sym, ◌∙◌, ap, subst, inl, inr, arith}
 use Rattle.std.specs.Prelude.{Contains, IsPermutation}
-use Rattle.std.proofs.lemmas.List.{length-set, get_or-set_same, get_or-set_other, get_or_past, take_more}
-use Rattle.std.proofs.lemmas.Bool.{cases_eq, cases_lt}
+use Rattle.std.proofs.lemmas.List.{length-set, get_or-set_same, get_or-set_other, take_more}
+use Rattle.std.proofs.lemmas.Bool.{cases_eq}
 use Rattle.net_graph.specs.declared.neighbours.Arc.{Arc}
 use Rattle.net_graph.specs.Walks.{among}
+use Rattle.net_graph.specs.WalkLaws.{among_below}
 use Rattle.net_graph.specs.Trees.{at_node}
 use Rattle.net_graph.specs.Layout.{make_arc}
 use Rattle.net_graph.specs.Least.{IsAtMost}
@@ -14,12 +15,6 @@ use Rattle.std.proofs.lemmas.List.Sorted.{Contains-permutation, IsPermutation-sy
 use Rattle.std.proofs.lemmas.List.Elements.{Contains-append_left, Contains-append_right, Contains-append_cases}
 use Rattle.net_graph.proofs.Elements.{first, first_or_later, later}
 use Rattle.std.proofs.lemmas.Option.{same_Some}
-
-pub among_below : (allowed : List Bool) (v : ℕ) → among allowed v ≡ true → v < length allowed
-among_below allowed v h = elim (cases_lt v (length allowed)) [
-  | inl below ↦ below
-  | inr past ↦ let both : false ≡ true = sym (get_or_past allowed v false past) ∙ h in cc
-]
 
 lighter_falls : (through w : ℕ) (weight : Option ℕ) → IsLighter through weight → IsAtMost weight w → through ≤ w
 lighter_falls through w None lighter h = absurd h
@@ -61,18 +56,13 @@ module _ (arc : Arc) (x : ℕ) (unsettled : List Bool) (old : List (Option ℕ))
     cause = λ v w here. elim (cases_eq v arc.target) [
       | inl same ↦ inr (record {
         by = arc.weight;
-        arc = subst (λ i. Contains (arc ∷ []) (make_arc i arc.weight)) (sym same) (first arc []);
+        arc = rw same (first arc []);
         waits = ap (among unsettled) same ∙ waits;
         sum = same_Some w (x + arc.weight) (sym here ∙ ap (at_node lowered) same ∙ here_now);
       })
       | inr other ↦ inl (sym (other_now v other) ∙ here)
     ];
-    falls = λ v w h. elim (cases_eq v arc.target) [
-      | inl same ↦ subst (λ o. IsAtMost o w) (sym (ap (at_node lowered) same ∙ here_now))
-          (lighter_falls (x + arc.weight) w (at_node old arc.target) lighter
-          (subst (λ i. IsAtMost (at_node old i) w) same h))
-      | inr other ↦ subst (λ o. IsAtMost o w) (sym (other_now v other)) h
-    ];
+    falls = λ v w h. grind (arith, cases_eq v arc.target, here_now, lighter_falls, other_now);
     reached = λ v c has v_waits. elim (first_or_later (make_arc v c) arc [] has) [
       | inl same ↦ subst (λ (a : Arc). IsAtMost (at_node lowered a.target) (x + a.weight)) same
           (subst (λ o. IsAtMost o (x + arc.weight)) (sym here_now) (omega arith))
@@ -82,21 +72,14 @@ module _ (arc : Arc) (x : ℕ) (unsettled : List Bool) (old : List (Option ℕ))
         (make_waiting w v) pushed
         (later (make_waiting w v) (make_waiting (x + arc.weight) arc.target) waited has);
     joined = λ v w here. elim (cases_eq v arc.target) [
-      | inl same ↦ inr (subst (λ i. Contains waiting (make_waiting i v))
-          (sym (same_Some w (x + arc.weight) (sym here ∙ ap (at_node lowered) same ∙ here_now)))
-          (subst (λ i. Contains waiting (make_waiting (x + arc.weight) i)) (sym same) joins))
+      | inl same ↦ inr (rw (same, same_Some w (x + arc.weight) (sym here ∙ ap (at_node lowered) same ∙ here_now))
+          joins)
       | inr other ↦ inl (sym (other_now v other) ∙ here)
     ];
     since = λ w v has. elim (first_or_later (make_waiting w v) (make_waiting (x + arc.weight) arc.target) waited
         (Contains-permutation waiting (make_waiting (x + arc.weight) arc.target ∷ waited) (make_waiting w v)
         (IsPermutation-sym (make_waiting (x + arc.weight) arc.target ∷ waited) waiting pushed) has)) [
-          | inl is ↦
-              let w_is : x + arc.weight ≡ w = ap (λ (u : Waiting). u.0.0) is in
-              let v_is : arc.target ≡ v = ap (λ (u : Waiting). u.0.1) is in
-              inr (
-                omega (arith, in_unsettled, v_is),
-                subst (λ o. IsAtMost o w) (sym (ap (at_node lowered) (sym v_is) ∙ here_now)) (omega (arith, w_is)),
-              )
+          | inl is ↦ grind (arith, in_unsettled, here_now)
           | inr before ↦ inl before
         ];
   }
@@ -109,37 +92,19 @@ relaxed_more : {arcs : List Arc} {arc : Arc} {x : ℕ} {unsettled : List Bool} {
 relaxed_more {arcs} {arc} {x} p q = record {
   count = q.count ∙ p.count;
   kept = λ v settled. q.kept v settled ∙ p.kept v settled;
-  cause = λ v w here. elim (q.cause v w here) [
-    | inl before ↦ elim (p.cause v w before) [
-      | inl first ↦ inl first
-      | inr through ↦ inr (record {
-        by = through.by;
-        waits = through.waits;
-        sum = through.sum;
-        arc = Contains-append_left arcs (arc ∷ []) (make_arc v through.by) through.arc;
-      })
-    ]
-    | inr through ↦ inr (record {
-      by = through.by;
-      waits = through.waits;
-      sum = through.sum;
-      arc = Contains-append_right arcs (arc ∷ []) (make_arc v through.by) through.arc;
-    })
-  ];
+  cause = λ v w here.
+      grind (
+        arith,
+        q.cause v w here,
+        p.cause v w,
+        Contains-append_left arcs (arc ∷ []),
+        Contains-append_right arcs (arc ∷ []),
+      );
   falls = λ v w h. q.falls v w (p.falls v w h);
-  reached = λ v c has waits. elim (Contains-append_cases arcs (arc ∷ []) (make_arc v c) has) [
-    | inl earlier ↦ q.falls v (x + c) (p.reached v c earlier waits)
-    | inr last ↦ q.reached v c last waits
-  ];
+  reached = λ v c has waits. grind (arith, Contains-append_cases arcs (arc ∷ []) (make_arc v c) has);
   wait_on = λ w v has. q.wait_on w v (p.wait_on w v has);
-  joined = λ v w here. elim (q.joined v w here) [
-    | inr now ↦ inr now
-    | inl before ↦ elim (p.joined v w before) [ inl first ↦ inl first | inr then ↦ inr (q.wait_on w v then) ]
-  ];
-  since = λ w v has. elim (q.since w v has) [
-    | inr now ↦ inr now
-    | inl before ↦ elim (p.since w v before) [ inl first ↦ inl first | inr then ↦ inr (then.0, q.falls v w then.1) ]
-  ];
+  joined = λ v w here. grind (arith, q.joined v w here, p.joined v w, q.wait_on w v);
+  since = λ w v has. grind (arith, q.since w v has, p.since w v, q.falls v w);
 }
 
 -- one more arc of a list
@@ -147,6 +112,4 @@ pub relaxed_next : (arcs : List Arc) (i : ℕ) (d : Arc) {x : ℕ} {unsettled : 
     {waited between waiting : List Waiting} → i < length arcs → IsRelaxed (take i arcs) x unsettled old mid waited
     between → IsRelaxed (get_or arcs i d ∷ []) x unsettled mid new between waiting
     → IsRelaxed (take (i + 1) arcs) x unsettled old new waited waiting
-relaxed_next arcs i d below p q =
-    rw (take_more arcs i d below)
-    (relaxed_more p q)
+relaxed_next arcs i d below p q = grind (arith, take_more arcs i d below, relaxed_more p q)

@@ -11,12 +11,7 @@ use Rattle.net_graph.specs.Network.{Network, IsInLimits}
 use Rattle.net_graph.specs.Layout.{make_arc, edge_from, row, edges_from, IsArc, IsLaidOut, AreArcsOf}
 
 edge_of_arc : (k u v w : ℕ) (arc : Arc) → edge_from k arc ≡ make_edge u v w → (k ≡ u) × (arc ≡ make_arc v w)
-edge_of_arc k u v w arc same = (
-  ap (λ (e : Edge). e.a) same,
-  let at : arc.target ≡ v = ap (λ (e : Edge). e.b) same in
-      let of : arc.weight ≡ w = ap (λ (e : Edge). e.weight) same in
-      ap (λ t. make_arc t arc.weight) at ∙ ap (make_arc v) of,
-)
+edge_of_arc k u v w arc same = grind arith
 
 mapped : (k v w : ℕ) (arcs : List Arc) → Contains arcs (make_arc v w)
     → Contains (map (edge_from k) arcs) (make_edge k v w)

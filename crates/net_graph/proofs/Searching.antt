@@ -17,9 +17,8 @@ use Rattle.net_graph.specs.Least.{IsAtMost}
 use Rattle.net_graph.specs.Queue.{Waiting, make_waiting, AreSettled, IsNextUnsettled}
 use Rattle.net_graph.specs.Search.{IsRelaxed}
 use Rattle.std.proofs.lemmas.List.Sorted.{Contains-permutation, IsPermutation-sym}
-use Rattle.net_graph.specs.WalkLaws.{walk_further, walk_begins}
+use Rattle.net_graph.specs.WalkLaws.{among_below, walk_further, walk_begins}
 use Rattle.net_graph.proofs.Lowering.{at_most_trans, at_most_some}
-use Rattle.net_graph.proofs.Relaxing.{among_below}
 use Rattle.std.proofs.lemmas.Option.{same_Some, none-some}
 
 -- how many nodes are unsettled
@@ -60,11 +59,7 @@ true_is_not_false : {b : Bool} → b ≡ true → b ≡ false → ⊥
 true_is_not_false h k = let both : true ≡ false = sym h ∙ k in cc
 
 none_there : (n v : ℕ) {w : ℕ} → get_or (replicate n None) v None ≡ Some w → ⊥
-none_there n v {w} here = elim (cases_lt v n) [
-  | inl below ↦ none-some w (sym (get_or-replicate n v None None below) ∙ here)
-  | inr past ↦ none-some w (sym (get_or_past (replicate n None) v None
-      (omega (arith, length-replicate {A = Option ℕ} n None))) ∙ here)
-]
+none_there n v {w} here = grind (arith, cases_lt, get_or-replicate, none-some, get_or_past, length-replicate)
 
 -- the beginning, where the root alone has a weight
 only_root : (n root v : ℕ) {w : ℕ} → at_node (set (replicate n None) root (Some 0)) v ≡ Some w → (v ≡ root) × (w ≡ 0)
@@ -96,8 +91,7 @@ search_begins network allowed root positive count at_root =
     record {
       nodes = count;
       count = length-set (replicate n None) root (Some 0) ∙ length-replicate n None;
-      start = subst (λ c. IsAtMost c 0) (sym (get_or-set_same (replicate n None) root (Some 0) None below))
-          (omega arith);
+      start = rw (get_or-set_same (replicate n None) root (Some 0) None below) (omega arith);
       inner = λ v h. h;
       settled = λ v h k. absurd (true_is_not_false h k);
       sound = λ v w here. let r = only_root n root v here in
@@ -113,17 +107,12 @@ search_begins network allowed root positive count at_root =
 -- settling a node
 settled_now : (unsettled : List Bool) (x v : ℕ) → among (set unsettled x false) v ≡ false → (v ≡ x)
     ⊎ (among unsettled v ≡ false)
-settled_now unsettled x v h = elim (cases_eq v x) [
-  | inl same ↦ inl same
-  | inr other ↦ inr (sym (get_or-set_other unsettled x v false false other) ∙ h)
-]
+settled_now unsettled x v h = grind (arith, get_or-set_other)
 
 unsettled_still : (unsettled : List Bool) (x v : ℕ) → x < length unsettled → among (set unsettled x false) v ≡ true
     → (v ≢ x) × (among unsettled v ≡ true)
 unsettled_still unsettled x v below h =
-    let other : v ≢ x = λ same. true_is_not_false (sym (ap (among (set unsettled x false)) same) ∙ h)
-    (get_or-set_same unsettled x false false below) in
-    (other, sym (get_or-set_other unsettled x v false false other) ∙ h)
+    grind (arith, get_or-set_same unsettled x false false below, true_is_not_false, get_or-set_other)
 
 count_falls : (unsettled : List Bool) (x : ℕ) → among unsettled x ≡ true
     → unsettled_count (set unsettled x false) + 1 ≡ unsettled_count unsettled
@@ -156,24 +145,19 @@ module _ {network : Network} {inside : ℕ → Bool} {root : ℕ} {unsettled : L
           | inl same ↦
               let w_is : best.weight ≡ w = same_Some best.weight w
               (sym lightest.weighs ∙ sym (ap (at_node weights) same) ∙ before) in
-              let from : Joins network.edges best.node v c = subst (λ i. Joins network.edges i v c) same joined in
+              let from : Joins network.edges best.node v c = rw same at joined in
               elim (cases_Bool (among (set unsettled best.node false) v)) [
-                | inl waits ↦ subst (λ i. IsAtMost (at_node new v) (i + c)) w_is
-                    (r.reached v c (of_node.whole v c from) waits)
-                | inr gone ↦ subst (λ o. IsAtMost o (w + c)) (sym (r.kept v gone))
-                    (elim (settled_now unsettled best.node v gone) [
-                      | inl itself ↦ subst (λ o. IsAtMost o (w + c))
-                          (sym (ap (at_node weights) itself ∙ lightest.weighs)) (omega (arith, w_is))
-                      | inr old ↦
-                          let y = so_far.settled v inner old in
-                          subst (λ o. IsAtMost o (w + c)) (sym y.1)
-                          (omega (
-                            arith,
-                            w_is,
-                            so_far.lightest v best.node y.0 best.weight old y.1 lightest.waits
-                                lightest.weighs,
-                          ))
-                    ])
+                | inl waits ↦ rw (← w_is) (r.reached v c (of_node.whole v c from) waits)
+                | inr gone ↦ rw (r.kept v gone) (elim (settled_now unsettled best.node v gone) [
+                  | inl itself ↦ rw (itself, lightest.weighs) (omega (arith, w_is))
+                  | inr old ↦
+                      let y = so_far.settled v inner old in
+                      rw y.1 (omega (
+                        arith,
+                        w_is,
+                        so_far.lightest v best.node y.0 best.weight old y.1 lightest.waits lightest.weighs,
+                      ))
+                ])
               ]
         ]
 
@@ -182,14 +166,14 @@ module _ {network : Network} {inside : ℕ → Bool} {root : ℕ} {unsettled : L
     lightest_now u v x y is_settled here waits there =
         let before : at_node weights u ≡ Some x = sym (r.kept u is_settled) ∙ here in
         let still = unsettled_still unsettled best.node v (among_below unsettled best.node lightest.waits) waits in
-        let light : x ≤ best.weight = elim (settled_now unsettled best.node u is_settled) [
-          | inl same ↦ omega (
-            arith,
-            same_Some best.weight x
-                (sym lightest.weighs ∙ sym (ap (at_node weights) same) ∙ before),
-          )
-          | inr old ↦ so_far.lightest u best.node x best.weight old before lightest.waits lightest.weighs
-        ] in
+        let light : x ≤ best.weight =
+        grind (
+          arith,
+          settled_now unsettled best.node u is_settled,
+          lightest.weighs,
+          so_far.lightest u best.node x best.weight,
+          lightest.waits,
+        ) in
         elim (r.cause v y there) [
           | inl old ↦ omega (arith, light, lightest.lightest v y still.1 old)
           | inr through ↦ omega (arith, light, through.sum)
@@ -218,34 +202,21 @@ module _ {network : Network} {inside : ℕ → Bool} {root : ℕ} {unsettled : L
             | inr through ↦
                 let still = unsettled_still unsettled best.node v (among_below unsettled best.node lightest.waits)
                 through.waits in
-                subst (λ i. IsWalkWeight network.edges inside root v i) (sym through.sum)
-                (walk_further network.edges inside root best.node v best.weight through.by
+                rw through.sum (walk_further network.edges inside root best.node v best.weight through.by
                 (so_far.sound best.node best.weight lightest.weighs) (so_far.inner v still.1)
                 (of_node.sound v through.by through.arc))
           ];
           closed = closed_now;
           lightest = lightest_now;
-          slack = λ v w here. elim (r.cause v w here) [
-            | inl old ↦ omega (arith, so_far.slack v w old, fallen)
-            | inr through ↦ omega (
-              arith,
-              through.sum,
-              fallen,
-              so_far.slack best.node best.weight lightest.weighs,
-              through_light v through.by through.arc,
-            )
-          ];
-          bounded = λ v w here. elim (r.cause v w here) [
-            | inl old ↦ so_far.bounded v w old
-            | inr through ↦ omega (
-              arith,
-              through.sum,
-              fallen,
-              count_positive next v through.waits,
-              so_far.slack best.node best.weight lightest.weighs,
-              through_light v through.by through.arc,
-            )
-          ];
+          slack = λ v w here.
+              grind (arith, r.cause v w here, so_far.slack best.node best.weight lightest.weighs, through_light);
+          bounded = λ v w here. grind (
+            arith,
+            r.cause v w here,
+            so_far.slack best.node best.weight lightest.weighs,
+            count_positive,
+            through_light,
+          );
         }
 
 -- the queue's next is the lightest
@@ -276,18 +247,9 @@ module _ {unsettled : List Bool} {weights : List (Option ℕ)} {waiting rest : L
         | inl before ↦ omega (arith, length-set unsettled best.node false, queue.below w v (next.fewer w v before))
         | inr now ↦ now.0
       ];
-      whole = λ v w waits here. elim (r.joined v w here) [
-        | inl before ↦
-            let still = unsettled_still unsettled best.node v next.below waits in
-            r.wait_on w v (next.kept w v (queue.whole v w still.1 before) still.1 still.0)
-        | inr now ↦ now
-      ];
-      light = λ w v has waits. elim (r.since w v has) [
-        | inl before ↦
-            let still = unsettled_still unsettled best.node v next.below waits in
-            r.falls v w (queue.light w v (next.fewer w v before) still.1)
-        | inr now ↦ now.1
-      ];
+      whole = λ v w waits here.
+          grind (arith, r.joined v w here, unsettled_still unsettled best.node v next.below waits);
+      light = λ w v has waits. grind (arith, r.since w v has, unsettled_still unsettled best.node v next.below waits);
     }
 
 -- the queue at the beginning
@@ -297,13 +259,14 @@ pub queue_begins : {n : ℕ} (allowed : List Bool) (root : ℕ) {waiting : List 
 queue_begins {n} allowed root {waiting} count at_root pushed = record {
   below = λ w v has. let r = only w v has in omega (arith, among_below allowed root at_root, r.1);
   whole = λ v w waits here. let r = only_root n root v here in
-      subst (λ i. Contains waiting (make_waiting i v)) (sym r.1)
-      (subst (λ i. Contains waiting (make_waiting 0 i)) (sym r.0)
-      (Contains-permutation (make_waiting 0 root ∷ []) waiting (make_waiting 0 root) pushed (0, omega arith, refl)));
+      rw (r.0, r.1)
+      (Contains-permutation (make_waiting 0 root ∷ []) waiting (make_waiting 0 root) pushed (0, omega arith, refl));
   light = λ w v has waits. let r = only w v has in
-      subst (λ i. IsAtMost (at_node (set (replicate n None) root (Some 0)) i) w) r.1
-      (subst (λ o. IsAtMost o w) (sym (get_or-set_same (replicate n None) root (Some 0) None
-      (omega (arith, length-replicate {A = Option ℕ} n None, among_below allowed root at_root, count)))) (omega arith));
+      rw (
+        ← r.1,
+        get_or-set_same {A = Option ℕ} (replicate n None) root (Some 0) None
+            (omega (arith, length-replicate {A = Option ℕ} n None, among_below allowed root at_root, count)),
+      ) (omega arith);
 }
   where
     only : (w v : ℕ) → Contains waiting (make_waiting w v) → (0 ≡ w) × (root ≡ v)

@@ -1,7 +1,6 @@
 -- Which nodes wait, as the queue goes on.
-use Rattle.std.proofs.Common.{◌≡◌, ◌⊎◌, ℕ, ◌<◌, ◌≤◌, Bool, true, false, List, [], ◌∷◌, length, sym, ◌∙◌, ap, subst, inl, inr, arith, cond, lt-ltb}
-use Rattle.std.specs.Prelude.{Contains, IsPermutation, nat_lt, ◌==◌}
-use Rattle.std.specs.declared.cmp.Ordering.TheVariants.{Less, Equal, Greater}
+use Rattle.std.proofs.Common.{◌≡◌, ◌⊎◌, ℕ, ◌<◌, ◌≤◌, Bool, true, false, List, [], ◌∷◌, length, ◌∙◌, ap, subst, inl, inr, arith}
+use Rattle.std.specs.Prelude.{Contains, IsPermutation}
 use Rattle.std.specs.BinaryHeap.{IsUpperBound}
 use Rattle.std.proofs.lemmas.List.Sorted.{Contains-permutation, IsPermutation-sym}
 use Rattle.net_graph.specs.declared.queue.Candidate.{Candidate}
@@ -18,13 +17,7 @@ pub record StillWait (unsettled : List Bool) (old now : List Waiting) : Type 0 w
   pub fewer : (w v : ℕ) → Contains now (make_waiting w v) → Contains old (make_waiting w v)
 
 no_less : (a b : ℕ) (o : Ordering) → is_lt (ordering_then (nat_cmp b a) o) ≡ false → a ≤ b
-no_less a b o h = elim (cases_lt b a) [
-  | inl less ↦ absurd (
-      let lt : nat_lt b a ≡ true = lt-ltb b a less in
-      let both : true ≡ false = subst (λ t. is_lt (ordering_then (cond t Less (cond (b == a) Equal Greater)) o) ≡ false)
-      lt h in cc)
-  | inr more ↦ more
-]
+no_less a b o h = grind (arith, cases_lt b a)
 
 -- nothing is lighter than the greatest of a queue
 no_lighter : (x : Waiting) (xs : List Waiting) → IsUpperBound lighter_first x xs → (y : Waiting) → Contains xs y
@@ -59,10 +52,7 @@ module _ {unsettled : List Bool} {old now : List Waiting} (rest : List Waiting) 
   -- a settled node goes
   pub settled_goes : among unsettled node ≡ false → StillWait unsettled old rest
   settled_goes gone = record {
-    kept = λ w v has waits. elim (taken_or_rest w v (so_far.kept w v has waits)) [
-      | inl same ↦ absurd (let both : true ≡ false = sym waits ∙ sym (ap (among unsettled) same) ∙ gone in cc)
-      | inr there ↦ there
-    ];
+    kept = λ w v has waits. grind (arith, so_far.kept w v has waits, taken_or_rest w v (so_far.kept w v has waits));
     fewer = rest_fewer;
   }
 
@@ -73,16 +63,13 @@ module _ {unsettled : List Bool} {old now : List Waiting} (rest : List Waiting) 
   next_is best node_is weight_is below waits bound = record {
     below = omega (arith, node_is);
     waits = ap (among unsettled) node_is ∙ waits;
-    there = subst (λ i. Contains old (make_waiting i best.node)) (sym weight_is)
-        (subst (λ i. Contains old (make_waiting weight i)) (sym node_is) taken_waited);
+    there = rw (weight_is, node_is) taken_waited;
     lightest = λ w v has v_waits.
         let light : weight ≤ w = no_lighter (make_waiting weight node) now bound (make_waiting w v)
         (so_far.kept w v has v_waits) in
         omega (arith, weight_is);
-    kept = λ w v has v_waits other. elim (taken_or_rest w v (so_far.kept w v has v_waits)) [
-      | inl same ↦ absurd (other (sym same ∙ sym node_is))
-      | inr there ↦ there
-    ];
+    kept = λ w v has v_waits other.
+        grind (arith, so_far.kept w v has v_waits, taken_or_rest w v (so_far.kept w v has v_waits));
     fewer = rest_fewer;
   }
 

@@ -11,4 +11,5 @@ pub mod WalkLaws
 pub mod Queue
 pub mod Starts
 pub mod StartLaws
+pub mod RowLaws
 pub mod Notes

@@ -1,7 +1,7 @@
 -- The arcs of a list of edges, each noted with the node that it leads from, while they are counted
 -- and laid out. These definitions serve the private functions that make a graph's rows.
 -- Key law: `fill_arcs` lays the arcs of each node in its row (`AreRows`).
-use Rattle.std.specs.Prelude.{◌≡◌, ◌≢◌, ◌↔◌, ◌==◌, ℕ, ◌+◌, ◌<◌, ◌≤◌, List, [], ◌∷◌, All, cond, length, Contains, slice_index, slice_index_or}
+use Rattle.std.specs.Prelude.{◌≡◌, ◌≢◌, ◌↔◌, ◌==◌, ℕ, ◌+◌, ◌<◌, ◌≤◌, List, [], ◌∷◌, All, cond, length, Contains, slice_index}
 use Rattle.std.specs.List.{flat_map}
 use Rattle.net_graph.specs.declared.edge.Edge.{Edge}
 use Rattle.net_graph.specs.declared.neighbours.Arc.{Arc}
@@ -40,12 +40,6 @@ AreCounts notes counts = (v : ℕ) → v < length counts
 -- from its start on each of n nodes has a place for each of its arcs
 abbrev pub HaveRoom : ℕ → List Note → List ℕ → Type 0
 HaveRoom n notes starts = HavePlaces n (λ v. length (row_of v notes)) starts
-
--- the first so many arcs of each node are in their places
-abbrev pub AreFilled : List Note → List ℕ → List ℕ → List Arc → Type 0
-AreFilled notes starts taken arcs = (v place : ℕ) (d : Arc) → v < length taken
-    → place < slice_index taken v → slice_index_or arcs (slice_index starts v + place) d
-    ≡ slice_index_or (row_of v notes) place d
 
 -- an edge that is no loop joins u and v with weight w
 abbrev pub JoinsOther : List Edge → ℕ → ℕ → ℕ → Type 0

@@ -8,6 +8,11 @@ use Rattle.net_graph.specs.declared.edge.Edge.{Edge}
 use Rattle.net_graph.specs.Walks.{Joins, make_edge, Step, everywhere, among, IsWalk, weight_of, IsWalkWeight, IsLeastWeight, IsUnreached}
 use Rattle.net_graph.specs.Network.{IsEdge}
 use Rattle.std.proofs.lemmas.Bool.{cases_lt}
+use Rattle.std.proofs.lemmas.List.{get_or_past}
+
+-- a node that is among the allowed ones has its place in their list
+pub among_below : (allowed : List Bool) (v : ℕ) → among allowed v ≡ true → v < length allowed
+among_below allowed v h = grind (arith, get_or_past allowed v false)
 
 pub join_turned : (edges : List Edge) (u v w : ℕ) → Joins edges u v w → Joins edges v u w
 join_turned edges u v w (inl h) = inr h

@@ -1,18 +1,17 @@
 -- The scripts of what was said are courses of subscribers and searches of callers, line by line.
-use Rattle.std.proofs.Common.{◌≡◌, ℕ, ◌<◌, ◌≤◌, Bool, true, false, eqb, List, [], ◌∷◌, ◌++◌, length, length-append, All, Ok, get_or, refl, sym, ap, ◌∙◌, subst, arith}
-use Rattle.std.proofs.lemmas.List.Elements.{All-append, All-cons, All-nil}
+use Rattle.std.proofs.Common.{◌≡◌, ℕ, ◌<◌, ◌≤◌, Bool, true, false, eqb, List, [], ◌∷◌, ◌++◌, length, length-append, All, Ok, get_or, refl, arith}
+use Rattle.std.proofs.lemmas.List.Elements.{All-append, All-nil, All-push}
 use Rattle.net_reader.specs.declared.said.Call.{Call}
 use Rattle.net_reader.specs.declared.said.Call.TheVariants as acts
-use Rattle.net_reader.specs.declared.said.Spoken.{Spoken}
 use Rattle.net_reader.specs.declared.word.Word.{Word}
 use Rattle.net_reader.specs.declared.word.Word.TheVariants as words
 use Rattle.net_reader.specs.Said.{Said, nothing, actors, script_of, place_after, off_after, place_of, is_off}
 use Rattle.net_reader.specs.Table.{verdict, row_of, may_stand, most_calls, place_of_word}
 use Rattle.net_reader.specs.Valid.{IsCourse, IsSearch}
 use Rattle.net_reader.proofs.Heard.{Heard, heard, with_call as call_said}
-use Rattle.net_reader.proofs.Measured.{at-1, at-2, at-3, at-4, at-5, at-6, at-7}
-use Rattle.net_reader.proofs.Standing.{make, with_call, script_of-push}
+use Rattle.net_reader.proofs.Standing.{make, script_of-push}
 use Rattle.std.proofs.lemmas.Bool.{eqb-true}
+use Rattle.std.proofs.lemmas.Bool.Decides.{nat_tests}
 
 -- one call more of a course
 pub course-push : (format n here : ℕ) (off : Bool) (script : List Call) (call : Call)
@@ -27,20 +26,6 @@ course-push format n here off (acts.Off ∷ script) call h last =
 course-push format n here off (acts.On ∷ script) call h last =
     (h.0, h.1, course-push format n here false script call h.2 last)
 
-course-with : (mine : Bool) (format n here : ℕ) (script : List Call) (call : Call)
-    → IsCourse format n here false script → (mine ≡ true
-    → IsCourse format n (place_after here script) (off_after false script) (call ∷ []))
-    → IsCourse format n here false (with_call mine script call)
-course-with true format n here script call h last = course-push format n here false script call h (last refl)
-course-with false format n here script call h last = h
-
-search-with : (mine : Bool) (n subs : ℕ) (script : List Call) (call : Call) → All (IsSearch n subs) script
-    → (mine ≡ true → IsSearch n subs call) → All (IsSearch n subs) (with_call mine script call)
-search-with true n subs script call h last =
-    All-append (IsSearch n subs) script (call ∷ []) h (All-cons (IsSearch n subs) call [] (last refl) (All-nil
-    (IsSearch n subs)))
-search-with false n subs script call h last = h
-
 pub record IsCalling (said : Said) : Type 0 where
   pub no_calls : said.place ≤ 6 → said.calls ≡ []
   pub no_order : said.place ≤ 7 → said.order ≡ []
@@ -53,22 +38,7 @@ pub record IsCalling (said : Said) : Type 0 where
 
 -- nobody has called yet
 quiet : (said : Said) → said.calls ≡ [] → said.order ≡ [] → IsCalling said
-quiet said none no_order = record {
-  no_calls = λ le. none;
-  no_order = λ le. no_order;
-  few = omega (arith, ap (λ (calls : List Spoken). length calls) none);
-  courses = λ s below. subst (λ (calls : List Spoken). IsCourse said.format said.nodes (get_or said.homes s 0) false
-      (script_of s calls)) (sym none) tt;
-  searches = λ a above. subst (λ (calls : List Spoken). All (IsSearch said.nodes (length said.homes)) (script_of a
-      calls)) (sym none) (All-nil (IsSearch said.nodes (length said.homes)));
-  order = subst (λ (xs : List ℕ). All (λ actor. actor < actors said) xs) (sym no_order) (All-nil (λ actor. actor <
-      actors said));
-}
-
-still-quiet : {said now : Said} → IsCalling said → said.place ≤ 5 → now.calls ≡ said.calls → now.order ≡ said.order
-    → IsCalling now
-still-quiet {said} {now} m early same in_order =
-    quiet now (same ∙ m.no_calls (omega (arith, early))) (in_order ∙ m.no_order (omega (arith, early)))
+quiet said none no_order = rw (none, no_order) (grind (arith, All-nil))
 
 -- one call more: what it adds to a course where a subscriber makes it, and to a search where a caller does
 call-kept : {said : Said} (actor : ℕ) (call : Call) → IsCalling said → said.place ≤ 7
@@ -81,16 +51,18 @@ call-kept {said} actor call m early few course search = record {
   no_calls = λ le. absurd (omega (arith, le));
   no_order = λ le. m.no_order early;
   few = omega (arith, few, length-append said.calls (make actor call ∷ []));
-  courses = λ s below.
-      subst (λ (script : List Call). IsCourse said.format said.nodes (get_or said.homes s 0) false script) (sym
-      (script_of-push s said.calls (make actor call)))
-      (course-with (eqb actor s) said.format said.nodes (get_or said.homes s 0) (script_of s said.calls) call
-      (m.courses s below) (course s below));
-  searches = λ a above.
-      subst (λ (script : List Call). All (IsSearch said.nodes (length said.homes)) script) (sym (script_of-push a
-      said.calls (make actor call)))
-      (search-with (eqb actor a) said.nodes (length said.homes) (script_of a said.calls) call (m.searches a above)
-      (search a above));
+  courses = λ s below. rw (script_of-push s said.calls (make actor call)) (grind (
+    arith,
+    m.courses s below,
+    course s below,
+    course-push said.format said.nodes (get_or said.homes s 0) false (script_of s said.calls) call,
+  ));
+  searches = λ a above. rw (script_of-push a said.calls (make actor call)) (grind (
+    arith,
+    m.searches a above,
+    search a above,
+    All-push (IsSearch said.nodes (length said.homes)) (script_of a said.calls) call,
+  ));
   order = m.order;
 }
 
@@ -99,47 +71,22 @@ sub-called : {said : Said} (sub : ℕ) (call : Call) → IsCalling said → said
     → length said.calls < most_calls said.format → sub < length said.homes
     → IsCourse said.format said.nodes (place_of said sub) (is_off said sub) (call ∷ [])
     → IsCalling (call_said said sub call)
-sub-called {said} sub call m early few known course = call-kept sub call m early few
-    (λ s below e. subst (λ (x : ℕ). IsCourse said.format said.nodes (place_of said x) (is_off said x) (call ∷ []))
-    (eqb-true sub s e) course)
-    (λ a above e. let is = eqb-true sub a e in absurd (omega (arith, is, known, above)))
+sub-called {said} sub call m early few known course = grind (arith, eqb-true, call-kept)
 
 calling-heard : {said : Said} (found : Said) (word : Word) → IsCalling said
     → may_stand said.place (place_of_word word) ≡ true → Heard said word found → IsCalling found
-calling-heard {said} found words.Track m p h =
-    subst IsCalling h.2 (still-quiet m (omega (arith, at-1 said.place p)) refl refl)
-calling-heard {said} found words.Nodes m p h =
-    subst IsCalling h.3 (still-quiet m (omega (arith, at-2 said.place p)) refl refl)
-calling-heard {said} found words.K m p h =
-    subst IsCalling h.2 (still-quiet m (omega (arith, at-3 said.place p)) refl refl)
-calling-heard {said} found words.Edge m p h =
-    subst IsCalling h.3 (still-quiet m (omega (arith, at-4 said.place p)) refl refl)
-calling-heard {said} found words.Sub m p h = subst IsCalling h.3 (still-quiet m (at-5 said.place p) refl refl)
-calling-heard {said} found words.Callers m p h = subst IsCalling h.2 (still-quiet m (at-6 said.place p) refl refl)
-calling-heard {said} found words.Move m p h =
-    let is = h.2 in
-    subst IsCalling h.3 (sub-called h.0 (acts.Move h.1) m (at-7 said.place p) is.0 is.1 (is.3, is.2, is.4, tt))
-calling-heard {said} found words.Find m p h =
-    let is = h.3 in
-    subst IsCalling h.4 (call-kept h.0 (acts.Find h.1 h.2) m (at-7 said.place p) is.0
-    (λ s below e. let found = eqb-true h.0 s e in absurd (omega (arith, found, below, is.1)))
-    (λ a above e. (is.3, is.4)))
-calling-heard {said} found words.Off m p h =
-    let is = h.1 in
-    subst IsCalling h.2 (sub-called h.0 acts.Off m (at-7 said.place p) is.0 is.1 (is.2, is.3, tt))
-calling-heard {said} found words.On m p h =
-    let is = h.1 in
-    subst IsCalling h.2 (sub-called h.0 acts.On m (at-7 said.place p) is.0 is.1 (is.2, is.3, tt))
+calling-heard found words.Track m p h = rw (← h.2) (grind (arith, nat_tests, quiet))
+calling-heard found words.Nodes m p h = rw (← h.3) (grind (arith, nat_tests, quiet))
+calling-heard found words.K m p h = rw (← h.2) (grind (arith, nat_tests, quiet))
+calling-heard found words.Edge m p h = rw (← h.3) (grind (arith, nat_tests, quiet))
+calling-heard found words.Sub m p h = rw (← h.3) (grind (arith, nat_tests, quiet))
+calling-heard found words.Callers m p h = rw (← h.2) (grind (arith, nat_tests, quiet))
+calling-heard {said} found words.Move m p h = grind (arith, sub-called)
+calling-heard {said} found words.Find m p h = grind (arith, eqb-true, call-kept)
+calling-heard {said} found words.Off m p h = grind (arith, sub-called)
+calling-heard {said} found words.On m p h = grind (arith, sub-called)
 calling-heard {said} found words.Order m p h =
-    let next : IsCalling (record said { place = 8; order = said.order ++ h.0 }) = record {
-      no_calls = λ le. absurd (omega (arith, le));
-      no_order = λ le. absurd (omega (arith, le));
-      few = m.few;
-      courses = m.courses;
-      searches = m.searches;
-      order = All-append (λ actor. actor < actors said) said.order h.0 m.order h.1;
-    } in
-    subst IsCalling h.2 next
+    rw (← h.2) (grind (arith, nat_tests, All-append (λ actor. actor < actors said) said.order h.0))
 
 pub begins-calling : IsCalling nothing
 begins-calling = quiet nothing refl refl

@@ -1,5 +1,5 @@
 -- A reader's answer is what the bytes say that it stands for.
-use Rattle.std.proofs.Common.{◌≡◌, ℕ, ◌≤◌, ◌<◌, ◌+◌, ◌^◌, Bool, true, false, cond, eqb, inl, inr, List, ◌++◌, Result, Ok, Err, ap, subst, sym, refl, ◌∙◌, arith}
+use Rattle.std.proofs.Common.{◌≡◌, ℕ, ◌<◌, ◌+◌, ◌^◌, Bool, false, inl, inr, List, ◌++◌, Result, Ok, Err, ap, subst, sym, ◌∙◌, arith}
 use Rattle.std.specs.Result.{is_err, OnOk}
 use Rattle.net_graph.specs.Network.{Network}
 use Rattle.net_reader.specs.declared.fault.InputFault.{InputFault}
@@ -38,13 +38,7 @@ pub fed_sound : {E : Type 0} {failed : Bool} (result : Result (Unit {0}) E) (old
     old.known × (seen_scan old ≡ after_bytes fresh_reader bytes)
     → OnOk result (seen_scan new ≡ after_bytes (seen_scan old) piece) → OnOk result (IsWell new.fault new.known)
     → IsSoundReader failed new
-fed_sound (Ok done) old new piece e stands read well =
-    inr (
-      stands.0 ++ piece,
-      well,
-      read ∙ ap (λ r. after_bytes r piece) stands.2
-          ∙ sym (fed-append fresh_reader stands.0 piece),
-    )
+fed_sound (Ok done) old new piece e stands read well = grind (arith, fed-append fresh_reader stands.0 piece)
 fed_sound (Err fault) old new piece e stands read well = inl e
 
 pub fed_stands : {E : Type 0} (reader : ReaderValue) {failed : Bool} (result : Result (Unit {0}) E) (old new : Scan)
@@ -59,10 +53,6 @@ fed_stands reader (Ok done) old new piece e same read = λ bytes stands. record 
 fed_stands reader (Err fault) old new piece e same read = tt
 
 -- what was said is within the limits
-nodes-few : (two : Bool) → cond two 1024 256 ≤ 1024
-nodes-few true = omega arith
-nodes-few false = omega arith
-
 pub sound : (scan : Scan) (known : Known) (lines : ℕ)
     → (bytes : List ℕ) × IsWell scan.fault scan.known × (seen_scan scan ≡ after_bytes fresh_reader bytes)
     → Finishes (Ok (known, lines)) (end_result (seen_scan scan)) → IsSound (seen_known known)
@@ -72,7 +62,7 @@ sound scan known lines stands h =
     let m = holds_of_read IsMeasured begins-measured keeps-measured stands.0 is in
     record {
       some = m.0.some (omega (arith, m.1));
-      few = omega (arith, m.0.few, nodes-few (eqb known.format 2));
+      few = grind (arith, m.0.few);
       edges = m.0.edges;
     }
 
@@ -87,9 +77,7 @@ answered bytes (Err refusals.OutOfMemory) e h = tt
 
 pub refused : (bytes : List ℕ) (refusal : ReadRefusal) {found : Result (Said × ℕ) InputFault} → found ≡ read bytes
     → Finishes (Err refusal) found → IsReadWithGraph bytes (Err refusal)
-refused bytes (refusals.Fault fault) e h =
-    let is : read bytes ≡ Err fault = sym e ∙ h in
-    subst (λ (r : Result (Said × ℕ) InputFault). IsAnswer r (Err fault)) (sym is) refl
+refused bytes (refusals.Fault fault) e h = grind arith
 refused bytes refusals.OutOfMemory e h = tt
 
 -- what the state that these bytes lead to says

@@ -1,42 +1,35 @@
 -- The numbers of a line of the order.
-use Rattle.std.proofs.Common.{◌≡◌, ℕ, ◌||◌, cond, leb, ltb, append_assoc, length-append, length-take, get_or, drop, ◌+◌, ◌<◌, ◌≤◌, true, false, set, take, List, [], ◌∷◌, ◌++◌, length, refl, ap, sym, ◌∙◌, arith, subst}
+use Rattle.std.proofs.Common.{◌≡◌, ℕ, append_assoc, length-append, length-take, get_or, drop, ◌+◌, ◌<◌, ◌≤◌, true, false, set, take, List, [], ◌∷◌, ◌++◌, length, refl, ap, sym, ◌∙◌, arith}
 use Rattle.std.proofs.lemmas.Bool.Decides.{nat_tests}
 use Rattle.std.proofs.lemmas.List.{append-nil, drop-drop, get_or-set_same, length-set, take-set, take_more}
 use Rattle.std.proofs.lemmas.List.Folds.{list_any-append, list_any_at}
 use Rattle.std.specs.List.{list_any}
 use Rattle.std.specs.Prelude.{nat_le}
-use Rattle.net_reader.specs.Steps.{IsRun, keep}
+use Rattle.net_reader.specs.Steps.{keep}
 use Rattle.net_reader.specs.Whole.{IsLast, IsNumberTo, IsTaking, Takes, between}
 use Rattle.net_reader.proofs.Running.{run-join, run-none}
 use Rattle.net_reader.proofs.WholeLine.{blank-behind, numbers-behind}
 
 -- one number more of the order
 keep-few : (numbers : List ℕ) (value : ℕ) → length numbers < 64 → keep numbers value ≡ numbers ++ value ∷ []
-keep-few numbers value few =
-    let within : ltb (length numbers) 65 ≡ true = grind (arith, nat_tests) in
-    ap (λ b. cond b (numbers ++ value ∷ []) numbers) within
+keep-few numbers value few = grind (arith, nat_tests)
 
 below-more : (limit value : ℕ) (numbers : List ℕ) → list_any (λ number. nat_le limit number) numbers ≡ false
     → value < limit → list_any (λ number. nat_le limit number) (numbers ++ value ∷ []) ≡ false
 below-more limit value numbers below less =
-    let no : leb limit value ≡ false = grind (arith, nat_tests) in
-    list_any-append (λ number. nat_le limit number) numbers (value ∷ [])
-    ∙ ap (λ b. b || (leb limit value || false)) below ∙ ap (λ b. b || false) no
+    grind (arith, nat_tests, list_any-append (λ number. nat_le limit number) numbers (value ∷ []))
 
 -- one number more of those that a line has
 pub taken-more : (order : List ℕ) {now later : List ℕ} (numbers : List ℕ) (i : ℕ) → i < length numbers
     → now ≡ order ++ take i numbers → later ≡ now ++ get_or numbers i 0 ∷ [] → later ≡ order ++ take (i + 1) numbers
 taken-more order numbers i within before is =
-    is ∙ ap (λ xs. xs ++ get_or numbers i 0 ∷ []) before
-    ∙ append_assoc order (take i numbers) (get_or numbers i 0 ∷ [])
-    ∙ ap (λ xs. order ++ xs) (sym (take_more numbers i 0 within))
+    rw (is, before, append_assoc, ← take_more numbers i 0 within)
 
 pub known-more : (limit : ℕ) (numbers : List ℕ) (i : ℕ) → i < length numbers
     → list_any (λ number. nat_le limit number) (take i numbers) ≡ false → get_or numbers i 0 < limit
     → list_any (λ number. nat_le limit number) (take (i + 1) numbers) ≡ false
 known-more limit numbers i within known less =
-    ap (list_any (λ number. nat_le limit number)) (take_more numbers i 0 within)
-    ∙ below-more limit (get_or numbers i 0) (take i numbers) known less
+    rw (take_more numbers i 0 within) (below-more limit (get_or numbers i 0) (take i numbers) known less)
 
 -- one that isn't below the limit
 pub unknown-at : (limit : ℕ) (numbers : List ℕ) (i : ℕ) → i < length numbers → limit ≤ get_or numbers i 0
@@ -60,9 +53,8 @@ taking-more {limit} {value} {before} {piece} {after} taking number less few =
     let short : length numbers < 64 = omega (arith, few, ap length taking.added, length-append before numbers) in
     record {
       numbers = numbers ++ value ∷ [];
-      run = λ word. subst (λ ns. IsRun (between word []) (between word ns) piece after) (keep-few numbers value short)
-          (run-join (taking.run word) (blank-behind word numbers number));
-      added = ap (λ xs. xs ++ value ∷ []) taking.added ∙ append_assoc before numbers (value ∷ []);
+      run = λ word. rw (← keep-few numbers value short) (run-join (taking.run word) (blank-behind word numbers number));
+      added = rw (taking.added, append_assoc);
       below = below-more limit value numbers taking.below less;
     }
 
@@ -75,7 +67,7 @@ taking-last {limit} value {before} after taking number less few =
     record {
       numbers = numbers ++ value ∷ [];
       ends = numbers-behind value numbers after taking.run number (keep-few numbers value short);
-      added = ap (λ xs. xs ++ value ∷ []) taking.added ∙ append_assoc before numbers (value ∷ []);
+      added = rw (taking.added, append_assoc);
       some = omega (arith, length-append numbers (value ∷ []));
       few = omega (arith, short, length-append numbers (value ∷ []));
       below = below-more limit value numbers taking.below less;
@@ -84,9 +76,11 @@ taking-last {limit} value {before} after taking number less few =
 -- a list's front with one thing more
 take-more-set : (xs : List ℕ) (i x : ℕ) → i < length xs → take (i + 1) (set xs i x) ≡ take i xs ++ x ∷ []
 take-more-set xs i x within =
-    take_more (set xs i x) i 0 (omega (arith, within, length-set xs i x))
-    ∙ ap (λ front. front ++ get_or (set xs i x) i 0 ∷ []) (take-set xs i x)
-    ∙ ap (λ y. take i xs ++ y ∷ []) (get_or-set_same xs i x 0 within)
+    rw (
+      take_more (set xs i x) i 0 (omega (arith, within, length-set xs i x)),
+      take-set xs i x,
+      get_or-set_same xs i x 0 within,
+    )
 
 pub written-more : {limit value : ℕ} (count : ℕ) {before : List ℕ} (xs : List ℕ) {piece rest after : List ℕ}
     → IsTaking limit before (take count xs) piece rest → IsNumberTo 32 value rest after → value < limit

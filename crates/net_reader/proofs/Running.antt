@@ -1,55 +1,33 @@
 -- Runs of bytes that don't end a line, and what a line is with them.
-use Rattle.std.proofs.Common.{◌≡◌, ℕ, zero, suc, ◌-◌, ◌<◌, ◌≤◌, Bool, true, false, cond, eqb, fold, take, drop, List, [], ◌∷◌, ◌++◌, length, get_or, refl, ap, sym, ◌∙◌, arith, append_assoc, length-append, length-take, subst}
+use Rattle.std.proofs.Common.{◌≡◌, ℕ, zero, suc, ◌-◌, ◌<◌, ◌≤◌, Bool, true, false, eqb, fold, take, drop, List, [], ◌∷◌, ◌++◌, length, get_or, refl, ap, sym, ◌∙◌, arith, append_assoc, length-append, length-take, subst}
 use Rattle.std.proofs.lemmas.Bool.Decides.{nat_tests}
 use Rattle.std.proofs.lemmas.List.{take-append-drop, take_all}
 use Rattle.std.proofs.lemmas.List.Sums.{fold-append}
+use Rattle.std.proofs.lemmas.List.Folds.{list_all-append}
 use Rattle.std.specs.List.{list_all}
 use Rattle.net_reader.specs.declared.line.Open.{Open}
 use Rattle.net_reader.specs.declared.line.Open.TheVariants as opens
 use Rattle.net_reader.specs.TextLines.{is_blank}
-use Rattle.net_reader.specs.Steps.{IsRun, LineState, close, close_as, is_inside, is_plain, keep, more, pack, put}
-use Rattle.std.proofs.lemmas.Bool.{and_parts, and_from}
+use Rattle.net_reader.specs.Steps.{IsRun, LineState, close_as, is_inside, is_plain, keep, more, pack, put}
+use Rattle.std.proofs.lemmas.Bool.{and_from}
 
 pub all-append : (test : ℕ → Bool) (xs ys : List ℕ) → list_all test xs ≡ true → list_all test ys ≡ true
     → list_all test (xs ++ ys) ≡ true
-all-append test [] ys e f = f
-all-append test (x ∷ xs) ys e f =
-    let both = and_parts (test x) (list_all test xs) e in
-    and_from (test x) (list_all test (xs ++ ys)) both.0 (all-append test xs ys both.1 f)
+all-append test xs ys e f = rw (list_all-append test xs ys, e, f)
 
 -- bytes that no blank is among only go on with the field
-inside-plain : (b : ℕ) → is_plain b ≡ true → is_inside b ≡ true
-inside-plain b e = grind (arith, nat_tests)
-
 pub all-inside : (xs : List ℕ) → list_all is_plain xs ≡ true → list_all is_inside xs ≡ true
 all-inside [] e = refl
-all-inside (x ∷ xs) e =
-    let both = and_parts (is_plain x) (list_all is_plain xs) e in
-    and_from (is_inside x) (list_all is_inside xs) (inside-plain x both.0) (all-inside xs both.1)
-
-blank-no : (b : ℕ) → is_plain b ≡ true → is_blank b ≡ false
-blank-no b e = grind (arith, nat_tests)
-
-put-go : (blank : Bool) (line : LineState) (b : ℕ) → blank ≡ false
-    → cond blank (close line) (record line { open_field = more line.open_field b })
-    ≡ record line { open_field = more line.open_field b }
-put-go false line b e = refl
-put-go true line b e = cc
+all-inside (x ∷ xs) e = grind (arith, nat_tests, all-inside xs)
 
 pub put-plain : (xs : List ℕ) (line : LineState) → list_all is_plain xs ≡ true
     → record line { open_field = fold more line.open_field xs } ≡ fold put line xs
 unfolding put
 put-plain [] line e = refl
 put-plain (x ∷ xs) line e =
-    let both = and_parts (is_plain x) (list_all is_plain xs) e in
-    put-plain xs (record line { open_field = more line.open_field x }) both.1
-    ∙ ap (λ l. fold put l xs) (sym (put-go (is_blank x) line x (blank-no x both.0)))
+    grind (arith, nat_tests, put-plain xs (record line { open_field = more line.open_field x }))
 
 -- a comment and a field that isn't a number stay what they are
-settled-go : (blank : Bool) (line : LineState) → cond blank line line ≡ line
-settled-go true line = refl
-settled-go false line = refl
-
 abbrev pub IsSettled : Open → Type 0
 IsSettled field = (word : ℕ) (numbers : List ℕ) (b : ℕ)
     → put (record { open_field = field; word = word; numbers = numbers }) b
@@ -57,21 +35,16 @@ IsSettled field = (word : ℕ) (numbers : List ℕ) (b : ℕ)
 
 pub comment-settled : IsSettled opens.Comment
 unfolding put close_as more
-comment-settled word numbers b =
-    settled-go (is_blank b) (record { open_field = opens.Comment; word = word; numbers = numbers })
+comment-settled word numbers b = grind arith
 
 pub wrong-settled : IsSettled opens.Wrong
 unfolding put close_as more
-wrong-settled word numbers b =
-    settled-go (is_blank b) (record { open_field = opens.Wrong; word = word; numbers = numbers })
+wrong-settled word numbers b = grind arith
 
 pub put-settled : {field : Open} → IsSettled field → (xs : List ℕ) (line : LineState) → line.open_field ≡ field
     → line ≡ fold put line xs
 put-settled settled [] line is = refl
-put-settled {field} settled (x ∷ xs) line is =
-    let same : put line x ≡ line = ap (λ f. put (record line { open_field = f }) x) is
-    ∙ settled line.word line.numbers x ∙ ap (λ f. record line { open_field = f }) (sym is) in
-    put-settled settled xs line is ∙ ap (λ l. fold put l xs) (sym same)
+put-settled {field} settled (x ∷ xs) line is = grind (arith, put-settled settled xs line is)
 
 -- bytes that each don't end a line
 pub inside-front : (hay : List ℕ) (k : ℕ) → k ≤ length hay
@@ -85,9 +58,7 @@ inside-front (b ∷ hay) (suc k) h inside =
 -- the first byte and those behind it
 pub first-byte : (xs : List ℕ) → 0 < length xs → xs ≡ get_or xs 0 0 ∷ take (length xs - 1) (drop 1 xs)
 first-byte [] h = absurd (omega arith)
-first-byte (x ∷ xs) h =
-    let all : take (length (x ∷ xs) - 1) xs ≡ xs = take_all (length (x ∷ xs) - 1) xs (omega arith) in
-    ap (λ l. x ∷ l) (sym all)
+first-byte (x ∷ xs) h = grind (arith, take_all)
 
 -- a run of no byte, a byte more, and a run behind it
 pub run-none : (line : LineState) (piece : List ℕ) → IsRun line line piece piece
@@ -114,9 +85,7 @@ run-more {line = line} {rest = rest} run h more = run-join run (run-join (run-by
 -- a run from the front of a piece
 cut : (piece : List ℕ) {rest : List ℕ} {found : Open × ℕ} (field : Open) (taken : ℕ) → found ≡ (field, taken)
     → rest ≡ drop found.1 piece → piece ≡ take taken piece ++ rest
-cut piece field taken e back =
-    sym (take-append-drop taken piece)
-    ∙ ap (λ xs. take taken piece ++ xs) (ap (λ (p : Open × ℕ). drop p.1 piece) (sym e) ∙ sym back)
+cut piece field taken e back = grind (arith, take-append-drop taken piece)
 
 pub run-plain : (line : LineState) {start field : Open} {found : Open × ℕ} (taken : ℕ) (piece : List ℕ) {rest : List ℕ}
     → line.open_field ≡ start → found ≡ (field, taken) → rest ≡ drop found.1 piece
@@ -126,9 +95,7 @@ run-plain line {field} taken piece begins e back plain is = record {
   front = take taken piece;
   parts = cut piece field taken e back;
   inside = all-inside (take taken piece) plain;
-  read = ap (λ (p : Open × ℕ). record line { open_field = p.0 }) e
-      ∙ ap (λ f. record line { open_field = f }) (is ∙ ap (λ s. fold more s (take taken piece)) (sym begins))
-      ∙ put-plain (take taken piece) line plain;
+  read = grind (arith, put-plain (take taken piece) line plain);
 }
 
 pub run-settled : {field : Open} → IsSettled field → (line : LineState) {found : Open × ℕ} (taken : ℕ) (piece : List ℕ)
@@ -138,9 +105,7 @@ run-settled {field} settled line taken piece begins e back inside = record {
   front = take taken piece;
   parts = cut piece field taken e back;
   inside = inside;
-  read = ap (λ (p : Open × ℕ). record line { open_field = p.0 }) e
-      ∙ ap (λ f. record line { open_field = f }) (sym begins)
-      ∙ put-settled settled (take taken piece) line begins;
+  read = grind (arith, put-settled settled (take taken piece) line begins);
 }
 
 pub run-still : (line : LineState) {field : Open} {found : Open × ℕ} (piece : List ℕ) {rest : List ℕ}
@@ -167,17 +132,10 @@ run-number line piece count value taken between some within back plain is =
 blank-inside : (b : ℕ) → is_blank b ≡ true → is_inside b ≡ true
 blank-inside b e = grind (arith, nat_tests)
 
-closed-go : (blank : Bool) (line other : LineState) → blank ≡ true → cond blank line other ≡ line
-closed-go true line other e = refl
-closed-go false line other e = cc
-
 closed : (line : LineState) (count value b : ℕ) → line.open_field ≡ opens.Between → is_blank b ≡ true
     → put (record line { open_field = opens.Number count value }) b ≡ record line { numbers = keep line.numbers value }
 unfolding put close_as
-closed line count value b between blank =
-    closed-go (is_blank b) (close (record line { open_field = opens.Number count value }))
-    (record line { open_field = more (opens.Number count value) b }) blank
-    ∙ ap (λ f. record line { open_field = f; numbers = keep line.numbers value }) (sym between)
+closed line count value b between blank = grind arith
 
 pub run-number-blank : (line : LineState) (piece : List ℕ) {rest : List ℕ} {b : ℕ} (count value taken : ℕ)
     → line.open_field ≡ opens.Between → 0 < taken → taken ≤ length piece → b ∷ rest ≡ drop taken piece
@@ -191,19 +149,10 @@ run-number-blank line piece {rest} {b} count value taken between some within bac
     (run-none last rest))
 
 -- the word that begins a line, and the blank behind it
-begun-go : (comment blank : Bool) (line : LineState) (p b : ℕ) → blank ≡ false → comment ≡ false
-    → cond blank (close line) (record line { open_field = cond comment opens.Comment (opens.Word p) })
-    ≡ record line { open_field = opens.Word p }
-begun-go true false line p b e f = cc
-begun-go false false line p b e f = refl
-begun-go comment true line p b e f = cc
-
 begun : (line : LineState) (b : ℕ) → line.open_field ≡ opens.Blank → is_blank b ≡ false → eqb b 35 ≡ false
     → put line b ≡ record line { open_field = opens.Word (pack 1 b) }
 unfolding put more
-begun line b fresh no_blank no_comment =
-    ap (λ f. cond (is_blank b) (close line) (record line { open_field = more f b })) fresh
-    ∙ begun-go (eqb b 35) (is_blank b) line (pack 1 b) b no_blank no_comment
+begun line b fresh no_blank no_comment = grind arith
 
 pub run-word : (line : LineState) (piece : List ℕ) {rest : List ℕ} (b packed taken : ℕ) → line.open_field ≡ opens.Blank
     → is_blank b ≡ false → eqb b 35 ≡ false → rest ≡ drop taken piece → list_all is_plain (take taken piece) ≡ true
@@ -218,9 +167,7 @@ run-word line piece {rest} b packed taken fresh no_blank no_comment back plain i
 closed-word : (line : LineState) (packed b : ℕ) → is_blank b ≡ true
     → put (record line { open_field = opens.Word packed }) b ≡ record line { open_field = opens.Between; word = packed }
 unfolding put close_as
-closed-word line packed b blank =
-    closed-go (is_blank b) (close (record line { open_field = opens.Word packed }))
-    (record line { open_field = more (opens.Word packed) b }) blank
+closed-word line packed b blank = grind arith
 
 pub run-word-blank : (line : LineState) (piece : List ℕ) {rest : List ℕ} (b : ℕ) {blank : ℕ} (packed taken : ℕ)
     → line.open_field ≡ opens.Blank → is_blank b ≡ false → eqb b 35 ≡ false → blank ∷ rest ≡ drop taken piece

@@ -1,5 +1,5 @@
 -- Where subscribers are, and whether they are off, after one call more.
-use Rattle.std.proofs.Common.{◌≡◌, ℕ, ◌<◌, ◌≤◌, Bool, true, false, cond, eqb, List, [], ◌∷◌, ◌++◌, length, map, filter, get_or, set, append-nil, refl, ap, sym, ◌∙◌, arith}
+use Rattle.std.proofs.Common.{◌≡◌, ℕ, ◌<◌, ◌≤◌, Bool, true, false, cond, eqb, List, [], ◌∷◌, ◌++◌, length, filter, get_or, set, append-nil, refl, ◌∙◌, arith}
 use Rattle.std.proofs.lemmas.List.Elements.{filter-append}
 use Rattle.std.proofs.lemmas.List.{map-append, get_or-set_same, get_or-set_other, length-set}
 use Rattle.std.proofs.lemmas.Bool.Decides.{nat_tests}
@@ -17,18 +17,15 @@ abbrev pub with_call : Bool → List Call → Call → List Call
 with_call true script call = script ++ call ∷ []
 with_call false script call = script
 
-one-go : (b : Bool) (script : List Call) (d : Spoken)
-    → script ++ map (λ (x : Spoken). x.call) (cond b (d ∷ []) []) ≡ with_call b script d.call
-one-go true script d = refl
-one-go false script d = append-nil script
-
 pub script_of-push : (s : ℕ) (calls : List Spoken) (d : Spoken)
     → script_of s (calls ++ d ∷ []) ≡ with_call (eqb d.actor s) (script_of s calls) d.call
-script_of-push s calls d =
-    ap (map (λ (x : Spoken). x.call)) (filter-append (λ (x : Spoken). eqb x.actor s) calls (d ∷ []))
-    ∙ map-append (λ (x : Spoken). x.call) (filter (λ (x : Spoken). eqb x.actor s) calls) (filter (λ (x : Spoken). eqb
-    x.actor s) (d ∷ []))
-    ∙ one-go (eqb d.actor s) (script_of s calls) d
+script_of-push s calls d = grind (
+  arith,
+  filter-append (λ (x : Spoken). eqb x.actor s) calls (d ∷ []),
+  map-append (λ (x : Spoken). x.call) (filter (λ (x : Spoken). eqb x.actor s) calls) (filter (λ (x : Spoken). eqb
+      x.actor s) (d ∷ [])),
+  append-nil (script_of s calls),
+)
 
 pub place_after-push : (here : ℕ) (script : List Call) (call : Call)
     → place_after here (script ++ call ∷ []) ≡ place_after (place_after here script) (call ∷ [])
@@ -44,33 +41,16 @@ off_after-push off (acts.On ∷ script) call = off_after-push false script call
 off_after-push off (other ∷ script) call = off_after-push off script call
 
 -- after one call more, of this actor or of another
-place-go : (b : Bool) (here : ℕ) (script : List Call) (call : Call)
-    → place_after here (with_call b script call) ≡ cond b (place_after (place_after here script) (call ∷ []))
-    (place_after here script)
-place-go true here script call = place_after-push here script call
-place-go false here script call = refl
-
 pub place-with : (s here : ℕ) (calls : List Spoken) (d : Spoken)
     → place_after here (script_of s (calls ++ d ∷ [])) ≡ cond (eqb d.actor s) (place_after (place_after here (script_of
     s calls)) (d.call ∷ [])) (place_after here (script_of s calls))
-place-with s here calls d = ap (place_after here) (script_of-push s calls d)
-    ∙ place-go (eqb d.actor s) here (script_of s calls) d.call
-
-off-go : (b off : Bool) (script : List Call) (call : Call)
-    → off_after off (with_call b script call) ≡ cond b (off_after (off_after off script) (call ∷ [])) (off_after off
-    script)
-off-go true off script call = off_after-push off script call
-off-go false off script call = refl
+place-with s here calls d =
+    grind (arith, script_of-push s calls d, place_after-push here (script_of s calls) d.call)
 
 pub off-with : (s : ℕ) (calls : List Spoken) (d : Spoken)
     → off_after false (script_of s (calls ++ d ∷ [])) ≡ cond (eqb d.actor s) (off_after (off_after false (script_of s
     calls)) (d.call ∷ [])) (off_after false (script_of s calls))
-off-with s calls d = ap (off_after false) (script_of-push s calls d)
-    ∙ off-go (eqb d.actor s) false (script_of s calls) d.call
-
-same_if : {A : Type 0} (b : Bool) {x y : A} → (b ≡ true → x ≡ y) → cond b x y ≡ y
-same_if true same = same refl
-same_if false same = refl
+off-with s calls d = grind (arith, script_of-push s calls d, off_after-push false (script_of s calls) d.call)
 
 -- after one call more, where subscribers alone move and switch
 Stands-call : {homes : List ℕ} {calls : List Spoken} {places later : List ℕ} {off now : List Bool} (a : ℕ) (call : Call)
@@ -85,13 +65,12 @@ Stands-call : {homes : List ℕ} {calls : List Spoken} {places later : List ℕ}
 Stands-call {homes} {calls} a call h same_places same_off places_are off_are others = record {
   places_count = same_places ∙ h.places_count;
   off_count = same_off ∙ h.off_count;
-  place = λ s below. let was = place-with s (get_or homes s 0) calls (make a call) in
-      rw (was, ← h.place s below) (places_are s below);
+  place = λ s below.
+      rw (place-with s (get_or homes s 0) calls (make a call), ← h.place s below) (places_are s below);
   is_off = λ s below. rw (off-with s calls (make a call), ← h.is_off s below) (off_are s below);
-  no_moves = λ s here above. rw (place-with s here calls (make a call), h.no_moves s here above)
-      (same_if (eqb a s) (λ e. (others s here above e).0));
-  no_switches = λ s above. rw (off-with s calls (make a call), h.no_switches s above)
-      (same_if (eqb a s) (λ e. (others s 0 above e).1));
+  no_moves = λ s here above.
+      grind (arith, place-with s here calls (make a call), h.no_moves s here above, others s here above);
+  no_switches = λ s above. grind (arith, off-with s calls (make a call), h.no_switches s above, others s 0 above);
 }
 
 -- a subscriber moves
@@ -105,13 +84,13 @@ Stands-move {places = places} a to h lt = Stands-call a (acts.Move to) h (length
       get_or-set_same places a to 0,
       get_or-set_other places a s to 0,
       h.places_count,
-    )) (λ s below. sym (same_if (eqb a s) (λ e. refl))) (λ s here above e. grind (arith, nat_tests))
+    )) (λ s below. grind arith) (λ s here above e. grind (arith, nat_tests))
 
 -- a caller finds
 pub Stands-find : {homes : List ℕ} {calls : List Spoken} {places : List ℕ} {off : List Bool} (a from sub : ℕ)
     → Stands homes calls places off → Stands homes (calls ++ make a (acts.Find from sub) ∷ []) places off
 Stands-find a from sub h = Stands-call a (acts.Find from sub) h refl refl
-    (λ s below. sym (same_if (eqb a s) (λ e. refl))) (λ s below. sym (same_if (eqb a s) (λ e. refl)))
+    (λ s below. grind arith) (λ s below. grind arith)
     (λ s here above e. (refl, refl))
 
 -- a subscriber switches off or on
@@ -131,7 +110,7 @@ pub Stands-switch : {homes : List ℕ} {calls later : List Spoken} {places : Lis
     → a < length homes → Stands homes later places (set offs a off)
 Stands-switch {offs = offs} a off is after h lt = rw (after, is)
     (Stands-call a (switch off) h refl (length-set offs a off)
-    (λ s below. sym (same_if (eqb a s) (λ e. switch-place off _)))
+    (λ s below. grind (arith, switch-place off))
     (λ s below. rw switch-off (grind (
       arith,
       nat_tests,

@@ -1,73 +1,54 @@
 -- Lines that lie whole in a piece.
-use Rattle.std.proofs.Common.{◌≡◌, inl, inr, ℕ, ◌+◌, ◌-◌, ◌*◌, ◌<◌, ◌≤◌, true, false, fold, take, drop, List, [], ◌∷◌, ◌++◌, length, get_or, Option, None, Result, Some, Ok, refl, ap, sym, ◌∙◌, arith, add-one, drop-cons, length-take, length-drop, subst, subst₂}
+use Rattle.std.proofs.Common.{◌≡◌, inl, inr, ℕ, suc, ◌+◌, ◌-◌, ◌*◌, ◌<◌, ◌≤◌, true, false, fold, take, drop, List, [], ◌∷◌, ◌++◌, length, get_or, Option, None, Result, Some, Ok, refl, ap, sym, ◌∙◌, arith, add-one, drop-cons, length-take, length-drop}
 use Rattle.std.proofs.lemmas.Bool.Decides.{nat_tests}
 use Rattle.std.proofs.lemmas.List.{take_all}
 use Rattle.std.specs.Char.{is_ascii_digit}
 use Rattle.std.specs.List.{list_all}
 use Rattle.net_reader.specs.declared.line.Open.TheVariants as opens
 use Rattle.net_reader.specs.declared.word.Word.{Word}
-use Rattle.net_reader.specs.declared.word.Word.TheVariants.{Order}
 use Rattle.net_reader.specs.declared.fault.InputFault.{InputFault}
 use Rattle.net_reader.specs.declared.scan.Scan.{Scan}
 use Rattle.net_reader.specs.Said.{Said}
 use Rattle.net_reader.specs.Seen.{IsWell, said_or_fault, seen_known, seen_scan}
-use Rattle.net_reader.specs.Steps.{IsRun, LineState, ReaderState, after_bytes, close, close_as, end_line, fault_at, fresh, is_inside, is_plain, keep, line_said, more, next, pack, past_line, put, release, word_in}
+use Rattle.net_reader.specs.Steps.{IsRun, LineState, ReaderState, after_bytes, close_as, end_line, fault_at, fresh, is_inside, is_plain, keep, more, next, past_line, put, release, word_in}
 use Rattle.net_reader.specs.Table.{judge_word}
 use Rattle.net_reader.specs.Whole.{IsComment, IsCommentTo, IsDigits, IsEnd, IsLast, IsLeft, IsNumbers, IsNumberTo, IsUpTo, Opens, Rests, between}
 use Rattle.net_reader.proofs.Digits.{below-most, plain-more, read-more, still-small}
 use Rattle.net_reader.proofs.Feeding.{fed-faulty, past, ran}
 use Rattle.net_reader.proofs.Running.{comment-settled, run-settled, run-join, run-length, run-more, run-none, run-number}
 
--- the five bytes of a word and a blank
-five : {a b c d e : ℕ} (piece : List ℕ) → 5 ≤ length piece → get_or piece 0 0 ≡ a → get_or piece 1 0 ≡ b
-    → get_or piece 2 0 ≡ c → get_or piece 3 0 ≡ d → get_or piece 4 0 ≡ e
-    → piece ≡ (a ∷ b ∷ c ∷ d ∷ e ∷ []) ++ take (length piece - 5) (drop 5 piece)
-five (v ∷ w ∷ x ∷ y ∷ z ∷ zs) h p q r s t =
-    let all : take (length (v ∷ w ∷ x ∷ y ∷ z ∷ zs) - 5) zs ≡ zs = take_all _ zs (omega arith) in cc
-five _ h p q r s t = absurd (omega arith)
+-- these bytes stand in a list from a place on
+abbrev pub StandAt : ℕ → List ℕ → List ℕ → Type 0
+StandAt i [] piece = Unit {0}
+StandAt i (b ∷ front) piece = (get_or piece i 0 ≡ b) × StandAt (suc i) front piece
 
-pub opened : (word : Word) (packed a b c d e : ℕ) (piece : List ℕ) → 5 ≤ length piece → get_or piece 0 0 ≡ a
-    → get_or piece 1 0 ≡ b → get_or piece 2 0 ≡ c → get_or piece 3 0 ≡ d → get_or piece 4 0 ≡ e
-    → word_in packed ≡ Some word → list_all is_inside (a ∷ b ∷ c ∷ d ∷ e ∷ []) ≡ true
-    → between packed [] ≡ fold put fresh (a ∷ b ∷ c ∷ d ∷ e ∷ [])
-    → Opens word piece (take (length piece - 5) (drop 5 piece))
-opened word packed a b c d e piece h p q r s t named inside read = record {
+stand-behind : (i : ℕ) (front : List ℕ) (x : ℕ) (piece : List ℕ) → StandAt (suc i) front (x ∷ piece)
+    → StandAt i front piece
+stand-behind i [] x piece stand = tt
+stand-behind i (b ∷ front) x piece stand = (stand.0, stand-behind (suc i) front x piece stand.1)
+
+front-is : (front piece : List ℕ) → length front ≤ length piece → StandAt 0 front piece
+    → piece ≡ front ++ take (length piece - length front) (drop (length front) piece)
+front-is [] piece h stand = sym (take_all _ piece (omega arith))
+front-is (b ∷ front) [] h stand = absurd (omega arith)
+front-is (b ∷ front) (x ∷ piece) h stand =
+    grind (arith, front-is front piece (omega arith) (stand-behind 0 front x piece stand.1), stand-behind)
+
+-- a word and a blank
+pub opened : (word : Word) (packed : ℕ) (front piece : List ℕ) → 0 < length front → length front ≤ length piece
+    → StandAt 0 front piece → word_in packed ≡ Some word → list_all is_inside front ≡ true
+    → between packed [] ≡ fold put fresh front
+    → Opens word piece (take (length piece - length front) (drop (length front) piece))
+opened word packed front piece some h stand named inside read = record {
   packed = packed;
   named = named;
-  run = record {
-    front = a ∷ b ∷ c ∷ d ∷ e ∷ [];
-    parts = five piece h p q r s t;
-    inside = inside;
-    read = read;
-  };
-  shorter = omega (arith, h, length-take (length piece - 5) (drop 5 piece), length-drop 5 piece);
-}
-
--- the six of `order` and a blank
-six : {a b c d e f : ℕ} (piece : List ℕ) → 6 ≤ length piece → get_or piece 0 0 ≡ a → get_or piece 1 0 ≡ b
-    → get_or piece 2 0 ≡ c → get_or piece 3 0 ≡ d → get_or piece 4 0 ≡ e → get_or piece 5 0 ≡ f
-    → piece ≡ (a ∷ b ∷ c ∷ d ∷ e ∷ f ∷ []) ++ take (length piece - 6) (drop 6 piece)
-six [] h p q r s t u = absurd (omega arith)
-six {a} {b} {c} {d} {e} {f} (v ∷ vs) h p q r s t u =
-    let rest = five vs (omega arith) q r s t u in
-    let same : length (v ∷ vs) - 6 ≡ length vs - 5 = omega arith in
-    ap (λ x. x ∷ vs) p ∙ ap (λ xs. a ∷ xs) rest
-    ∙ ap (λ n. (a ∷ b ∷ c ∷ d ∷ e ∷ f ∷ []) ++ take n (drop 5 vs)) (sym same)
-
-pub opened-order : (piece : List ℕ) → 6 ≤ length piece → get_or piece 0 0 ≡ 111 → get_or piece 1 0 ≡ 114
-    → get_or piece 2 0 ≡ 100 → get_or piece 3 0 ≡ 101 → get_or piece 4 0 ≡ 114 → get_or piece 5 0 ≡ 32
-    → Opens Order piece (take (length piece - 6) (drop 6 piece))
-unfolding put close_as more pack word_in
-opened-order piece h p q r s t u = record {
-  packed = 0x1_6f72_6465_72;
-  named = refl;
-  run = record {
-    front = 111 ∷ 114 ∷ 100 ∷ 101 ∷ 114 ∷ 32 ∷ [];
-    parts = six piece h p q r s t u;
-    inside = refl;
-    read = refl;
-  };
-  shorter = omega (arith, h, length-take (length piece - 6) (drop 6 piece), length-drop 6 piece);
+  run = record { front = front; parts = front-is front piece h stand; inside = inside; read = read };
+  shorter = omega (
+    arith,
+    h,
+    length-take (length piece - length front) (drop (length front) piece),
+    length-drop (length front) piece,
+  );
 }
 
 -- one digit more
@@ -95,11 +76,7 @@ number-before piece taken value {rest} some within plain read same back = record
 
 pub number-to : {piece : List ℕ} {taken value : ℕ} {rest : List ℕ} → 0 < taken → taken < length piece
     → IsDigits piece taken value → rest ≡ drop (taken + 1) piece → IsNumberTo (get_or piece taken 0) value piece rest
-number-to {piece} {taken} {value} some within digits back =
-    let cut : drop taken piece ≡ get_or piece taken 0 ∷ drop (taken + 1) piece = rw (add-one, drop-cons piece taken 0)
-    in
-    number-before piece taken value some (omega (arith, within)) digits.plain digits.read refl
-    (ap (λ xs. get_or piece taken 0 ∷ xs) back ∙ sym cut)
+number-to {piece} {taken} {value} some within digits back = grind (arith, nat_tests, add-one, drop-cons, number-before)
 
 -- a number, a blank, and what follows
 pub blank-behind : (word : ℕ) {value : ℕ} (numbers : List ℕ) {piece rest : List ℕ} → IsNumberTo 32 value piece rest
@@ -111,10 +88,8 @@ blank-behind word {value} numbers {rest} number =
 -- a number before the end of a line
 pub last-read : {end value : ℕ} {piece after rest : List ℕ} → IsNumberTo end value piece after → IsEnd end after rest
     → IsLast value piece rest
-last-read {value = value} {piece} number (inl e) =
-    inl (subst₂ (λ b xs. IsNumberTo b value piece xs) e.0 (sym e.1) number)
-last-read {value = value} {piece} number (inr e) =
-    inr (subst₂ (λ b xs. IsNumberTo b value piece xs) e.0 e.1 number)
+last-read number (inl e) = inl (rw (← e.0, e.1) number)
+last-read number (inr e) = inr (rw (← e.0, ← e.1) number)
 
 -- a number behind others, each with a blank behind it
 up-to-behind : {value end : ℕ} (numbers : List ℕ) {later piece middle rest : List ℕ}
@@ -147,61 +122,42 @@ three-read {a} {b} c rest first second last = numbers-behind c (a ∷ b ∷ []) 
 abbrev resting : ℕ → Said → ReaderState
 resting m said = record { said = Ok said; lines = m; begun = false; held = false; line = fresh }
 
--- the end of a line with a word and numbers
-judged : (last : LineState) (said : Said) (packed : ℕ) {word : Word} (numbers : List ℕ)
-    → close last ≡ between packed numbers → word_in packed ≡ Some word
-    → end_line last said ≡ judge_word said (Some word) (Some numbers)
-unfolding end_line
-judged last said packed numbers closed named =
-    ap (λ (l : LineState). line_said l.open_field l.word l.numbers said) closed
-    ∙ ap (λ w. judge_word said w (Some numbers)) named
-
 -- a line that lies whole at the front, up to its end
 up-to-shorter : {word : Word} {numbers piece after left : List ℕ} → Opens word piece after → IsUpTo numbers after left
     → length left < length piece
 up-to-shorter opening ends =
     omega (arith, opening.shorter, run-length (ends.run 0))
 
-up-to-read : (m : ℕ) (said : Said) {word : Word} {numbers piece after left : List ℕ} (opening : Opens word piece after)
-    (ends : IsUpTo numbers after left) → after_bytes (record {
+up-to-read : (m : ℕ) (said : Said) {word : Word} (numbers : List ℕ) {piece after left : List ℕ}
+    (opening : Opens word piece after) (ends : IsUpTo numbers after left)
+    → after_bytes (record {
       said = Ok said;
       lines = m + 1;
       begun = true;
       held = false;
       line = ends.last opening.packed;
     }) left ≡ after_bytes (resting m said) piece
-up-to-read m said opening ends =
-    ran None false false m said refl refl (run-join opening.run (ends.run opening.packed)) (up-to-shorter opening ends)
-
-judged-line : (m : ℕ) (said : Said) {word : Word} {numbers piece after left : List ℕ} (rest : List ℕ)
-    (opening : Opens word piece after) (ends : IsUpTo numbers after left)
-    → after_bytes (past m (judge_word said (Some word) (Some numbers))) rest
-    ≡ after_bytes (past m (end_line (ends.last opening.packed) said)) rest
-judged-line m said {numbers} rest opening ends =
-    let packed = opening.packed in
-    ap (λ s. after_bytes (past m s) rest)
-    (sym (judged (ends.last packed) said packed numbers (ends.closed packed) opening.named))
+    × (judge_word said (Some word) (Some numbers) ≡ end_line (ends.last opening.packed) said)
+unfolding end_line
+up-to-read m said numbers opening ends = (
+  ran None false false m said refl refl (run-join opening.run (ends.run opening.packed)) (up-to-shorter opening ends),
+  rw (ends.closed opening.packed, opening.named),
+)
 
 pub whole-read : (m : ℕ) (said : Said) {word : Word} (numbers : List ℕ) {piece after : List ℕ} (rest : List ℕ)
     → Opens word piece after → IsNumbers numbers after rest
     → after_bytes (past m (judge_word said (Some word) (Some numbers))) rest ≡ after_bytes (resting m said) piece
 unfolding after_bytes next past_line release
 whole-read m said numbers rest opening (inl ends) =
-    judged-line m said rest opening ends ∙ up-to-read m said opening ends
+    let up_to = up-to-read m said numbers opening ends in rw (up_to.1) up_to.0
 whole-read m said numbers rest opening (inr ends) =
-    judged-line m said rest opening ends ∙ up-to-read m said opening ends
+    let up_to = up-to-read m said numbers opening ends in rw (up_to.1) up_to.0
 
 pub heard-whole : {old new : ReaderState} (m : ℕ) (said : Said) {word : Word} (numbers : List ℕ) {piece after : List ℕ}
     (rest : List ℕ) → old ≡ resting m said
     → new ≡ record old { said = fault_at (m + 1) (judge_word said (Some word) (Some numbers)); lines = m + 1 }
     → Opens word piece after → IsNumbers numbers after rest → after_bytes new rest ≡ after_bytes old piece
-heard-whole m said {word} numbers {piece} rest is heard opening ends =
-    ap (λ r. after_bytes r rest) (heard ∙ ap (λ (r : ReaderState). record r {
-      said = fault_at (m + 1) (judge_word said (Some word) (Some numbers));
-      lines = m + 1;
-    }) is)
-    ∙ whole-read m said numbers rest opening ends
-    ∙ ap (λ r. after_bytes r piece) (sym is)
+heard-whole m said numbers rest is heard opening ends = rw (heard, is) (whole-read m said numbers rest opening ends)
 
 -- and it is shorter behind
 pub whole-shorter : {word : Word} (numbers : List ℕ) {piece after : List ℕ} (rest : List ℕ) → Opens word piece after
@@ -215,11 +171,10 @@ whole-shorter numbers rest opening (inr ends) =
 pub comment-to : {piece after left : List ℕ} (taken : ℕ) → piece ≡ 35 ∷ after → left ≡ drop taken after
     → list_all is_inside (take taken after) ≡ true → IsCommentTo piece left
 unfolding put more
-comment-to {piece} {after} {left} taken begins back inside =
+comment-to {piece} {after} taken begins back inside =
     let comment : LineState = record fresh { open_field = opens.Comment } in
-    let first : IsRun fresh fresh piece (35 ∷ after) = subst (IsRun fresh fresh piece) begins (run-none fresh piece) in
-    let run : IsRun comment comment after left =
-    run-settled comment-settled comment taken after refl refl back inside in
+    let first : IsRun fresh fresh piece (35 ∷ after) = rw begins (run-none fresh (35 ∷ after)) in
+    let run = run-settled comment-settled comment taken after refl refl back inside in
     record {
       run = run-more first refl run;
       shorter = omega (arith, ap length begins, run-length run);
@@ -227,8 +182,8 @@ comment-to {piece} {after} {left} taken begins back inside =
 
 pub comment-ends : {piece : List ℕ} {end : ℕ} {behind rest : List ℕ} → IsCommentTo piece (end ∷ behind)
     → IsEnd end behind rest → IsComment piece rest
-comment-ends {piece} comment (inl e) = inl (subst₂ (λ b xs. IsCommentTo piece (b ∷ xs)) e.0 (sym e.1) comment)
-comment-ends {piece} comment (inr e) = inr (subst₂ (λ b xs. IsCommentTo piece (b ∷ xs)) e.0 e.1 comment)
+comment-ends comment (inl e) = inl (rw (← e.0, e.1) comment)
+comment-ends comment (inr e) = inr (rw (← e.0, ← e.1) comment)
 
 comment-read : (m : ℕ) (said : Said) (piece rest : List ℕ) → IsComment piece rest
     → after_bytes (resting (m + 1) said) rest ≡ after_bytes (resting m said) piece
@@ -240,9 +195,7 @@ comment-read m said piece rest (inr comment) =
 
 pub heard-comment : {old new : ReaderState} (m : ℕ) (said : Said) (piece rest : List ℕ) → old ≡ resting m said
     → new ≡ record old { lines = m + 1 } → IsComment piece rest → after_bytes new rest ≡ after_bytes old piece
-heard-comment m said piece rest is counted comment =
-    ap (λ r. after_bytes r rest) (counted ∙ ap (λ (r : ReaderState). record r { lines = m + 1 }) is)
-    ∙ comment-read m said piece rest comment ∙ ap (λ r. after_bytes r piece) (sym is)
+heard-comment m said piece rest is counted comment = rw (counted, is) (comment-read m said piece rest comment)
 
 pub comment-shorter : (piece rest : List ℕ) → IsComment piece rest → length rest + 1 < length piece
 comment-shorter piece rest (inl comment) = omega (arith, comment.shorter)
@@ -251,16 +204,7 @@ comment-shorter piece rest (inr comment) = omega (arith, comment.shorter)
 -- a reader that has read one line more without a fault rests again
 pub still-rests : {old : Scan} (new : Scan) (said : Result Said InputFault) (m : ℕ) → Rests old
     → seen_scan new ≡ record (seen_scan old) { said = said; lines = m } → new.fault ≡ None → Rests new
-still-rests new said m rests same going =
-    let is = same ∙ ap (λ (r : ReaderState). record r { said = said; lines = m }) rests.seen in
-    let known : said ≡ Ok (seen_known new.known) =
-    sym (ap (λ (r : ReaderState). r.said) is) ∙ ap (λ f. said_or_fault f (seen_known new.known)) going in
-    let count : m ≡ new.lines = sym (ap (λ (r : ReaderState). r.lines) is) in
-    record {
-      going = going;
-      seen = is ∙ ap (λ s. record { said = s; lines = m; begun = false; held = false; line = fresh }) known
-          ∙ ap (λ n. resting n (seen_known new.known)) count;
-    }
+still-rests new said m rests same going = record { going = going; seen = grind (arith, same, rests.seen) }
 
 -- what is left behind a line says the same as what stands there
 left-same : (fault : Option InputFault) (said : Said) (reader : ReaderState) (behind left : List ℕ)

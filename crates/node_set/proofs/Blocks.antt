@@ -1,8 +1,8 @@
 -- Blocks of words: what one block tells, and what the blocks tell together.
-use Rattle.std.proofs.Common.{◌≡◌, inl, inr, ℕ, zero, suc, ◌+◌, ◌-◌, ◌<◌, ◌≤◌, ◌↔◌, Bool, IsTrue, List, [], ◌∷◌, length, take, drop, get_or, sym, ◌∙◌, ap, subst, arith, min, ◌^◌, w64}
+use Rattle.std.proofs.Common.{◌≡◌, inl, inr, ℕ, zero, suc, ◌+◌, ◌-◌, ◌<◌, ◌≤◌, ◌↔◌, Bool, IsTrue, List, [], ◌∷◌, length, take, drop, get_or, sym, ◌∙◌, arith, min, ◌^◌, w64}
 use Rattle.std.specs.Prelude.{bit_or, bit_and, not, nat_eq}
 use Rattle.std.specs.Int.{bit_at, trailing_zeros}
-use Rattle.std.proofs.lemmas.Bool.{cases_lt, false≢true}
+use Rattle.std.proofs.lemmas.Bool.{cases_lt}
 use Rattle.std.proofs.lemmas.Nat.{le_or_l, le_or_r, and_le_l}
 use Rattle.std.proofs.lemmas.Nat.Bits.{bit_at-zero, bit_at_and, bit_at-lt, bit_at-trailing_zeros}
 use Rattle.std.proofs.lemmas.Bool.Decides.{nat_tests}
@@ -28,7 +28,7 @@ fold_from (x ∷ xs) some = elim (cases_lt 0 x) [
   | inl here ↦ (0, omega arith, here)
   | inr none ↦
       let zero_here : x ≡ 0 = omega arith in
-      let rest : 0 < fold_l bit_or 0 xs = subst (λ n. 0 < fold_l bit_or (bit_or 0 n) xs) zero_here some in
+      let rest : 0 < fold_l bit_or 0 xs = rw zero_here at some in
       let found = fold_from xs rest in
       (suc found.0, omega (arith, found.1), found.2)
 ]
@@ -39,11 +39,12 @@ common a b at = zip2 bit_and (take 4 (drop at a)) (take 4 (drop at b))
 
 block_place : (a b : List ℕ) (at i : ℕ) → at + 4 ≤ length a → at + 4 ≤ length b → i < 4 →
     get_or (common a b at) i 0 ≡ bit_and (get_or a (at + i) 0) (get_or b (at + i) 0)
-block_place a b at i fits_a fits_b h =
-    get_or-zip2 bit_and (chunk at 4 a) (chunk at 4 b) i 0 0 0 (omega (arith, length-chunk at 4 a fits_a))
-    (omega (arith, length-chunk at 4 b fits_b)) ∙
-    (ap (λ n. bit_and n (get_or (chunk at 4 b) i 0)) (get_or-chunk at 4 a i 0 h)
-    ∙ ap (λ n. bit_and (get_or a (at + i) 0) n) (get_or-chunk at 4 b i 0 h))
+block_place a b at i fits_a fits_b h = rw (
+  get_or-zip2 bit_and (chunk at 4 a) (chunk at 4 b) i 0 0 0 (omega (arith, length-chunk at 4 a fits_a))
+      (omega (arith, length-chunk at 4 b fits_b)),
+  get_or-chunk at 4 a i 0 h,
+  get_or-chunk at 4 b i 0 h,
+)
 
 block_found : (a b : List ℕ) (at : ℕ) → at + 4 ≤ length a → at + 4 ≤ length b
     → 0 < fold_l bit_or 0 (common a b at) → MeetWithin a b at (at + 4)
@@ -56,7 +57,7 @@ block_found a b at fits_a fits_b some =
           (length-chunk at 4 a fits_a ∙ sym (length-chunk at 4 b fits_b)),
       length-chunk at 4 a fits_a,
     ) in
-    (at + found.0, omega arith, omega arith, subst (λ n. 0 < n) (block_place a b at found.0 fits_a fits_b near) found.2)
+    (at + found.0, omega arith, omega arith, rw (block_place a b at found.0 fits_a fits_b near) at found.2)
 
 block_some : (a b : List ℕ) (at : ℕ) → at + 4 ≤ length a → at + 4 ≤ length b → MeetWithin a b at (at + 4)
     → 0 < fold_l bit_or 0 (common a b at)
@@ -66,8 +67,7 @@ block_some a b at fits_a fits_b place =
     omega (arith, here, place.3, fold_has (common a b at) 0 (place.0 - at))
 
 is_some : (n : ℕ) → IsTrue (not (nat_eq n 0)) ↔ (0 < n)
-is_some zero = (λ h. absurd (false≢true h), λ h. absurd (omega arith))
-is_some (suc n) = (λ h. omega arith, λ h. grind (arith, nat_tests))
+is_some n = (λ h. grind (arith, nat_tests), λ h. grind (arith, nat_tests))
 
 pub block_meet : (a b : List ℕ) (at : ℕ) → at + 4 ≤ length a → at + 4 ≤ length b →
     IsTrue (not (nat_eq (fold_l bit_or 0 (common a b at)) 0)) ↔ MeetWithin a b at (at + 4)
@@ -87,20 +87,20 @@ module _ (a b : List ℕ) (at : ℕ) (fits_a : at + 4 ≤ length a) (fits_b : at
 
   placed : (i : ℕ) → i < 4 → get_or (put_chunk at a either) (at + i) 0 ≡ bit_or (get_or a (at + i) 0)
       (get_or b (at + i) 0)
-  placed i h =
-      get_or-put_chunk_at at a either i 0 (omega (arith, lanes)) (omega (arith, lanes)) ∙
-      (get_or-zip2 bit_or (chunk at 4 a) (chunk at 4 b) i 0 0 0 (omega (arith, length-chunk at 4 a fits_a))
-      (omega (arith, length-chunk at 4 b fits_b)) ∙
-      (ap (λ n. bit_or n (get_or (chunk at 4 b) i 0)) (get_or-chunk at 4 a i 0 h)
-      ∙ ap (λ n. bit_or (get_or a (at + i) 0) n) (get_or-chunk at 4 b i 0 h)))
+  placed i h = rw (
+    get_or-put_chunk_at at a either i 0 (omega (arith, lanes)) (omega (arith, lanes)),
+    get_or-zip2 bit_or (chunk at 4 a) (chunk at 4 b) i 0 0 0 (omega (arith, length-chunk at 4 a fits_a))
+        (omega (arith, length-chunk at 4 b fits_b)),
+    get_or-chunk at 4 a i 0 h,
+    get_or-chunk at 4 b i 0 h,
+  )
 
   pub block_joined : AreWordsJoinedWithin a b (put_chunk at a either) at (at + 4)
   block_joined = record {
     enough = length-put_chunk at a either;
     joined = λ k low high.
         let e : at + (k - at) ≡ k = omega arith in
-        subst (λ n. get_or (put_chunk at a either) n 0 ≡ bit_or (get_or a n 0) (get_or b n 0)) e
-        (placed (k - at) (omega arith));
+        rw e at (placed (k - at) (omega arith));
     before = λ k low. get_or-put_chunk_below at a either k 0 low;
     after = λ k high. get_or-put_chunk_above at a either k 0 (omega (arith, lanes));
   }
@@ -113,21 +113,10 @@ shared_bit x y small some =
     let t = trailing_zeros w64 (bit_and x y) in
     let found = bit_at-trailing_zeros w64 (bit_and x y) (omega arith) (omega (arith, and_le_l x y)) in
     let one : min (bit_at x t) (bit_at y t) ≡ 1 = sym (bit_at_and x y t) ∙ found.1 in
-    let both = both_one (bit_at x t) (bit_at y t) (bit_at-lt x t) (bit_at-lt y t) one in
-    (t, found.0, both.0, both.1)
-  where
-    both_one : (a b : ℕ) → a < 2 → b < 2 → min a b ≡ 1 → (a ≡ 1) × (b ≡ 1)
-    both_one a b h k e = (omega arith, omega arith)
+    (t, found.0, omega (arith, one, bit_at-lt x t, bit_at-lt y t), omega (arith, one, bit_at-lt x t, bit_at-lt y t))
 
 common_bit : (x y i : ℕ) → bit_at x i ≡ 1 → bit_at y i ≡ 1 → 0 < bit_and x y
-common_bit x y i here there = elim (cases_lt 0 (bit_and x y)) [
-  | inl some ↦ some
-  | inr none ↦
-      let zero_here : bit_and x y ≡ 0 = omega arith in
-      let one : min (bit_at x i) (bit_at y i) ≡ 0 = sym (bit_at_and x y i)
-      ∙ (ap (λ n. bit_at n i) zero_here ∙ bit_at-zero i) in
-      absurd (omega arith)
-]
+common_bit x y i here there = grind (arith, bit_at_and x y i, bit_at-zero i)
 
 pub all_meet : (a b : List ℕ) (from : ℕ) → ((k : ℕ) → get_or a k 0 < 2 ^ 64)
     → ((k : ℕ) → k < from → bit_and (get_or a k 0) (get_or b k 0) ≡ 0) → {result : Bool}

@@ -1,9 +1,8 @@
 -- What is left of a set's words where those of another cut them.
-use Rattle.std.proofs.Common.{◌≡◌, inl, inr, ℕ, ◌-◌, ◌/◌, ◌%◌, ◌<◌, ◌^◌, ◌&&◌, ◌++◌, Bool, List, length, take, drop, filter, get_or, min, refl, sym, ◌∙◌, ap, arith, not, w64}
+use Rattle.std.proofs.Common.{◌≡◌, ℕ, ◌-◌, ◌/◌, ◌%◌, ◌<◌, ◌^◌, ◌&&◌, ◌++◌, Bool, List, length, take, drop, filter, get_or, refl, sym, ◌∙◌, arith, not, w64}
 use Rattle.std.specs.Prelude.{◌==◌, bit_and}
 use Rattle.std.specs.Int.{bit_at, bit_not}
 use Rattle.std.proofs.lemmas.Bool.Decides.{nat_tests}
-use Rattle.std.proofs.lemmas.Bool.{cases_lt}
 use Rattle.std.proofs.lemmas.List.{take_at}
 use Rattle.std.proofs.lemmas.Nat.Bits.{bit_at_and, bit_at_not, bit_at-lt}
 use Rattle.node_set.specs.Ascending.{has}
@@ -21,10 +20,7 @@ pub record IsCut (test : Bool → Bool) (a b new : List ℕ) : Type 0 where
 is_set-cut : {test : Bool → Bool} {a b new : List ℕ} (x : ℕ) → IsCut test a b new
     → is_set new x ≡ (is_set a x && test (is_set b x))
 is_set-cut {a = a} {new = new} x cut =
-    elim (cases_lt (x / 64) (length a)) [
-      | inl below ↦ cut.bits (x / 64) (x % 64) below (omega arith)
-      | inr over ↦ rw (is_set_past new x (omega (arith, cut.enough)), is_set_past a x over) refl
-    ]
+    grind (arith, cut.bits (x / 64) (x % 64), cut.enough, is_set_past new x, is_set_past a x)
 
 -- a set whose words were cut and written over whole
 pub cut_set : {test : Bool → Bool} {room len : ℕ} {a b new : List ℕ} → AreWords room a → IsCut test a b new
@@ -49,33 +45,31 @@ cut_set {test} {len = len} {a} {b} {new} ok cut count =
 
 -- ---- what both have, and what the second hasn't
 
-bit_both : (a b : ℕ) → a < 2 → b < 2 → min a b == 1 ≡ (a == 1 && b == 1)
-bit_both a b h k = grind (arith, nat_tests)
-
 pub kept : {a b new : List ℕ} → AreWordsKept a b new → IsCut (λ here. here) a b new
 kept {a} {b} all = record {
   enough = all.enough;
-  bits = λ k i below short. rw (all.kept k below, bit_at_and (get_or a k 0) (get_or b k 0) i)
-      (bit_both (bit_at (get_or a k 0) i) (bit_at (get_or b k 0) i) (bit_at-lt (get_or a k 0) i)
-      (bit_at-lt (get_or b k 0) i));
+  bits = λ k i below short. grind (
+    arith,
+    nat_tests,
+    all.kept k below,
+    bit_at_and (get_or a k 0) (get_or b k 0) i,
+    bit_at-lt (get_or a k 0) i,
+    bit_at-lt (get_or b k 0) i,
+  );
 }
-
-bit_less : (a b : ℕ) → a < 2 → b < 2 → a - b == 1 ≡ (a == 1 && not (b == 1))
-bit_less a b h k = grind (arith, nat_tests)
 
 pub removed : {a b new : List ℕ} → AreWordsRemoved a b new → IsCut not a b new
 removed {a} {b} all = record {
   enough = all.enough;
-  bits = λ k i below short. rw (all.left k i below short)
-      (bit_less (bit_at (get_or a k 0) i) (bit_at (get_or b k 0) i) (bit_at-lt (get_or a k 0) i)
-      (bit_at-lt (get_or b k 0) i));
+  bits = λ k i below short.
+      grind (arith, nat_tests, all.left k i below short, bit_at-lt (get_or a k 0) i, bit_at-lt (get_or b k 0) i);
 }
 
-bit_without : (a b : ℕ) → a < 2 → b < 2 → min a (1 - b) ≡ a - b
-bit_without a b h k = omega arith
-
 pub word_without : (x y i : ℕ) → y < 2 ^ 64 → i < 64 → bit_at (bit_and x (bit_not w64 y)) i ≡ bit_at x i - bit_at y i
-word_without x y i small below =
-    bit_at_and x (bit_not w64 y) i
-    ∙ ap (min (bit_at x i)) (bit_at_not w64 y i small below)
-    ∙ bit_without (bit_at x i) (bit_at y i) (bit_at-lt x i) (bit_at-lt y i)
+word_without x y i small below = omega (
+  arith,
+  bit_at_and x (bit_not w64 y) i,
+  bit_at_not w64 y i small below,
+  bit_at-lt x i,
+  bit_at-lt y i,
+)

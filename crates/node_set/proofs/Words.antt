@@ -1,10 +1,10 @@
 -- Which numbers the bits of words stand for.
-use Rattle.std.proofs.Common.{◌≡◌, inl, inr, ℕ, zero, suc, ◌+◌, ◌*◌, ◌/◌, ◌%◌, ◌^◌, ◌<◌, ◌≤◌, Bool, true, false, IsTrue, ◌↔◌, cond, ◌||◌, List, [], length, get_or, set, replicate, max, refl, sym, ◌∙◌, ap, subst, arith, w64, add-zero, zero-add, length-set}
+use Rattle.std.proofs.Common.{◌≡◌, ◌⊎◌, inl, inr, ℕ, zero, suc, ◌+◌, ◌*◌, ◌/◌, ◌%◌, ◌^◌, ◌<◌, ◌≤◌, Bool, true, false, IsTrue, ◌↔◌, ◌||◌, List, [], length, get_or, set, replicate, refl, sym, ◌∙◌, ap, arith, w64, add-zero, length-set}
 use Rattle.std.specs.Prelude.{◌==◌, bit_or, bit_and}
 use Rattle.std.specs.Int.{bit_at}
 use Rattle.std.specs.Int.Count.{ones, ones_step}
 use Rattle.std.proofs.lemmas.Bool.Decides.{nat_tests}
-use Rattle.std.proofs.lemmas.Bool.{cases_lt, cases_eq, false≢true, eq-eqb, eqb-true, ne_eqb}
+use Rattle.std.proofs.lemmas.Bool.{cases_lt, eqb-true, ne_eqb}
 use Rattle.std.proofs.Math.Nat.{pow-suc}
 use Rattle.std.proofs.lemmas.Grind.{get_or_default_zero}
 use Rattle.std.proofs.lemmas.List.{get_or_past, get_or-replicate, length-replicate, get_or-set_same, get_or-set_other}
@@ -21,12 +21,12 @@ pub is_set_past : (words : List ℕ) (x : ℕ) → length words ≤ x / 64 → i
 is_set_past words x h = rw (get_or_past words (x / 64) 0 h, bit_at-zero (x % 64)) refl
 
 pub has-set_bits : (words : List ℕ) (x : ℕ) → has x (set_bits words) ≡ is_set words x
-has-set_bits words x =
-    elim (cases_lt x (64 * length words)) [
-      | inl below ↦ has-passing (is_set words) x 0 (64 * length words) (omega arith) (omega arith)
-      | inr over ↦ passing_over (is_set words) x 0 (64 * length words) (omega arith)
-          ∙ sym (is_set_past words x (omega arith))
-    ]
+has-set_bits words x = grind (
+  arith,
+  has-passing (is_set words) x 0 (64 * length words),
+  passing_over (is_set words) x 0 (64 * length words),
+  is_set_past words x,
+)
 
 pub ascending-set_bits : (words : List ℕ) → IsAscending (set_bits words)
 ascending-set_bits words = ascending-passing (is_set words) 0 (64 * length words)
@@ -41,12 +41,7 @@ pub are_nodes : {room : ℕ} {words : List ℕ} → AreWords room words
 are_nodes {room} {words} ok = record {
   small = ok.small;
   ascending = ascending-set_bits words;
-  below = below_from_has room (set_bits words)
-      (λ x h. elim (cases_lt x room) [
-        | inl below ↦ below
-        | inr over ↦
-            absurd (false≢true (sym (ok.tail x over) ∙ (sym (has-set_bits words x) ∙ h)))
-      ]);
+  below = below_from_has room (set_bits words) (λ x h. grind (arith, ok.tail x, has-set_bits words x));
 }
 
 -- a number that the scan finds is in the room
@@ -56,14 +51,11 @@ next_below {room} {v = v} {words} ok next = below-has room v (set_bits words) (a
 -- ---- no bit
 
 is_set-zeros : (n x : ℕ) → is_set (replicate n 0) x ≡ false
-is_set-zeros n x = rw (zeros n (x / 64), bit_at-zero (x % 64)) refl
+is_set-zeros n x = rw (zeros (cases_lt (x / 64) n), bit_at-zero (x % 64)) refl
   where
-    zeros : (n i : ℕ) → ◌≡◌ {A = ℕ} (get_or (replicate n 0) i 0) 0
-    zeros n i = elim (cases_lt i n) [
-      | inl below ↦ get_or-replicate n i 0 0 below
-      | inr over ↦
-          get_or_past (replicate n 0) i 0 (omega (arith, length-replicate {A = ℕ} n 0))
-    ]
+    zeros : (x / 64 < n) ⊎ (n ≤ x / 64) → ◌≡◌ {A = ℕ} (get_or (replicate n 0) (x / 64) 0) 0
+    zeros (inl below) = get_or-replicate n (x / 64) 0 0 below
+    zeros (inr over) = get_or_past (replicate n 0) (x / 64) 0 (omega (arith, length-replicate {A = ℕ} n 0))
 
 pub no_bits : (n : ℕ) → set_bits (replicate n 0) ≡ []
 no_bits n = same_as_bits (replicate n 0) [] tt (is_set-zeros n)
@@ -78,40 +70,22 @@ has_word words v {w} h e =
 
 -- one word, with the bit s set: t < 64 and s < 64 need no proof for the other bits
 bit_more : (w s t : ℕ) → s < 64 → bit_at (bit_or w (1 * 2 ^ s % 2 ^ 64)) t == 1 ≡ (t == s || bit_at w t == 1)
-bit_more w s t h =
-    elim (cases_eq t s) [
-      | inl same ↦ rw (same, bit_at_set_same w64 w s h, eq-eqb s s refl) refl
-      | inr other ↦ rw (bit_at_set_other w64 w s h t other, ne_eqb t s other) refl
-    ]
+bit_more w s t h = grind (arith, nat_tests, bit_at_set_same w64 w s h, bit_at_set_other w64 w s h t)
 
 same_word : (x v : ℕ) → x / 64 ≡ v / 64 → x % 64 == v % 64 ≡ x == v
-same_word x v e = elim (cases_eq x v) [
-  | inl same ↦ grind (arith, nat_tests)
-  | inr other ↦
-      rw (ne_eqb x v other, ne_eqb (x % 64) (v % 64) (λ bit. other (omega arith))) refl
-]
-
-other_word : (x v : ℕ) → (x / 64 ≡ v / 64 → ⊥) → x == v ≡ false
-other_word x v e = ne_eqb x v (λ same. e (ap (λ (n : ℕ). n / 64) same))
+same_word x v e = grind (arith, nat_tests)
 
 is_set-insert : (words : List ℕ) (v x : ℕ) {w : ℕ} → v / 64 < length words → w ≡ get_or words (v / 64) 0
     → is_set (set words (v / 64) (bit_or w (1 * 2 ^ (v % 64) % 2 ^ 64))) x ≡ (x == v || is_set words x)
-is_set-insert words v x {w} h e =
-    elim (cases_eq (x / 64) (v / 64)) [
-      | inl same ↦
-          rw (
-            same,
-            get_or-set_same words (v / 64) (bit_or w (1 * 2 ^ (v % 64) % 2 ^ 64)) 0 h,
-            ← e,
-            ← same_word x v
-                same,
-          )
-          (bit_more w (v % 64) (x % 64) (omega arith))
-      | inr other ↦ rw (
-        get_or-set_other words (v / 64) (x / 64) (bit_or w (1 * 2 ^ (v % 64) % 2 ^ 64)) 0 other,
-        other_word x v other,
-      ) refl
-    ]
+is_set-insert words v x {w} h e = grind (
+  arith,
+  nat_tests,
+  get_or-set_same words (v / 64) (bit_or w (1 * 2 ^ (v % 64) % 2 ^ 64)) 0 h,
+  get_or-set_other words (v / 64) (x / 64) (bit_or w (1 * 2 ^ (v % 64) % 2 ^ 64)) 0,
+  e,
+  same_word x v,
+  bit_more w (v % 64) (x % 64),
+)
 
 pub insert_bit : (words : List ℕ) (v : ℕ) {w : ℕ} → v / 64 < length words → w ≡ get_or words (v / 64) w
     → set_bits (set words (v / 64) (bit_or w (1 * 2 ^ (v % 64) % 2 ^ 64))) ≡ with_number v (set_bits words)
@@ -132,24 +106,20 @@ words-insert {words} v {w} ok below h e = record {
 
 -- ---- two sets of words
 
-bit_either : (a b : ℕ) → a < 2 → b < 2 → max a b == 1 ≡ (b == 1 || a == 1)
-bit_either a b h k = grind (arith, nat_tests)
-
 is_set-joined : {words more both : List ℕ} (x : ℕ) → AreWordsJoined words more both → length words ≡ length more
     → is_set both x ≡ (is_set more x || is_set words x)
-is_set-joined {words} {more} {both} x all same =
-    elim (cases_lt (x / 64) (length words)) [
-      | inl below ↦
-          rw (all.joined (x / 64) below, bit_at_or (get_or words (x / 64) 0) (get_or more (x / 64) 0) (x % 64))
-          (bit_either (bit_at (get_or words (x / 64) 0) (x % 64)) (bit_at (get_or more (x / 64) 0) (x % 64))
-          (bit_at-lt (get_or words (x / 64) 0) (x % 64)) (bit_at-lt (get_or more (x / 64) 0) (x % 64)))
-      | inr over ↦ rw (
-        is_set_past both x (omega (arith, all.enough)),
-        is_set_past words x over,
-        is_set_past more x
-            (omega arith),
-      ) refl
-    ]
+is_set-joined {words} {more} {both} x all same = grind (
+  arith,
+  nat_tests,
+  all.joined (x / 64),
+  all.enough,
+  bit_at_or (get_or words (x / 64) 0) (get_or more (x / 64) 0) (x % 64),
+  bit_at-lt (get_or words (x / 64) 0) (x % 64),
+  bit_at-lt (get_or more (x / 64) 0) (x % 64),
+  is_set_past both x,
+  is_set_past words x,
+  is_set_past more x,
+)
 
 pub absorb_bits : {words more both : List ℕ} → AreWordsJoined words more both → length words ≡ length more
     → set_bits both ≡ union (set_bits more) (set_bits words)
@@ -187,30 +157,16 @@ meet_bits words more {result} same meet = at result (share (set_bits words) (set
         (has-set_bits words (64 * place.0 + place.1) ∙ rw (word, bit, place.4) refl)
         (has-set_bits more (64 * place.0 + place.1) ∙ rw (word, bit, place.5) refl)
 
-    one : (n : ℕ) → n == 1 ≡ true → n ≡ 1
-    one n e = eqb-true n 1 e
-
     within : (x : ℕ) → is_set words x ≡ true → x / 64 < length words
-    within x h = elim (cases_lt (x / 64) (length words))
-        [ inl below ↦ below | inr over ↦ absurd (false≢true (sym (is_set_past words x over) ∙ h)) ]
+    within x h = grind (arith, is_set_past words x)
 
     found : (x : ℕ) × (has x (set_bits words) ≡ true) × (has x (set_bits more) ≡ true) → Meet words more
     found w =
         let here : is_set words w.0 ≡ true = sym (has-set_bits words w.0) ∙ w.1 in
-        let there : is_set more w.0 ≡ true = sym (has-set_bits more w.0) ∙ w.2 in (
-          w.0 / 64,
-          w.0 % 64,
-          within w.0 here,
-          omega arith,
-          one (bit_at (get_or words (w.0 / 64) 0) (w.0 % 64)) here,
-          one
-              (bit_at (get_or more (w.0 / 64) 0) (w.0 % 64)) there,
-        )
+        let there : is_set more w.0 ≡ true = sym (has-set_bits more w.0) ∙ w.2 in
+        (w.0 / 64, w.0 % 64, within w.0 here, omega arith, eqb-true _ 1 here, eqb-true _ 1 there)
 
 -- ---- the count
-
-bit_counts : (b r : ℕ) → b < 2 → cond (b == 1) 1 0 + r ≡ b + r
-bit_counts b r h = grind (arith, nat_tests)
 
 ones_zero : ones 0 ≡ 0
 unfolding ones
@@ -221,39 +177,41 @@ length-passing_word : (test : ℕ → Bool) (v k w : ℕ) → w < 2 ^ k → ((i 
 length-passing_word test v zero w h same = let e : w ≡ 0 = omega arith in rw (e, ones_zero) refl
 length-passing_word test v (suc k) w h same =
     let half : w / 2 < 2 ^ k = omega (arith, pow-suc 2 k) in
-    let first : test v ≡ bit_at w 0 == 1 = subst (λ (n : ℕ). test n ≡ bit_at w 0 == 1) (add-zero v)
-    (same 0 (omega arith)) in
-    let rest : length (sift test (suc v) k) ≡ ones (w / 2) =
-    length-passing_word test (suc v) k (w / 2) half
-    (λ i below. subst (λ (n : ℕ). test n ≡ bit_at (w / 2) i == 1) (next v i)
-    (same (suc i) (omega arith) ∙ ap (λ (n : ℕ). n == 1) (bit_at-suc w i)))
-    in
-    length-cond (test v) v (sift test (suc v) k)
-    ∙ (rw (first, rest, bit_at_lowest w) (bit_counts (w % 2) (ones (w / 2)) (omega arith)) ∙ sym (ones_step w))
-  where
-    next : (v i : ℕ) → v + suc i ≡ suc v + i
-    next v i = omega arith
+    let first : test v ≡ bit_at w 0 == 1 = rw add-zero at (same 0 (omega arith)) in
+    let rest = length-passing_word test (suc v) k (w / 2) half (λ i below.
+    let next : suc v + i ≡ v + suc i = omega arith in
+    rw (next, ← bit_at-suc w i) (same (suc i) (omega arith))) in
+    grind (
+      arith,
+      nat_tests,
+      length-cond (test v) v (sift test (suc v) k),
+      first,
+      rest,
+      bit_at_lowest w,
+      ones_step w,
+    )
 
-bits_of_word : (words : List ℕ) (k i : ℕ) → i < 64 → is_set words (64 * k + i) ≡ bit_at (get_or words k 0) i == 1
-bits_of_word words k i below =
-    let word : (64 * k + i) / 64 ≡ k = omega arith in
-    let bit : (64 * k + i) % 64 ≡ i = omega arith in
+-- the bit of a number, by its word and its place there
+pub bits_of_word : (words : List ℕ) {x : ℕ} (k i : ℕ) → x ≡ 64 * k + i → i < 64
+    → is_set words x ≡ bit_at (get_or words k 0) i == 1
+bits_of_word words {x} k i is below =
+    let word : x / 64 ≡ k = omega arith in
+    let bit : x % 64 ≡ i = omega arith in
     rw (word, bit) refl
+
+bits_from : (words : List ℕ) (k i : ℕ) → i < 64 → is_set words (0 + 64 * k + i) ≡ bit_at (get_or words k 0) i == 1
+bits_from words k i below = bits_of_word words k i (omega arith) below
 
 pub count_word : (words : List ℕ) {total : ℕ} (k : ℕ) → get_or words k 0 < 2 ^ 64
     → total ≡ length (sift (is_set words) 0 (64 * k)) → total + ones (get_or words k 0) ≡ length
     (sift (is_set words) 0 (64 * (k + 1)))
 count_word words {total} k small before =
     let next : 64 * (k + 1) ≡ 64 * k + 64 = omega arith in
-    let here : length (sift (is_set words) (64 * k) 64) ≡ ones (get_or words k 0) =
-    length-passing_word (is_set words) (64 * k) 64 (get_or words k 0) small (bits_of_word words k) in
-    let apart : length (sift (is_set words) 0 (64 * k + 64)) ≡ length (sift (is_set words) 0 (64 * k)) + length
-    (sift (is_set words) (64 * k) 64) =
-    subst (λ (n : ℕ). length (sift (is_set words) 0 (64 * k + 64)) ≡ length (sift (is_set words) 0 (64 * k)) + length
-    (sift (is_set words) n 64)) (zero-add (64 * k)) (length-passing-add (is_set words) 0 (64 * k) 64)
-    in
-    ap (λ (n : ℕ). total + n) (sym here) ∙ (ap (λ (n : ℕ). n + length (sift (is_set words) (64 * k) 64)) before
-    ∙ (sym apart ∙ ap (λ (n : ℕ). length (sift (is_set words) 0 n)) (sym next)))
+    ap (λ (n : ℕ). total + n)
+    (sym (length-passing_word (is_set words) (0 + 64 * k) 64 (get_or words k 0) small (bits_from words k)))
+    ∙ ap (λ (n : ℕ). n + length (sift (is_set words) (0 + 64 * k) 64)) before
+    ∙ sym (length-passing-add (is_set words) 0 (64 * k) 64)
+    ∙ ap (λ (n : ℕ). length (sift (is_set words) 0 n)) (sym next)
 
 pub count_fits : (words : List ℕ) {total : ℕ} (k : ℕ) → k < 16 → get_or words k 0 < 2 ^ 64
     → total ≡ length (sift (is_set words) 0 (64 * k)) → total + ones (get_or words k 0) ≤ 1024

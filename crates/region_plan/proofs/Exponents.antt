@@ -6,7 +6,7 @@ use Rattle.std.proofs.lemmas.Bool.{cases_lt, false≢true, le-leb, lt-leb}
 use Rattle.net_graph.specs.Network.{Network}
 use Rattle.node_set.specs.Balls.{centres, home_of}
 use Rattle.node_set.specs.SetLaws.{passing_same}
-use Rattle.distances.specs.Table.{DistanceTable, dist, ball_of}
+use Rattle.distances.specs.Table.{DistanceTable, dist}
 use Rattle.coarse_cover.specs.Coarsening.{all_clusters}
 use Rattle.region_plan.specs.Plan.{Level, level_in, no_level}
 use Rattle.region_plan.specs.Coverings.{covering_of}
@@ -35,13 +35,7 @@ one_exponent d e i reached just above within = elim (cases_lt e (suc i)) [
 -- where an exponent has no mark, no distance lies between its power and the one below
 none_between : {marks : List Bool} {d : ℕ} (i : ℕ) → HasExponent marks d → get_or marks (suc i) false ≡ false
     → d ≤ 2 ^ suc i → d ≤ 2 ^ i
-none_between {marks} {d} i mark none within = elim (cases_lt (2 ^ i) d) [
-  | inl above ↦
-      let same : mark.exponent ≡ suc i = one_exponent d mark.exponent i mark.reached mark.just above
-      within in
-      absurd (false≢true (sym none ∙ ap (λ e. get_or marks e false) (sym same) ∙ mark.marked))
-  | inr low ↦ low
-]
+none_between {marks} {d} i mark none within = grind (arith, cases_lt, one_exponent, false≢true)
 
 -- ---- balls and levels that are as those below
 
@@ -63,9 +57,7 @@ module _ (table : DistanceTable) (marks : List Bool) (marked : AreMarked table m
       ]
 
   same_balls : balls_of table (suc i) ≡ balls_of table i
-  same_balls = map_same (λ v. ball_of table v (2 ^ suc i)) (λ v. ball_of table v (2 ^ i)) table.nodes
-      (λ v hv. passing_same (λ w. nat_le (dist table v w) (2 ^ suc i)) (λ w. nat_le (dist table v w) (2 ^ i)) 0
-      table.nodes (λ w low high. same_test v w hv (omega arith)))
+  same_balls = grind (arith, same_test, passing_same, map_same)
 
   pub level_above : (network : Network) (covering : Covering) (level : Level)
       → IsLevelOf network table covering i level

@@ -1,15 +1,13 @@
 -- The flat plan is matched.
-use Rattle.std.proofs.Common.{◌≡◌, ℕ, ◌<◌, true, cond, List, [], ◌∷◌, get_or, length, refl, sym, ◌∙◌, ap, arith}
-use Rattle.node_set.specs.Ascending.{has, sift}
-use Rattle.distances.specs.Table.{AreDistancesOf, DistanceTable, dist, IsMetric}
+use Rattle.std.proofs.Common.{◌≡◌, ℕ, ◌<◌, true, List, [], ◌∷◌, get_or, length, refl, sym, ◌∙◌, ap, arith}
+use Rattle.node_set.specs.Ascending.{has}
+use Rattle.distances.specs.Table.{AreDistancesOf, DistanceTable, IsMetric}
 use Rattle.net_graph.specs.Network.{Network}
-use Rattle.cluster_tree.specs.Tree.{weight_beside}
-use Rattle.region_plan.specs.Plan.{Level, PlanData, nodes_of, levels_of, top_of, distance, level_at, level_in, cluster_in, cluster_at, clusters_of, members_of, home, readers, leader, inside}
+use Rattle.region_plan.specs.Plan.{Level, PlanData, nodes_of, levels_of, top_of, distance, level_at, level_in, clusters_of, members_of, home, readers, leader, inside}
 use Rattle.region_plan.specs.Regions.{clusters_with}
 use Rattle.region_plan.specs.Flat.{IsFlat, IsFlatLevel}
 use Rattle.region_plan.specs.Kept.{plan_with}
 use Rattle.region_plan.specs.Matched.{IsMatched, IsWithinReach}
-use Rattle.node_set.specs.Balls.{centres}
 use Rattle.node_set.specs.BallLaws.{has_centre, below_centre, get_or-map_centres}
 use Rattle.cluster_tree.specs.PlaceLaws.{beside_map}
 
@@ -32,23 +30,16 @@ module _ (network : Network) (plan : PlanData) (flat : IsFlat network plan) wher
   flat_leader = flat.level.whole.leader
 
   pub flat_inside : (v : ℕ) → v < nodes_of plan → inside plan 0 0 v ≡ distance plan 0 v
-  flat_inside v h =
-      ap (λ xs. weight_beside v xs (cluster_at plan 0 0).weights) flat.level.whole.members
-      ∙ ap (λ xs. weight_beside v (centres (nodes_of plan)) xs) flat.level.whole.weights
-      ∙ beside_map (λ u. dist plan.distances 0 u) v (centres (nodes_of plan)) (has_centre (nodes_of plan) v h)
+  flat_inside v h = grind (arith, has_centre, beside_map)
 
   flat_containing : (v : ℕ) → v < nodes_of plan → clusters_with (level_at plan 0).clusters v ≡ 0 ∷ []
-  flat_containing v h =
-      ap (sift (λ c. has v (cluster_in (level_at plan 0).clusters c).members) 0) flat.level.one
-      ∙ ap (λ b. cond b (0 ∷ []) []) (flat_member v h)
+  flat_containing v h = grind (arith, flat_member)
 
   lone_level : (i : ℕ) → i < levels_of plan → i ≡ 0
   lone_level i h = omega (arith, flat.one)
 
   lone_cluster : (i c : ℕ) → i < levels_of plan → c < clusters_of plan i → c ≡ 0
-  lone_cluster i c h hc =
-      let below : c < clusters_of plan 0 = rw (lone_level i h) at hc in
-      omega (arith, flat.level.one)
+  lone_cluster i c h hc = grind (arith, lone_level)
 
   top_is : top_of plan ≡ 0
   top_is = omega (arith, flat.one)
@@ -72,14 +63,7 @@ module _ (network : Network) (plan : PlanData) (flat : IsFlat network plan) wher
   }
 
   pub flat_reached : IsWithinReach plan
-  flat_reached i c v h hc = rw (lone_level i h, lone_cluster i c h hc, flat.reach) (λ member.
-      let below : v < nodes_of plan = flat_below v member in
-      omega (
-        arith,
-        flat_inside v below,
-        flat.level.exponent.greatest.greatest 0 v (omega arith) below,
-        flat.level.exponent.enough,
-      ))
+  flat_reached i c v h hc = grind (arith, lone_level, lone_cluster, flat_below, flat_inside)
 
 -- the plan of one flat level
 pub flat_made : {network : Network} {table copy : DistanceTable} (levels : List Level) → AreDistancesOf network table

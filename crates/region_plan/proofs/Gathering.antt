@@ -1,5 +1,5 @@
 -- The clusters of each node, while they are counted.
-use Rattle.std.proofs.Common.{◌≡◌, inl, inr, ℕ, zero, suc, ◌+◌, ◌<◌, ◌≤◌, Bool, true, false, cond, ◌||◌, List, [], ◌∷◌, ◌++◌, length, take, set, get_or, refl, sym, ◌∙◌, ap, arith, add-zero, zero-add}
+use Rattle.std.proofs.Common.{◌≡◌, ℕ, zero, suc, ◌+◌, ◌<◌, ◌≤◌, Bool, true, false, cond, ◌||◌, List, [], ◌∷◌, ◌++◌, length, take, set, get_or, refl, ◌∙◌, ap, arith, add-zero, zero-add}
 use Rattle.std.specs.Prelude.{◌==◌, All}
 use Rattle.std.proofs.lemmas.Bool.{cases_eq, eq-eqb, ne_eqb}
 use Rattle.std.proofs.lemmas.Grind.{get_or_default_zero}
@@ -7,11 +7,10 @@ use Rattle.std.proofs.lemmas.List.{get_or-set_same, get_or-set_other, length-set
 use Rattle.node_set.specs.Ascending.{has, IsAscending, sift}
 use Rattle.node_set.specs.SetLaws.{has-append, below_each, length-cond, length-passing-add, length-passing-le}
 use Rattle.region_plan.specs.Plan.{PlanCluster, cluster_in}
-use Rattle.region_plan.specs.Readers.{AreCounts, HaveRoom, IsCounted, readers_below}
+use Rattle.region_plan.specs.Readers.{AreCounts, HaveRoom, IsCounted}
 use Rattle.std.proofs.Math.Bool.{or-false, or-true}
 use Rattle.net_graph.specs.Starts.{AreStarts}
 use Rattle.net_graph.specs.StartLaws.{places_made}
-use Rattle.region_plan.specs.Regions.{clusters_with}
 
 -- ---- one member more
 
@@ -22,10 +21,7 @@ has_push x y xs = has-append x xs (y ∷ []) ∙ ap (λ b. has x xs || b) (or-fa
 fresh : (xs : List ℕ) (i : ℕ) → IsAscending xs → i < length xs → has (get_or xs i 0) (take i xs) ≡ false
 fresh [] i ascending short = absurd (omega arith)
 fresh (x ∷ xs) zero ascending short = refl
-fresh (x ∷ xs) (suc i) ascending short =
-    ap (λ b. b || has (get_or xs i 0) (take i xs))
-    (ne_eqb (get_or xs i 0) x (λ same. omega (arith, same, below_each x xs i ascending.0 (omega arith))))
-    ∙ fresh xs i ascending.1 (omega arith)
+fresh (x ∷ xs) (suc i) ascending short = grind (arith, fresh xs i ascending.1 (omega arith), below_each, ne_eqb)
 
 pub none_counted : (old : List ℕ) → IsCounted [] old old
 none_counted old = record { count = refl; each = λ v below. omega arith }
@@ -49,27 +45,13 @@ module _ (members old counts : List ℕ) (i : ℕ) (short : i < length members)
   -- it isn't counted yet
   pub uncounted : IsAscending members → get_or members i 0 < length old
       → get_or counts (get_or members i 0) 0 ≡ get_or old (get_or members i 0) 0
-  uncounted ascending below = before.each (get_or members i 0) below
-      ∙ ap (λ b. get_or old (get_or members i 0) 0 + cond b 1 0) (fresh members i ascending short)
-      ∙ add-zero (get_or old (get_or members i 0) 0)
+  uncounted ascending below = grind (arith, before.each (get_or members i 0) below, fresh, add-zero)
 
   pub one_counted : IsAscending members → get_or members i 0 < length old → IsCounted (take (i + 1) members) old
       (set counts (get_or members i 0) (get_or counts (get_or members i 0) 0 + 1))
   unfolding m
-  one_counted ascending below = record {
-    count = length-set counts m (get_or counts m 0 + 1) ∙ before.count;
-    each = λ v v_below. elim (cases_eq v m) [
-      | inl same ↦
-          rw (
-            same,
-            get_or-set_same counts m (get_or counts m 0 + 1) 0 (omega (arith, below, before.count)),
-            uncounted ascending below,
-            this_node,
-          ) refl
-      | inr other ↦
-          rw (get_or-set_other counts m v (get_or counts m 0 + 1) 0 other, other_node v other) (before.each v v_below)
-    ];
-  }
+  one_counted ascending below =
+      grind (arith, length-set, cases_eq, get_or-set_same, uncounted, this_node, get_or-set_other, other_node)
 
   -- the member is none of the nodes
   pub one_skipped : length old ≤ get_or members i 0 → IsCounted (take (i + 1) members) old counts
@@ -82,29 +64,16 @@ module _ (members old counts : List ℕ) (i : ℕ) (short : i < length members)
 -- ---- one cluster more
 
 length_more : (test : ℕ → Bool) (c : ℕ) → length (sift test 0 (c + 1)) ≡ length (sift test 0 c) + cond (test c) 1 0
-length_more test c = length-passing-add test 0 c 1
-    ∙ ap (λ i. length (sift test 0 c) + length (sift test i 1)) (zero-add c)
-    ∙ ap (λ n. length (sift test 0 c) + n) (length-cond (test c) c [] ∙ add-zero (cond (test c) 1 0))
+length_more test c = grind (arith, length-passing-add, zero-add, length-cond, add-zero)
 
 pub cluster_counted : (clusters : List PlanCluster) (number : ℕ) {members old new : List ℕ}
     → members ≡ (cluster_in clusters number).members → AreCounts clusters number old → IsCounted members old new
     → AreCounts clusters (number + 1) new
-cluster_counted clusters number {members} {old} is before counted v below =
-    let short : v < length old = omega (arith, below, counted.count) in
-    counted.each v short ∙ ap (λ n. n + cond (has v members) 1 0) (before v short)
-    ∙ ap (λ xs. length (readers_below clusters number v) + cond (has v xs) 1 0) is
-    ∙ sym (length_more (λ c. has v (cluster_in clusters c).members) number)
+cluster_counted clusters number {members} {old} is before counted v below = grind (arith, length_more)
 
 pub counts_few : (clusters : List PlanCluster) (number top : ℕ) (counts : List ℕ) → AreCounts clusters number counts
     → number ≤ top → All (λ count. count ≤ top) counts
-counts_few clusters number top counts are few v d below =
-    omega (
-      arith,
-      get_or_default_zero counts v d below,
-      are v below,
-      length-passing-le (λ c. has v (cluster_in clusters c).members) 0 number,
-      few,
-    )
+counts_few clusters number top counts are few v d below = grind (arith, get_or_default_zero, length-passing-le)
 
 -- ---- the sums
 
@@ -114,6 +83,4 @@ count_few counts i short few = few i 0 short
 
 pub room_made : (clusters : List PlanCluster) {n : ℕ} {counts starts : List ℕ} → length counts ≡ n
     → AreCounts clusters (length clusters) counts → AreStarts counts starts → HaveRoom n clusters starts
-room_made clusters {n} {counts} {starts} long are sums = places_made n (λ v. length (clusters_with clusters v)) counts
-    starts
-    long are sums
+room_made clusters {n} {counts} {starts} long are sums = grind (arith, places_made)

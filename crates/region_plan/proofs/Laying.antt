@@ -24,12 +24,7 @@ use Rattle.region_plan.proofs.Making.{range_new, range_old, row_is, whole_is}
 
 pub head_short : (lists : ClusterLists) {clusters : List PlanCluster} (c : ℕ) → clusters_of_lists lists ≡ clusters
     → c < length clusters → c < length lists.heads.items
-head_short lists c view below =
-    omega (
-      arith,
-      subst (λ (cs : List PlanCluster). c < length cs) (sym view) below,
-      length-map lists.heads.items (cluster_under lists.nodes.items lists.weights.items),
-    )
+head_short lists c view below = grind (arith, length-map)
 
 module _ {lists : ClusterLists} {clusters : List PlanCluster} (c : ℕ) {head : ClusterHead} (laid : AreLaid lists)
     (view : clusters_of_lists lists ≡ clusters) (below : c < length clusters)
@@ -86,13 +81,7 @@ clusters_stay nodes members weights more (h ∷ hs) count each =
 -- its leader is a node
 pub leader_below : {network : Network} {table : DistanceTable} {made : Cluster} → AreDistancesOf network table
     → IsSpanned network made → AreNodes made.members → made.first < table.nodes
-leader_below {made} belongs spanned sound =
-    omega (
-      arith,
-      below-has made.members.room made.first made.members.members sound.below spanned.leads,
-      spanned.room,
-      belongs.nodes,
-    )
+leader_below {made} belongs spanned sound = grind (arith, below-has)
 
 module _ {network : Network} (made : Cluster) {old : ClusterLists} (new : ClusterLists) {start end depth : ℕ}
     (laid : AreLaid old) (nodes_now : new.nodes.items ≡ old.nodes.items ++ made.members.members)
@@ -116,9 +105,7 @@ module _ {network : Network} (made : Cluster) {old : ClusterLists} (new : Cluste
       ∙ range_new old.nodes.items made.members.members begins (ends ∙ ap (length {A = ℕ}) nodes_now)
 
   beside : slice_range new.weights.items start end ≡ is.weights
-  beside = ap (λ (xs : List ℕ). slice_range xs start end) is.appended
-      ∙ range_new old.weights.items is.weights (omega (arith, begins, laid.count))
-      (omega (arith, ends, long, laid.count, is.sound.count, length-append old.weights.items is.weights))
+  beside = grind (arith, long, length-append, range_new)
 
   pub made_laid : IsAscending made.members.members → AreLaid new
   made_laid ascending = record {

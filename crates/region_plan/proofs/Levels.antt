@@ -1,5 +1,5 @@
 -- A level as it is built, and the plan of all levels.
-use Rattle.std.proofs.Common.{◌≡◌, ℕ, ◌+◌, ◌-◌, ◌^◌, ◌<◌, ◌≤◌, List, [], ◌∷◌, ◌++◌, length, refl, sym, ◌∙◌, ap, subst, inl, inr, arith}
+use Rattle.std.proofs.Common.{◌≡◌, ℕ, ◌+◌, ◌-◌, ◌^◌, ◌<◌, ◌≤◌, List, [], ◌∷◌, ◌++◌, length, refl, sym, ◌∙◌, ap, subst, arith}
 use Rattle.std.specs.Prelude.{All, nat_le}
 use Rattle.std.proofs.lemmas.Bool.{cases_lt}
 use Rattle.std.proofs.lemmas.List.{get_or_append_left, get_or_push, length_push}
@@ -12,7 +12,7 @@ use Rattle.coarse_cover.specs.Covers.{IsCover}
 use Rattle.coarse_cover.specs.declared.cover.Cover.{Cover}
 use Rattle.node_set.specs.declared.workspace.Workspace.{Workspace}
 use Rattle.node_set.specs.Workspaces.{IsWorkspace}
-use Rattle.region_plan.specs.Plan.{PlanCluster, Level, PlanData, level_in, no_level}
+use Rattle.region_plan.specs.Plan.{PlanCluster, Level, PlanData, level_in}
 use Rattle.region_plan.specs.Regions.{balls_of, regions_of, readers_of, threshold_of}
 use Rattle.region_plan.specs.Meanings.{IsTop, AreClustersOf, IsLevelOf, IsCoveredPlan}
 use Rattle.region_plan.specs.Kept.{AreLevelsOf, IsSpanned, IsSized, Shape, level_of, plan_with, shape_with}
@@ -113,12 +113,8 @@ pub more_levels : {network : Network} {table : DistanceTable} {covering : Coveri
     {new : List Level} {level : Level} → length old ≡ i
     → ((j : ℕ) → j < i → IsLevelOf network table covering j (level_in old j)) → IsLevelOf network table covering i level
     → new ≡ old ++ level ∷ [] → (j : ℕ) → j < i + 1 → IsLevelOf network table covering j (level_in new j)
-more_levels {network} {table} {covering} {i} old {new} {level} count each is now j below = elim (cases_lt j i) [
-  | inl less ↦ rw (now, get_or_append_left old (level ∷ []) no_level j (omega (arith, count))) (each j less)
-  | inr more ↦
-      let same : j ≡ i = omega arith in
-      rw (same, now, get_or_push old level no_level i count) is
-]
+more_levels {network} {table} {covering} {i} old {new} {level} count each is now j below =
+    grind (arith, cases_lt, count, get_or_append_left, get_or_push)
 
 -- one level more
 pub levels_more : {network : Network} {table : DistanceTable} {covering : Covering} {i : ℕ} {old new : List Level}

@@ -1,5 +1,5 @@
 -- Numbers from 0 on, and what stands beside a member.
-use Rattle.std.proofs.Common.{◌≡◌, ℕ, zero, suc, ◌+◌, ◌<◌, ◌≤◌, true, List, [], ◌∷◌, ◌++◌, drop, length, map, refl, sym, ◌∙◌, ap, arith}
+use Rattle.std.proofs.Common.{◌≡◌, ℕ, zero, suc, ◌+◌, ◌<◌, ◌≤◌, true, List, [], ◌∷◌, ◌++◌, length, map, refl, arith}
 use Rattle.std.proofs.Math.Seq.{drop-append_seam}
 use Rattle.std.specs.Prelude.{All}
 use Rattle.std.proofs.lemmas.List.Elements.{All-drop}
@@ -14,9 +14,7 @@ centres_push v = passing_takes (λ x. true) v refl
 
 pub made_more : {X : Type 0} (f : ℕ → X) (v : ℕ) {old new : List X} {y : X} → old ≡ map f (centres v) → y ≡ f v
     → new ≡ old ++ y ∷ [] → new ≡ map f (centres (v + 1))
-made_more {X} f v {y} before is now =
-    now ∙ ap (λ (xs : List X). xs ++ y ∷ []) before ∙ ap (λ (x : X). map f (centres v) ++ x ∷ []) is
-    ∙ sym (ap (λ (xs : List ℕ). map f xs) (centres_push v) ∙ map_push f (centres v) v)
+made_more {X} f v {y} before is now = grind (arith, centres_push, map_push)
 
 map_same_range : {X : Type 0} (f g : ℕ → X) (v n : ℕ) → ((u : ℕ) → v ≤ u → u < v + n → f u ≡ g u)
     → map f (sift (λ x. true) v n) ≡ map g (sift (λ x. true) v n)
@@ -33,6 +31,4 @@ map_same f g n same = map_same_range f g 0 n (λ u low high. same u (omega arith
 pub next_holds : {X : Type 0} (P : X → Type 0) {all : List X} (before : List X) {rest later : List X} {x : X}
     → all ≡ before ++ rest → rest ≡ x ∷ later → All P all → P x
 next_holds {X} P {all} before {rest} {later} {x} whole next holds =
-    let dropped : drop (length before) all ≡ x ∷ later =
-    ap (λ (xs : List X). drop (length before) xs) whole ∙ drop-append_seam before rest ∙ next in
-    rw dropped at (All-drop P (length before) all holds) 0 x (omega arith)
+    grind (arith, drop-append_seam before rest, All-drop P (length before) all holds)

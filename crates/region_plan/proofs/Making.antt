@@ -23,15 +23,10 @@ use Rattle.region_plan.proofs.Lists.{made_more, map_same}
 -- ---- part of a list that grew
 
 pub range_old : (xs ys : List ℕ) (a b : ℕ) → a ≤ b → b ≤ length xs → slice_range (xs ++ ys) a b ≡ slice_range xs a b
-range_old xs ys a b order short =
-    ap (λ l. take (b - a) l) (drop-append-le a xs ys (omega arith))
-    ∙ take-append-le (b - a) (drop a xs) ys (omega (arith, length-drop a xs))
+range_old xs ys a b order short = grind (arith, drop-append-le, length-drop, take-append-le)
 
 pub range_new : (xs ys : List ℕ) {a b : ℕ} → a ≡ length xs → b ≡ length (xs ++ ys) → slice_range (xs ++ ys) a b ≡ ys
-range_new xs ys {a} {b} from to =
-    ap (λ l. take (b - a) l) (drop-append-le a xs ys (omega arith))
-    ∙ ap (λ l. take (b - a) (l ++ ys)) (drop_all a xs (omega arith))
-    ∙ take_all (b - a) ys (omega (arith, length-append xs ys))
+range_new xs ys {a} {b} from to = grind (arith, drop-append-le, drop_all, length-append, take_all)
 
 pub range_behind : (xs ys : List ℕ) {all : List ℕ} {a : ℕ} → a ≡ length xs → all ≡ xs ++ ys
     → take (length all - a) (drop a all) ≡ ys
@@ -50,10 +45,7 @@ module _ {table : DistanceTable} (metric : IsMetric table) {cells nodes : List �
     (all : nodes ≡ centres table.nodes) (row : IsRowOf table 0 cells)
     (bound : All (λ x. x ≤ depth) cells) (attained : 0 < length cells → Contains cells depth) where
   filled : cells ≡ map (λ u. dist table 0 u) (centres table.nodes)
-  filled = same_number_lists cells (map (λ u. dist table 0 u) (centres table.nodes))
-      (row.count ∙ sym (length-map_centres (λ u. dist table 0 u) table.nodes))
-      (λ v h. row.each v (omega (arith, row.count))
-      ∙ sym (get_or-map_centres (λ u. dist table 0 u) table.nodes v 0 (omega (arith, row.count))))
+  filled = grind (arith, length-map_centres, get_or-map_centres, same_number_lists)
 
   below : (v : ℕ) → has v nodes ≡ true → v < table.nodes
   below v h = below_centre table.nodes v (ap (has v) (sym all) ∙ h)

@@ -12,7 +12,7 @@ use Rattle.coarse_cover.specs.Covers.{cluster_list}
 use Rattle.coarse_cover.specs.declared.cover.Cluster.{Cluster}
 use Rattle.coarse_cover.specs.CoverLaws.{cluster_list_nodes, length-cluster_list}
 use Rattle.cluster_tree.specs.Tree.{within}
-use Rattle.region_plan.specs.Plan.{PlanData, nodes_of, levels_of, top_of, distance, level_at, no_cluster, cluster_in, cluster_at, clusters_of, members_of, home, readers, leader, inside}
+use Rattle.region_plan.specs.Plan.{PlanData, nodes_of, levels_of, top_of, distance, level_at, no_cluster, cluster_at, clusters_of, members_of, home, readers, leader, inside}
 use Rattle.region_plan.specs.Regions.{balls_of, regions_of, clusters_with}
 use Rattle.region_plan.specs.Coverings.{CoveringsAreShaped, CoveringsHaveHomes, reach_of, trade_off_of}
 use Rattle.region_plan.specs.Meanings.{IsClusterOf, IsCoveredPlan, IsLevelOf}
@@ -59,9 +59,7 @@ module _ (shape : CoveringsAreShaped) (found : CoveringsHaveHomes) {network : Ne
     member_below c v h member = omega (arith, (close c h).below v (made_member c v h member), is.distances.nodes)
 
     pub leader_member : (c : ℕ) → c < clusters_of plan i → has (leader plan i c) (members_of plan i c) ≡ true
-    leader_member c h =
-        ap (λ u. has u (members_of plan i c)) (cluster_is c h).leader
-        ∙ ap (has (get_or made c no_made).first) (cluster_is c h).members ∙ (close c h).leads
+    leader_member c h = grind (arith, cluster_is, close)
 
     weighs : (c v : ℕ) → c < clusters_of plan i → has v (members_of plan i c) ≡ true
         → IsLeastWeight network.edges (within (get_or made c no_made).members.members) (get_or made c no_made).first v
@@ -153,11 +151,7 @@ module _ (shape : CoveringsAreShaped) (found : CoveringsHaveHomes) {network : Ne
 
     pub meets : (u v : ℕ) → u < nodes_of plan → v < nodes_of plan → distance plan u v ≤ 2 ^ (level_at plan i).exponent
         → has (home plan i u) (readers plan i v) ≡ true
-    meets u v hu hv near =
-        ap (has (home plan i u)) (reads v hv)
-        ∙ has-passing (λ c. has v (cluster_in (level_at plan i).clusters c).members) (home plan i u) 0
-        (clusters_of plan i) (omega arith) (omega (arith, home_below u hu))
-        ∙ near_home u v hu hv (rw level.exponent at near)
+    meets u v hu hv near = grind (arith, reads, home_below, has-passing, near_home)
 
     pub all_home : (u v : ℕ) → u < nodes_of plan → v < nodes_of plan → i ≡ top_of plan
         → has u (members_of plan i (home plan i v)) ≡ true

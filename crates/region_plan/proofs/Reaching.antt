@@ -85,12 +85,7 @@ module _ {network : Network} {table : DistanceTable} (metric : IsMetric table) (
     ball_is v h = get_or-map_centres (λ u. ball_of table u r) table.nodes v [] h
 
     pub in_ball : (v x : ℕ) → has x (ball balls v) ≡ true → (v < table.nodes) × (x < table.nodes) × (dist table v x ≤ r)
-    in_ball v x h = elim (cases_lt v table.nodes) [
-      | inl below ↦ let both = (ball_members table v r x).0 (ap (has x) (sym (ball_is v below)) ∙ h)
-          in (below, both.0, both.1)
-      | inr past ↦ absurd (false≢true (sym (ap (has x) (get_or_past balls v []
-          (omega (arith, length-map_centres (λ u. ball_of table u r) table.nodes)))) ∙ h))
-    ]
+    in_ball v x h = grind (arith, cases_lt, ball_members, ball_is, length-map_centres, get_or_past, false≢true)
 
     pub to_ball : (v x : ℕ) → v < table.nodes → x < table.nodes → dist table v x ≤ r → has x (ball balls v) ≡ true
     to_ball v x hv hx far = ap (has x) (ball_is v hv) ∙ (ball_members table v r x).1 (hx, far)
@@ -106,19 +101,14 @@ module _ {network : Network} {table : DistanceTable} (metric : IsMetric table) (
           [ inl same ↦ sym (eqb-true v a same) | inr none ↦ absurd (false≢true none) ]
 
       taken : (j v : ℕ) → has v (growth balls waiting a j) ≡ true → (v < table.nodes) × (has v waiting ≡ true)
-      taken zero v h =
-          let same : a ≡ v = only v (ap (has v) (sym (growth_first balls waiting a)) ∙ h) in
-          subst (λ u. (u < table.nodes) × (has u waiting ≡ true)) same (below, waits)
+      taken zero v h = grind (arith, growth_first, only)
       taken (suc j) v h =
           let both = (next_growth_means balls waiting a j v).0 h in
           let shared = share_gives (ball balls v) (union_of balls (growth balls waiting a j)) both.1 in
           ((in_ball v shared.0 shared.1).0, both.0)
 
       grows : (j v : ℕ) → has v (growth balls waiting a j) ≡ true → has v (growth balls waiting a (suc j)) ≡ true
-      grows j v h =
-          let both = taken j v h in
-          (next_growth_means balls waiting a j v).1
-          (both.1, touches_own balls v (growth balls waiting a j) h (own_ball v both.0))
+      grows j v h = grind (arith, taken, next_growth_means, own_ball, touches_own)
 
       pub growth_leads : (j : ℕ) → has a (growth balls waiting a j) ≡ true
       growth_leads zero = ap (has a) (growth_first balls waiting a) ∙ ap (λ b. b || false) (eq-eqb a a refl)
@@ -127,10 +117,7 @@ module _ {network : Network} {table : DistanceTable} (metric : IsMetric table) (
       -- within a union, a ball of it
       near_in : (j v x : ℕ) → has v (growth balls waiting a j) ≡ true → has x (ball balls v) ≡ true
           → IsNoHeavier network.edges (within (union_of balls (growth balls waiting a j))) v x r
-      near_in j v x h member =
-          let inside = in_ball v x member in
-          near_centre (within (union_of balls (growth balls waiting a j))) v r x inside.0 inside.1 inside.2
-          (λ y hy far. union_has balls y v (growth balls waiting a j) h (to_ball v y inside.0 hy far))
+      near_in j v x h member = grind (arith, in_ball, to_ball, union_has, near_centre)
 
       -- each node of a union is near the leader, inside the union
       pub near_leader : (j x : ℕ) → has x (union_of balls (growth balls waiting a j)) ≡ true

@@ -1,4 +1,5 @@
 -- The clusters of a plan over mean covers are small in the sum.
+use Rattle.std.proofs.Common.{arith}
 use Rattle.std.proofs.Common.{◌≡◌, ℕ, ◌+◌, ◌^◌, ◌<◌, ◌≤◌, List, [], ◌∷◌, length, map, refl, sym, ◌∙◌, ap, subst}
 use Rattle.std.specs.List.{sum_by}
 use Rattle.std.proofs.lemmas.List.Sums.{sum_by-cons}
@@ -23,9 +24,7 @@ sum_over : {X : Type 0} (f : X → List ℕ) (xs : List X) → sum_by (λ x. len
     ≡ sum_by (length {A = ℕ}) (map f xs)
 sum_over f [] = refl
 sum_over f (x ∷ xs) =
-    sum_by-cons (λ y. length (f y)) x xs
-    ∙ ap (λ (n : ℕ). length (f x) + n) (sum_over f xs)
-    ∙ sym (sum_by-cons (length {A = ℕ}) (f x) (map f xs))
+    grind (arith, sum_by-cons (λ y. length (f y)) x xs, sum_over f xs, sum_by-cons (length {A = ℕ}) (f x) (map f xs))
 
 module _ (covers : MeanCoversAreSmall) {network : Network} (sound : IsNetwork network) {k : ℕ} (low : 1 ≤ k)
     {plan : PlanData} (metric : IsMetric plan.distances) (is : IsCoveredPlan (Mean k) network plan) where

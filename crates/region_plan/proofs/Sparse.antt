@@ -52,9 +52,7 @@ pub same_nodes : (network : Network) (made : List Cluster) (clusters : List Plan
 same_nodes network [] [] are = refl
 same_nodes network [] (e ∷ es) are = absurd are
 same_nodes network (c ∷ cs) [] are = absurd are
-same_nodes network (c ∷ cs) (e ∷ es) are =
-    ap (λ (xs : List ℕ). xs ∷ nodes_in es) are.0.members
-    ∙ ap (λ (l : List (List ℕ)). c.members.members ∷ l) (same_nodes network cs es are.1)
+same_nodes network (c ∷ cs) (e ∷ es) are = grind (arith, same_nodes network cs es are.1, nodes_in)
 
 read_count : (network : Network) (n v : ℕ) (regions : List (List GrownCluster)) (clusters : List PlanCluster)
     → AreClustersOf network (cluster_list n 0 regions) clusters
@@ -127,12 +125,7 @@ module _ (sparse : CoversAreSparse) {network : Network} (sound : IsNetwork netwo
       ]
 
   wide : (i : ℕ) → i < levels_of plan → 0 < length (level_at plan i).readers
-  wide i below = omega (
-    arith,
-    ap length (is.each i below).readers,
-    length-map_centres (clusters_with (level_at plan i).clusters) (nodes_of plan),
-    metric.some,
-  )
+  wide i below = grind (arith, is.each i below, length-map_centres)
 
   pub few_readers : HasFewReaders plan
   few_readers =

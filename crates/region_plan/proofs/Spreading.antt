@@ -1,5 +1,5 @@
 -- The exponents of distances, as they are written and read.
-use Rattle.std.proofs.Common.{◌≡◌, inl, inr, ℕ, zero, suc, ◌+◌, ◌*◌, ◌^◌, ◌<◌, ◌≤◌, Bool, true, false, List, ap, get_or, length, map, set, sym, take, ◌∙◌, arith}
+use Rattle.std.proofs.Common.{◌≡◌, inl, inr, ℕ, zero, suc, ◌+◌, ◌*◌, ◌^◌, ◌<◌, ◌≤◌, Bool, true, false, List, get_or, length, map, set, sym, take, ◌∙◌, arith}
 use Rattle.std.specs.Prelude.{All, nat_le, slice_index, slice_range}
 use Rattle.std.proofs.Math.Nat.{pow-le-pow_right, pow-suc}
 use Rattle.std.proofs.lemmas.Bool.{cases_lt, false≢true, le-leb, leb-true, lt-leb}
@@ -60,14 +60,12 @@ marked_all {table} {exponents} marks are marked u v u_below v_below some =
 -- a row's distances are small
 pub row_small : {table : DistanceTable} {u : ℕ} {row : List ℕ} → IsMetric table → u < table.nodes → IsRowOf table u row
     → All (λ d. d ≤ 2 ^ 30) row
-row_small {u} {row} metric below is v d short =
-    omega (
-      arith,
-      get_or_default_zero row v d short,
-      is.each v (omega (arith, short, is.count)),
-      metric.bounded u v below (omega (arith, short, is.count)),
-      metric.few,
-    )
+row_small {u} {row} metric below is v d short = grind (
+  arith,
+  is.each v (omega (arith, short, is.count)),
+  metric.bounded u v below (omega (arith, short, is.count)),
+  get_or_default_zero,
+)
 
 -- and there is room for each
 pub row_short : {table : DistanceTable} {u at : ℕ} {row : List ℕ} (exponents : List ℕ) → u < table.nodes
@@ -81,22 +79,12 @@ pub row_written : {table : DistanceTable} {u at : ℕ} {row : List ℕ} (old new
     → IsRowOf table u row → AreExponentsTo table old u → ((x : ℕ) → x < at → slice_index new x ≡ slice_index old x)
     → ((v : ℕ) → v < length row → IsExponent (slice_index row v) (slice_index new (at + v)))
     → AreExponentsTo table new (u + 1)
-row_written {table} {u} {at} old new begins is before kept here w v w_below v_below = elim (cases_lt w u) [
-  | inl less ↦
-      let within : w * table.nodes + v < at = omega (arith, row_fits w table.nodes u table.nodes less (omega arith)) in
-      rw (kept (w * table.nodes + v) within) (before w v less v_below)
-  | inr last ↦
-      let same : w ≡ u = omega arith in
-      rw (same, ← is.each v v_below, ← begins) (here v (omega (arith, is.count)))
-]
+row_written {table} {u} {at} old new begins is before kept here w v w_below v_below = grind (arith, cases_lt, row_fits)
 
 -- the numbers of a row within a radius are the ball's nodes
 row_within : {table : DistanceTable} {v : ℕ} (radius : ℕ) {row : List ℕ} → IsRowOf table v row
     → sift (λ x. nat_le (slice_index row x) radius) 0 (length row) ≡ ball_of table v radius
-row_within {table} {v} radius {row} is =
-    ap (sift (λ x. nat_le (slice_index row x) radius) 0) is.count
-    ∙ passing_same (λ x. nat_le (slice_index row x) radius) (λ w. nat_le (dist table v w) radius) 0 table.nodes
-    (λ x low high. ap (λ d. nat_le d radius) (is.each x (omega arith)))
+row_within {table} {v} radius {row} is = grind (arith, passing_same)
 
 -- the nodes whose exponents are within a level's are those of the ball
 pub ball_within : {table : DistanceTable} {exponents row : List ℕ} (v i : ℕ) → AreExponents table exponents

@@ -2,8 +2,9 @@
 -- memory, with a weight beside each reader, and what levels share; and what the private functions
 -- find of clusters.
 -- Key law: `plan_is_sound` (every plan has these sizes, is matched and within its reach).
-use Rattle.std.specs.Prelude.{◌≡◌, ℕ, true, ◌+◌, ◌≤◌, ◌<◌, List, [], All, length, map, slice_index, slice_index_or, slice_range}
+use Rattle.std.specs.Prelude.{◌≡◌, ℕ, true, ◌≤◌, ◌<◌, List, [], All, length, map, slice_index_or}
 use Rattle.net_graph.specs.Network.{Network}
+use Rattle.net_graph.specs.Starts.{AreRowsOf}
 use Rattle.net_graph.specs.Walks.{IsReached}
 use Rattle.node_set.specs.Ascending.{has}
 use Rattle.coarse_cover.specs.declared.cover.Cluster.{Cluster}
@@ -34,28 +35,15 @@ pub record IsKept (plan : PlanData) : Type 0 where
   pub metric : IsMetric plan.distances
   pub levels : All (IsSized (nodes_of plan)) plan.levels
 
--- the readers of n nodes lie one after another, and the starts say where those of each node begin
--- and end
-pub record AreRows (n : ℕ) (clusters : List PlanCluster) (starts readers : List ℕ) : Type 0 where
-  pub count : length starts ≡ n + 1
-  pub order : (v : ℕ) → v < n → slice_index starts v ≤ slice_index starts (v + 1)
-  pub within : (v : ℕ) → v ≤ n → slice_index starts v ≤ length readers
-  pub each : (v : ℕ) → v < n → slice_range readers (slice_index starts v)
-      (slice_index starts (v + 1)) ≡ clusters_with clusters v
+-- the weight inside each cluster with v from its leader to v
+abbrev pub weights_beside : List PlanCluster → ℕ → List ℕ
+weights_beside clusters v = map (λ c. weight_in clusters c v) (clusters_with clusters v)
 
--- beside each reader is the weight inside it from its leader to the node that reads it
-pub record AreBeside (n : ℕ) (clusters : List PlanCluster) (starts readers weights : List ℕ) :
-    Type 0 where
-  pub count : length weights ≡ length readers
-  pub each : (v place : ℕ) → v < n → slice_index starts v ≤ place
-      → place < slice_index starts (v + 1)
-      → slice_index weights place ≡ weight_in clusters (slice_index readers place) v
-
--- the readers of n nodes, and the weights beside them
+-- the readers of n nodes lie in rows, and in rows beside them the weights inside them
 pub record IsTable (n : ℕ) (clusters : List PlanCluster) (starts readers weights : List ℕ) :
     Type 0 where
-  pub rows : AreRows n clusters starts readers
-  pub beside : AreBeside n clusters starts readers weights
+  pub rows : AreRowsOf n (clusters_with clusters) starts readers
+  pub beside : AreRowsOf n (weights_beside clusters) starts weights
 
 -- the plan of these parts
 abbrev pub plan_with : ℕ → ℕ → DistanceTable → List Level → PlanData

@@ -1,10 +1,11 @@
 -- The clusters that contain each node, while they are counted and written, and the weights inside
 -- them. Only the private functions of this crate speak of them.
 -- Key law: `ReaderLists::new` lays them as the plan has them (`IsTable`).
-use Rattle.std.specs.Prelude.{◌≡◌, ℕ, ◌+◌, ◌≤◌, ◌<◌, List, cond, length, slice_index}
-use Rattle.net_graph.specs.Starts.{HavePlaces}
+use Rattle.std.specs.Prelude.{◌≡◌, ℕ, ◌+◌, ◌<◌, List, cond, length, slice_index}
+use Rattle.net_graph.specs.Starts.{AreFilled, HavePlaces}
 use Rattle.node_set.specs.Ascending.{has, sift}
-use Rattle.region_plan.specs.Plan.{PlanCluster, cluster_in, weight_in}
+use Rattle.region_plan.specs.Kept.{weights_beside}
+use Rattle.region_plan.specs.Plan.{PlanCluster, cluster_in}
 use Rattle.region_plan.specs.Regions.{clusters_with}
 
 -- the ascending numbers of those of the first so many clusters that contain v
@@ -27,13 +28,7 @@ abbrev pub HaveRoom : ℕ → List PlanCluster → List ℕ → Type 0
 HaveRoom n clusters starts = HavePlaces n (λ v. length (clusters_with clusters v)) starts
 
 -- the first so many readers of each node are written, and the weights beside them
-pub record AreFilled (clusters : List PlanCluster) (starts taken readers weights : List ℕ) :
+pub record AreWritten (clusters : List PlanCluster) (starts taken readers weights : List ℕ) :
     Type 0 where
-  pub within : (v : ℕ) → v < length taken
-      → slice_index taken v ≤ length (clusters_with clusters v)
-  pub written : (v place : ℕ) → v < length taken → place < slice_index taken v
-      → slice_index readers (slice_index starts v + place)
-      ≡ slice_index (clusters_with clusters v) place
-  pub weighed : (v place : ℕ) → v < length taken → place < slice_index taken v
-      → slice_index weights (slice_index starts v + place)
-      ≡ weight_in clusters (slice_index (clusters_with clusters v) place) v
+  pub numbers : AreFilled (clusters_with clusters) starts taken readers
+  pub beside : AreFilled (weights_beside clusters) starts taken weights

@@ -4,7 +4,7 @@ ghost use Rattle.std.specs.Prelude.{◌≡◌, ◌+◌, ◌<◌, ◌≤◌, All,
 ghost use Rattle.node_set.specs.Ascending.{IsAscending};
 ghost use Rattle.region_plan.specs.Kept.{IsTable};
 ghost use Rattle.net_graph.specs.Starts.{AreStarts};
-ghost use Rattle.region_plan.specs.Readers.{AreCounts, AreFilled, HaveRoom, IsCounted};
+ghost use Rattle.region_plan.specs.Readers.{AreCounts, AreWritten, HaveRoom, IsCounted};
 
 use crate::clusters::Clusters;
 use net_graph::OutOfMemory;
@@ -164,9 +164,9 @@ fn fill_cluster(
     requires readers { length readers.old ≡ slice_index starts.now (length taken.old) }
     requires weights { length weights.old ≡ slice_index starts.now (length taken.old) }
     requires counts { AreCounts clusters.now number taken.old }
-    requires filled { AreFilled clusters.now starts.now taken.old readers.old weights.old }
+    requires filled { AreWritten clusters.now starts.now taken.old readers.old weights.old }
     ensures counts { AreCounts clusters.now (number + 1) taken.new }
-    ensures filled { AreFilled clusters.now starts.now taken.new readers.new weights.new }
+    ensures filled { AreWritten clusters.now starts.now taken.new readers.new weights.new }
 {
     let members = clusters.nodes(number);
     let inside = clusters.weights(number);

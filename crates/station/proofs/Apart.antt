@@ -5,8 +5,8 @@ use Rattle.std.specs.Prelude.{slice_index}
 use Rattle.entry_word.specs.declared.visit.Key.{Key}
 use Rattle.directory.specs.Keys.{key_node}
 use Rattle.directory.specs.Histories.{History, IsFront}
-use Rattle.visit_log.specs.Numbers.{cell_number, NumbersApart}
-use Rattle.station.specs.Setup.{Setup, setting_in, nodes_in, subs_in, IsCellOf, lock_word, tally_word, cell_word}
+use Rattle.visit_log.specs.Numbers.{NumbersApart}
+use Rattle.station.specs.Setup.{Setup, setting_in, nodes_in, IsCellOf, lock_word, tally_word, cell_word}
 use Rattle.station.specs.Views.{HasSeen, IsSoundView, visits_at}
 use Rattle.station.specs.Rule.{KeepsRule, IsViewOf}
 use Rattle.station.specs.declared.view.View.{View}
@@ -31,21 +31,13 @@ pub apart : NumbersApart → {setup : Setup} {x y i k : ℕ} → x < nodes_in se
     → IsWordAt setup x i → IsWordAt setup y k → i ≢ k
 apart law inx iny ne (is_lock a) (is_lock b) e = ne (omega arith)
 apart law inx iny ne (is_lock a) (is_tally b) e = omega arith
-apart law {setup} {x} inx iny ne (is_lock a) (is_cell key cell at b) e =
-    behind (nodes_in setup) x (cell_number setup.plan (subs_in setup) key) inx (sym b ∙ (sym e ∙ a))
+apart law inx iny ne (is_lock a) (is_cell key cell at b) e = omega arith
 apart law inx iny ne (is_tally a) (is_lock b) e = omega arith
 apart law inx iny ne (is_tally a) (is_tally b) e = ne (omega arith)
-apart law {setup} {x} inx iny ne (is_tally a) (is_cell key cell at b) e =
-    behind_tally (nodes_in setup) x (cell_number setup.plan (subs_in setup) key) inx (sym b ∙ (sym e ∙ a))
-apart law {setup} {y} inx iny ne (is_cell key cell at a) (is_lock b) e =
-    behind (nodes_in setup) y (cell_number setup.plan (subs_in setup) key) iny (sym a ∙ (e ∙ b))
-apart law {setup} {y} inx iny ne (is_cell key cell at a) (is_tally b) e =
-    behind_tally (nodes_in setup) y (cell_number setup.plan (subs_in setup) key) iny (sym a ∙ (e ∙ b))
-apart law {setup} inx iny ne (is_cell key cell at a) (is_cell other cell' at' b) e =
-    let same = law setup.plan (subs_in setup) key other cell cell'
-    (same_number (nodes_in setup) (cell_number setup.plan (subs_in setup) key) (cell_number setup.plan
-    (subs_in setup) other) (sym a ∙ (e ∙ b))) in
-    ne (sym at ∙ (ap (key_node (setting_in setup)) same ∙ at'))
+apart law inx iny ne (is_tally a) (is_cell key cell at b) e = omega arith
+apart law inx iny ne (is_cell key cell at a) (is_lock b) e = omega arith
+apart law inx iny ne (is_cell key cell at a) (is_tally b) e = omega arith
+apart law {setup} inx iny ne (is_cell key cell at a) (is_cell other cell' at' b) e = grind (arith, same_number)
 
 -- a write of a word of one node leaves the words of others
 pub else_where : NumbersApart → {setup : Setup} (ws : List ℕ) {x y i k : ℕ} (new : ℕ) → x < nodes_in setup
@@ -87,7 +79,7 @@ pub resound : {setup : Setup} {ws : List ℕ} (new : List ℕ) {history : Histor
     → slice_index new (cell_word setup key) ≡ slice_index ws (cell_word setup key))
     → IsSoundView setup new later owner k
     (record v { seen = seen; told = told; had = had; unwritten = unwritten; owes = owes })
-resound new later {owes} was has goes_on beside still kept lock tally cell =
+resound new later {unwritten} {owes} was has goes_on beside still kept lock tally cell =
     record {
       setup_is = was.setup_is;
       has = has;
@@ -98,20 +90,13 @@ resound new later {owes} was has goes_on beside still kept lock tally cell =
             alone = h.alone;
             lock = lock node is ∙ h.lock;
             drawn = λ drawn. let d = h.drawn drawn in
-                record {
-                  earlier = d.earlier;
-                  visit = d.visit;
-                  begins = goes_on (d.earlier ++ d.visit ∷ []) d.begins;
-                  mine = d.mine;
-                  meant = d.meant;
-                  at = d.at;
-                  count = d.count;
-                  last = beside node is d.last;
-                  put = λ key put. d.put key (kept key put);
-                  word = λ key put. d.word key (kept key put);
-                  moves = λ due. d.moves (still due);
-                  tally = λ due. d.tally (still due);
-                };
+                let begins = goes_on (d.earlier ++ d.visit ∷ []) d.begins in
+                let last = beside node is d.last in
+                let put = λ (key : Key) (is : unwritten ≡ Some key). d.put key (kept key is) in
+                let word = λ (key : Key) (is : unwritten ≡ Some key). d.word key (kept key is) in
+                let moves = λ (due : owes ≡ true). d.moves (still due) in
+                let counted = λ (due : owes ≡ true). d.tally (still due) in
+                search;
             owed = λ due. h.owed (still due);
             tally = λ due. tally node is due ∙ h.tally (still due);
           };

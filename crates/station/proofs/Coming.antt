@@ -1,10 +1,10 @@
 -- An event that a view has logged during a call: the step that brought it, and how the locks were.
-use Rattle.std.proofs.Common.{◌≡◌, ◌≢◌, ◌⊎◌, ℕ, zero, suc, ◌-◌, ◌<◌, ◌≤◌, List, [], ◌∷◌, ◌++◌, get_or, length, drop, refl, sym, ap, ◌∙◌, subst, inl, inr, ⊎_elim, arith, append_assoc, length-append, Some}
+use Rattle.std.proofs.Common.{◌≡◌, ◌≢◌, ◌⊎◌, ℕ, zero, suc, ◌-◌, ◌<◌, ◌≤◌, List, [], ◌∷◌, ◌++◌, length, drop, refl, sym, ap, ◌∙◌, subst, inl, inr, ⊎_elim, arith, append_assoc, length-append, Some}
 use Rattle.std.specs.Prelude.{slice_index}
 use Rattle.std.proofs.lemmas.List.{append-nil}
 use mathlib.Core.Logic.{dite}
 use mathlib.Core.Option.{some-injective}
-use native.Mathlib.Decide.{ℕ_discrete, dec_le}
+use native.Mathlib.Decide.{ℕ_discrete}
 use Rattle.atomic_table.specs.Table.{State}
 use Rattle.entry_word.specs.declared.visit.Act.{Act}
 use Rattle.station.specs.Moments.{AreOthersOut, ComesAt, EventsComeWithinCalls, GoesThrough, IsAnothers, IsLoggedAt, IsMoment, IsStepBeside, IsStepOf}
@@ -15,63 +15,24 @@ use Rattle.station.specs.Views.{StandsForActor}
 use Rattle.station.specs.declared.view.TurnEvent.{TurnEvent}
 use Rattle.station.specs.declared.view.TurnEvent.TheVariants.{Won, GivenBack, Lost}
 use Rattle.station.specs.declared.view.View.{View}
-use Rattle.station.proofs.Logging.{lock-back, lock-back_else, lock-push, lock-won, lock-won_else}
+use Rattle.std.proofs.lemmas.Bool.Decides.{nat_tests}
+use Rattle.station.proofs.Logging.{lock-push}
 use Rattle.station.proofs.Steps.{same_view}
-use Rattle.station.proofs.Timing.{its_seat, other_seat, some-mine}
-
--- the parts of an event, as numbers
-kind : TurnEvent → ℕ
-kind (Won actor node) = 0
-kind (GivenBack actor node) = 1
-kind (Lost actor node word) = 2
-
-node_in : TurnEvent → ℕ
-node_in (Won actor node) = node
-node_in (GivenBack actor node) = node
-node_in (Lost actor node word) = node
-
-word_in : TurnEvent → ℕ
-word_in (Lost actor node word) = word
-word_in event = 0
-
-abbrev event_of : ℕ → ℕ → ℕ → ℕ → TurnEvent
-event_of zero actor node word = Won actor node
-event_of (suc zero) actor node word = GivenBack actor node
-event_of (suc (suc n)) actor node word = Lost actor node word
-
-of_parts : (x : TurnEvent) → event_of (kind x) (event_actor x) (node_in x) (word_in x) ≡ x
-unfolding kind node_in word_in
-of_parts (Won actor node) = refl
-of_parts (GivenBack actor node) = refl
-of_parts (Lost actor node word) = refl
+use Rattle.station.proofs.Timing.{actor-below, its_seat, other_seat, some-mine}
 
 -- two events are the same, or not
 same_event : (x y : TurnEvent) → (x ≡ y) ⊎ (x ≢ y)
-same_event x y = dite (ℕ_discrete (kind x) (kind y))
-    (λ k. dite (ℕ_discrete (event_actor x) (event_actor y))
-    (λ a. dite (ℕ_discrete (node_in x) (node_in y))
-    (λ n. dite (ℕ_discrete (word_in x) (word_in y))
-    (λ w. inl (sym (of_parts x) ∙ ((λ i. event_of (k i) (a i) (n i) (w i)) ∙ of_parts y)))
-    (λ ne. inr (λ q. ne (ap word_in q))))
-    (λ ne. inr (λ q. ne (ap node_in q))))
-    (λ ne. inr (λ q. ne (ap event_actor q))))
-    (λ ne. inr (λ q. ne (ap kind q)))
+same_event (Won actor node) (Won other at) = grind arith
+same_event (GivenBack actor node) (GivenBack other at) = grind arith
+same_event (Lost actor node word) (Lost other at found) = grind arith
+same_event x y = inr (λ q. cc)
 
 -- an event stands in a log behind these, or doesn't
 logged_or : (log earlier : List TurnEvent) (event : TurnEvent)
     → IsLoggedAt earlier event log ⊎ (IsLoggedAt earlier event log → ⊥)
 logged_or [] earlier event = inr (λ t. absurd (omega (arith, ap length t.1, length-append earlier (event ∷ t.0))))
-logged_or (x ∷ log) [] event = ⊎_elim
-    (λ (e : x ≡ event). inl (log, λ i. e i ∷ log))
-    (λ (ne : x ≢ event). inr (λ t. ne (ap (λ (l : List TurnEvent). get_or l 0 x) t.1)))
-    (same_event x event)
-logged_or (x ∷ log) (e ∷ earlier) event = ⊎_elim
-    (λ (same : x ≡ e). ⊎_elim
-    (λ (t : IsLoggedAt earlier event log). inl (t.0, λ i. same i ∷ t.1 i))
-    (λ (never : IsLoggedAt earlier event log → ⊥). inr (λ t. never (t.0, ap (drop 1) t.1)))
-    (logged_or log earlier event))
-    (λ (ne : x ≢ e). inr (λ t. ne (ap (λ (l : List TurnEvent). get_or l 0 x) t.1)))
-    (same_event x e)
+logged_or (x ∷ log) [] event = grind (arith, same_event x event)
+logged_or (x ∷ log) (e ∷ earlier) event = grind (arith, logged_or log earlier event, same_event x e)
 
 -- all events of a log are one actor's
 abbrev AreOf : ℕ → List TurnEvent → Type 0
@@ -105,72 +66,46 @@ all-or-other actor (event ∷ later) = dite (ℕ_discrete (event_actor event) ac
 front-has : {actor : ℕ} (front rest earlier : List TurnEvent) (event : TurnEvent) (later : List TurnEvent)
     → event_actor event ≡ actor → events_of actor rest ≡ [] → front ++ rest ≡ earlier ++ event ∷ later
     → IsLoggedAt earlier event front
-front-has {actor} [] rest earlier event later mine none is = absurd (omega (
-  arith,
-  some-mine earlier event later mine,
-  ap (λ l. length (events_of actor l)) is,
-  ap length none,
-))
-front-has (x ∷ front) rest [] event later mine none is =
-    let first : x ≡ event = ap (λ (l : List TurnEvent). get_or l 0 x) is in
-    (front, λ i. first i ∷ front)
+front-has {actor} [] rest earlier event later mine none is =
+    absurd (grind (arith, some-mine earlier event later mine))
+front-has (x ∷ front) rest [] event later mine none is = grind (arith, event, front)
 front-has (x ∷ front) rest (e ∷ earlier) event later mine none is =
-    let first : x ≡ e = ap (λ (l : List TurnEvent). get_or l 0 x) is in
-    let t = front-has front rest earlier event later mine none (ap (drop 1) is) in
-    (t.0, λ i. first i ∷ t.1 i)
+    grind (arith, front-has front rest earlier event later mine none (ap (drop 1) is))
 
 -- a lock word names another actor
 abbrev IsForeign : ℕ → ℕ → Type 0
 IsForeign actor word = (word ≢ 0) × (word ≢ suc actor)
 
--- an actor's event leaves the turn that is another's, and brings about none that is
+-- an actor's event leaves a turn that is another's before it, or behind it
 event-keeps : {actor : ℕ} (node : ℕ) (log : List TurnEvent) (event : TurnEvent) → event_actor event ≡ actor
-    → IsInTurn log event → IsForeign actor (lock_in log node) → lock_in (log ++ event ∷ []) node ≡ lock_in log node
-event-keeps node log (Won a at) mine may foreign = dite (ℕ_discrete at node)
-    (λ e. absurd (foreign.0 (ap (lock_in log) (sym e) ∙ may)))
-    (λ ne. lock-won_else log a at node ne)
-event-keeps node log (GivenBack a at) mine may foreign = dite (ℕ_discrete at node)
-    (λ e. absurd (foreign.1 (ap (lock_in log) (sym e) ∙ (may ∙ ap suc mine))))
-    (λ ne. lock-back_else log a at node ne)
+    → IsInTurn log event
+    → IsForeign actor (lock_in log node) ⊎ IsForeign actor (lock_in (log ++ event ∷ []) node)
+    → lock_in (log ++ event ∷ []) node ≡ lock_in log node
 event-keeps node log (Lost a at word) mine may foreign = lock-push log (Lost a at word) node
-
-event-kept : {actor : ℕ} (node : ℕ) (log : List TurnEvent) (event : TurnEvent) → event_actor event ≡ actor
-    → IsForeign actor (lock_in (log ++ event ∷ []) node) → lock_in (log ++ event ∷ []) node ≡ lock_in log node
-event-kept node log (Won a at) mine foreign = dite (ℕ_discrete at node)
-    (λ e. absurd (foreign.1 (ap (lock_in (log ++ Won a at ∷ [])) (sym e) ∙ (lock-won log a at ∙ ap suc mine))))
-    (λ ne. lock-won_else log a at node ne)
-event-kept node log (GivenBack a at) mine foreign = dite (ℕ_discrete at node)
-    (λ e. absurd (foreign.0 (ap (lock_in (log ++ GivenBack a at ∷ [])) (sym e) ∙ lock-back log a at)))
-    (λ ne. lock-back_else log a at node ne)
-event-kept node log (Lost a at word) mine foreign = lock-push log (Lost a at word) node
+event-keeps node log event mine may foreign = grind (arith, nat_tests, lock-push log event node)
 
 -- so do all its events
 events-keep : (actor node : ℕ) (log more : List TurnEvent) → AreOf actor more → IsLog (log ++ more)
-    → IsForeign actor (lock_in log node) → lock_in (log ++ more) node ≡ lock_in log node
+    → IsForeign actor (lock_in log node) ⊎ IsForeign actor (lock_in (log ++ more) node)
+    → lock_in (log ++ more) node ≡ lock_in log node
 events-keep actor node log [] of valid foreign = ap (λ l. lock_in l node) (append-nil log)
 events-keep actor node log (event ∷ later) of valid foreign =
     let split : (log ++ event ∷ []) ++ later ≡ log ++ event ∷ later = append_assoc log (event ∷ []) later in
-    let one = event-keeps node log event of.0 (valid log event later refl) foreign in
-    rw (← split)
-    (events-keep actor node (log ++ event ∷ []) later of.1 (rw split valid) (rw one foreign) ∙ one)
-
-events-kept : (actor node : ℕ) (log more : List TurnEvent) → AreOf actor more
-    → IsForeign actor (lock_in (log ++ more) node) → lock_in (log ++ more) node ≡ lock_in log node
-events-kept actor node log [] of foreign = ap (λ l. lock_in l node) (append-nil log)
-events-kept actor node log (event ∷ later) of foreign =
-    let split : (log ++ event ∷ []) ++ later ≡ log ++ event ∷ later = append_assoc log (event ∷ []) later in
-    let rest = events-kept actor node (log ++ event ∷ []) later of.1 (rw split foreign) in
-    rw (← split) (rest ∙ event-kept node log event of.0 (rw (← rest, split) foreign))
+    let one = event-keeps node log event of.0 (valid log event later refl) in
+    let rest = events-keep actor node (log ++ event ∷ []) later of.1 (rw split valid) in
+    rw (← split) (⊎_elim
+    (λ (f : IsForeign actor (lock_in log node)). rest (inl (rw (one (inl f)) f)) ∙ one (inl f))
+    (λ (f : IsForeign actor (lock_in (log ++ event ∷ later) node)).
+    let same = rest (inr (rw split f)) in
+    same ∙ one (inr (rw (← same, split) f)))
+    foreign)
 
 module _ (setup : Setup) (old new : State Act View) (seat : ℕ) (was : KeepsRule setup old) (is : KeepsRule setup new)
     (s : IsStepOf seat old new) where
   -- the seat of another actor is another
   apart : (k : ℕ) (view : View) (actor : ℕ) → IsViewOf new.views k view → StandsForActor view actor
       → actor ≢ s.before.low → k ≢ seat
-  apart k view actor at st ne e =
-      let mine : StandsForActor s.after actor = subst (λ (u : View). StandsForActor u actor)
-      (same_view new.views (its_seat s) at e) st in
-      ne (omega (arith, mine.0, mine.1, s.low, s.high, s.alone))
+  apart k view actor at st ne e = grind (arith, its_seat s, same_view new.views (its_seat s) at e)
 
   -- an event with another's behind it was there before
   was_there : (earlier : List TurnEvent) (event : TurnEvent) (later : List TurnEvent)
@@ -182,14 +117,7 @@ module _ (setup : Setup) (old new : State Act View) (seat : ℕ) (was : KeepsRul
       let whole : is.turns ≡ front ++ o.event ∷ o.back = log
       ∙ (ap (λ (l : List TurnEvent). earlier ++ event ∷ l) o.is
       ∙ sym (append_assoc earlier (event ∷ o.front) (o.event ∷ o.back))) in
-      dite (dec_le setup.actors b)
-      (λ h. absurd (omega (
-        arith,
-        some-mine front o.event o.back refl,
-        ap (λ l. length (events_of b l)) whole,
-        ap length (is.strangers b h),
-      )))
-      (λ h. let its = is.actors b (omega arith) in
+      let its = is.actors b (actor-below is front o.event o.back whole) in
       let k = is.owner b in
       let before = sym (other_seat s k (apart k its.0 b its.1 its.2 o.other)) ∙ its.1 in
       let has = is.logged k its.0 its.1 in
@@ -202,7 +130,7 @@ module _ (setup : Setup) (old new : State Act View) (seat : ℕ) (was : KeepsRul
       ∙ (append_assoc front (o.event ∷ there.0) had.later
       ∙ append_assoc earlier (event ∷ o.front) ((o.event ∷ there.0) ++ had.later))) in
       front-has s.before.turns me.later earlier event (o.front ++ ((o.event ∷ there.0) ++ had.later)) mine
-      (me.by_others s.before.low (omega arith, omega (arith, s.alone))) (sym me.goes_on ∙ then))
+      (me.by_others s.before.low (omega arith, omega (arith, s.alone))) (sym me.goes_on ∙ then)
 
   -- the word of a lock names the actor inside the node, and did so behind these, if all since are its own
   named : (earlier more : List TurnEvent) → is.turns ≡ earlier ++ more → AreOf s.before.low more
@@ -215,15 +143,12 @@ module _ (setup : Setup) (old new : State Act View) (seat : ℕ) (was : KeepsRul
       ∙ (sym (is.lock_words node there.known) ∙ there.lock) in
       let foreign : IsForeign s.before.low (lock_in (earlier ++ more) node) =
       ((λ e. absurd (omega (arith, word, e))), (λ e. ne (omega (arith, word, e)))) in
-      sym (events-kept s.before.low node earlier more own foreign) ∙ word
+      sym (events-keep s.before.low node earlier more own (subst IsLog log is.in_turn) (inr foreign)) ∙ word
 
   others_out : (earlier more : List TurnEvent) (actor node : ℕ) → is.turns ≡ earlier ++ more
       → AreOf s.before.low more → actor ≡ s.before.low → (lock_in earlier node ≢ 0 → lock_in earlier node ≡ suc actor)
       → AreOthersOut old actor node
-  others_out earlier more actor node log own mine may k view at inside = dite (ℕ_discrete view.low actor)
-      (λ e. e)
-      (λ ne. let word = named earlier more log own k view node at inside (λ e. ne (e ∙ sym mine)) in
-      absurd (ne (omega (arith, word, may (λ e. absurd (omega (arith, word, e)))))))
+  others_out earlier more actor node log own mine may k view at inside = grind (arith, ℕ_discrete, named)
 
   anothers : (earlier more : List TurnEvent) (actor node word : ℕ) → is.turns ≡ earlier ++ more
       → AreOf s.before.low more → actor ≡ s.before.low → IsInTurn earlier (Lost actor node word)
@@ -233,7 +158,7 @@ module _ (setup : Setup) (old new : State Act View) (seat : ℕ) (was : KeepsRul
       ((λ e. may.1 (sym may.0 ∙ e)), (λ e. may.2 (sym may.0 ∙ (e ∙ ap suc (sym mine))))) in
       let here : slice_index new.words (lock_word node) ≡ word = is.lock_words node known
       ∙ (ap (λ l. lock_in l node) log
-      ∙ (events-keep s.before.low node earlier more own (subst IsLog log is.in_turn) foreign ∙ may.0)) in
+      ∙ (events-keep s.before.low node earlier more own (subst IsLog log is.in_turn) (inl foreign) ∙ may.0)) in
       let b = word - 1 in
       let is_suc : word ≡ suc b = omega (arith, may.1) in
       let held = is.locks node b known (here ∙ is_suc) in
@@ -297,14 +222,7 @@ come_on : {setup : Setup} {seat : ℕ} {states : ℕ → State Act View} (before
     → (count : ℕ) (after : View) → GoesThrough setup seat count states → IsViewOf (states count).views seat after
     → event_actor event ≡ after.low → IsLoggedAt earlier event after.turns → Came setup seat count states earlier event
 come_on before earlier event first short zero after through there mine logged =
-    let same : before ≡ after = some-injective before after (sym first ∙ there) in
-    absurd (omega (
-      arith,
-      short,
-      ap (λ (u : View). length u.turns) same,
-      ap length logged.1,
-      length-append earlier (event ∷ logged.0),
-    ))
+    grind (arith, some-injective, event, length-append)
 come_on {setup} {seat} {states} before earlier event first short (suc count) after through there mine logged = ⊎_elim
     (λ (s : IsStepOf seat (states count) (states (suc count))).
     let was = through.keeps count (omega arith) in

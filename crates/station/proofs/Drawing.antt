@@ -1,5 +1,5 @@
 -- A ticket is drawn.
-use Rattle.std.proofs.Common.{◌≡◌, ℕ, suc, ◌+◌, ◌%◌, ◌^◌, ◌<◌, ◌≤◌, true≢false, [], ◌∷◌, ◌++◌, length, set, drop, refl, sym, ap, ◌∙◌, subst, inl, inr, arith, Some, get_or-set_other, get_or-set_same, length-set, length-append}
+use Rattle.std.proofs.Common.{◌≡◌, ℕ, suc, ◌+◌, ◌%◌, ◌^◌, ◌<◌, ◌≤◌, true≢false, [], ◌∷◌, ◌++◌, length, set, drop, refl, sym, ap, ◌∙◌, inl, inr, arith, Some, get_or-set_other, get_or-set_same, length-set, length-append}
 use Rattle.std.specs.Prelude.{slice_index}
 use mathlib.Core.Option.{none}
 use mathlib.Core.Logic.{dite}
@@ -11,7 +11,7 @@ use Rattle.entry_word.specs.declared.visit.Act.{Act}
 use Rattle.entry_word.specs.declared.visit.Visit.{Visit}
 use Rattle.directory.specs.Histories.{History, IsFront, cell, changes_here, own}
 use Rattle.station.specs.Setup.{Setup, setting_in}
-use Rattle.station.specs.Views.{IsSoundView, StandsForActor, visits_at}
+use Rattle.station.specs.Views.{HasDrawn, IsSoundView, StandsForActor, visits_at}
 use Rattle.station.specs.Rule.{KeepsRule, IsViewOf}
 use Rattle.station.specs.Plays.{Seat, visit_by, key_put, word_before, view_with_ticket, DrawsTicket}
 use Rattle.station.specs.Visits.{MayDraw}
@@ -61,6 +61,11 @@ grows law {s} id {x} {new} {v} {act} o me may is =
     (suc k) new 0 (λ e. omega arith) in
     let grown : (front : History) → IsFront front history → IsFront front longer =
     λ front f. front-longer front history (visit ∷ []) f in
+    let whole = front-itself longer in
+    let told = grown v.told was.has.told in
+    let last = ap (λ l. visits_at setting x l) (drop_all history visit) in
+    let word = λ (key : Key) (put : key_put act ≡ Some key). sym (put_before setup history act put) in
+    let drawn : HasDrawn setup longer w x = search (put_word act) in
     record {
       history = longer;
       owner = o.owner;
@@ -70,32 +75,13 @@ grows law {s} id {x} {new} {v} {act} o me may is =
       tickets = get_or-set_same s.words 0 new 0 wide ∙ (is ∙ sym (omega (arith, length-append history (visit ∷ []))));
       views = each_set (IsSoundView setup ws longer o.owner) s.views id record {
         setup_is = λ _. refl;
-        has = record {
-          seen = front-itself longer;
-          told = grown v.told was.has.told;
-          visits = λ _ _. refl;
-          had = front-itself longer;
-          kept = λ _ _. refl;
-        };
+        has = search;
         owner_is = was.owner_is;
         inside = λ node at. rw (← same_some (sym may.inside ∙ at)) record {
           known = here.known;
           alone = here.alone;
           lock = words x ∙ here.lock;
-          drawn = λ _. record {
-            earlier = history;
-            visit = visit;
-            begins = front-itself longer;
-            mine = refl;
-            meant = may.intended;
-            at = may.at;
-            count = refl;
-            last = ap (λ l. visits_at setting x l) (drop_all history visit);
-            put = put_word act;
-            word = λ key put. sym (put_before setup history act put);
-            moves = λ due. due;
-            tally = λ _. refl;
-          };
+          drawn = λ _. drawn;
           owed = λ _. refl;
           tally = λ _. words _ ∙ o.tallies x here.known
               (tallied_here o id x v me others (λ due _. true≢false (sym due ∙ may.clear)));
@@ -155,11 +141,7 @@ grows law {s} id {x} {new} {v} {act} o me may is =
     }
   where
     few_more : (xs : History) (y : Visit) (zs : History) → zs ≡ xs ++ y ∷ [] → length xs < 2 ^ 56 → length zs ≤ 2 ^ 56
-    few_more xs y zs e h = subst (λ (l : History). length l ≤ 2 ^ 56) (sym e) (up (length xs) (length
-        (xs ++ y ∷ [])) (2 ^ 56) (length-append xs (y ∷ [])) h)
-      where
-        up : (a b c : ℕ) → b ≡ a + 1 → a < c → b ≤ c
-        up a b c e h = omega arith
+    few_more xs y zs e h = omega (arith, ap length e, length-append xs (y ∷ []))
 
 pub draws : SameKey → (n id : ℕ) {x : ℕ} (m : Seat) {act : Act} → MayDraw m.0 x act
     → Allows (KeepsRule m.0.setup) n id m 0 (λ y. (y + 1) % 2 ^ 64) (DrawsTicket (step n 0 1 0 none) m)

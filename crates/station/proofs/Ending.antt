@@ -1,5 +1,10 @@
 -- How the passes of all actors tell the order of all tickets.
-use Rattle.std.proofs.Common.{◌≡◌, ◌≢◌, ℕ, zero, suc, ◌+◌, ◌≤◌, ◌==◌, eq-eqb, ne_eqb, List, [], ◌∷◌, ◌++◌, length, map, take, drop, get_or, refl, sym, ap, ◌∙◌, arith, Option, Some, length-append}
+use Rattle.std.proofs.Common.{◌≡◌, ◌≢◌, ℕ, zero, suc, ◌+◌, ◌==◌, List, [], ◌∷◌, ◌++◌, length, map, take, drop, refl, sym, ap, ◌∙◌, arith, Option, Some, append_assoc, length-append}
+use Rattle.std.proofs.lemmas.Bool.Decides.{nat_tests}
+use Rattle.std.proofs.Math.Seq.{take-append_seam}
+use Rattle.std.proofs.lemmas.List.{take-append-drop, take_all}
+use Rattle.std.proofs.lemmas.Option.{slice_get_within}
+use Rattle.directory.specs.ListLaws.{slice_get-right}
 use Rattle.std.specs.Prelude.{option_to_list, slice_get, slice_index, if◌then◌else◌, unwrap_or}
 use mathlib.Core.Logic.{dite}
 use native.Mathlib.Decide.{ℕ_discrete, dec_le}
@@ -10,57 +15,32 @@ use Rattle.station.specs.Passes.{NoteData, PassData, actor_of}
 use Rattle.station.specs.Closing.{HasNoPass}
 use Rattle.station.specs.Plays.{longer}
 use Rattle.station.specs.Visits.{HasHeard}
-use Rattle.station.specs.TicketLaws.{front-rest, own-nil}
+use Rattle.station.specs.TicketLaws.{own-nil}
 use Rattle.station.proofs.Joining.{longer_one, longer_other}
 
 -- the longer of a front and its whole is the whole
 longer-whole : (xs zs : List Visit) → IsFront xs zs → longer xs zs ≡ zs
-longer-whole xs zs f = dite (dec_le (length zs) (length xs))
-    (λ h. longer_one xs zs h ∙ same (drop (length xs) zs) (front-rest xs zs f) h)
-    (λ h. longer_other xs zs (omega arith))
-  where
-    same : (rest : List Visit) → zs ≡ xs ++ rest → length zs ≤ length xs → xs ≡ zs
-    same [] e h = sym (e ∙ Rattle.std.proofs.lemmas.List.append-nil xs)
-    same (r ∷ rest) e h = absurd (omega (arith, ap length e, length-append xs (r ∷ rest), h))
-
--- the last of the first passes
-last_left : (all left : List PassData) (pass : PassData) → left ++ pass ∷ [] ≡ take (length (left ++ pass ∷ [])) all
-    → (left ≡ take (length left) all) × (slice_get all (length left) ≡ Some pass)
-last_left [] [] pass e = absurd (omega (arith, ap length e))
-last_left [] (x ∷ left) pass e = absurd (omega (arith, ap length e))
-last_left (y ∷ all) [] pass e = (refl, ap (λ (l : List PassData). Some (get_or l 0 y)) (sym e))
-last_left (y ∷ all) (x ∷ left) pass e =
-    let t = last_left all left pass (ap (drop 1) e) in
-    let first : x ≡ y = ap (λ (l : List PassData). get_or l 0 x) e in
-    ((λ i. first i ∷ t.0 i), t.1)
+longer-whole xs zs f = grind (arith, dec_le, longer_one, take_all, longer_other)
 
 -- an actor that isn't missing has a pass
+none_more : (x : PassData) (passes : List PassData) (actor : ℕ) → actor_of x ≢ actor → HasNoPass passes actor
+    → HasNoPass (x ∷ passes) actor
+none_more x passes actor ne missing zero pass e is =
+    ne (ap (λ (o : Option PassData). actor_of (unwrap_or o x)) e ∙ is)
+none_more x passes actor ne missing (suc k) pass e is = missing k pass e is
+
 pub find_pass : (passes : List PassData) (actor : ℕ) → ¬ HasNoPass passes actor
     → (k : ℕ) × (pass : PassData) × (slice_get passes k ≡ Some pass) × (actor_of pass ≡ actor)
-find_pass [] actor there = absurd (there (λ k pass e is. nothing k pass e))
-  where
-    nothing : (k : ℕ) (pass : PassData) → slice_get [] k ≡ Some pass → ⊥
-    nothing zero pass e = cc
-    nothing (suc k) pass e = cc
-find_pass (x ∷ passes) actor there = go (λ h. find_pass passes actor h) (ℕ_discrete (actor_of x) actor)
-  where
-    go : (¬ HasNoPass passes actor → (k : ℕ) × (pass : PassData) × (slice_get passes k ≡ Some pass) ×
-        (actor_of pass ≡ actor))
-        → Dec (actor_of x ≡ actor) → (k : ℕ) × (pass : PassData) × (slice_get (x ∷ passes) k ≡ Some pass) ×
-        (actor_of pass ≡ actor)
-    go later (yes e) = (0, x, refl, e)
-    go later (no ne) = let t = later (λ missing. there (λ k pass e. shift missing k pass e)) in (suc t.0, t.1, t.2, t.3)
-      where
-        shift : HasNoPass passes actor → (k : ℕ) (pass : PassData) → slice_get (x ∷ passes) k ≡ Some pass
-            → actor_of pass ≢ actor
-        shift missing zero pass e is = ne (ap (λ (o : Option PassData). actor_of (unwrap_or o x)) e ∙ is)
-        shift missing (suc k) pass e is = missing k pass e is
+find_pass [] actor there = absurd (there (λ k pass e is. omega (arith, slice_get_within [] k pass e)))
+find_pass (x ∷ passes) actor there = dite (ℕ_discrete (actor_of x) actor)
+    (λ e. (0, x, refl, e))
+    (λ ne. let t = find_pass passes actor (λ missing. there (none_more x passes actor ne missing)) in
+    (suc t.0, t.1, t.2, t.3))
 
 -- who has a visit has a visit of its own
 pub own_there : (history : History) (i : ℕ) {visit : Visit} → slice_get history i ≡ Some visit
     → own visit.actor history ≢ []
-own_there [] zero e none-own = cc
-own_there [] (suc i) e none-own = cc
+own_there [] i {visit} e none-own = omega (arith, slice_get_within [] i visit e)
 own_there (x ∷ later) zero {visit} e none-own =
     (own-nil visit.actor x later none-own).0 (ap (λ (o : Option Visit). (unwrap_or o x).actor) e)
 own_there (x ∷ later) (suc i) {visit} e none-own = own_there later i e (own-nil visit.actor x later none-own).1
@@ -81,9 +61,7 @@ pub stamp_more : (old new : List ℕ) (i : ℕ) (visit : Visit) (actor : ℕ) (h
     → has i (tickets actor history) ≡ (visit.actor == actor)
     → slice_index new i ≡ (if has i (tickets actor history) then actor else slice_index old i)
     → (visit.actor ≢ actor → slice_index old i ≡ visit.actor) → slice_index new i ≡ visit.actor
-stamp_more old new i visit actor history told is other = dite (ℕ_discrete visit.actor actor)
-    (λ e. is ∙ (ap (λ b. if b then actor else slice_index old i) (told ∙ eq-eqb visit.actor actor e) ∙ sym e))
-    (λ ne. is ∙ (ap (λ b. if b then actor else slice_index old i) (told ∙ ne_eqb visit.actor actor ne) ∙ other ne))
+stamp_more old new i visit actor history told is other = grind (arith, nat_tests)
 
 -- the pass that is taken from the end of those that are left
 pub taken : (all : List PassData) {before : List PassData} (left : List PassData) (o : Option PassData)
@@ -91,8 +69,13 @@ pub taken : (all : List PassData) {before : List PassData} (left : List PassData
     → (left ≡ take (length left) all) × (slice_get all (length left) ≡ Some pass) × (length before ≡ length left + 1)
 taken all {before} left o {pass} items is rest =
     let popped : before ≡ left ++ pass ∷ [] = items ∙ ap (λ x. left ++ option_to_list x) is in
-    let t = last_left all left pass (sym popped ∙ (rest ∙ ap (λ (l : List PassData). take (length l) all) popped)) in
-    (t.0, t.1, ap length popped ∙ length-append left (pass ∷ []))
+    let later = drop (length before) all in
+    let whole : all ≡ left ++ pass ∷ later = sym (take-append-drop (length before) all)
+    ∙ (ap (λ (l : List PassData). l ++ later) (sym rest ∙ popped) ∙ append_assoc left (pass ∷ []) later) in (
+      rw whole (sym (take-append_seam left (pass ∷ later))),
+      rw whole (slice_get-right left (pass ∷ later) (length left) 0 (omega arith)),
+      ap length popped ∙ length-append left (pass ∷ []),
+    )
 
 -- a pass that hears of a history that goes on from its own has seen that
 pub heard_whole : {whole : History} {pass new : PassData} {note : NoteData} → HasHeard pass note new

@@ -53,15 +53,7 @@ opens below {setup} {words} lies few inside all =
       size = all.size;
       few_actors = few;
       tickets = o.ticket (omega (arith, all.size));
-      views = one_view (IsSoundView setup words [] (λ _. 0)) v record {
-        setup_is = λ _. refl;
-        has = record { seen = refl; told = refl; visits = λ _ _. refl; had = refl; kept = λ _ _. refl };
-        owner_is = λ actor stands. (refl, stands.1);
-        inside = λ node is. absurd (no_some is);
-        unwritten = λ key is. absurd (no_some is);
-        outside = λ _. (refl, refl);
-        others = λ _ _ turn had. absurd (none_lost turn had);
-      };
+      views = one_view (IsSoundView setup words [] (λ _. 0)) v (search (arith, none_lost));
       actors = λ actor below. (v, refl, (omega arith, below));
       known = λ _ _. refl;
       few = λ _. omega arith;
@@ -123,18 +115,13 @@ deals setup id v more out clear s o me =
           (narrowed was out clear (λ actor st. let its : StandsForActor v actor = (omega (arith, st.0), st.1) in
           (its, later actor (λ e. omega (arith, e, st.0)) ∙ mine actor its)))
           (narrowed was out clear (λ actor st. ((st.0, omega (arith, st.1, more)), first actor (omega (arith, st)))))
-          (λ k u ne at. let old = o.views k u at in record {
-            setup_is = old.setup_is;
-            has = old.has;
-            owner_is = λ actor st. let own = old.owner_is actor st in (
-              later actor (λ e. ne (sym own.0 ∙ mine actor (omega (arith, e), omega (arith, e, more)))) ∙ own.0,
-              own.1,
-            );
-            inside = old.inside;
-            unwritten = old.unwritten;
-            outside = old.outside;
-            others = old.others;
-          });
+          (λ k u ne at. let old = o.views k u at in
+          let owner_is : (actor : ℕ) → StandsForActor u actor → (owner actor ≡ k) × (actor < setup.actors) = λ actor st.
+          let own = old.owner_is actor st in (
+            later actor (λ e. ne (sym own.0 ∙ mine actor (omega (arith, e), omega (arith, e, more)))) ∙ own.0,
+            own.1,
+          ) in
+          assumption);
       actors = λ actor below. let t = o.actors actor below in dite (ℕ_discrete actor v.low)
           (λ e. (
             view_of_first v,
@@ -150,8 +137,7 @@ deals setup id v more out clear s o me =
             (omega (arith, st.0, ne), st.1),
           ))
           (λ other. (t.0, there (o.owner actor) t.0 other t.1, t.2))));
-      remains = λ k u node at is. let ne : k ≢ id = λ e. no_some (sym out
-          ∙ (ap (λ (y : View). y.inside) (sym (same_view s.views me at e)) ∙ is)) in
+      remains = λ k u node at is. let ne : k ≢ id = λ e. let same = same_view s.views me at e in cc in
           (k, u, there k u ne at, is, refl, refl, refl);
       in_turn = o.in_turn;
       strangers = o.strangers;
@@ -169,25 +155,12 @@ notes setup id v s o me =
     let has = o.logged id v me in
     let noted : List View → St = λ vs. record { words = s.words; homes = s.homes; views = vs ++ note_of v ∷ [] } in
     subst (λ (vs : List View). KeepsRule setup (noted vs)) (sym (set_again s.views id v me)) (reseated {o = o} record {
-      sound = each_push (IsSoundView setup s.words o.history o.owner) s.views record {
-        setup_is = was.setup_is;
-        has = has-kept (note_of v) refl refl refl (λ actor st. absurd (omega (arith, st.1))) was.has;
-        owner_is = λ actor st. absurd (omega (arith, st.1));
-        inside = λ node is. absurd (no_some is);
-        unwritten = λ key is. absurd (no_some is);
-        outside = λ _. (refl, refl);
-        others = λ actor st. absurd (omega (arith, st.1));
-      } o.views;
+      sound = each_push (IsSoundView setup s.words o.history o.owner) s.views (search (arith, was)) o.views;
       actors = λ actor below. let t = o.actors actor below in
           (t.0, at_longer s.views (note_of v ∷ []) (o.owner actor) t.0 t.1, t.2);
       remains = λ k u node at is. (k, u, at_longer s.views (note_of v ∷ []) k u at, is, refl, refl, refl);
       in_turn = o.in_turn;
       strangers = o.strangers;
-      logged = each_push (λ _ u. HasLogged o.turns u) s.views record {
-        later = has.later;
-        goes_on = has.goes_on;
-        by_others = λ actor st. absurd (omega (arith, st.1));
-        lost = λ actor st. absurd (omega (arith, st.1));
-      } o.logged;
+      logged = each_push (λ _ u. HasLogged o.turns u) s.views (search (arith, has)) o.logged;
       locked = λ _. refl;
     })

@@ -1,5 +1,5 @@
 -- The passes that a tracker begins with.
-use Rattle.std.proofs.Common.{◌≡◌, ℕ, zero, suc, ◌<◌, List, [], ◌∷◌, ◌++◌, length, Some, sym, ap, ◌∙◌, subst}
+use Rattle.std.proofs.Common.{◌≡◌, ℕ, zero, suc, ◌<◌, List, [], ◌∷◌, ◌++◌, length, Some, sym, ap, ◌∙◌, subst, arith}
 use Rattle.std.specs.Prelude.{All, slice_get}
 use Rattle.std.proofs.lemmas.List.Elements.{All-get_or}
 use Rattle.atomic_table.specs.Seated.{TableId}
@@ -41,9 +41,7 @@ dealt_fresh setup actor is told =
 -- the view that is left in the end is that of the last actor
 pub last_fresh : (setup : Setup) {actor last : ℕ} {rest : Me Act View} → rest ≡ (rest_view setup actor, [])
     → actor ≡ last → setup.actors ≡ suc last → rest ≡ (fresh_view setup last, [])
-last_fresh setup {last} is at high =
-    is ∙ (ap {B = Me Act View} (λ (a : ℕ). (rest_view setup a, [])) at
-    ∙ ap {B = Me Act View} (λ (h : ℕ). (record (rest_view setup last) { high = h }, [])) high)
+last_fresh setup {last} is at high = grind (arith, rest_view)
 
 pub fresh_own : (setup : Setup) (actor : ℕ) {me : Me Act View} → me ≡ (fresh_view setup actor, [])
     → me ≡ (fresh_view me.0.setup actor, [])
@@ -66,8 +64,5 @@ pub fresh_push : {tracker : TrackerData} (passes : List PassData) {made : List P
     → pass ≡ record { table = table; seat = seat; view = me.0; spare = 0 } → made ≡ passes ++ pass ∷ []
     → AreFresh tracker made
 fresh_push {tracker} passes {pass} {actor} seat {table} fresh count of is e grown i found there =
-    pushed (IsFreshPass tracker) passes (subst (λ (k : ℕ). IsFreshPass tracker k pass) (sym count) record {
-      table = ap (λ (p : PassData). p.table) e ∙ of;
-      view = ap (λ (p : PassData). p.view) e ∙ ap (λ (m : Me Act View). m.0) is;
-      spare = ap (λ (p : PassData). p.spare) e;
-    }) fresh i found (ap (λ (l : List PassData). slice_get l i) (sym grown) ∙ there)
+    pushed (IsFreshPass tracker) passes (grind arith) fresh i found
+    (ap (λ (l : List PassData). slice_get l i) (sym grown) ∙ there)

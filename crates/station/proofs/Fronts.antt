@@ -1,5 +1,5 @@
 -- Histories that begin with others, and what is filtered from them.
-use Rattle.std.proofs.Common.{◌≡◌, ◌≢◌, ℕ, zero, suc, ◌+◌, ◌<◌, ◌≤◌, eqb, eqb-true, ne_eqb, eq-eqb, Bool, true, false, cond, ◌==◌, List, [], ◌∷◌, ◌++◌, length, take, drop, refl, sym, ap, ◌∙◌, subst, arith, append_assoc, length-append}
+use Rattle.std.proofs.Common.{◌≡◌, ◌≢◌, ℕ, ◌≤◌, ne_eqb, eq-eqb, List, [], ◌∷◌, ◌++◌, length, take, drop, refl, sym, ap, ◌∙◌, subst, arith, append_assoc}
 use Rattle.std.proofs.lemmas.List.{append-nil}
 use Rattle.entry_word.specs.declared.visit.Visit.{Visit}
 use Rattle.directory.specs.Histories.{IsFront, own}
@@ -12,17 +12,10 @@ module _ {A : Type 0} where
       → (mid : List A) × (ys ≡ xs ++ mid) × (ps ≡ mid ++ qs)
   split_at [] ps ys qs e short = (ys, refl, e)
   split_at (x ∷ xs) ps [] qs e short = absurd (omega arith)
-  split_at (x ∷ xs) ps (y ∷ ys) qs e short =
-      let first : x ≡ y = ap (λ (l : List A). Rattle.std.proofs.Common.get_or l 0 x) e in
-      let t = split_at xs ps ys qs (ap (drop 1) e) (omega arith) in
-      (t.0, (λ i. sym first i ∷ t.1 i), t.2)
+  split_at (x ∷ xs) ps (y ∷ ys) qs e short = grind (arith, split_at xs ps ys qs (ap (drop 1) e) (omega arith))
 
 pub front-longer : (xs zs more : List Visit) → IsFront xs zs → IsFront xs (zs ++ more)
-front-longer xs zs more f =
-    let rest = drop (length xs) zs in
-    let same : zs ++ more ≡ xs ++ (rest ++ more) = ap (λ l. l ++ more) (front-rest xs zs f)
-    ∙ append_assoc xs rest more in
-    subst (λ l. xs ≡ take (length xs) l) (sym same) (front-append xs (rest ++ more))
+front-longer xs zs more f = grind (arith, front-rest xs zs f, append_assoc, front-append)
 
 -- of two fronts of one history the shorter is a front of the other
 pub front-of_longer : (xs ys zs : List Visit) → IsFront xs zs → IsFront ys zs → length xs ≤ length ys → IsFront xs ys
@@ -34,14 +27,12 @@ front-of_longer xs ys zs f g short =
 -- a visit of another adds nothing, and a visit of one's own adds itself
 pub own-other : (actor : ℕ) (history : List Visit) (visit : Visit) → visit.actor ≢ actor
     → own actor (history ++ visit ∷ []) ≡ own actor history
-own-other actor history visit other = own-append actor history (visit ∷ [])
-    ∙ (ap (λ b. own actor history ++ cond b (visit ∷ []) []) (ne_eqb visit.actor actor other)
-    ∙ append-nil (own actor history))
+own-other actor history visit other =
+    rw (own-append actor history (visit ∷ []), ne_eqb visit.actor actor other, append-nil)
 
 pub own-mine : {actor : ℕ} (history : List Visit) (visit : Visit) → visit.actor ≡ actor
     → own actor (history ++ visit ∷ []) ≡ own actor history ++ visit ∷ []
-own-mine {actor} history visit mine = own-append actor history (visit ∷ [])
-    ∙ ap (λ b. own actor history ++ cond b (visit ∷ []) []) (eq-eqb visit.actor actor mine)
+own-mine {actor} history visit mine = rw (own-append actor history (visit ∷ []), eq-eqb visit.actor actor mine)
 
 first-nil : (ps qs : List Visit) → ps ++ qs ≡ [] → ps ≡ []
 first-nil [] qs e = refl
@@ -53,12 +44,11 @@ pub own-between : (actor : ℕ) (xs ys zs : List Visit) → IsFront xs zs → Is
 own-between actor xs ys zs f g short same =
     let t = split_at xs (drop (length xs) zs) ys (drop (length ys) zs) (sym (front-rest xs zs f)
     ∙ front-rest ys zs g) short in
-    let nothing = own-beyond actor xs zs f same in
-    let both : own actor t.0 ++ own actor (drop (length ys) zs) ≡ [] = sym (own-append actor t.0 (drop
-    (length ys) zs)) ∙ (ap (own actor) (sym t.2) ∙ nothing) in
-    let mid : own actor t.0 ≡ [] = first-nil (own actor t.0) (own actor (drop (length ys) zs)) both in
-    same ∙ (sym (append-nil (own actor xs)) ∙ (ap (λ l. own actor xs ++ l) (sym mid)
-    ∙ (sym (own-append actor xs t.0) ∙ ap (own actor) (sym t.1))))
+    let rest = drop (length ys) zs in
+    let none = own-beyond actor xs zs f same in
+    let both : own actor t.0 ++ own actor rest ≡ [] = cc (own-append actor t.0 rest, none, t.2) in
+    let mid = first-nil (own actor t.0) (own actor rest) both in
+    cc (append-nil (own actor xs), own-append actor xs t.0, t.1)
 
 -- an actor with no visit has none in a front
 pub own-none_longer : (actor : ℕ) (xs zs : List Visit) → IsFront xs zs → own actor zs ≡ [] → own actor xs ≡ []

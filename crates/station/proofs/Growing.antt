@@ -1,6 +1,7 @@
 -- A ticket is drawn: the history has one visit more.
-use Rattle.std.proofs.Common.{◌≡◌, ◌≢◌, ◌⊎◌, ℕ, zero, suc, ◌+◌, ◌*◌, ◌%◌, ◌^◌, ◌<◌, ◌≤◌, ◌==◌, eq-eqb, ne_eqb, Bool, true, false, not, cond, [], ◌∷◌, ◌++◌, length, drop, refl, sym, ap, ◌∙◌, inl, inr, arith}
-use Rattle.std.specs.Prelude.{if◌then◌else◌}
+use Rattle.std.proofs.Common.{◌≡◌, ◌≢◌, ◌⊎◌, ℕ, zero, suc, ◌+◌, ◌*◌, ◌%◌, ◌^◌, ◌<◌, ◌≤◌, ◌==◌, false, cond, [], ◌∷◌, ◌++◌, length, drop, refl, ap, ◌∙◌, inl, inr, arith}
+use Rattle.std.proofs.lemmas.Bool.Decides.{nat_tests}
+use Rattle.std.proofs.lemmas.List.{drop_all}
 use Rattle.std.proofs.lemmas.List.Elements.{filter-append}
 use Rattle.std.proofs.lemmas.List.Sums.{fold-append}
 use mathlib.Core.Logic.{dite}
@@ -13,7 +14,7 @@ use Rattle.entry_word.specs.declared.visit.Act.{Act}
 use Rattle.entry_word.specs.declared.visit.Act.TheVariants.{Put, Census}
 use Rattle.entry_word.specs.declared.visit.Visit.{Visit}
 use Rattle.directory.specs.Settings.{Setting, subs}
-use Rattle.directory.specs.Keys.{act_node, same_key, opening}
+use Rattle.directory.specs.Keys.{act_node, opening}
 use Rattle.directory.specs.Histories.{History, cell, changes_here, own, word_after}
 use Rattle.directory.specs.Census.{census}
 use Rattle.station.specs.Views.{visits_at}
@@ -31,27 +32,8 @@ here-same : SameKey → (setting : Setting) (history : History) (node sub : ℕ)
     → (act_node setting act ≢ node) ⊎ (changes_here setting history act ≡ false)
     → says_here (mark_in (word_after (Presence node sub) (cell setting history (Presence node sub)) act))
     ≡ says_here (mark_in (cell setting history (Presence node sub)))
-here-same law setting history node sub act (inl away) =
-    ap (λ w. says_here (mark_in w)) (word-elsewhere law setting (Presence node sub) (cell setting history
-    (Presence node sub)) act away)
-here-same law setting history node sub (Put (Presence at other) word) (inr calm) = go (same_key
-    (Presence node sub) (Presence at other)) refl
-  where
-    was : Key → Bool
-    was key = says_here (mark_in (cell setting history key))
-
-    alike : (a b : Bool) → (if a then not b else b) ≡ false → b ≡ a
-    alike true true e = refl
-    alike true false e = sym e
-    alike false b e = e
-
-    go : (b : Bool) → same_key (Presence node sub) (Presence at other) ≡ b
-        → says_here (mark_in (if b then word else cell setting history (Presence node sub)))
-        ≡ says_here (mark_in (cell setting history (Presence node sub)))
-    go true e = alike (says_here (mark_in (cell setting history (Presence at other)))) (says_here (mark_in word)) calm
-        ∙ ap (λ (k : Key). says_here (mark_in (cell setting history k))) (sym ((law (Presence node sub)
-        (Presence at other)).0 e))
-    go false e = refl
+here-same law setting history node sub act (inl away) = grind (arith, word-elsewhere)
+here-same law setting history node sub (Put (Presence at other) word) (inr calm) = grind (arith, nat_tests)
 here-same law setting history node sub act (inr calm) = refl
 
 pub census-push : SameKey → (setting : Setting) (history : History) (node : ℕ) (visit : Visit)
@@ -76,15 +58,8 @@ pub at-push : (setting : Setting) (node count : ℕ) (history : History) (visit 
     → act_node setting visit.act ≢ node
     → visits_at setting node (drop count history) ≡ []
     → visits_at setting node (drop count (history ++ visit ∷ [])) ≡ []
-at-push setting node zero history visit away none-there =
-    filter-append (λ (v : Visit). act_node setting v.act == node) history (visit ∷ [])
-    ∙ (ap (λ l. l ++ visits_at setting node (visit ∷ [])) none-there
-    ∙ ap (λ b. cond b (visit ∷ []) []) (ne_eqb (act_node setting visit.act) node away))
-at-push setting node (suc count) [] visit away none-there = nothing count
-  where
-    nothing : (k : ℕ) → visits_at setting node (drop k []) ≡ []
-    nothing zero = refl
-    nothing (suc k) = refl
+at-push setting node zero history visit away none-there = grind (arith, filter-append)
+at-push setting node (suc count) [] visit away none-there = rw (drop_all {X = Visit} count [] (omega arith))
 at-push setting node (suc count) (first ∷ later) visit away none-there = at-push setting node count later visit
     away none-there
 
@@ -95,24 +70,13 @@ total_own (suc count) history = total_own count history + length (own count hist
 
 own-first : (actor : ℕ) (visit : Visit) (later : History)
     → length (own actor (visit ∷ later)) ≡ cond (visit.actor == actor) 1 0 + length (own actor later)
-own-first actor visit later = go (visit.actor == actor)
-  where
-    go : (b : Bool) → length (cond b (visit ∷ own actor later) (own actor later)) ≡ cond b 1 0 + length
-        (own actor later)
-    go true = omega arith
-    go false = omega arith
+own-first actor visit later = grind (arith, nat_tests)
 
 total-first : (count : ℕ) (visit : Visit) (later : History) → visit.actor < count
     → suc (total_own count later) ≤ total_own count (visit ∷ later)
 total-first zero visit later h = absurd (omega arith)
 total-first (suc count) visit later h = dite (ℕ_discrete visit.actor count)
-    (λ e. omega (
-      arith,
-      own-first count visit later,
-      ap {B = ℕ} (λ b. cond b 1 0)
-          (eq-eqb visit.actor count e),
-      total-later count visit later,
-    ))
+    (λ e. grind (arith, nat_tests, own-first count visit later, total-later count visit later))
     (λ ne. omega (arith, own-first count visit later, total-first count visit later (omega arith)))
   where
     total-later : (k : ℕ) (visit : Visit) (later : History) → total_own k later ≤ total_own k (visit ∷ later)
@@ -125,12 +89,8 @@ length-total count [] all = omega arith
 length-total count (visit ∷ later) all =
     let here : visit.actor < count = dite (dec_le count visit.actor) (λ h. absurd
     ((own-nil visit.actor visit later (all visit.actor h)).0 refl)) (λ h. omega arith) in
-    omega (
-      arith,
-      total-first count visit later here,
-      length-total count later (λ actor h.
-          (own-nil actor visit later (all actor h)).1),
-    )
+    let rest = length-total count later (λ actor h. (own-nil actor visit later (all actor h)).1) in
+    omega (arith, total-first count visit later here)
 
 total-most : (count most : ℕ) (history : History) → ((actor : ℕ) → length (own actor history) ≤ most)
     → total_own count history ≤ count * most
@@ -139,11 +99,8 @@ total-most (suc count) most history all = omega (arith, total-most count most hi
 
 pub few_visits : (count : ℕ) (history : History) → count ≤ 128 → ((actor : ℕ) → count ≤ actor → own actor history ≡ [])
     → ((actor : ℕ) → length (own actor history) ≤ 2 ^ 56) → length history ≤ 2 ^ 63
-few_visits count history few all most = bound count (omega
-    (arith, length-total count history all, total-most count (2 ^ 56) history most))
-  where
-    bound : (k : ℕ) → length history ≤ count * 2 ^ 56 → length history ≤ 2 ^ 63
-    bound k h = omega arith
+few_visits count history few all most =
+    omega (arith, length-total count history all, total-most count (2 ^ 56) history most)
 
 pub no_wrap : (n : ℕ) → n ≤ 2 ^ 63 → (n + 1) % 2 ^ 64 ≡ suc n
 no_wrap n h = omega arith

@@ -1,13 +1,13 @@
 -- A seat takes another in.
-use Rattle.std.proofs.Common.{◌≡◌, ℕ, suc, ◌^◌, ◌<◌, ◌≤◌, Bool, true, false, true≢false, List, length, refl, sym, ap, ◌∙◌, subst, arith, None, lt-ltb, le-ltb}
+use Rattle.std.proofs.Common.{◌≡◌, ℕ, ◌^◌, ◌<◌, ◌≤◌, Bool, true, false, List, length, refl, sym, ap, ◌∙◌, arith, None, lt-ltb, le-ltb}
 use Rattle.std.specs.Prelude.{nat_lt, if◌then◌else◌}
+use Rattle.std.proofs.lemmas.Bool.Decides.{nat_tests}
 use mathlib.Core.Option.{none}
-use mathlib.Core.Logic.{dite}
 use native.Mathlib.Decide.{dec_le}
 use Rattle.atomic_table.specs.Table.{Me, Joins, Allows, step, keeps}
 use Rattle.atomic_table.proofs.Lists.{set_else}
 use Rattle.entry_word.specs.declared.visit.Act.{Act}
-use Rattle.directory.specs.Histories.{History, IsFront, own}
+use Rattle.directory.specs.Histories.{History, IsFront, own, tickets}
 use Rattle.trail_laws.specs.Within.{HistoryFrontsAreLegal}
 use Rattle.station.specs.Setup.{Setup, setting_in}
 use Rattle.station.specs.Views.{IsSoundView}
@@ -27,21 +27,7 @@ use Rattle.directory.specs.ListLaws.{none_there}
 -- a view that is spent stands for nobody
 spent_sound : (setup : Setup) (words : List ℕ) (history : History) (owner : ℕ → ℕ) (seat : ℕ)
     → IsSoundView setup words history owner seat spent_view
-spent_sound setup words history owner seat = record {
-  setup_is = λ e. absurd (true≢false e);
-  has = record {
-    seen = refl;
-    told = refl;
-    had = refl;
-    visits = λ actor st. absurd (omega (arith, st.1));
-    kept = λ actor st. absurd (omega (arith, st.1));
-  };
-  owner_is = λ actor st. absurd (omega (arith, st.1));
-  inside = λ node is. absurd (no_some is);
-  unwritten = λ key is. absurd (no_some is);
-  outside = λ _. (refl, refl);
-  others = λ actor st. absurd (omega (arith, st.1));
-}
+spent_sound setup words history owner seat = search arith
 
 -- the longer of two
 pub longer_is : (P : History → Type 0) {one other : History} → P one → P other → P (longer one other)
@@ -60,15 +46,11 @@ longer_one one other h = ap (λ (c : Bool). if c then other else one) (le-ltb (l
 pub longer-own : (actor : ℕ) (one other history : History) → IsFront one history → IsFront other history
     → own actor history ≡ own actor one
     → own actor history ≡ own actor (longer one other)
-longer-own actor one other history f g same = dite (dec_le (length other) (length one))
-    (λ h. rw (longer_one one other h) same)
-    (λ h. rw (longer_other one other (omega arith)) (own-between actor one other history f g (omega arith) same))
+longer-own actor one other history f g same = grind (arith, dec_le, longer_one, longer_other, own-between)
 
 pub longer_long : (one other : History)
     → (length one ≤ length (longer one other)) × (length other ≤ length (longer one other))
-longer_long one other = dite (dec_le (length other) (length one))
-    (λ h. rw (longer_one one other h) (omega arith, h))
-    (λ h. rw (longer_other one other (omega arith)) (omega arith, omega arith))
+longer_long one other = grind (arith, nat_tests)
 
 -- a note is heard: the seat has seen what was noted, and the note is spent
 pub hears : (setup : Setup) (id other : ℕ) (v w : View) → w.low ≡ 0 → w.high ≡ 0 → w.inside ≡ None
@@ -93,12 +75,7 @@ hears setup id other v w low high out s o me ne at =
     record {
       in_turn = heard.in_turn;
       strangers = heard.strangers;
-      mine = record {
-        later = heard.turns;
-        goes_on = refl;
-        by_others = λ actor st. absurd (omega (arith, st.1));
-        lost = λ actor st. absurd (omega (arith, st.1));
-      };
+      mine = record { later = heard.turns; goes_on = refl; by_others = search arith; lost = search arith };
       others = λ k u _ there. heard.logged k u there;
     } (λ _. refl) (spent_sound setup s.words heard.history heard.owner other)
 
@@ -130,26 +107,9 @@ learns law n id i m low short had s o wide me small =
 pub pass_heard : {me new : Me Act View} (w : View) {actor seen seen' spare : ℕ} {kept : List ℕ} {room : ℕ}
     → IsPass me actor seen spare kept room → new ≡ (view_with_note me.0 w, me.1) → IsLearned new.0
     → seen' ≡ length (longer me.0.seen w.seen) → IsPass new actor seen' spare kept room
-pass_heard {me} {new} w {actor} p e l count =
-    let low : new.0.low ≡ actor = ap (λ (m : Me Act View). m.0.low) e ∙ p.low in
-    let high : new.0.high ≡ suc actor = ap (λ (m : Me Act View). m.0.high) e ∙ p.high in
-    let had : new.0.had ≡ me.0.seen = ap (λ (m : Me Act View). m.0.had) e in
-    let front : IsFront me.0.seen new.0.seen = subst (λ (h : History). IsFront h new.0.seen) had l.had in
-    let mine : own actor new.0.seen ≡ own actor me.0.seen = l.visits actor (
-      omega (arith, low),
-      omega
-          (arith, high),
-    ) ∙ ap (own actor) had in
-    record {
-      slots = ap (λ (m : Me Act View). m.1) e ∙ p.slots;
-      low = low;
-      high = high;
-      real = ap (λ (m : Me Act View). m.0.is_spent) e ∙ p.real;
-      undrawn = ap (λ (m : Me Act View). m.0.has_drawn) e ∙ p.undrawn;
-      unwritten = ap (λ (m : Me Act View). m.0.unwritten) e ∙ p.unwritten;
-      clear = ap (λ (m : Me Act View). m.0.owes) e ∙ p.clear;
-      seen_is = count ∙ sym (ap (λ (m : Me Act View). length m.0.seen) e);
-      tickets_are = p.tickets_are ∙ sym (tickets-same actor me.0.seen new.0.seen front mine);
-      room_is = p.room_is;
-      few = p.few;
-    }
+pass_heard {me} w {actor} {kept = kept} p e l count =
+    let told : IsLearned (view_with_note me.0 w) = rw (ap (λ (m : Me Act View). m.0) e) at l in
+    let tickets_are : kept ≡ tickets actor (longer me.0.seen w.seen) = p.tickets_are
+    ∙ sym (tickets-same actor me.0.seen (longer me.0.seen w.seen) told.had
+    (told.visits actor (omega (arith, p.low), omega (arith, p.high)))) in
+    rw e assumption

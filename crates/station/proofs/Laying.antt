@@ -1,14 +1,13 @@
 -- The words of the opening, laid one after another.
-use Rattle.std.proofs.Common.{◌≡◌, ◌≢◌, ◌⊎◌, ℕ, zero, suc, ◌+◌, ◌*◌, ◌<◌, ◌≤◌, ◌==◌, eqb, eq-eqb, ne_eqb, Bool, true, false, cond, List, [], ◌∷◌, ◌++◌, length, take, get_or, refl, sym, ap, ◌∙◌, subst, inl, inr, ⊎_elim, arith, length-append, add-one, lt-ltb}
-use Rattle.std.specs.Prelude.{slice_index, nat_lt, ◌&&◌, if◌then◌else◌}
-use Rattle.std.specs.List.{sum_by}
+use Rattle.std.proofs.Common.{◌≡◌, ℕ, zero, suc, ◌+◌, ◌*◌, ◌<◌, ◌==◌, Bool, true, false, cond, List, [], ◌∷◌, ◌++◌, length, refl, sym, ap, ◌∙◌, arith, length-append, add-one}
+use Rattle.std.specs.Prelude.{slice_index}
 use Rattle.std.proofs.Math.Seq.{take-length}
+use Rattle.std.proofs.lemmas.Bool.Decides.{nat_tests}
 use Rattle.node_set.specs.Ascending.{sift}
 use Rattle.node_set.specs.SetLaws.{passing_grows}
 use Rattle.entry_word.specs.declared.visit.Key.{Key}
 use Rattle.entry_word.specs.declared.visit.Key.TheVariants.{Presence}
-use Rattle.entry_word.specs.Marks.{mark_in, says_here, mark_word}
-use Rattle.entry_word.specs.declared.mark.PresenceMark.TheVariants.{Empty, Here}
+use Rattle.entry_word.specs.Marks.{mark_in, says_here}
 use Rattle.directory.specs.Settings.{Setting, subs, start}
 use Rattle.directory.specs.Histories.{cell}
 use Rattle.directory.specs.Census.{census}
@@ -18,14 +17,14 @@ use Rattle.station.specs.Setup.{Setup, setting_in, nodes_in, subs_in, IsCellOf, 
 use Rattle.station.specs.Opening.{AreLaid, AreOpening, setup_of}
 use Rattle.station.proofs.Apart.{behind, behind_tally, same_number}
 
-at_push : (ws : List ℕ) (x i : ℕ) → i < length (ws ++ x ∷ [])
-    → ((i < length ws) × (slice_index (ws ++ x ∷ []) i ≡ slice_index ws i)) ⊎ ((length ws ≡ i) × (slice_index
-    (ws ++ x ∷ []) i ≡ x))
-at_push [] x zero h = inr (refl, refl)
-at_push [] x (suc i) h = absurd (omega arith)
-at_push (w ∷ ws) x zero h = inl (omega arith, refl)
-at_push (w ∷ ws) x (suc i) h = ⊎_elim (λ t. inl (omega arith, t.1)) (λ t. inr (ap suc t.0, t.1)) (at_push ws x i
-    (omega arith))
+-- what each word of a list is, and one word more
+pushed : (ws : List ℕ) (x i : ℕ) {v : ℕ} → i < length (ws ++ x ∷ []) → (i < length ws → slice_index ws i ≡ v)
+    → (length ws ≡ i → x ≡ v) → slice_index (ws ++ x ∷ []) i ≡ v
+pushed [] x zero h old new = new refl
+pushed [] x (suc i) h old new = absurd (omega arith)
+pushed (w ∷ ws) x zero h old new = old (omega arith)
+pushed (w ∷ ws) x (suc i) h old new =
+    pushed ws x i (omega arith) (λ g. old (omega (arith, g))) (λ e. new (ap suc e))
 
 laid_push : {setup : Setup} {ws new : List ℕ} {x : ℕ} → new ≡ ws ++ x ∷ [] → AreLaid setup ws → (length ws ≡ 0 → x ≡ 0)
     → ((node : ℕ) → node < nodes_in setup → length ws ≡ lock_word node → x ≡ 0)
@@ -35,13 +34,10 @@ laid_push : {setup : Setup} {ws new : List ℕ} {x : ℕ} → new ≡ ws ++ x �
     → AreLaid setup new × (length new ≡ suc (length ws))
 laid_push {setup} {ws} {x = x} grown o first lock tally cell_is = (
   rw grown record {
-    ticket = λ h. ⊎_elim (λ t. t.1 ∙ o.ticket t.0) (λ t. t.1 ∙ first t.0) (at_push ws x 0 h);
-    locks = λ node known h. ⊎_elim (λ t. t.1 ∙ o.locks node known t.0) (λ t. t.1
-        ∙ lock node known t.0) (at_push ws x (lock_word node) h);
-    tallies = λ node known h. ⊎_elim (λ t. t.1 ∙ o.tallies node known t.0) (λ t. t.1
-        ∙ tally node known t.0) (at_push ws x (tally_word setup node) h);
-    cells = λ key known h. ⊎_elim (λ t. t.1 ∙ o.cells key known t.0) (λ t. t.1
-        ∙ cell_is key known t.0) (at_push ws x (cell_word setup key) h);
+    ticket = λ h. pushed ws x 0 h o.ticket first;
+    locks = λ node known h. pushed ws x (lock_word node) h (o.locks node known) (lock node known);
+    tallies = λ node known h. pushed ws x (tally_word setup node) h (o.tallies node known) (tally node known);
+    cells = λ key known h. pushed ws x (cell_word setup key) h (o.cells key known) (cell_is key known);
   },
   omega (arith, ap length grown, length-append ws (x ∷ [])),
 )
@@ -80,17 +76,8 @@ laid_cell law {setup} {key = key} known at is grown o = laid_push grown o
     (λ other inside e. rw (← law setup.plan (subs_in setup) key other known inside
     (same_number (nodes_in setup) _ _ (sym at ∙ e))) is)
 
-none_below : (n : ℕ) → suc n < 1 → ⊥
-none_below n h = omega arith
-
 pub first_laid : (setup : Setup) → AreLaid setup (0 ∷ [])
-first_laid setup =
-    record {
-      ticket = λ h. refl;
-      locks = λ node known h. absurd (none_below _ h);
-      tallies = λ node known h. absurd (none_below _ h);
-      cells = λ key known h. absurd (none_below _ h);
-    }
+first_laid setup = grind arith
 
 counted : {w : ℕ} (n : ℕ) {c d : ℕ} (l : ℕ) → w ≡ 1 + 2 * n + (n + c) * l → c ≡ d → w ≡ suc (2 * n + (n + d) * l)
 counted n l is e = is ∙ (ap (λ (k : ℕ). 1 + 2 * n + (n + k) * l) e ∙ omega arith)
@@ -98,11 +85,7 @@ counted n l is e = is ∙ (ap (λ (k : ℕ). 1 + 2 * n + (n + k) * l) e ∙ omeg
 pub opening_of : (plan : PlanData) (homes : List ℕ) {words : List ℕ} → AreLaid (setup_of plan homes 0) words
     → length words ≡ 1 + 2 * nodes_of plan + (nodes_of plan + clusters_below plan (levels_of plan)) * length homes
     → (actors : ℕ) → AreOpening (setup_of plan homes actors) words
-opening_of plan homes o at actors =
-    record {
-      laid = record { ticket = o.ticket; locks = o.locks; tallies = o.tallies; cells = o.cells };
-      size = counted (nodes_of plan) (length homes) at (ap (sum_by (λ l. length l.clusters)) (take-length plan.levels));
-    }
+opening_of plan homes o at actors = grind (arith, take-length, counted)
 
 -- who starts at a node
 
@@ -117,21 +100,10 @@ passing-more f v k = ap length (passing_grows f v k)
 
 pub starts-at : (setting : Setting) (node sub : ℕ) → sub < subs setting
     → says_here (mark_in (cell setting [] (Presence node sub))) ≡ (node == start setting sub)
-starts-at setting node sub known = go (node == start setting sub) (nat_lt sub (subs setting)) (lt-ltb sub
-    (subs setting) known)
-  where
-    go : (b c : Bool) → c ≡ true → says_here (mark_in (mark_word (if c && b then Here 0 else Empty))) ≡ b
-    go true true e = refl
-    go false true e = refl
-    go b false e = absurd (Rattle.std.proofs.Common.true≢false (sym e))
+starts-at setting node sub known = grind (arith, nat_tests)
 
 pub count-more : (setting : Setting) (node sub : ℕ) {count : ℕ} → sub < subs setting
     → count ≡ length (sift (λ s. says_here (mark_in (cell setting [] (Presence node s)))) 0 sub)
     → count + cond (node == start setting sub) 1 0 ≡ length
     (sift (λ s. says_here (mark_in (cell setting [] (Presence node s)))) 0 (sub + 1))
-count-more setting node sub {count} known is =
-    let f : ℕ → Bool = λ s. says_here (mark_in (cell setting [] (Presence node s))) in
-    let here : f (0 + sub) ≡ (node == start setting sub) = ap f (omega arith) ∙ starts-at setting node sub known in
-    let more = passing-more f 0 sub in
-    subst (λ (k : ℕ). count + cond (node == start setting sub) 1 0 ≡ length (sift f 0 k)) (sym (add-one sub))
-    (omega (arith, is, more, ap {B = ℕ} (λ b. cond b 1 0) here))
+count-more setting node sub {count} known is = grind (arith, starts-at, passing-more, add-one)

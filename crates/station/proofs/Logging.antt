@@ -1,10 +1,7 @@
 -- The log of turns, as it goes on by one event more.
-use Rattle.std.proofs.Common.{◌≡◌, ◌≢◌, ◌⊎◌, ℕ, suc, ◌≤◌, eq-eqb, ne_eqb, cond, List, [], ◌∷◌, ◌++◌, get_or, length, drop, set, refl, sym, ap, ◌∙◌, subst, inl, inr, ⊎_elim, arith, append_assoc, length-append}
-use Rattle.std.specs.Prelude.{if◌then◌else◌}
+use Rattle.std.proofs.Common.{◌≡◌, ◌≢◌, ◌⊎◌, ℕ, suc, ◌≤◌, eq-eqb, ne_eqb, List, [], ◌∷◌, ◌++◌, get_or, length, drop, set, refl, sym, ap, ◌∙◌, subst, inl, arith, append_assoc, length-append}
 use Rattle.std.proofs.lemmas.List.{append-nil}
 use Rattle.std.proofs.lemmas.List.Sums.{fold-append}
-use mathlib.Core.Option.{some}
-use lib.ListN.{get_elem?}
 use Rattle.atomic_table.specs.Table.{State}
 use Rattle.atomic_table.proofs.Lists.{at_set}
 use Rattle.entry_word.specs.declared.visit.Act.{Act}
@@ -25,24 +22,14 @@ module _ {A : Type 0} where
   last_or_there [] x [] y later e = inl (refl, sym (ap (λ (l : List A). get_or l 0 x) e))
   last_or_there [] x (a ∷ earlier) y later e =
       absurd (omega (arith, ap length e, length-append earlier (y ∷ later)))
-  last_or_there (b ∷ xs) x [] y later e =
-      let first : b ≡ y = ap (λ (l : List A). get_or l 0 b) e in
-      inr (xs, λ i. first i ∷ xs)
-  last_or_there (b ∷ xs) x (a ∷ earlier) y later e =
-      let first : b ≡ a = ap (λ (l : List A). get_or l 0 b) e in
-      ⊎_elim
-      (λ (t : (earlier ≡ xs) × (y ≡ x)). inl ((λ i. sym first i ∷ t.0 i), t.1))
-      (λ (t : (rest : List A) × (xs ≡ earlier ++ y ∷ rest)). inr (t.0, λ i. first i ∷ t.1 i))
-      (last_or_there xs x earlier y later (ap (drop 1) e))
+  last_or_there (b ∷ xs) x [] y later e = grind arith
+  last_or_there (b ∷ xs) x (a ∷ earlier) y later e = grind (arith, last_or_there xs x earlier y later (ap (drop 1) e))
 
 pub log-nil : IsLog []
 log-nil earlier event later e = absurd (omega (arith, ap length e, length-append earlier (event ∷ later)))
 
 pub log-more : {log : List TurnEvent} (event : TurnEvent) → IsLog log → IsInTurn log event → IsLog (log ++ event ∷ [])
-log-more {log} event old new earlier other later e = ⊎_elim
-    (λ (t : (earlier ≡ log) × (other ≡ event)). rw (t.0, t.1) new)
-    (λ (t : (rest : List TurnEvent) × (log ≡ earlier ++ other ∷ rest)). old earlier other t.0 t.1)
-    (last_or_there log event earlier other later e)
+log-more {log} event old new earlier other later e = grind (arith, last_or_there)
 
 -- the lock words after one event more
 pub lock-push : (log : List TurnEvent) (event : TurnEvent) (node : ℕ)
@@ -50,34 +37,34 @@ pub lock-push : (log : List TurnEvent) (event : TurnEvent) (node : ℕ)
 lock-push log event node = fold-append (lock_after node) 0 log (event ∷ [])
 
 pub lock-won : (log : List TurnEvent) (actor node : ℕ) → lock_in (log ++ Won actor node ∷ []) node ≡ suc actor
-lock-won log actor node = lock-push log (Won actor node) node
-    ∙ ap {B = ℕ} (λ b. if b then suc actor else lock_in log node) (eq-eqb node node refl)
+lock-won log actor node = rw (lock-push log (Won actor node) node, eq-eqb node node refl)
 
 pub lock-won_else : (log : List TurnEvent) (actor x y : ℕ) → x ≢ y
     → lock_in (log ++ Won actor x ∷ []) y ≡ lock_in log y
-lock-won_else log actor x y ne = lock-push log (Won actor x) y
-    ∙ ap {B = ℕ} (λ b. if b then suc actor else lock_in log y) (ne_eqb x y ne)
+lock-won_else log actor x y ne = rw (lock-push log (Won actor x) y, ne_eqb x y ne)
 
 pub lock-back : (log : List TurnEvent) (actor node : ℕ) → lock_in (log ++ GivenBack actor node ∷ []) node ≡ 0
-lock-back log actor node = lock-push log (GivenBack actor node) node
-    ∙ ap {B = ℕ} (λ b. if b then 0 else lock_in log node) (eq-eqb node node refl)
+lock-back log actor node = rw (lock-push log (GivenBack actor node) node, eq-eqb node node refl)
 
 pub lock-back_else : (log : List TurnEvent) (actor x y : ℕ) → x ≢ y
     → lock_in (log ++ GivenBack actor x ∷ []) y ≡ lock_in log y
-lock-back_else log actor x y ne = lock-push log (GivenBack actor x) y
-    ∙ ap {B = ℕ} (λ b. if b then 0 else lock_in log y) (ne_eqb x y ne)
+lock-back_else log actor x y ne = rw (lock-push log (GivenBack actor x) y, ne_eqb x y ne)
 
 -- the events of an actor after one more
 by-mine : {actor : ℕ} (log : List TurnEvent) (event : TurnEvent) → event_actor event ≡ actor
     → events_of actor (log ++ event ∷ []) ≡ events_of actor log ++ event ∷ []
-by-mine {actor} log event mine = events-append actor log (event ∷ [])
-    ∙ ap (λ b. events_of actor log ++ cond b (event ∷ []) []) (eq-eqb (event_actor event) actor mine)
+by-mine {actor} log event mine = rw (events-append actor log (event ∷ []), eq-eqb (event_actor event) actor mine)
 
 by-other : (actor : ℕ) (log : List TurnEvent) (event : TurnEvent) → event_actor event ≢ actor
     → events_of actor (log ++ event ∷ []) ≡ events_of actor log
-by-other actor log event other = events-append actor log (event ∷ [])
-    ∙ (ap (λ b. events_of actor log ++ cond b (event ∷ []) []) (ne_eqb (event_actor event) actor other)
-    ∙ append-nil (events_of actor log))
+by-other actor log event other =
+    rw (events-append actor log (event ∷ []), ne_eqb (event_actor event) actor other, append-nil)
+
+-- all events of its actors are among those that a view has logged
+pub own-all : {log : List TurnEvent} {view : View} (actor : ℕ) → HasLogged log view → StandsForActor view actor
+    → events_of actor log ≡ events_of actor view.turns
+own-all {view} actor has st = ap (events_of actor) has.goes_on ∙ (events-append actor view.turns has.later
+    ∙ (ap (λ l. events_of actor view.turns ++ l) (has.by_others actor st) ∙ append-nil (events_of actor view.turns)))
 
 -- a view that has logged the same, and lost the same, and stands for no others
 pub logged-same : {log : List TurnEvent} {v : View} (w : View) → w.turns ≡ v.turns → w.lost ≡ v.lost
@@ -107,20 +94,16 @@ logged-mine : {log : List TurnEvent} (event : TurnEvent) {v : View} (w : View) �
 logged-mine {log} event {v} w mine alone low high turns lost has =
     let actor = v.low in
     let stands : StandsForActor v actor = (omega arith, omega (arith, alone)) in
-    let before : events_of actor log ≡ events_of actor v.turns = ap (events_of actor) has.goes_on
-    ∙ (events-append actor v.turns has.later
-    ∙ (ap (λ l. events_of actor v.turns ++ l) (has.by_others actor stands) ∙ append-nil (events_of actor v.turns))) in
-    let whole : lost_in (events_of actor w.turns) ≡ lost_in (events_of actor v.turns) ++ lost_in (event ∷ []) =
-    ap (λ l. lost_in (events_of actor l)) turns ∙ (ap lost_in (by-mine log event mine)
-    ∙ (lost-append (events_of actor log) (event ∷ []) ∙ ap (λ l. lost_in l ++ lost_in (event ∷ [])) before)) in
-    let all : w.lost ≡ lost_in (events_of actor w.turns) = lost
-    ∙ (ap (λ l. l ++ lost_in (event ∷ [])) (has.lost actor stands) ∙ sym whole) in
+    let before = own-all actor has stands in
+    let one = lost-append (events_of actor log) (event ∷ []) in
+    let all : w.lost ≡ lost_in (events_of actor w.turns) =
+    cc (lost, turns, has.lost actor stands, by-mine log event mine, one, before) in
     record {
       later = [];
       goes_on = sym (append-nil (log ++ event ∷ [])) ∙ ap (λ l. l ++ []) (sym turns);
       by_others = λ _ _. refl;
       lost = λ other st. let same : actor ≡ other = omega (arith, st.0, st.1, low, high, alone) in
-          subst (λ (a : ℕ). w.lost ≡ lost_in (events_of a w.turns)) same all;
+          rw (← same) all;
     }
 
 -- the log after a step of a seat j, which has the view w then
@@ -134,12 +117,7 @@ pub record LogGoes (setup : Setup) (s : State Act View) (o : KeepsRule setup s) 
 -- a step that does nothing at a lock
 pub log-stays : {setup : Setup} {s : State Act View} (o : KeepsRule setup s) (j : ℕ) (v w : View) → IsViewOf s.views j v
     → w.turns ≡ v.turns → w.lost ≡ v.lost → w.low ≡ v.low → w.high ≡ v.high → LogGoes setup s o j w o.turns
-log-stays o j v w me turns lost low high = record {
-  in_turn = o.in_turn;
-  strangers = o.strangers;
-  mine = logged-same w turns lost (λ actor st. (omega (arith, st.0, low), omega (arith, st.1, high))) (o.logged j v me);
-  others = λ k u ne at. o.logged k u at;
-}
+log-stays o j v w me turns lost low high = grind (arith, o.logged j v me, logged-same)
 
 -- a step at a lock
 pub log-goes : {setup : Setup} {s : State Act View} (o : KeepsRule setup s) (j : ℕ) (v w : View) (event : TurnEvent)
@@ -174,7 +152,4 @@ logs o j v event me alone mine may =
 -- so have all views
 pub all-logged : {setup : Setup} {s : State Act View} {o : KeepsRule setup s} {j : ℕ} {w : View} {log : List TurnEvent}
     → LogGoes setup s o j w log → (seat : ℕ) (view : View) → IsViewOf (set s.views j w) seat view → HasLogged log view
-all-logged {s} {j} {w} {log} g seat view there = ⊎_elim
-    (λ (t : (seat ≡ j) × (w ≡ view)). subst (λ (u : View). HasLogged log u) t.1 g.mine)
-    (λ (t : (seat ≢ j) × (get_elem? s.views seat ≡ some view)). g.others seat view t.0 t.1)
-    (at_set s.views j seat w view there)
+all-logged {s} {j} {w} {log} g seat view there = grind (arith, at_set)

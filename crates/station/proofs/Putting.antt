@@ -1,5 +1,5 @@
 -- What a handset puts next, and how it moves the tally of its node.
-use Rattle.std.proofs.Common.{◌≡◌, ◌≢◌, ℕ, zero, suc, ◌+◌, ◌^◌, ◌<◌, ◌≤◌, eq-eqb, ne_eqb, Bool, true, false, true≢false, not, cond, List, [], ◌∷◌, ◌++◌, length, take, refl, sym, ap, ◌∙◌, subst, arith, Option, Some, None, length-append}
+use Rattle.std.proofs.Common.{◌≡◌, ◌≢◌, ℕ, zero, suc, ◌+◌, ◌^◌, ◌<◌, ◌≤◌, eq-eqb, ne_eqb, Bool, true, false, true≢false, not, List, [], ◌∷◌, ◌++◌, length, take, refl, sym, ap, ◌∙◌, subst, arith, Option, Some, None, length-append}
 use Rattle.std.specs.Prelude.{slice_get, IfSome, option_map, if◌then◌else◌, unwrap_or}
 use mathlib.Core.Logic.{dite}
 use native.Mathlib.Decide.{ℕ_discrete}
@@ -37,7 +37,6 @@ use Rattle.station.specs.PutLaws.{puts-append}
 use Rattle.node_set.specs.SetLaws.{length-passing-le, passing_same}
 use Rattle.station.proofs.Laying.{passing-more}
 use Rattle.directory.specs.StepLaws.{take-more, key_sub-of_write}
-use Rattle.directory.specs.ListLaws.{same_some}
 
 -- a put that is due: into a cell of its subscriber
 pub record IsDue (plan : PlanData) (sub : ℕ) (visit : Visit) : Type 0 where
@@ -66,10 +65,7 @@ due_by : {plan : PlanData} {handset : HandsetData} {visit : Visit} → GoesWith 
     → (stage : Stage) → IsMoveStage (nodes_of plan) handset.last stage
     → option_map (visit_of handset.sub) (due_at (setting_of plan []) handset stage) ≡ Some visit
     → IsDue plan handset.sub visit
-due_by {visit} g homes Resting within e = absurd (nothing visit e)
-  where
-    nothing : (v : Visit) → None ≡ Some v → ⊥
-    nothing v e = cc
+due_by g homes Resting within e = cc
 due_by {handset} g homes Coming within e =
     from_write handset.sub (mark_at handset.last.to (ComingMark handset.last.number handset.last.from)) e g.to
 due_by {plan} {handset} g homes (Renewing level) within e =
@@ -95,10 +91,7 @@ due_is {handset} g homes e = due_by g homes handset.stage g.stage e
 
 put-alone : {sub : ℕ} (history : History) (key : Key) (word actor : ℕ) → key_sub key ≡ sub
     → puts_to sub (history ++ put_of actor key word ∷ []) ≡ puts_to sub history ++ put_of actor key word ∷ []
-put-alone {sub} history key word actor e =
-    let visit : Visit = put_of actor key word in
-    puts-append sub history (visit ∷ []) ∙ ap (λ b. puts_to sub history ++ cond b (visit ∷ []) []) (eq-eqb
-    (key_sub key) sub e)
+put-alone {sub} history key word actor e = grind (arith, puts-append, eq-eqb)
 
 -- the next put of a handset keeps what its pass has seen legal
 pub due_legal : ScriptsAreLegal → {setup : Setup} {view : View} {handset : HandsetData} (key : Key) (word : ℕ)
@@ -160,21 +153,10 @@ passing-gains f g v (suc n) k low high same off on =
     let more = passing-more f v n in
     let more' = passing-more g v n in
     dite (ℕ_discrete (v + n) k)
-    (λ e. omega (
-      arith,
-      more,
-      more',
-      ap length (passing_same f g v n (λ s _ below. same s (λ is. omega (arith, e, is, below)))),
-      ap {B = ℕ} (λ b. cond b 1 0) (ap f e ∙ off),
-      ap {B = ℕ} (λ b. cond b 1 0) (ap g e ∙ on),
-    ))
-    (λ ne. omega (
-      arith,
-      more,
-      more',
-      ap {B = ℕ} (λ b. cond b 1 0) (same (v + n) ne),
-      passing-gains f g v n k low (omega (arith, high, ne)) same off on,
-    ))
+    (λ e. let rest = passing_same f g v n (λ s _ below. same s (λ is. omega (arith, e, is, below))) in grind arith)
+    (λ ne. let there = same (v + n) ne in
+    let rest = passing-gains f g v n k low (omega (arith, high, ne)) same off on in
+    grind arith)
 
 -- whether a subscriber is at a node
 abbrev was_here : Setting → History → ℕ → ℕ → Bool
@@ -232,14 +214,10 @@ moves setup view earlier {node} new actor (Presence place sub) known at seen owe
     }
   where
     gained : (a b : Bool) → (if a then not b else b) ≡ true → b ≡ true → a ≡ false
-    gained true true e h = sym e
-    gained true false e h = absurd (true≢false (sym h))
-    gained false b e h = refl
+    gained a b e h = grind arith
 
     lost : (a b : Bool) → (if a then not b else b) ≡ true → b ≡ false → a ≡ true
-    lost true b e h = refl
-    lost false true e h = sym h
-    lost false false e h = absurd (true≢false (sym e))
+    lost a b e h = grind arith
 
 pub census-short : (setting : Setting) (history : History) (node : ℕ)
     → length (census setting history node) ≤ subs setting
@@ -251,17 +229,7 @@ pub may_put : (view : View) {node : ℕ} {key : Key} (word : ℕ) (log : List Tu
     → length (own view.low view.seen) < 2 ^ 56 → IsCellOf view.setup key → key_sub key ≡ view.low
     → IsLegal (setting_in view.setup) view.low (view.seen ++ put_of view.low key word ∷ [])
     → MayDraw (view_inside view node (Put key word) log) node (Put key word)
-may_put view word log undrawn unwritten clear at few cell mine legal = record {
-  inside = refl;
-  intended = refl;
-  undrawn = undrawn;
-  unwritten = unwritten;
-  clear = clear;
-  at = sym at;
-  few = few;
-  cell = λ other e. subst (λ (k : Key). IsCellOf view.setup k) (same_some e) cell;
-  may = (mine, legal);
-}
+may_put view {node} {key} word log undrawn unwritten clear at few cell mine legal = grind arith
 
 -- what holds of a put of the subscriber holds of the one that is due
 pub put_due : {o : Option Visit} {sub low : ℕ} (key : Key) (word : ℕ) (P : Visit → Type 0)

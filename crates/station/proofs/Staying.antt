@@ -1,6 +1,7 @@
 -- What stays while no visit is at a node: its cells and its census.
-use Rattle.std.proofs.Common.{◌≡◌, ◌≢◌, ℕ, ◌==◌, eq-eqb, Bool, true, false, cond, List, [], ◌∷◌, length, drop, refl, sym, ap, ◌∙◌, arith, true≢false, Some}
-use Rattle.std.specs.Prelude.{fold, if◌then◌else◌}
+use Rattle.std.proofs.Common.{◌≡◌, ◌≢◌, ℕ, List, [], ◌∷◌, length, drop, refl, sym, ap, ◌∙◌, arith, Some}
+use Rattle.std.specs.Prelude.{fold}
+use Rattle.std.proofs.lemmas.Bool.Decides.{nat_tests}
 use Rattle.std.proofs.lemmas.List.Sums.{fold-append}
 use Rattle.node_set.specs.Ascending.{sift}
 use Rattle.entry_word.specs.Marks.{mark_in, says_here}
@@ -10,7 +11,7 @@ use Rattle.entry_word.specs.declared.visit.Act.{Act}
 use Rattle.entry_word.specs.declared.visit.Act.TheVariants.{Put}
 use Rattle.entry_word.specs.declared.visit.Visit.{Visit}
 use Rattle.directory.specs.Settings.{Setting, subs}
-use Rattle.directory.specs.Keys.{act_node, key_node, same_key, opening}
+use Rattle.directory.specs.Keys.{act_node, key_node}
 use Rattle.directory.specs.Histories.{History, IsFront, cell, word_after}
 use Rattle.directory.specs.Census.{census}
 use Rattle.station.specs.Plays.{key_put}
@@ -31,11 +32,7 @@ put_node setting act {key} e = sym (ap (act_node setting) (put_word act key e).1
 
 -- an act leaves the cells that it doesn't put into
 pub word-unput : SameKey → (key : Key) (word : ℕ) (act : Act) → key_put act ≢ Some key → word_after key word act ≡ word
-word-unput law key word (Put other new) ne = go (same_key key other) refl
-  where
-    go : (b : Bool) → same_key key other ≡ b → (if b then new else word) ≡ word
-    go true e = absurd (ne (ap (λ (k : Key). Some k) (sym ((law key other).0 e))))
-    go false e = refl
+word-unput law key word (Put other new) ne = grind arith
 word-unput law key word act ne = refl
 
 -- an act at another node leaves a cell
@@ -48,27 +45,15 @@ cell-rest : SameKey → (setting : Setting) (key : Key) {node : ℕ} (word : ℕ
     word rest ≡ word
 cell-rest law setting key word [] at none-there = refl
 cell-rest law setting key {node} word (visit ∷ rest) at none-there =
-    go (λ f. cell-rest law setting key word rest at f) (act_node setting visit.act == node) refl none-there
-  where
-    go : (visits_at setting node rest ≡ [] → fold (λ w (v : Visit). word_after key w v.act) word rest ≡ word)
-        → (b : Bool) → (act_node setting visit.act == node) ≡ b
-        → cond b (visit ∷ visits_at setting node rest) (visits_at setting node rest) ≡ []
-        → fold (λ w (v : Visit). word_after key w v.act) (word_after key word visit.act) rest ≡ word
-    go later true e f = absurd (omega (arith, ap length f))
-    go later false e f =
-        let away : act_node setting visit.act ≢ key_node setting key = λ same. true≢false (sym (eq-eqb
-        (act_node setting visit.act) node (same ∙ at)) ∙ e) in
-        let first = word-elsewhere law setting key word visit.act away in
-        ap (λ w. fold (λ w (v : Visit). word_after key w v.act) w rest) first ∙ later f
+    let t : (act_node setting visit.act ≢ node) × (visits_at setting node rest ≡ []) = grind (arith, nat_tests) in
+    rw (word-elsewhere law setting key word visit.act (λ e. t.0 (e ∙ at)))
+    (cell-rest law setting key word rest at t.1)
 
 pub cell-stays : SameKey → (setting : Setting) (key : Key) {node : ℕ} (seen history : History) → IsFront seen history
     → key_node setting key ≡ node → visits_at setting node (drop (length seen) history) ≡ []
     → cell setting history key ≡ cell setting seen key
 cell-stays law setting key seen history front at none-there =
-    let rest = drop (length seen) history in
-    ap (λ h. cell setting h key) (front-rest seen history front)
-    ∙ (fold-append (λ w (v : Visit). word_after key w v.act) (opening setting key) seen rest
-    ∙ cell-rest law setting key (cell setting seen key) rest at none-there)
+    grind (arith, front-rest seen history front, fold-append, cell-rest)
 
 pub census-stays : SameKey → (setting : Setting) (node : ℕ) (seen history : History) → IsFront seen history
     → visits_at setting node (drop (length seen) history) ≡ []

@@ -1,5 +1,5 @@
 -- The steps that leave the history as it is keep the rule.
-use Rattle.std.proofs.Common.{◌≡◌, ◌≢◌, ◌⊎◌, ℕ, zero, suc, ◌<◌, ◌≤◌, true, List, [], ◌∷◌, ◌++◌, length, set, refl, sym, ap, ◌∙◌, subst, inl, inr, ⊎_elim, arith, Some, None}
+use Rattle.std.proofs.Common.{◌≡◌, ◌≢◌, ◌⊎◌, ℕ, zero, suc, ◌<◌, ◌≤◌, true, List, [], ◌∷◌, ◌++◌, length, set, refl, sym, ap, ◌∙◌, subst, inl, inr, arith, Some, None}
 use Rattle.std.specs.Prelude.{slice_index}
 use mathlib.Core.Option.{some, none, some-injective}
 use mathlib.Core.Logic.{dite}
@@ -10,7 +10,7 @@ use Rattle.atomic_table.proofs.Lists.{at_set, set_here, set_else}
 use Rattle.entry_word.specs.declared.visit.Key.{Key}
 use Rattle.entry_word.specs.declared.visit.Act.{Act}
 use Rattle.directory.specs.Keys.{key_node}
-use Rattle.directory.specs.Histories.{History, IsFront, cell, own}
+use Rattle.directory.specs.Histories.{History, cell}
 use Rattle.directory.specs.Census.{census}
 use Rattle.station.specs.Setup.{Setup, setting_in, nodes_in, IsCellOf, lock_word, tally_word, cell_word}
 use Rattle.station.specs.Views.{HasSeen, IsSoundView, StandsForActor}
@@ -53,10 +53,7 @@ seat_below (x ∷ xs) (suc j) v e = omega (arith, seat_below xs j v e)
 pub each_set : (P : ℕ → View → Type 0) (views : List View) (j : ℕ) {w : View} → P j w
     → ((k : ℕ) (u : View) → k ≢ j → IsViewOf views k u → P k u)
     → (k : ℕ) (u : View) → IsViewOf (set views j w) k u → P k u
-each_set P views j {w} mine others k u at = ⊎_elim
-    (λ (t : (k ≡ j) × (w ≡ u)). subst (P k) t.1 (subst (λ (i : ℕ). P i w) (sym t.0) mine))
-    (λ (t : (k ≢ j) × IsViewOf views k u). others k u t.0 t.1)
-    (at_set views j k w u at)
+each_set P views j {w} mine others k u at = grind (arith, at_set)
 
 -- and where a seat is added
 pub each_push : (P : ℕ → View → Type 0) (views : List View) {w : View} → P (length views) w
@@ -70,14 +67,7 @@ each_push P (first ∷ later) new old (suc k) u at =
 -- a view that has seen the same, and stands for no others
 pub has-kept : {history : History} {v : View} (w : View) → w.seen ≡ v.seen → w.told ≡ v.told → w.had ≡ v.had
     → ((actor : ℕ) → StandsForActor w actor → StandsForActor v actor) → HasSeen history v → HasSeen history w
-has-kept {history} w seen told had stands has =
-    record {
-      seen = subst (λ l. IsFront l history) (sym seen) has.seen;
-      told = subst (λ l. IsFront l history) (sym told) has.told;
-      had = subst (λ l. IsFront l history) (sym had) has.had;
-      visits = λ actor its. has.visits actor (stands actor its) ∙ ap (own actor) (sym seen);
-      kept = λ actor its. has.kept actor (stands actor its) ∙ ap (own actor) (sym had);
-    }
+has-kept w seen told had stands has = grind (arith, has.visits, has.kept, stands)
 
 -- a seat's view and a word of the node that it is inside are replaced
 pub record Changes (setup : Setup) (s : St) (o : KeepsRule setup s) (j x : ℕ) (v w : View) (new : List ℕ) : Type 0 where

@@ -1,6 +1,9 @@
 -- An event comes into the log behind all that was logged before its step.
-use Rattle.std.proofs.Common.{◌≡◌, ◌≢◌, ◌⊎◌, ℕ, suc, ◌<◌, ◌≤◌, ◌==◌, eq-eqb, ne_eqb, Bool, true, false, cond, List, [], ◌∷◌, ◌++◌, get_or, length, drop, set, refl, sym, ap, ◌∙◌, subst, inl, inr, ⊎_elim, arith, append_assoc, length-append, Some}
-use Rattle.std.proofs.lemmas.List.{append-nil}
+use Rattle.std.proofs.Common.{◌≡◌, ◌≢◌, ◌⊎◌, ℕ, ◌<◌, List, [], ◌∷◌, ◌++◌, get_or, length, drop, refl, sym, ap, ◌∙◌, subst, inl, inr, ⊎_elim, arith, append_assoc, length-append, None}
+use Rattle.std.specs.List.{last_or}
+use Rattle.std.proofs.lemmas.List.{append-nil, append_cancel_left}
+use Rattle.std.proofs.lemmas.Bool.Decides.{nat_tests}
+use Rattle.directory.specs.ListLaws.{last_or-push, same_some}
 use mathlib.Core.Logic.{dite}
 use native.Mathlib.Decide.{ℕ_discrete, dec_le}
 use lib.ListN.{get_elem?}
@@ -15,7 +18,7 @@ use Rattle.station.specs.TurnLaws.{events-append, events-mine}
 use Rattle.station.specs.Views.{StandsForActor}
 use Rattle.station.specs.declared.view.TurnEvent.{TurnEvent}
 use Rattle.station.specs.declared.view.View.{View}
-use Rattle.station.proofs.Logging.{last_or_there}
+use Rattle.station.proofs.Logging.{last_or_there, own-all}
 use Rattle.station.proofs.Steps.{same_view, seat_below}
 
 module _ {A : Type 0} where
@@ -28,45 +31,25 @@ module _ {A : Type 0} where
       (ends xs))
 
   same_last : (xs : List A) (x : A) (ys : List A) (y : A) → xs ++ x ∷ [] ≡ ys ++ y ∷ [] → y ≡ x
-  same_last xs x ys y e = ⊎_elim
-      (λ (t : (ys ≡ xs) × (y ≡ x)). t.1)
-      (λ (t : (rest : List A) × (xs ≡ ys ++ y ∷ rest)). absurd (omega (
-        arith,
-        ap length e,
-        ap length t.1,
-        length-append xs (x ∷ []),
-        length-append ys (y ∷ []),
-        length-append ys (y ∷ t.0),
-      )))
-      (last_or_there xs x ys y [] e)
-
-  cancel : (xs ys zs : List A) → xs ++ ys ≡ xs ++ zs → ys ≡ zs
-  cancel [] ys zs e = e
-  cancel (x ∷ xs) ys zs e = cancel xs ys zs (ap (drop 1) e)
+  same_last xs x ys y e =
+      same_some (sym (last_or-push None ys y) ∙ (ap (last_or None) (sym e) ∙ last_or-push None xs x))
 
 -- where an actor has no event, neither the first is one nor a later
 none-first : (actor : ℕ) (event : TurnEvent) (later : List TurnEvent) → events_of actor (event ∷ later) ≡ []
     → (event_actor event ≢ actor) × (events_of actor later ≡ [])
-none-first actor event later e = go (event_actor event == actor) refl e
-  where
-    go : (b : Bool) → (event_actor event == actor) ≡ b
-        → cond b (event ∷ events_of actor later) (events_of actor later) ≡ []
-        → (event_actor event ≢ actor) × (events_of actor later ≡ [])
-    go true is f = absurd (omega (arith, ap length f))
-    go false is f = (
-      (λ same. Rattle.std.proofs.Common.true≢false (sym (eq-eqb (event_actor event) actor same) ∙ is)),
-      f,
-    )
+none-first actor event later e = grind (arith, nat_tests)
 
 -- there is its own event in a log that has it
 pub some-mine : {actor : ℕ} (earlier : List TurnEvent) (event : TurnEvent) (later : List TurnEvent)
     → event_actor event ≡ actor → length (events_of actor earlier) < length (events_of actor (earlier ++ event ∷ later))
-some-mine {actor} earlier event later mine = omega (
-  arith,
-  ap length (events-append actor earlier (event ∷ later)),
-  length-append (events_of actor earlier) (events_of actor (event ∷ later)),
-  ap length (events-mine actor event later mine),
-)
+some-mine {actor} earlier event later mine =
+    rw (events-append actor earlier (event ∷ later), events-mine actor event later mine, length-append) (omega arith)
+
+-- who has an event in the log is one of the actors
+pub actor-below : {setup : Setup} {s : State Act View} (o : KeepsRule setup s) (front : List TurnEvent)
+    (event : TurnEvent) (later : List TurnEvent) → o.turns ≡ front ++ event ∷ later → event_actor event < setup.actors
+actor-below o front event later is =
+    grind (arith, o.strangers (event_actor event), some-mine front event later refl)
 
 -- a log in which nobody has an event
 nobodys : (log : List TurnEvent) → ((actor : ℕ) → events_of actor log ≡ []) → log ≡ []
@@ -95,19 +78,9 @@ whole {view} front last has stands is = ⊎_elim
     let both : front ++ last ∷ [] ≡ (view.turns ++ t.0) ++ t.1 ∷ [] = sym is ∙ (has.goes_on
     ∙ (ap (λ l. view.turns ++ l) t.2 ∙ sym (append_assoc view.turns t.0 (t.1 ∷ [])))) in
     let same : t.1 ≡ last = same_last front last (view.turns ++ t.0) t.1 both in
-    absurd (omega (
-      arith,
-      some-mine t.0 t.1 [] (ap event_actor same),
-      ap (λ l. length (events_of (event_actor last) l)) t.2,
-      ap length (has.by_others (event_actor last) stands),
-    )))
+    let none = has.by_others (event_actor last) stands in
+    absurd (grind (arith, some-mine t.0 t.1 [] (ap event_actor same), t.2)))
     (ends has.later)
-
--- all events of its actors are among those that a view has logged
-own-all : {log : List TurnEvent} {view : View} (actor : ℕ) → HasLogged log view → StandsForActor view actor
-    → events_of actor log ≡ events_of actor view.turns
-own-all {view} actor has st = ap (events_of actor) has.goes_on ∙ (events-append actor view.turns has.later
-    ∙ (ap (λ l. events_of actor view.turns ++ l) (has.by_others actor st) ∙ append-nil (events_of actor view.turns)))
 
 module _ {old new : State Act View} {seat : ℕ} (s : IsStepOf seat old new) where
   pub its_seat : IsViewOf new.views seat s.after
@@ -130,9 +103,7 @@ module _ (setup : Setup) (old new : State Act View) (seat : ℕ) (was : KeepsRul
 
   -- the log afterwards goes on from what the view has logged
   log_then : is.turns ≡ (s.before.turns ++ logs.later) ++ event ∷ (is.logged seat s.after (its_seat s)).later
-  log_then = (is.logged seat s.after (its_seat s)).goes_on
-      ∙ (ap (λ l. l ++ (is.logged seat s.after (its_seat s)).later) logs.goes_on
-      ∙ append_assoc (s.before.turns ++ logs.later) (event ∷ []) (is.logged seat s.after (its_seat s)).later)
+  log_then = grind (arith, is.logged seat s.after (its_seat s), its_seat, append_assoc)
 
   -- the log before is a front of the log afterwards
   log_first : (rest : List TurnEvent) × (is.turns ≡ was.turns ++ rest)
@@ -140,14 +111,7 @@ module _ (setup : Setup) (old new : State Act View) (seat : ℕ) (was : KeepsRul
       (λ (e : was.turns ≡ []). (is.turns, ap (λ l. l ++ is.turns) (sym e)))
       (λ (t : (front : List TurnEvent) × (last : TurnEvent) × (was.turns ≡ front ++ last ∷ [])).
       let actor = event_actor t.1 in
-      dite (dec_le setup.actors actor)
-      (λ h. absurd (omega (
-        arith,
-        some-mine t.0 t.1 [] refl,
-        ap (λ l. length (events_of actor l)) t.2,
-        ap length (was.strangers actor h),
-      )))
-      (λ h. let its = was.actors actor (omega arith) in
+      let its = was.actors actor (actor-below was t.0 t.1 [] t.2) in
       let all : was.turns ≡ its.0.turns = whole t.0 t.1 (was.logged (was.owner actor) its.0 its.1) its.2 t.2 in
       dite (ℕ_discrete (was.owner actor) seat)
       (λ e. let same = same_view old.views s.was its.1 e in
@@ -157,7 +121,7 @@ module _ (setup : Setup) (old new : State Act View) (seat : ℕ) (was : KeepsRul
             ∙ ap (λ l. l ++ (logs.later ++ event ∷ later)) (sym (all ∙ ap (λ (u : View). u.turns) same))),
       ))
       (λ ne. let has = is.logged (was.owner actor) its.0 (other_seat s (was.owner actor) ne ∙ its.1) in
-      (has.later, has.goes_on ∙ ap (λ l. l ++ has.later) (sym all)))))
+      (has.later, has.goes_on ∙ ap (λ l. l ++ has.later) (sym all))))
       (ends was.turns)
 
   -- nobody else has an event more
@@ -174,18 +138,12 @@ module _ (setup : Setup) (old new : State Act View) (seat : ℕ) (was : KeepsRul
 
   -- what the event comes behind has all own events that there were
   own_first : events_of s.before.low (s.before.turns ++ logs.later) ≡ events_of s.before.low was.turns
-  own_first = events-append s.before.low s.before.turns logs.later
-      ∙ (ap (λ l. events_of s.before.low s.before.turns ++ l)
-      (subst (λ (a : ℕ). events_of a logs.later ≡ []) mine logs.by_others)
-      ∙ (append-nil (events_of s.before.low s.before.turns)
-      ∙ sym (own-all s.before.low (was.logged seat s.before s.was) stands_first)))
+  own_first = grind (arith, was.logged seat s.before s.was, events-append, append-nil, own-all)
 
   -- and there is the one more
   own_then : events_of s.before.low is.turns ≡ events_of s.before.low was.turns ++ event ∷ []
-  own_then = own-all s.before.low (is.logged seat s.after (its_seat s)) stands_then
-      ∙ (ap (events_of s.before.low) logs.goes_on ∙ (events-append s.before.low (s.before.turns ++ logs.later)
-      (event ∷ [])
-      ∙ (λ i. own_first i ++ events-mine s.before.low event [] mine i)))
+  own_then =
+      grind (arith, is.logged seat s.after (its_seat s), its_seat, own-all, events-append, own_first, events-mine)
 
   -- so the log has just the event more
   one_more : is.turns ≡ was.turns ++ event ∷ []
@@ -195,21 +153,17 @@ module _ (setup : Setup) (old new : State Act View) (seat : ℕ) (was : KeepsRul
       let split : (actor : ℕ) → events_of actor had ++ events_of actor rest ≡ events_of actor is.turns =
       λ actor. sym (events-append actor had rest) ∙ ap (events_of actor) (sym log_first.1) in
       log_first.1 ∙ ap (λ l. had ++ l) (just-one s.before.low rest
-      (λ actor ne. cancel (events_of actor had) (events_of actor rest) []
+      (λ actor ne. append_cancel_left (events_of actor had) (events_of actor rest) []
       (split actor ∙ (others_same actor ne ∙ sym (append-nil (events_of actor had)))))
-      (cancel (events_of s.before.low had) (events_of s.before.low rest) (event ∷ []) (split s.before.low ∙ own_then)))
+      (append_cancel_left (events_of s.before.low had) (events_of s.before.low rest) (event ∷ [])
+      (split s.before.low ∙ own_then)))
 
   -- and comes behind all that was there
   moment : was.turns ≡ s.before.turns ++ logs.later
   moment = ⊎_elim
       (λ (t : (s.before.turns ++ logs.later ≡ was.turns) × (event ≡ event)). sym t.0)
       (λ (t : (rest : List TurnEvent) × (was.turns ≡ (s.before.turns ++ logs.later) ++ event ∷ rest)).
-      absurd (omega (
-        arith,
-        some-mine (s.before.turns ++ logs.later) event t.0 mine,
-        ap (λ l. length (events_of s.before.low l)) t.1,
-        ap length own_first,
-      )))
+      absurd (grind (arith, some-mine (s.before.turns ++ logs.later) event t.0 mine, t.1, own_first)))
       (last_or_there was.turns event (s.before.turns ++ logs.later) event
       (is.logged seat s.after (its_seat s)).later (sym one_more ∙ log_then))
 

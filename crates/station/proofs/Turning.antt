@@ -12,7 +12,7 @@ use Rattle.entry_word.specs.declared.visit.Key.{Key}
 use Rattle.entry_word.specs.declared.visit.Act.{Act}
 use Rattle.directory.specs.Keys.{key_node}
 use Rattle.station.specs.Setup.{Setup, setting_in, nodes_in, lock_word, tally_word, cell_word}
-use Rattle.station.specs.Views.{IsSoundView, turn_at}
+use Rattle.station.specs.Views.{IsInsideNode, IsSoundView, StandsForActor, turn_at}
 use Rattle.station.specs.Rule.{KeepsRule, IsViewOf, IsHeld, IsCellWritten, IsTallied}
 use Rattle.station.specs.Plays.{Seat, view_inside, view_held, Turns, view_outside, Leaves}
 use Rattle.station.specs.declared.view.NodeTurn.{NodeTurn}
@@ -24,7 +24,7 @@ use Rattle.station.specs.declared.view.TurnEvent.{TurnEvent}
 use Rattle.station.specs.declared.view.TurnEvent.TheVariants.{Won, GivenBack, Lost}
 use Rattle.station.proofs.Logging.{LogGoes, all-logged, lock-back, lock-back_else, lock-push, lock-won, lock-won_else, log-goes, logs}
 use Rattle.station.proofs.Apart.{is_lock, else_where, one_inside, behind}
-use Rattle.station.proofs.Steps.{Remains, St, with, owned, seat_below, changed, each_set, has-kept, no_some, reseated, same_view}
+use Rattle.station.proofs.Steps.{Remains, St, with, owned, seat_below, changed, each_set, reseated, same_view}
 use Rattle.visit_log.specs.Numbers.{NumbersApart}
 use Rattle.directory.specs.ListLaws.{same_some}
 
@@ -37,18 +37,12 @@ pub record IsIdle (view : View) : Type 0 where
 pub written_here : {setup : Setup} {s : St} (o : KeepsRule setup s) (j : ℕ) {x : ℕ} (v : View) (key : Key)
     → IsViewOf s.views j v → ((k : ℕ) (u : View) → k ≢ j → IsViewOf s.views k u → u.inside ≢ Some x)
     → key_node (setting_in setup) key ≡ x → v.unwritten ≢ Some key → IsCellWritten s.views key
-written_here {s} o j v key me alone at mine k u there is = dite (ℕ_discrete k j)
-    (λ e. let same = same_view s.views me there e in
-    mine (ap (λ (y : View). y.unwritten) (sym same) ∙ is))
-    (λ ne. alone k u ne there (((o.views k u there).unwritten key is).inside ∙ ap (λ (n : ℕ). Some n) at))
+written_here {s} o j v key me alone at mine k u there is = grind (arith, o.views k u there, ℕ_discrete, same_view)
 
 pub tallied_here : {setup : Setup} {s : St} (o : KeepsRule setup s) (j x : ℕ) (v : View) → IsViewOf s.views j v
     → ((k : ℕ) (u : View) → k ≢ j → IsViewOf s.views k u → u.inside ≢ Some x) → (v.owes ≡ true → v.inside ≢ Some x)
     → IsTallied s.views x
-tallied_here {s} o j x v me alone mine k u there owes is = dite (ℕ_discrete k j)
-    (λ e. let same = same_view s.views me there e in
-    mine (ap (λ (y : View). y.owes) (sym same) ∙ owes) (ap (λ (y : View). y.inside) (sym same) ∙ is))
-    (λ ne. alone k u ne there is)
+tallied_here {s} o j x v me alone mine k u there owes is = grind (arith, ℕ_discrete, same_view)
 
 -- the view of a seat changes in what the rule doesn't speak of
 pub restated : {setup : Setup} {s : St} {o : KeepsRule setup s} {j : ℕ} (v : View) {w : View} → IsViewOf s.views j v
@@ -85,6 +79,9 @@ entering law {setup} {s} o j x {v} act me known alone idle free =
     let was = o.views j v me in
     let near = seat_below s.views j v me in
     let wide : lock_word x < length s.words = omega (arith, o.size) in
+    let at = get_or-set_same s.words (lock_word x) (suc v.low) 0 wide in
+    let calm = was.outside idle.out in
+    let here : IsInsideNode setup new o.history w x = grind arith in
     let nobody : (k : ℕ) (u : View) → IsViewOf s.views k u → u.inside ≢ Some x =
     λ k u at is. let h = (o.views k u at).inside x is in omega (arith, h.lock, free) in
     let others : (k : ℕ) (u : View) → k ≢ j → IsViewOf s.views k u → u.inside ≢ Some x = λ k u ne at. nobody k u at in
@@ -98,30 +95,16 @@ entering law {setup} {s} o j x {v} act me known alone idle free =
       goes = log-goes o j v w (Won v.low x) me alone refl (sym (o.lock_words x known) ∙ free) refl refl refl
           (sym (append-nil v.lost));
       lock_else = λ y ne. lock-won_else o.turns v.low x y ne;
-      lock_here = get_or-set_same s.words (lock_word x) (suc v.low) 0 wide ∙ sym (lock-won o.turns v.low x);
+      lock_here = at ∙ sym (lock-won o.turns v.low x);
       size = length-set s.words (lock_word x) (suc v.low);
       first = get_or-set_other s.words (lock_word x) 0 (suc v.low) 0 (λ e. omega arith);
       elsewhere = λ y k iny ne word. else_where law s.words (suc v.low) known iny ne (is_lock refl) word;
-      mine = record {
-        setup_is = was.setup_is;
-        has = has-kept w refl refl refl (λ _ st. st) was.has;
-        owner_is = was.owner_is;
-        inside = λ node is. rw (← same_some is) record {
-          known = known;
-          alone = alone;
-          lock = get_or-set_same s.words (lock_word x) (suc v.low) 0 wide;
-          drawn = λ drawn. absurd (true≢false (sym drawn ∙ (was.outside idle.out).0));
-          owed = λ owes. absurd (true≢false (sym owes ∙ (was.outside idle.out).1));
-          tally = λ owes. absurd (true≢false (sym owes ∙ (was.outside idle.out).1));
-        };
-        unwritten = λ key is. absurd (no_some (sym idle.unwritten ∙ is));
-        outside = λ is. absurd (some_not_none is);
-        others = was.others;
-      };
+      mine =
+          let inside : (node : ℕ) → Some x ≡ Some node → IsInsideNode setup new o.history w node =
+          λ node is. rw (← same_some is) here in
+          search (arith, was);
       alone = others;
-      lock = λ actor is. let e : suc v.low ≡ suc actor = sym (get_or-set_same s.words (lock_word x)
-          (suc v.low) 0 wide) ∙ is in
-          let low : v.low ≡ actor = omega arith in
+      lock = λ actor is. let low : v.low ≡ actor = omega (arith, at, is) in
           let mine : o.owner actor ≡ j = ap o.owner (sym low) ∙ (was.owner_is v.low (omega arith)).0 in
           (w, subst (λ k. IsViewOf (set s.views j w) k w) (sym mine) (set_here s.views j w near), refl, low);
       cells = λ key cell at quiet.
@@ -176,20 +159,15 @@ turns law setup n id x m act known alone idle s o wide me small =
       tt,
       subst (λ (ws : List ℕ). KeepsRule setup (with ws s id w)) (sym (set-get_or s.words (lock_word x) 0))
           (restated m.0 me refl refl refl refl refl (log-goes o id m.0 w (Lost m.0.low x word) me alone refl may refl
-          refl refl refl) (λ node. lock-push o.turns (Lost m.0.low x word) node) record {
-            setup_is = was.setup_is;
-            has = has-kept w refl refl refl (λ _ st. st) was.has;
-            owner_is = was.owner_is;
-            inside = λ node is. absurd (no_some (sym idle.out ∙ is));
-            unwritten = λ key is. absurd (no_some (sym idle.unwritten ∙ is));
-            outside = was.outside;
-            others = λ actor st turn had. ⊎_elim
-                (λ (old : Contains m.0.lost turn). was.others actor st turn old)
-                (λ (e : turn_at x word ≡ turn). λ names.
-                let its : actor ≡ m.0.low = omega (arith, st.0, st.1, alone) in
-                other (ap (λ (t : NodeTurn). t.word) e ∙ (names ∙ ap suc its)))
-                (Contains-push_cases m.0.lost (turn_at x word) turn had);
-          }),
+          refl refl refl) (λ node. lock-push o.turns (Lost m.0.low x word) node)
+          (let others : (actor : ℕ) → StandsForActor w actor → (turn : NodeTurn) → Contains w.lost turn
+          → turn.word ≢ suc actor = λ actor st turn had. ⊎_elim
+          (λ (old : Contains m.0.lost turn). was.others actor st turn old)
+          (λ (e : turn_at x word ≡ turn). λ names.
+          let its : actor ≡ m.0.low = omega (arith, st.0, st.1, alone) in
+          other (ap (λ (t : NodeTurn). t.word) e ∙ (names ∙ ap suc its)))
+          (Contains-push_cases m.0.lost (turn_at x word) turn had) in
+          search (arith, was))),
       λ node said-act at said. let a : x ≡ node = omega arith in (
         (λ is. absurd (taken is)),
         λ _. (
@@ -234,15 +212,7 @@ leaves law setup n id {x} m there unwritten owes s o wide me small =
         size = length-set s.words (lock_word x) 0;
         first = get_or-set_other s.words (lock_word x) 0 0 0 (λ e. omega arith);
         elsewhere = λ y k iny ne word. else_where law s.words 0 known iny ne (is_lock refl) word;
-        mine = record {
-          setup_is = was.setup_is;
-          has = has-kept w refl refl refl (λ _ st. st) was.has;
-          owner_is = was.owner_is;
-          inside = λ node is. absurd (no_some is);
-          unwritten = λ key is. absurd (no_some (sym unwritten ∙ is));
-          outside = λ is. (refl, owes);
-          others = was.others;
-        };
+        mine = search (arith, was);
         alone = others;
         lock = λ actor is. let e : 0 ≡ suc actor = sym (get_or-set_same s.words (lock_word x) 0 0 near) ∙ is in
             absurd (omega arith);
@@ -265,9 +235,3 @@ pub turns_at : NumbersApart → (setup : Setup) (n id : ℕ) {x i new : ℕ} (m 
     → Allows (KeepsRule setup) n id m i (λ y. either (y == 0) new y) (Turns (step n i 0 new (some act)) m)
 turns_at law setup n id {x} {new} m act known alone idle at is =
     rw (at, is) (turns law setup n id x m act known alone idle)
-
-pub leaves_at : NumbersApart → (setup : Setup) (n id : ℕ) {x i : ℕ} (m : Seat) → m.0.inside ≡ Some x
-    → m.0.unwritten ≡ None → m.0.owes ≡ false → i ≡ lock_word x → Allows (KeepsRule setup) n id m i (λ _. 0)
-    (λ _. Leaves (step n i 0 0 none) m 0)
-leaves_at law setup n id m there unwritten owes at =
-    rw at (leaves law setup n id m there unwritten owes)

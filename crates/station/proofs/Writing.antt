@@ -1,5 +1,5 @@
 -- Stores: a put is written, and a tally.
-use Rattle.std.proofs.Common.{◌≡◌, ◌≢◌, ℕ, suc, ◌+◌, ◌*◌, ◌<◌, Bool, true, true≢false, length, set, refl, sym, ap, ◌∙◌, subst, inr, arith, Option, Some, get_or-set_other, get_or-set_same, length-set}
+use Rattle.std.proofs.Common.{◌≡◌, ◌≢◌, ℕ, ◌<◌, Bool, true, true≢false, length, set, refl, sym, ap, ◌∙◌, subst, inr, arith, Option, Some, get_or-set_other, get_or-set_same, length-set}
 use Rattle.std.specs.Prelude.{slice_index}
 use mathlib.Core.Option.{none}
 use mathlib.Core.Logic.{dite}
@@ -26,10 +26,7 @@ use Rattle.directory.specs.ListLaws.{same_some}
 
 pub cell_below : NumbersBelow → (setup : Setup) {key : Key} → IsCellOf setup key
     → cell_word setup key < word_count setup
-cell_below law setup {key} known = step_up (nodes_in setup) _ _ (law setup.plan (subs_in setup) key known)
-  where
-    step_up : (n c d : ℕ) → c < d → suc (2 * n + c) < suc (2 * n + d)
-    step_up n c d h = omega arith
+cell_below law setup {key} known = omega (arith, law setup.plan (subs_in setup) key known)
 
 -- who is inside a node when another of its words changes
 pub still_held : (s : St) (o : ℕ → ℕ) (j : ℕ) {x actor : ℕ} (v w : View) → IsViewOf s.views j v → w.inside ≡ v.inside
@@ -106,7 +103,7 @@ writes law below same n id {i} {new} m {key} put known at turn is s o wide me sm
       view_after_put v,
       keeps,
       tt,
-      stored law o id new me turn.inside (is_cell key known refl at) (λ e. first_apart (e ∙ at)) not_lock
+      stored law o id new me turn.inside (is_cell key known refl at) (λ e. omega (arith, e, at)) not_lock
           (λ due. (due, not_tally)) (λ _ none. absurd (no_some none))
           (λ other cell_there there quiet. dite (ℕ_discrete (cell_word setup other) i)
           (λ e. rw (
@@ -121,9 +118,6 @@ writes law below same n id {i} {new} m {key} put known at turn is s o wide me sm
           ∙ o.tallies x here.known (tallied_here o id x v me others quiet)),
       refl,
     )
-  where
-    first_apart : {c : ℕ} → 0 ≡ suc c → ⊥
-    first_apart e = omega arith
 
 pub tallies : NumbersApart → SameKey → (n id : ℕ) {x i new : ℕ} (m : Seat) → HasTurn m.0 x → i ≡ tally_word m.0.setup x
     → new ≡ length (census (setting_in m.0.setup) m.0.seen x) → Allows (KeepsRule m.0.setup) n id m i (λ _. new)

@@ -1,5 +1,5 @@
 -- How a call ends, by what its parts answered.
-use Rattle.std.proofs.Common.{◌≡◌, ◌⊎◌, inl, inr, ℕ, ◌≤◌, true, List, length, Option, Some, None, Result, Ok, Err, subst, append-nil}
+use Rattle.std.proofs.Common.{◌≡◌, ◌⊎◌, inl, inr, ℕ, ◌≤◌, true, List, length, Option, Some, None, Result, Ok, Err, append-nil}
 use Rattle.std.proofs.lemmas.Result.{IfOk-weaker}
 use Rattle.std.specs.Prelude.{IfOk, IfSome}
 use Rattle.std.specs.declared.alloc.AllocError.{AllocError}
@@ -88,59 +88,45 @@ told command before now (inl e) h = rw e (rw e at h)
 told command before now (inr (inl e)) h = rw e (rw e at h)
 told command before now (inr (inr e)) h = rw e (rw e at h)
 
--- the text of all bytes that were left was written
-done-bytes : (command : Command) (status : Status) (text bytes : List ℕ) {left : Option (List ℕ)}
-    (left' : Option (List ℕ)) {rf rf' : ℕ} (written : Option (List ℕ)) {written' : Option (List ℕ)} {wf wf' : ℕ}
-    → left ≡ prepend_known bytes left' → IsAtEnd left' → rf' ≡ rf → IsShort command bytes
-    → IsText command bytes status text → written' ≡ append_known written text → wf' ≡ wf
-    → EndsAs command status (streams left rf written wf) (streams left' rf' written' wf')
-done-bytes command status text bytes {left} left' {rf} {rf'} written {written'} {wf} {wf'} parts end calm short right w
-    f =
-    let whole : IsTextWritten command status bytes written written' =
-    record { short = short; text = text; right = right; written = w } in
-    told command (streams left rf written wf) (streams left' rf' written' wf')
-    (status_of_text command bytes status text right) (
-      of_left (λ bytes. IsTextWritten command status bytes written written') left' parts end whole,
-      end,
-      calm,
-      f,
-    )
+-- all bytes that were left were read, without a fault, and a command may be given them
+module _ (command : Command) (bytes : List ℕ) {left : Option (List ℕ)} (left' : Option (List ℕ)) {rf rf' : ℕ}
+    (written written' : Option (List ℕ)) (wf wf' : ℕ) (parts : left ≡ prepend_known bytes left')
+    (end : IsAtEnd left') (calm : rf' ≡ rf) (short : IsShort command bytes) where
+  -- their text was written
+  done-bytes : (status : Status) (text : List ℕ) → IsText command bytes status text
+      → written' ≡ append_known written text → wf' ≡ wf
+      → EndsAs command status (streams left rf written wf) (streams left' rf' written' wf')
+  done-bytes status text right w f =
+      let whole : IsTextWritten command status bytes written written' =
+      record { short = short; text = text; right = right; written = w } in
+      told command (streams left rf written wf) (streams left' rf' written' wf')
+      (status_of_text command bytes status text right) (
+        of_left (λ bytes. IsTextWritten command status bytes written written') left' parts end whole,
+        end,
+        calm,
+        f,
+      )
 
--- a front of it was written
-begun-bytes : (command : Command) (status : Status) (stop : WriteStop) (text bytes : List ℕ) {left : Option (List ℕ)}
-    (left' : Option (List ℕ)) {rf rf' : ℕ} (written written' : Option (List ℕ)) (wf wf' : ℕ)
-    → left ≡ prepend_known bytes left' → IsAtEnd left' → rf' ≡ rf → IsShort command bytes
-    → IsText command bytes status text → StopsWriting stop text written written' wf wf'
-    → EndsAs command (write_status stop) (streams left rf written wf) (streams left' rf' written' wf')
-begun-bytes command status writing.OutOfMemory text bytes left' written written' wf wf' parts end calm short
-    right h = ((h.0, h.1), calm)
-begun-bytes command status writing.Failed text bytes left' written written' wf wf' parts end calm short
-    right h =
-    let is : IsBegun command bytes written written' =
-    record { short = short; status = status; text = text; right = right; part = h.1 } in (
-      h.0,
-      of_left (λ bytes. IsBegun command bytes written written') left' parts end is,
-      end,
-      calm,
-    )
+  -- a front of it was written
+  begun-bytes : (status : Status) (stop : WriteStop) (text : List ℕ) → IsText command bytes status text
+      → StopsWriting stop text written written' wf wf'
+      → EndsAs command (write_status stop) (streams left rf written wf) (streams left' rf' written' wf')
+  begun-bytes status writing.OutOfMemory text right h = ((h.0, h.1), calm)
+  begun-bytes status writing.Failed text right h =
+      let is : IsBegun command bytes written written' =
+      record { short = short; status = status; text = text; right = right; part = h.1 } in
+      (h.0, of_left (λ bytes. IsBegun command bytes written written') left' parts end is, end, calm)
 
--- an answer that is right for all bytes that were left was written, or not whole
-ended-bytes : (command : Command) (answer : Result Answer AllocError) (status : Status) (bytes : List ℕ)
-    {left : Option (List ℕ)} (left' : Option (List ℕ)) {rf rf' : ℕ} (written written' : Option (List ℕ)) (wf wf' : ℕ)
-    → left ≡ prepend_known bytes left' → IsAtEnd left' → rf' ≡ rf → IsShort command bytes
-    → IfOk answer (λ answer. IsText command bytes answer.status (text_of answer.body))
-    → IsEnded answer status written written' wf wf' → EndsAs command status (streams left rf written wf)
-    (streams left' rf' written' wf')
-ended-bytes command (Ok answer) status bytes {left} left' {rf} {rf'} written written' wf wf' parts end calm short right
-    (inl whole) =
-    rw whole.0 (done-bytes command answer.status (text_of answer.body) bytes left' written parts end calm short right
-    whole.1 whole.2)
-ended-bytes command (Ok answer) status bytes {left} left' {rf} {rf'} written written' wf wf' parts end calm short right
-    (inr begun) =
-    rw begun.1 (begun-bytes command answer.status begun.0 (text_of answer.body) bytes left' written written' wf wf'
-    parts end calm short right begun.2)
-ended-bytes command (Err fault) status bytes {left} left' {rf} {rf'} written written' wf wf' parts end calm short right
-    h = rw h.0 ((h.1, h.2), calm)
+  -- an answer that is right for them was written, or not whole
+  ended-bytes : (answer : Result Answer AllocError) (status : Status)
+      → IfOk answer (λ answer. IsText command bytes answer.status (text_of answer.body))
+      → IsEnded answer status written written' wf wf'
+      → EndsAs command status (streams left rf written wf) (streams left' rf' written' wf')
+  ended-bytes (Ok answer) status right (inl whole) =
+      rw whole.0 (done-bytes answer.status (text_of answer.body) right whole.1 whole.2)
+  ended-bytes (Ok answer) status right (inr begun) =
+      rw begun.1 (begun-bytes answer.status begun.0 (text_of answer.body) right begun.2)
+  ended-bytes (Err fault) status right h = rw h.0 ((h.1, h.2), calm)
 
 -- an answer to the bytes that a reader stands for
 pub ended : {command : Command} → IsPlain command → (answer : Result Answer AllocError) (status : Status)
@@ -149,20 +135,11 @@ pub ended : {command : Command} → IsPlain command → (answer : Result Answer 
     → IsInputText command bytes answer.status (text_of answer.body)) → IsEnded answer status written written' wf wf'
     → EndsAs command status (streams left rf written wf) (streams left' rf' written' wf')
 ended {command} plain answer status {reader} {left'} written written' wf wf' all right is =
-    ended-bytes command answer status all.bytes left' written written' wf wf' all.parts all.end all.no_fault
-    (plain.short all.bytes all.short) (IfOk-weaker answer _ _
+    ended-bytes command all.bytes left' written written' wf wf' all.parts all.end all.no_fault
+    (plain.short all.bytes all.short) answer status (IfOk-weaker answer _ _
     (λ answer right. plain.text all.bytes answer.status (text_of answer.body) (right all.bytes all.stands)) right) is
 
 -- ---- a text that has a report
-
--- the parts of the text that was read may be so long
-part-short : (bytes : List ℕ) {part : List ℕ} → part ≡ input_part bytes → length part ≤ most_bytes
-    → length bytes ≤ most_text_bytes → IsShort commands.Check bytes
-part-short bytes same short all = (all, subst (λ (t : List ℕ). length t ≤ most_bytes) same short)
-
-judged-text : (bytes : List ℕ) {part report : List ℕ} {status : Status} {text : List ℕ} → part ≡ input_part bytes
-    → report ≡ report_part bytes → IsJudged part report status text → IsText commands.Check bytes status text
-judged-text bytes p r h = rw (p, r) at h
 
 pub ended-check : (answer : Result Answer AllocError) (status : Status) {bytes part report : List ℕ}
     {left left' : Option (List ℕ)} {rf rf' : ℕ} (written written' : Option (List ℕ)) (wf wf' : ℕ)
@@ -171,8 +148,8 @@ pub ended-check : (answer : Result Answer AllocError) (status : Status) {bytes p
     → IsEnded answer status written written' wf wf' → EndsAs commands.Check status (streams left rf written wf)
     (streams left' rf' written' wf')
 ended-check answer status {bytes} {part} {report} {left'} written written' wf wf' all p r short right is =
-    ended-bytes commands.Check answer status bytes left' written written' wf wf' all.parts all.end all.no_fault
-    (part-short bytes p short all.short) (IfOk-weaker answer _ _ (λ answer. judged-text bytes p r) right) is
+    ended-bytes commands.Check bytes left' written written' wf wf' all.parts all.end all.no_fault
+    (all.short, rw (← p) short) answer status (rw (p, r) at right) is
 
 -- ---- JSON
 
@@ -182,5 +159,5 @@ pub ended-json : (answer : Result Answer AllocError) (status : Status) {bytes : 
     → IsEnded answer status written written' wf wf' → EndsAs commands.FromJson status (streams left rf written wf)
     (streams left' rf' written' wf')
 ended-json answer status {bytes} {left'} written written' wf wf' all right is =
-    ended-bytes commands.FromJson answer status bytes left' written written' wf wf' all.parts all.end all.no_fault
-    all.short right is
+    ended-bytes commands.FromJson bytes left' written written' wf wf' all.parts all.end all.no_fault all.short answer
+    status right is

@@ -3,5 +3,4 @@ mod Passing
 mod Ending
 mod OneText
 mod Words
-mod Playing
 mod Replaying

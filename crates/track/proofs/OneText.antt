@@ -1,20 +1,18 @@
 -- Bytes have one text, and what ends without a fault is whole.
-use Rattle.std.proofs.Common.{◌≡◌, ◌⊎◌, inl, inr, ℕ, true, false, List, Option, Some, Result, Ok, Err, refl, sym, subst, ◌∙◌, arith}
-use Rattle.std.specs.Prelude.{IfSome}
+use Rattle.std.proofs.Common.{◌≡◌, ◌⊎◌, inl, inr, ℕ, true, false, List, Some, Result, Ok, Err, refl, sym, subst, ◌∙◌, arith}
 use Rattle.outside.specs.Calls.{HasFaulted}
 use Rattle.net_reader.specs.declared.fault.InputFault.{InputFault}
 use Rattle.input_text.specs.Listing.{ListingValue, listing_text}
 use Rattle.json_form.specs.Laws.{NotRefused, OneCause, OneListing}
 use Rattle.net_reader.specs.Input.{Contents, IsInput}
 use Rattle.net_reader.specs.Laws.{TextSaysOne}
-use Rattle.report_check.specs.Cuts.{input_part, report_part}
-use Rattle.report_text.specs.ReportText.{report_of}
+use Rattle.report_check.specs.Cuts.{input_part}
 use Rattle.word_line.specs.declared.command.Command.{Command}
 use Rattle.word_line.specs.declared.command.Command.TheVariants as commands
 use Rattle.track.specs.declared.status.Status.{Status}
 use Rattle.track.specs.declared.status.Status.TheVariants as statuses
-use Rattle.track.specs.Results.{IsInputText, IsJsonAnswer, IsJudged, IsMade, IsMadeBy, SaysByJson, IsRightAnswer, IsRightVerdict, IsResult, IsRunReport, IsText, SaysInput, in_order, is_served, outcome_for, verdict_for, verdict_status, whole_status}
-use Rattle.track.specs.Ends.{EndsAs, EndsDone, IsLong, IsShort, IsTextWritten, Streams}
+use Rattle.track.specs.Results.{IsInputText, IsJsonAnswer, IsJudged, IsMade, IsMadeBy, SaysByJson, IsRightAnswer, IsRightVerdict, IsResult, IsText, SaysInput, in_order, is_served, whole_status}
+use Rattle.track.specs.Ends.{EndsAs, EndsDone, IsLong, IsShort, Streams}
 use Rattle.track.specs.Laws.{BytesHaveOneText, IsCompleteAlone, RunsAreReplayed}
 
 same_result : (command : Command) (contents : Contents) (one other : List ℕ) → is_served false command ≡ true
@@ -92,33 +90,12 @@ one_text says json commands.FromJson bytes s t one other served p q = one_json s
 one_text says json command bytes s t one other served p q =
     one_input_text says served p q
 
-of_some : (P : List ℕ → Type 0) {o : Option (List ℕ)} {bytes : List ℕ} → o ≡ Some bytes → IfSome o P → P bytes
-of_some P e h = subst (λ (x : Option (List ℕ)). IfSome x P) e h
-
-done_input : (command : Command) (input : Result Contents InputFault) {contents : Contents} (status : Status)
-    (text : List ℕ) → input ≡ Ok contents → IsRightAnswer command input status text → status ≡ statuses.Done
-done_input command (Ok other) status text e h = h.0
-done_input command (Err fault) status text e h = cc
-
-judged_input : (report : List ℕ) (input : Result Contents InputFault) {contents : Contents} (status : Status)
-    (text : List ℕ) → input ≡ Ok contents → IsRightVerdict report input status text
-    → status ≡ verdict_status (verdict_for contents report)
-judged_input report (Ok other) {contents} status text e h =
-    let same : other ≡ contents = cc in rw same at h.0
-judged_input report (Err fault) status text e h = cc
-
-made_input : (made : List ℕ) (input : Result Contents InputFault) {contents : Contents} (status : Status)
-    (text : List ℕ) → input ≡ Ok contents → IsMade made input status text → status ≡ statuses.Done
-made_input made (Ok other) status text e h = h.0
-made_input made (Err fault) status text e h = cc
-
 remade_input : TextSaysOne → JsonIsOne → {bytes : List ℕ} (status : Status) (text : List ℕ) {contents : Contents}
     → IsJsonAnswer bytes status text → SaysByJson bytes contents → status ≡ statuses.Done
 remade_input says json {bytes} status text {contents} (inl h) input =
     let same = json.listing bytes input.listing h.listing input.listed h.listed in
-    made_input (listing_text h.listing) h.made.input status text
-    (says (listing_text h.listing) h.made.input (Ok contents) h.made.says
-    (subst (λ (l : ListingValue). IsInput (listing_text l) (Ok contents)) same input.says)) h.made.answer
+    (rw (says (listing_text h.listing) h.made.input (Ok contents) h.made.says
+    (subst (λ (l : ListingValue). IsInput (listing_text l) (Ok contents)) same input.says)) at h.made.answer).0
 remade_input says json {bytes} status text (inr (inl h)) input =
     absurd ((json.right bytes input.listing input.listed).1 h.0)
 remade_input says json {bytes} status text (inr (inr h)) input =
@@ -130,19 +107,18 @@ status_is : TextSaysOne → JsonIsOne → (command : Command) (bytes : List ℕ)
     → IsText command bytes status text → SaysInput command bytes contents
     → status ≡ whole_status command bytes contents
 status_is says json commands.Check bytes status text contents right input =
-    judged_input (report_part bytes) right.input status text
-    (says (input_part bytes) right.input (Ok contents) right.says input) right.answer
+    (rw (says (input_part bytes) right.input (Ok contents) right.says input) at right.answer).0
 status_is says json commands.FromJson bytes status text contents right input =
     remade_input says json status text right input
 status_is says json command bytes status text contents right input =
-    done_input command right.input status text (says bytes right.input (Ok contents) right.says input) right.answer
+    (rw (says bytes right.input (Ok contents) right.says input) at right.answer).0
 
 -- what was written whole has that status
 whole_is : TextSaysOne → JsonIsOne → (command : Command) (status : Status) (before now : Streams) {bytes : List ℕ}
     (contents : Contents) → EndsDone command status before now → before.left ≡ Some bytes
     → SaysInput command bytes contents → status ≡ whole_status command bytes contents
 whole_is says json command status before now {bytes} contents h left input =
-    let written = of_some (λ bytes. IsTextWritten command status bytes before.written now.written) left h.0 in
+    let written = rw left at h.0 in
     status_is says json command bytes status written.text contents written.right input
 
 -- the bytes of a command aren't both too many and not too many
@@ -162,7 +138,7 @@ is_complete says json command statuses.OutOfMemory before now bytes contents h l
 is_complete says json command statuses.ReadFailed before now bytes contents h left short input r w = absurd (r h.1.0)
 is_complete says json command statuses.WriteFailed before now bytes contents h left short input r w = absurd (w h.0.0)
 is_complete says json command statuses.TooLong before now bytes contents h left short input r w =
-    absurd (short_or_long command bytes short (of_some (λ bytes. IsLong command bytes) left h.2))
+    absurd (short_or_long command bytes short (rw left at h.2))
 is_complete says json command status before now bytes contents h left short input r w =
     inl (whole_is says json command status before now contents h left input)
 
@@ -172,30 +148,13 @@ is_complete_alone text statuses.OutOfMemory before now h w = inr refl
 is_complete_alone text statuses.WriteFailed before now h w = absurd (w h.0.0)
 is_complete_alone text status before now h w = absurd h
 
--- the right answer to a run of an input is a report of one order
-run_report : (input : Result Contents InputFault) {contents : Contents} (status : Status) (text : List ℕ)
-    → input ≡ Ok contents → IsRightAnswer commands.Run input status text → IsRunReport contents text
-run_report (Ok other) {contents} status text e h =
-    let same : other ≡ contents = cc in rw same at h.1
-run_report (Err fault) status text e h = cc
-
--- and to a replay of it that of its own order
-replay_report : (input : Result Contents InputFault) {contents : Contents} (status : Status) (text : List ℕ)
-    → input ≡ Ok contents → IsRightAnswer commands.Replay input status text → text ≡ report_of (outcome_for contents)
-replay_report (Ok other) {contents} status text e h =
-    let same : other ≡ contents = cc in
-    subst (λ (c : Contents). text ≡ report_of (outcome_for c)) same h.1.over.text_is
-replay_report (Err fault) status text e h = cc
-
 pub replayed : TextSaysOne → RunsAreReplayed
 replayed says bytes contents status text input right =
-    let run = run_report right.input status text (says bytes right.input (Ok contents) right.says input)
-    right.answer in (
+    let run = (rw (says bytes right.input (Ok contents) right.says input) at right.answer).1 in (
       run.order,
       run.report.over.text_is,
       run.printed,
       λ others other again same answer.
-          replay_report answer.input other again (says others answer.input (Ok (in_order contents run.order))
-          answer.says same) answer.answer
-          ∙ sym run.report.over.text_is,
+          (rw (says others answer.input (Ok (in_order contents run.order)) answer.says same) at
+          answer.answer).1.over.text_is ∙ sym run.report.over.text_is,
     )

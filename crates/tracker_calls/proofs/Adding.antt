@@ -78,14 +78,14 @@ nodes-more : (setting : Setting) (actor : ℕ) (begun pass new : History) (turns
     → own_nodes setting actor pass ≡ own_nodes setting actor begun ++ map (λ t. t.node) turns
     → one.node ≡ act_node setting visit.act
     → own_nodes setting actor new ≡ own_nodes setting actor begun ++ map (λ t. t.node) (turns ++ one ∷ [])
-nodes-more setting actor begun pass new turns one visit more nodes at =
-    let its : List ℕ = map (λ t. t.node) turns in
-    ap (map (λ (v : Visit). act_node setting v.act)) more
-    ∙ (map-append (λ (v : Visit). act_node setting v.act) (own actor pass) (visit ∷ [])
-    ∙ (ap (λ l. l ++ act_node setting visit.act ∷ []) nodes
-    ∙ (append_assoc (own_nodes setting actor begun) its (act_node setting visit.act ∷ [])
-    ∙ (ap (λ n. own_nodes setting actor begun ++ (its ++ n ∷ [])) (sym at)
-    ∙ ap (λ l. own_nodes setting actor begun ++ l) (sym (map-append (λ (t : VisitTurns). t.node) turns (one ∷ [])))))))
+nodes-more setting actor begun pass new turns one visit more nodes at = rw (
+  more,
+  map-append (λ (v : Visit). act_node setting v.act) (own actor pass) (visit ∷ []),
+  map-append (λ (t : VisitTurns). t.node) turns (one ∷ []),
+  nodes,
+  at,
+  append_assoc,
+) refl
 
 -- one visit more, after turns that were lost at its node
 pub added-more : BeginsWithFront → BeginsThrough → {setup : Setup} {begun pass tried new : PassData} {made : List ℕ}
@@ -126,12 +126,7 @@ added-more longer through {setup} {begun} {pass} {tried} {new} {made} {act} {tic
         append-nil (turns_taken actor turns),
       ) (logged-more begun pass new taken (turns_taken actor turns) added.logged
           (rw (← added.same.actor) (logged-visit told lost visited)));
-      same = record {
-        table = visited.same.table ∙ (ap (λ (q : PassData). q.table) lost.is ∙ added.same.table);
-        seat = visited.same.seat ∙ (ap (λ (q : PassData). q.seat) lost.is ∙ added.same.seat);
-        setup = visited.same.setup ∙ (ap (λ (q : PassData). q.view.setup) lost.is ∙ added.same.setup);
-        actor = visited.same.actor ∙ (ap actor_of lost.is ∙ added.same.actor);
-      };
+      same = search arith;
     }
 
 -- no turn is lost; and one more
@@ -176,5 +171,4 @@ tried-again {node} {begun} {pass} {new} {held} tried lost =
 -- the last of some tickets and one more
 pub last-push : (made : List ℕ) (ticket : ℕ) → last_of (made ++ ticket ∷ []) ≡ ticket
 last-push made ticket =
-    let at : length made ≡ length (made ++ ticket ∷ []) - 1 = omega (arith, length-append made (ticket ∷ [])) in
-    get_or_push made ticket 0 (length (made ++ ticket ∷ []) - 1) at
+    get_or_push made ticket 0 (length (made ++ ticket ∷ []) - 1) (omega (arith, length-append made (ticket ∷ [])))

@@ -1,5 +1,5 @@
 -- Histories that begin with others: their visits and the numbers that they tell.
-use Rattle.std.proofs.Common.{◌≡◌, ℕ, zero, suc, ◌≤◌, [], ◌∷◌, ◌++◌, Some, length, take, drop, refl, sym, ap, ◌∙◌, subst, arith, length-append}
+use Rattle.std.proofs.Common.{◌≡◌, ℕ, ◌≤◌, [], ◌∷◌, ◌++◌, Some, length, take, drop, sym, ap, ◌∙◌, arith, length-append}
 use Rattle.std.specs.Prelude.{slice_get}
 use Rattle.std.proofs.lemmas.List.{take-take}
 use Rattle.entry_word.specs.declared.visit.Visit.{Visit}
@@ -7,27 +7,20 @@ use Rattle.directory.specs.Histories.{History, IsFront, before}
 use Rattle.directory.specs.Standing.{commits, number}
 use Rattle.station.specs.TicketLaws.{front-rest}
 use Rattle.directory.specs.HistoryLaws.{commits-append}
+use Rattle.directory.specs.ListLaws.{slice_get-left, slice_get-right}
 
 -- a visit of a front is one of the whole, and what is before it is the same
-take-get : (n t : ℕ) (zs : History) {v : Visit} → slice_get (take n zs) t ≡ Some v → slice_get zs t ≡ Some v
-take-get zero t [] h = cc
-take-get zero t (z ∷ zs) h = cc
-take-get (suc n) t [] h = cc
-take-get (suc n) zero (z ∷ zs) h = h
-take-get (suc n) (suc t) (z ∷ zs) h = take-get n t zs h
-
 pub front-get : (t : ℕ) (xs zs : History) {v : Visit} → IsFront xs zs → slice_get xs t ≡ Some v
     → slice_get zs t ≡ Some v
 front-get t xs zs {v} front h =
-    take-get (length xs) t zs (subst (λ (l : History). slice_get l t ≡ Some v) front h)
+    rw (front-rest xs zs front) (slice_get-left xs (drop (length xs) zs) t v h)
 
 pub front-before : (t : ℕ) (xs zs : History) → IsFront xs zs → t ≤ length xs → before t xs ≡ before t zs
 front-before t xs zs front low = ap (take t) front ∙ take-take t (length xs) zs low
 
 -- the last visit of a history
 pub get-last : (xs : History) (v : Visit) → slice_get (xs ++ v ∷ []) (length xs) ≡ Some v
-get-last [] v = refl
-get-last (x ∷ xs) v = get-last xs v
+get-last xs v = slice_get-right xs (v ∷ []) (length xs) 0 (omega arith)
 
 pub number-front : (sub t : ℕ) (xs zs : History) → IsFront xs zs → length xs ≤ t
     → number sub xs ≤ number sub (before t zs)

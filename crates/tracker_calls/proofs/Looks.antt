@@ -21,8 +21,7 @@ pub looks-more : (setting : Setting) (seen more : History) (actor : ℕ) (call :
 unfolding AreLooks
 looks-more setting seen more actor call {key} ticket front late is_look [] earliest pursuit low looks wanted = (
   (omega (arith, low, late), (key, wanted, is_look, tt)),
-  pursuit-step setting more actor call pursuit ticket key []
-      is_look,
+  pursuit-step setting more actor call pursuit ticket key [] is_look,
 )
 looks-more setting seen more actor call {key} ticket front late is_look (u ∷ made) earliest pursuit low
     (first, (k, is_wanted, its_look, rest)) wanted =
@@ -33,15 +32,7 @@ looks-more setting seen more actor call {key} ticket front late is_look (u ∷ m
     let step = pursuit-step setting seen actor call pursuit u k made its_look in
     let deep = looks-more setting seen more actor call ticket front late is_look made (suc u) next
     (omega (arith, inside)) rest (subst (λ s. key_of call s ≡ Some key) step wanted) in (
-      (
-        first,
-        (
-          k,
-          is_wanted,
-          there,
-          rw (← same) deep.0,
-        ),
-      ),
+      (first, (k, is_wanted, there, rw (← same) deep.0)),
       pursuit-step setting more actor call pursuit u k (made ++ ticket ∷ []) there
           ∙ (ap (λ h. pursuit_after setting more call (after_word setting call pursuit (cell setting h k))
           (made ++ ticket ∷ [])) (sym same)

@@ -1,5 +1,5 @@
 -- A whole move over the tracker, put by put.
-use Rattle.std.proofs.Common.{◌≡◌, ℕ, suc, ◌+◌, ◌≤◌, Bool, true, false, not, List, [], ◌∷◌, ◌++◌, Option, Some, None, length, map, take, refl, sym, ap, ◌∙◌, subst, arith, append_assoc, length-append}
+use Rattle.std.proofs.Common.{◌≡◌, ℕ, suc, ◌+◌, ◌≤◌, true, false, not, List, [], ◌∷◌, ◌++◌, Option, Some, None, length, map, take, refl, sym, ap, ◌∙◌, subst, arith, append_assoc, length-append}
 use Rattle.std.specs.Prelude.{option_map}
 use Rattle.std.specs.Option.{is_some}
 use Rattle.std.proofs.lemmas.List.{append-nil, append_cancel_left, length-map, take_all}
@@ -46,21 +46,13 @@ pub due-means : (setting : Setting) (handset : HandsetData)
 due-means setting handset =
     mapped (visit_of handset.sub) (due_at setting handset handset.stage) ∙ due-rests setting handset handset.stage
 
-flip : (b : Bool) {c : Bool} → c ≡ not b → c ≡ false → b ≡ true
-flip true e f = refl
-flip false e f = cc
-
-flop : (b : Bool) {c : Bool} → c ≡ not b → c ≡ true → b ≡ false
-flop false e f = refl
-flop true e f = cc
-
 pub none-rests : (setting : Setting) (handset : HandsetData) → is_some (due setting handset) ≡ false
     → is_rest handset.stage ≡ true
-none-rests setting handset none = flip (is_rest handset.stage) (due-means setting handset) none
+none-rests setting handset none = grind (arith, due-means setting handset)
 
 pub some-busy : (setting : Setting) (handset : HandsetData) → is_some (due setting handset) ≡ true
     → is_rest handset.stage ≡ false
-some-busy setting handset some = flop (is_rest handset.stage) (due-means setting handset) some
+some-busy setting handset some = grind (arith, due-means setting handset)
 
 -- the actor of the visit that is due
 due-actor : (sub : ℕ) (o : Option Write) {visit : Visit} → option_map (visit_of sub) o ≡ Some visit → visit.actor ≡ sub
@@ -157,29 +149,17 @@ put-begun short {setup} {pass} {handset} {begun} {to} same its may is goes stand
 pub put-tried : {setup : Setup} {begun : PassData} {from : HandsetData} {to : ℕ} {made : List ℕ} {node : ℕ}
     {pass tried : PassData} {handset : HandsetData} → HasTried node pass tried
     → HasPut setup begun from to made pass handset → HasPut setup begun from to made tried handset
-put-tried {setup} {begun} {from} {to} {made} {handset} lost at =
+put-tried lost at =
     rw lost.is (record {
       steps = at.steps;
       stood = at.stood;
       all = at.all;
-      same = record {
-        table = at.same.table;
-        seat = at.same.seat;
-        setup = at.same.setup;
-        actor = at.same.actor;
-      };
+      same = assumption;
       put = at.put;
       count = at.count;
       visits_are = at.visits_are;
       puts = at.puts;
-      its = record {
-        goes = at.its.goes;
-        sub = at.its.sub;
-        steps = at.its.steps;
-        script = at.its.script;
-        stands = at.its.stands;
-        made = at.its.made;
-      };
+      its = search;
       steps_are = at.steps_are;
       after = at.after;
       room = at.room;
@@ -210,12 +190,7 @@ put-more {setup} {begun} {from} {to} {made} {pass} {new} {handset} {ticket} at s
       steps = at.steps;
       stood = at.stood;
       all = at.all;
-      same = record {
-        table = visited.same.table ∙ at.same.table;
-        seat = visited.same.seat ∙ at.same.seat;
-        setup = visited.same.setup ∙ at.same.setup;
-        actor = still;
-      };
+      same = search arith;
       put = at.put ++ visit ∷ [];
       count = omega (arith, at.count, one, length-append at.put (visit ∷ []));
       visits_are = subst (λ a. own a new.view.seen ≡ own a pass.view.seen ++ visit ∷ []) mine more

@@ -38,26 +38,7 @@ on-due : (setup : Setup) {plan : PlanData} (handset : HandsetData) {visit : Visi
 on-due setup handset P same next holds =
     subst (λ (o : Option Visit). IfSome o P) next (rw (← same) holds)
 
-pub stepped : (setup : Setup) (plan : PlanData) (old new : PassData) (handset moved : HandsetData) (ticket : ℕ)
-    → plan ≡ setup.plan → ((visit : Visit) × (due (setting_in setup) handset ≡ Some visit)) → 1 ≤ old.spare
-    → IfSome (due (setting_of plan []) handset) (λ visit. HasVisited old visit.act ticket new)
-    → moved ≡ after_write (setting_of plan []) handset handset.stage → IsHandsetOf setup new.view moved
-    → IfSome (due (setting_of plan []) handset) (λ visit. (own : IsHandsetOf setup old.view handset)
-    → HandsetGoesOn setup old.view new.view moved own.steps visit)
-    → HasStepped setup old handset ticket new moved
-stepped setup plan old new handset moved ticket same next room visited made own goes_on =
-    record {
-      visit = next.0;
-      next = next.1;
-      room = room;
-      visited = on-due setup handset (λ visit. HasVisited old visit.act ticket new) same next.1 visited;
-      made = made ∙ ap (λ p. after_write (setting_of p []) handset handset.stage) same;
-      own = own;
-      goes_on = on-due setup handset (λ visit. (own : IsHandsetOf setup old.view handset)
-          → HandsetGoesOn setup old.view new.view moved own.steps visit) same next.1 goes_on;
-    }
-
--- the same, behind turns that were lost at its node
+-- a step, behind turns that were lost at its node
 pub stepped-tried : {setup : Setup} {plan : PlanData} {begun old : PassData} (new : PassData) (handset : HandsetData)
     {moved : HandsetData} (ticket : ℕ) → plan ≡ setup.plan
     → ((visit : Visit) × (due (setting_in setup) handset ≡ Some visit) × HasTried
@@ -68,9 +49,19 @@ pub stepped-tried : {setup : Setup} {plan : PlanData} {begun old : PassData} (ne
     → HandsetGoesOn setup old.view new.view moved own.steps visit)
     → (its : HasStepped setup old handset ticket new moved) × HasTried (act_node (setting_in setup) its.visit.act) begun
     old
-unfolding stepped
-stepped-tried {setup} {plan} {old} new handset {moved} ticket same at room visited made own goes_on =
-    (stepped setup plan old new handset moved ticket same (at.0, at.1) room visited made own goes_on, at.2)
+stepped-tried {setup} {old} new handset {moved} ticket same at room visited made own goes_on = (
+  record {
+    visit = at.0;
+    next = at.1;
+    room = room;
+    visited = on-due setup handset (λ visit. HasVisited old visit.act ticket new) same at.1 visited;
+    made = made ∙ ap (λ p. after_write (setting_of p []) handset handset.stage) same;
+    own = own;
+    goes_on = on-due setup handset (λ visit. (own : IsHandsetOf setup old.view handset)
+        → HandsetGoesOn setup old.view new.view moved own.steps visit) same at.1 goes_on;
+  },
+  at.2,
+)
 
 -- the turn at the node of the next put is lost once more
 pub tried-put : (setup : Setup) {plan : PlanData} {begun pass : PassData} (new : PassData) (handset : HandsetData)
@@ -85,12 +76,4 @@ tried-put setup {pass} new handset held {visit} same next tried lost =
 -- turns that are lost leave a handset with its pass
 pub own-tried : {setup : Setup} {node : ℕ} {begun tried : PassData} {handset : HandsetData} → HasTried node begun tried
     → IsHandsetOf setup begun.view handset → IsHandsetOf setup tried.view handset
-own-tried {setup} {handset} lost its =
-    rw lost.is (record {
-      goes = its.goes;
-      sub = its.sub;
-      steps = its.steps;
-      script = its.script;
-      stands = its.stands;
-      made = its.made;
-    })
+own-tried lost its = rw lost.is (search)

@@ -1,13 +1,13 @@
 -- Where a handset is in its move: until the commit its stage tells how many puts are made.
-use Rattle.std.proofs.Common.{◌≡◌, ℕ, suc, ◌-◌, ◌<◌, ◌≤◌, ◌==◌, Bool, true, false, true≢false, List, [], ◌∷◌, ◌++◌, Option, Some, None, length, refl, sym, ap, ◌∙◌, arith, length-append}
-use Rattle.std.specs.Prelude.{nat_lt, slice_index, if◌then◌else◌}
+use Rattle.std.proofs.Common.{◌≡◌, ℕ, suc, ◌-◌, ◌<◌, ◌≤◌, Bool, true, false, true≢false, List, [], ◌∷◌, ◌++◌, Option, Some, None, length, refl, sym, ap, ◌∙◌, arith, length-append}
+use Rattle.std.specs.Prelude.{slice_index, if◌then◌else◌}
 use Rattle.std.proofs.lemmas.List.{get_or_append_left, get_or_push}
-use Rattle.std.proofs.lemmas.Bool.{ltb-false}
+use Rattle.std.proofs.lemmas.Bool.Decides.{nat_tests}
 use Rattle.directory.specs.Courses.{Move}
 use Rattle.directory.specs.Settings.{Setting}
 use Rattle.handset.specs.Beginning.{begin_move, is_rest, journey_to}
 use Rattle.handset.specs.Condition.{HandsetData, IsMoveStage}
-use Rattle.handset.specs.StepWrites.{after_write, erasing_at, first_with, go_on, is_behind, is_old, purging_at, purging_from}
+use Rattle.handset.specs.StepWrites.{after_write, erasing_at, first_with, go_on, is_behind, is_old, purging_at}
 use Rattle.handset.specs.declared.stage.Stage.{Stage}
 use Rattle.handset.specs.declared.stage.Stage.TheVariants.{Resting, Coming, Renewing, Committing, Confirming, Erasing, Purging, Switching}
 use Rattle.tracker_calls.specs.WholeMoves.{commit_place}
@@ -43,16 +43,9 @@ late-purging : (o : Option ℕ) → is_early (purging_at o) ≡ false
 late-purging None = refl
 late-purging (Some node) = refl
 
-late-either : (b : Bool) (one other : Stage) → is_early one ≡ false → is_early other ≡ false
-    → is_early (if b then one else other) ≡ false
-late-either true one other f g = f
-late-either false one other f g = g
-
 late-erasing : (setting : Setting) (handset : HandsetData) (o : Option ℕ)
     → is_early (erasing_at setting handset o) ≡ false
-late-erasing setting handset None =
-    late-either (handset.last.renewed == setting.top) (purging_from setting handset 0) Resting
-    (late-purging (first_with (is_behind handset) 0 (setting.nodes - 0))) refl
+late-erasing setting handset None = grind (arith, late-purging (first_with (is_behind handset) 0 (setting.nodes - 0)))
 late-erasing setting handset (Some level) = refl
 
 -- behind the commit, what a put leaves of it
@@ -61,10 +54,8 @@ Stays old new = (new.last ≡ old.last) × (new.number ≡ old.number) × (is_ea
 
 stays-on : (setting : Setting) (handset : HandsetData) (stage : Stage) → is_early stage ≡ false
     → Stays handset (go_on setting handset stage)
-stays-on setting handset Coming late = cc
-stays-on setting handset (Renewing level) late = cc
-stays-on setting handset Committing late = cc
-stays-on setting handset stage late = (refl, refl, refl)
+stays-on setting handset Resting late = (refl, refl, refl)
+stays-on setting handset stage late = grind arith
 
 late-timed : {move : Move} (number : ℕ) (handset after : HandsetData) (made : List ℕ) (commit ticket : ℕ)
     → handset.last ≡ move → IsLate move number handset made commit → Stays handset after
@@ -95,47 +86,12 @@ timed-by : (setting : Setting) (nodes : ℕ) {move : Move} {number : ℕ} (hands
     (if is_early stage then ticket else commit)
 timed-by setting nodes handset made commit ticket next last Resting within busy early late = cc
 timed-by setting nodes handset made commit ticket next last Coming within busy early late =
-    record {
-      last = last;
-      early = λ e. (omega (arith, (early refl).0, length-append made (ticket ∷ [])), (early refl).1);
-      late = λ e. cc;
-    }
+    grind (arith, early refl, length-append made (ticket ∷ []))
 timed-by setting nodes {move} {number} handset made commit ticket next last (Renewing level) within busy early late =
-    renewed (nat_lt level handset.last.renewed) refl
-  where
-    renewed : (b : Bool) → nat_lt level handset.last.renewed ≡ b
-        → IsTimed move number (record handset { stage = if b then Renewing (suc level) else Committing })
-        (made ++ ticket ∷ []) ticket
-    renewed true e = record {
-      last = last;
-      early = λ _. (omega (arith, (early refl).0, length-append made (ticket ∷ [])), (early refl).1);
-      late = λ f. cc;
-    }
-    renewed false e = record {
-      last = last;
-      early = λ _. (
-        omega (
-          arith,
-          (early refl).0,
-          length-append made (ticket ∷ []),
-          within,
-          ltb-false level handset.last.renewed e,
-          ap (λ (m : Move). m.renewed) last,
-        ),
-        (early refl).1,
-      );
-      late = λ f. cc;
-    }
+    grind (arith, nat_tests, early refl, length-append made (ticket ∷ []), ap (λ (m : Move). m.renewed) last)
 timed-by setting nodes {move} handset made commit ticket next last Committing within busy early late =
-    record {
-      last = last;
-      early = λ e. cc;
-      late = λ e. (
-        sym (get_or_push made ticket 0 (commit_place move) (early refl).0),
-        omega (arith, (early refl).0, length-append made (ticket ∷ [])),
-        ap (λ (m : Move). m.number) last ∙ next,
-      );
-    }
+    let at = get_or_push made ticket 0 (commit_place move) (early refl).0 in
+    grind (arith, early refl, length-append made (ticket ∷ []), ap (λ (m : Move). m.number) last)
 timed-by setting nodes {number} handset made commit ticket next last Confirming within busy early late =
     late-timed number handset _ made commit ticket last (late refl)
     (stays-on setting handset _ (late-erasing setting handset
@@ -179,8 +135,7 @@ timed-next setting nodes {move} {number} {handset} {made} {commit} ticket next w
 
     low : (commit : ℕ) → IsTimed move number after (made ++ ticket ∷ []) commit → (b : Bool)
         → is_early after.stage ≡ b → after.number ≤ suc number
-    low commit t true e = omega (arith, (t.early e).1)
-    low commit t false e = omega (arith, (t.late e).2)
+    low commit t b e = grind (arith, t.early, t.late)
 
     go : (b : Bool) → is_early handset.stage ≡ b → (commits : Bool)
         → after.number ≡ (if commits then suc handset.number else handset.number)

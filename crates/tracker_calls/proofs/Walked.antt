@@ -1,5 +1,5 @@
 -- How far a walk over the tracker has come.
-use Rattle.std.proofs.Common.{◌≡◌, ℕ, ◌<◌, ◌≤◌, List, [], ◌∷◌, ◌++◌, Option, Some, None, length, refl, sym, ap, ◌∙◌, subst, arith}
+use Rattle.std.proofs.Common.{◌≡◌, ℕ, ◌<◌, ◌≤◌, List, [], ◌∷◌, ◌++◌, Some, None, length, refl, sym, ap, ◌∙◌, subst, arith}
 use Rattle.std.specs.Prelude.{flat_map, slice_get}
 use Rattle.std.proofs.lemmas.List.{length-take}
 use Rattle.entry_word.specs.declared.visit.Key.{Key}
@@ -31,6 +31,7 @@ use Rattle.tracker_calls.proofs.Longer.{get-last}
 use Rattle.tracker_calls.proofs.Looks.{looks-more}
 use Rattle.tracker_calls.proofs.Stepping.{own-tried}
 use Rattle.tracker_calls.proofs.Rightly.{looked-once, tells-rightly}
+use Rattle.directory.specs.ListLaws.{same_some}
 use Rattle.directory.specs.Statements.{LooksFall, BeginsWithItself, BeginsWithFront, BeginsThrough}
 
 -- the looks so far, the walk that stands for their words, and room for all that are left
@@ -62,24 +63,14 @@ pub tried-look : {setup : Setup} {begun pass new : PassData} {first walk moved :
 tried-look {setup} {pass} {new} {first} {held} {key} wanted same tried on =
     let its : key_of (call_of first) (pursuit_of setup.plan first) ≡ Some on.key =
     rw (← same) on.wanted in
-    tried-again tried (rw (one-key on.key key (sym its ∙ wanted)) at on.lost)
-  where
-    one-key : (one two : Key) → ◌≡◌ {A = Option Key} (Some one) (Some two) → one ≡ two
-    one-key one two e = cc
+    tried-again tried (rw (same_some (sym its ∙ wanted)) at on.lost)
 
 -- and the walk may still go on
 pub walk-held : {tracker : TrackerData} {plan : PlanData} {distances : DistanceTable} {pass new : PassData}
     {walk moved : WalkData} {held : Held} → MayWalkOn tracker plan distances pass walk
     → HasLostLook tracker.setup pass walk held new moved → MayWalkOn tracker plan distances new moved
 walk-held {tracker} {plan} {distances} {new} {walk} way on =
-    rw (on.same, on.lost.turn) (record {
-      of = record { table = way.of.table; setup = way.of.setup };
-      plan_is = way.plan_is;
-      belongs = way.belongs;
-      outside = way.outside;
-      goes = way.goes;
-      known = way.known;
-    })
+    rw (on.same, on.lost.turn) assumption
 
 no-looks : (setting : Setting) (history : History) (actor : ℕ) (call : FindCall)
     → AreLooks setting history actor call 0 at_origin []

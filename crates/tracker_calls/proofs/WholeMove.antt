@@ -68,8 +68,7 @@ number-next {setup} {old} {new} {handset} {moved} stepped its =
 
     counted : (o : Option Commit) → moved.number ≡ handset.number + length (cons_option o [])
         → moved.number ≡ (if is_some o then suc handset.number else handset.number)
-    counted None e = omega (arith, e)
-    counted (Some commit) e = omega (arith, e)
+    counted o e = grind arith
 
 -- a put, with the ticket of the commit
 timed-step : {setup : Setup} {begun : PassData} {from : HandsetData} {to commit : ℕ} {made : List ℕ}
@@ -141,29 +140,14 @@ moving-out {setup} {begun} {handset} moving none =
     let put = moving.put in
     let rests = none-rests (setting_in setup) handset (ap is_some none) in
     let all = put-all put rests in
-    record {
-      steps = put.steps;
-      stood = put.stood;
-      made = moving.made;
-      added = moving.added;
-      count = sym put.count ∙ ap length all;
-      visits = put.visits_are ∙ ap (λ l. own (actor_of begun) begun.view.seen ++ l) all;
-      after_is = put.after;
-      rest = none;
-      its = put.its;
-      steps_are = put.steps_are;
-      number = moving.number;
-      first = moving.first;
-      commit = (moving.timed.late (ap is_early (rest-means handset.stage rests))).0;
-      last = moving.last;
-    }
+    let count = sym put.count ∙ ap length all in
+    let visits = put.visits_are ∙ ap (λ l. own (actor_of begun) begun.view.seen ++ l) all in
+    let commit = (moving.timed.late (ap is_early (rest-means handset.stage rests))).0 in
+    search
 
 -- nothing is due where the code reads no next put
 pub none-due : (setup : Setup) {plan : PlanData} (handset : HandsetData) {next : Option Visit} → plan ≡ setup.plan
     → next ≡ due (setting_of plan []) handset → is_some next ≡ false → due (setting_in setup) handset ≡ None
 none-due setup handset {next} same is none =
-    subst (λ p. due (setting_of p []) handset ≡ None) same (sym is ∙ nothing next none)
-  where
-    nothing : (o : Option Visit) → is_some o ≡ false → o ≡ None
-    nothing None e = refl
-    nothing (Some visit) e = cc
+    let nothing : next ≡ None = grind arith in
+    subst (λ p. due (setting_of p []) handset ≡ None) same (sym is ∙ nothing)

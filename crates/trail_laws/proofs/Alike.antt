@@ -1,16 +1,16 @@
 -- What isn't a visit of a move changes nothing that leads a find: a switch turns a Here into an Off, or back, where the
 -- subscriber rests.
-use Rattle.std.proofs.Common.{inl, inr, ◌≡◌, ℕ, zero, suc, ◌<◌, ◌≤◌, ◌^◌, Bool, true, false, cond, not, ◌==◌, ◌&&◌, ◌||◌, List, [], ◌∷◌, ◌++◌, Option, Some, None, length, map, take, fold, refl, sym, ap, ◌∙◌, subst, arith}
+use Rattle.std.proofs.Common.{inl, inr, ◌≡◌, ℕ, zero, suc, ◌≤◌, ◌^◌, Bool, true, false, not, ◌==◌, ◌&&◌, ◌||◌, List, [], ◌∷◌, ◌++◌, Option, Some, None, length, map, take, fold, refl, sym, ap, ◌∙◌, subst, arith}
 use Rattle.std.proofs.lemmas.Bool.{cases_Bool, cond_both, and_parts, eqb-true, eq-eqb}
 use Rattle.std.proofs.Math.Bool.{and-false}
-use Rattle.std.specs.Prelude.{filter_map, slice_get}
+use Rattle.std.specs.Prelude.{slice_get}
 use Rattle.std.specs.List.{cons_option}
-use Rattle.std.proofs.lemmas.List.{append-nil, length-map, take_all}
+use Rattle.std.proofs.lemmas.List.{append-nil}
 use Rattle.std.proofs.lemmas.List.Sums.{fold-append}
 use Rattle.entry_word.specs.Marks.{mark_in, says_here, says_off}
 use Rattle.entry_word.specs.Addresses.{address_in}
 use Rattle.entry_word.specs.declared.mark.PresenceMark.{PresenceMark}
-use Rattle.entry_word.specs.declared.mark.PresenceMark.TheVariants.{Empty, Here, Off}
+use Rattle.entry_word.specs.declared.mark.PresenceMark.TheVariants.{Here, Off}
 use Rattle.entry_word.specs.declared.visit.Key.{Key}
 use Rattle.entry_word.specs.declared.visit.Key.TheVariants.{Presence, Entry}
 use Rattle.entry_word.specs.declared.visit.Act.{Act}
@@ -23,24 +23,21 @@ use Rattle.directory.specs.Writes.{visit_of, visits, writes, step_writes, mark_a
 use Rattle.directory.specs.Puts.{course_in, ends_off, is_of_move, mark_put, mark_step, node_put, steps_from, steps_in}
 use Rattle.directory.specs.Legal.{ArePuts, IsLegal}
 use Rattle.directory.specs.Standing.{Commit, commit_of, commits, number, standing}
-use Rattle.directory.specs.States.{mark_left, writes_made}
 use Rattle.directory.specs.Parts.{known_after, lead}
 use Rattle.directory.specs.StepLaws.{steps-append, visits_in, visits-append, puts-push_other, puts-push_own}
 use Rattle.directory.specs.Statements.{CellsOfPuts, MarksAreLeft, StepsBeginAtRest}
 use Rattle.trail_laws.specs.Trail.{answers, entry_seen, IsLed, mark_seen}
-use Rattle.trail_laws.proofs.Links.{stop-inside}
 use Rattle.trail_laws.proofs.Passing.{cell-kept}
-use Rattle.trail_laws.proofs.ClosedMarks.{since_top, there, trail_mark}
-use Rattle.trail_laws.proofs.Views.{rest-marks_of, sound-script}
+use Rattle.trail_laws.proofs.ClosedMarks.{there}
+use Rattle.trail_laws.proofs.Views.{mark-there}
+use Rattle.std.proofs.Math.ListN.{drop_of_length-le}
+use Rattle.trail_laws.specs.Phases.{IsAtRest}
 use Rattle.directory.specs.HistoryLaws.{commits-append}
 
 -- two marks lead and answer alike
 abbrev pub AreAlike : PresenceMark → PresenceMark → Type 0
 AreAlike one other = (known : Option ℕ) → (lead known one ≡ lead known other)
     × (answers known one ≡ answers known other) × (known_after known one ≡ known_after known other)
-
-pub alike-same : (one other : PresenceMark) → one ≡ other → AreAlike one other
-alike-same one other e known = (ap (lead known) e, ap (answers known) e, ap (known_after known) e)
 
 -- two histories lead a find alike
 pub record IsAlike (setting : Setting) (sub : ℕ) (one other : History) : Type 0 where
@@ -54,17 +51,17 @@ pub record IsAlike (setting : Setting) (sub : ℕ) (one other : History) : Type 
 pub alike-other : CellsOfPuts → (setting : Setting) (sub : ℕ) (history : History) (visit : Visit)
     → is_put_for sub visit.act ≡ false → IsAlike setting sub history (history ++ visit ∷ [])
 alike-other cells setting sub history visit other = record {
-  marks = λ v. alike-same (mark_seen setting sub history v) (mark_seen setting sub (history ++ visit ∷ []) v)
-      (ap mark_in (sym (cell-kept cells setting sub history visit (Presence v sub) refl other)));
+  marks = λ v. rw (cell-kept cells setting sub history visit (Presence v sub) refl other) (λ known. (refl, refl, refl));
   entries = λ level cluster. ap address_in
       (cell-kept cells setting sub history visit (Entry level cluster sub) refl other);
-  stands = ap (λ puts. fold (λ n (c : Commit). c.to) (start setting sub)
-      (filter_map (λ (v : Visit). commit_of (node_put v.act) (mark_put v.act)) puts)) same;
-  count = ap (λ puts. length (filter_map (λ (v : Visit). commit_of (node_put v.act) (mark_put v.act)) puts)) same;
+  stands = rw (puts-push_other sub history visit other);
+  count = rw (puts-push_other sub history visit other);
 }
-  where
-    same : puts_to sub (history ++ visit ∷ []) ≡ puts_to sub history
-    same = puts-push_other sub history visit other
+
+-- a mark that answers whatever is known leads nowhere and adds nothing
+abbrev pub AnswersAll : PresenceMark → Type 0
+AnswersAll mark = (known : Option ℕ) → (lead known mark ≡ None) × (answers known mark ≡ true)
+    × (known_after known mark ≡ known)
 
 -- what a switch puts
 pub record IsSwitching (sub : ℕ) (history : History) (visit : Visit) : Type 0 where
@@ -72,8 +69,7 @@ pub record IsSwitching (sub : ℕ) (history : History) (visit : Visit) : Type 0 
   pub word : ℕ
   pub step : Step
   pub is_put : visit.act ≡ Put (Presence node sub) word
-  pub answers_all : (known : Option ℕ) → (lead known (mark_in word) ≡ None) × (answers known (mark_in word) ≡ true)
-      × (known_after known (mark_in word) ≡ known)
+  pub answers_all : AnswersAll (mark_in word)
   pub begins : mark_step (ends_off (puts_to sub history)) (node_put visit.act) (mark_put visit.act) ≡ Some step
   pub is_switch_step : (setting : Setting) (course : Course) → (mark : PresenceMark)
       × (step_writes setting course step ≡ mark_at (last_stop course) mark ∷ [])
@@ -95,60 +91,56 @@ switching sub history visit put quiet = at_act visit.act refl put is_switching
     at_act : (act : Act) → visit.act ≡ act → is_put_for sub act ≡ true
         → (says_off (mark_put act) || (ends_off (puts_to sub history) && says_here (mark_put act))) ≡ true
         → IsSwitching sub history visit
-    at_act (Put (Entry level cluster s) word) e p x = let none : (ends_off (puts_to sub history) && false)
-        ≡ true = x in let clash : false ≡ true = sym (and-false (ends_off (puts_to sub history))) ∙ none in cc
+    at_act (Put (Entry level cluster s) word) e p x =
+        let clash : false ≡ true = sym (and-false (ends_off (puts_to sub history))) ∙ x in cc
     at_act (Put (Presence node s) word) e p x = at_mark (mark_in word) refl x
       where
         its : visit.act ≡ Put (Presence node sub) word
         its = e ∙ ap (λ t. Put (Presence node t) word) (eqb-true s sub p)
 
-        mark_is : mark_put visit.act ≡ mark_in word
-        mark_is = ap mark_put e
+        switched : (mark : PresenceMark) (step : Step) → mark_in word ≡ mark → AnswersAll mark
+            → mark_step (ends_off (puts_to sub history)) (node_put visit.act) mark ≡ Some step
+            → ((setting : Setting) (course : Course) → (its : PresenceMark)
+            × (step_writes setting course step ≡ mark_at (last_stop course) its ∷ []))
+            → commit_of (node_put visit.act) mark ≡ None → IsSwitching sub history visit
+        switched mark step m all begins is_step none = record {
+          node = node;
+          word = word;
+          step = step;
+          is_put = its;
+          answers_all = rw m all;
+          begins = rw (e, m) (rw e at begins);
+          is_switch_step = is_step;
+          no_commit = rw (e, m) (rw e at none);
+        }
 
         at_mark : (mark : PresenceMark) → mark_in word ≡ mark
             → (says_off mark || (ends_off (puts_to sub history) && says_here mark)) ≡ true
             → IsSwitching sub history visit
-        at_mark (Off q) m y = record {
-          node = node;
-          word = word;
-          step = switch_off;
-          is_put = its;
-          answers_all = λ known. (ap (lead known) m, ap (answers known) m, ap (known_after known) m);
-          begins = ap (mark_step (ends_off (puts_to sub history)) (node_put visit.act)) (mark_is ∙ m);
-          is_switch_step = λ setting course. (Off (length course.moves), refl);
-          no_commit = ap (commit_of (node_put visit.act)) (mark_is ∙ m);
-        }
-        at_mark (Here q) m y = record {
-          node = node;
-          word = word;
-          step = switch_on;
-          is_put = its;
-          answers_all = λ known. (ap (lead known) m, ap (answers known) m, ap (known_after known) m);
-          begins = ap (mark_step (ends_off (puts_to sub history)) (node_put visit.act)) (mark_is ∙ m)
-              ∙ ap (λ b. mark_step b (node_put visit.act) (Here q)) was_off;
-          is_switch_step = λ setting course. (Here (length course.moves), refl);
-          no_commit = ap (commit_of (node_put visit.act)) (mark_is ∙ m);
-        }
-          where
-            was_off : ends_off (puts_to sub history) ≡ true
-            was_off = (and_parts (ends_off (puts_to sub history)) true y).0
+        at_mark (Off q) m y = switched (Off q) switch_off m (λ known. (refl, refl, refl)) refl
+            (λ setting course. (Off (length course.moves), refl)) refl
+        at_mark (Here q) m y = switched (Here q) switch_on m (λ known. (refl, refl, refl))
+            (rw (and_parts (ends_off (puts_to sub history)) true y).0)
+            (λ setting course. (Here (length course.moves), refl)) refl
         at_mark mark m y = let clash : false ≡ true = sym (and-false (ends_off (puts_to sub history))) ∙ y in cc
     at_act act e p x = cc
 
 get-next : (xs ys zs : List Visit) (visit : Visit) → xs ++ visit ∷ [] ≡ take (length (xs ++ visit ∷ [])) (ys ++ zs)
     → length xs ≡ length ys → slice_get zs 0 ≡ Some visit
-get-next [] [] zs visit h same = at_first zs h
-  where
-    at_first : (zs : List Visit) → visit ∷ [] ≡ take 1 zs → slice_get zs 0 ≡ Some visit
-    at_first [] g = cc
-    at_first (z ∷ zs) g = cc
-get-next [] (y ∷ ys) zs visit h same = absurd (omega (arith, same))
-get-next (x ∷ xs) [] zs visit h same = absurd (omega (arith, same))
+get-next [] [] [] visit h same = cc
+get-next [] [] (z ∷ zs) visit h same = cc
 get-next (x ∷ xs) (y ∷ ys) zs visit h same =
     let tails : xs ++ visit ∷ [] ≡ take (length (xs ++ visit ∷ [])) (ys ++ zs) = cc in get-next xs ys zs visit tails
     (omega (arith, same))
+get-next xs ys zs visit h same = absurd (omega (arith, same))
 
 -- a switch is put where the subscriber rests
+pub switch-rests : StepsBeginAtRest → {setting : Setting} {sub : ℕ} {history : History} {visit : Visit}
+    → setting.nodes ≤ 2 ^ 16 → IsLegal setting sub history → IsLegal setting sub (history ++ visit ∷ [])
+    → is_put_for sub visit.act ≡ true → IsSwitching sub history visit → IsAtRest setting sub history
+switch-rests rests {setting} {sub} {history} {visit} low legal legal_more put switch =
+    grind (arith, puts-push_own, drop_of_length-le)
+
 pub alike-switch : MarksAreLeft → StepsBeginAtRest → {setting : Setting} {sub : ℕ} {history : History} {visit : Visit}
     → setting.nodes ≤ 2 ^ 16 → IsLegal setting sub history → IsLegal setting sub (history ++ visit ∷ [])
     → is_put_for sub visit.act ≡ true → IsSwitching sub history visit
@@ -193,30 +185,12 @@ alike-switch marks_left rests {setting} {sub} {history} {visit} low legal legal_
         let same : visit_of sub (mark_at (last_stop course) its.0) ≡ visit = cc in
         sym (ap node_put switch.is_put) ∙ sym (ap (λ (v : Visit). node_put v.act) same)
 
-    all_made : writes_made setting sub puts ≡ writes setting (course_at (start setting sub)) (steps_in puts)
-    all_made = take_all (length puts) (writes setting (course_at (start setting sub)) (steps_in puts))
-        (omega (
-          arith,
-          done,
-          length-map (writes setting (course_at (start setting sub)) (steps_in puts))
-              (visit_of sub),
-        ))
-
-    inside : last_stop course < setting.nodes
-    inside = stop-inside (sound-script setting sub (steps_in puts) legal.script)
-
     there_now : mark_seen setting sub history (last_stop course) ≡ there course
-    there_now = marks_left setting sub history low legal (last_stop course)
-        ∙ (ap (λ ws. mark_left setting sub ws (last_stop course)) all_made
-        ∙ (rest-marks_of setting sub (steps_in puts) (last_stop course) legal.script inside
-        ∙ ap (λ b. cond b (there course) (trail_mark (since_top setting course) (last_stop course) Empty))
-        (eq-eqb (last_stop course) (last_stop course) refl)))
+    there_now = mark-there setting sub history (switch-rests rests low legal legal_more put switch) marks_left low legal
 
-    answered : (known : Option ℕ) → (lead known (there course) ≡ None) × (answers known (there course) ≡ true)
-        × (known_after known (there course) ≡ known)
-    answered known = cond_both course.is_off (Off (length course.moves)) (Here (length course.moves))
-        (λ mark. (lead known mark ≡ None) × (answers known mark ≡ true) × (known_after known mark ≡ known))
-        (λ e. (refl, refl, refl)) (λ e. (refl, refl, refl))
+    answered : AnswersAll (there course)
+    answered = cond_both course.is_off (Off (length course.moves)) (Here (length course.moves)) AnswersAll
+        (λ e known. (refl, refl, refl)) (λ e known. (refl, refl, refl))
 
     after : (key : Key) → cell setting (history ++ visit ∷ []) key
         ≡ word_after key (cell setting history key) (Put (Presence switch.node sub) switch.word)
@@ -225,30 +199,19 @@ alike-switch marks_left rests {setting} {sub} {history} {visit} low legal legal_
 
     at_node : (v : ℕ) (b : Bool) → (v == switch.node) ≡ b
         → AreAlike (mark_seen setting sub history v) (mark_seen setting sub (history ++ visit ∷ []) v)
-    at_node v false e known = alike-same (mark_seen setting sub history v)
-        (mark_seen setting sub (history ++ visit ∷ []) v)
-        (sym (ap mark_in (after (Presence v sub) ∙ ap (λ b. cond (b && sub == sub) switch.word
-        (cell setting history (Presence v sub))) e))) known
-    at_node v true e known =
-        let before_it : mark_seen setting sub history v
-        ≡ there course = ap (mark_seen setting sub history) (eqb-true v switch.node e ∙ at_stop) ∙ there_now in
-        let after_it : mark_seen setting sub (history ++ visit ∷ []) v ≡ mark_in switch.word =
-        ap mark_in (after (Presence v sub) ∙ (ap (λ b. cond (b && sub == sub) switch.word
-        (cell setting history (Presence v sub))) e
-        ∙ ap (λ b. cond b switch.word (cell setting history (Presence v sub))) (eq-eqb sub sub refl))) in (
-          ap (lead known) before_it ∙ ((answered known).0
-              ∙ (sym (switch.answers_all known).0 ∙ sym (ap (lead known) after_it))),
-          ap (answers known) before_it ∙ ((answered known).1
-              ∙ (sym (switch.answers_all known).1 ∙ sym (ap (answers known) after_it))),
-          ap (known_after known) before_it ∙ ((answered known).2
-              ∙ (sym (switch.answers_all known).2 ∙ sym (ap (known_after known) after_it))),
-        )
+    at_node v false e = rw (after (Presence v sub), e) (λ known. (refl, refl, refl))
+    at_node v true e =
+        let before_it : mark_seen setting sub history v ≡ there course =
+        ap (mark_seen setting sub history) (eqb-true v switch.node e ∙ at_stop) ∙ there_now in
+        rw (before_it, after (Presence v sub), e, eq-eqb sub sub refl) (λ known. (
+          (answered known).0 ∙ sym (switch.answers_all known).0,
+          (answered known).1 ∙ sym (switch.answers_all known).1,
+          (answered known).2 ∙ sym (switch.answers_all known).2,
+        ))
 
     same_commits : commits sub (history ++ visit ∷ []) ≡ commits sub history
-    same_commits = commits-append sub history (visit ∷ [])
-        ∙ (ap (λ b. commits sub history ++ filter_map (λ (v : Visit). commit_of (node_put v.act) (mark_put v.act))
-        (cond b (visit ∷ []) [])) put
-        ∙ (ap (λ o. commits sub history ++ cons_option o []) switch.no_commit ∙ append-nil (commits sub history)))
+    same_commits = rw (commits-append sub history (visit ∷ []), put, switch.no_commit)
+        (append-nil (commits sub history))
 
 -- so it is for each visit that is none of a move
 pub alike-step : CellsOfPuts → MarksAreLeft → StepsBeginAtRest
@@ -267,11 +230,8 @@ pub led-alike : (setting : Setting) (marks others : ℕ → PresenceMark) → ((
     → IsLed setting others known node last hops way
 unfolding IsLed
 led-alike setting marks others alike known node last zero way led = (led.0, sym (alike node known).1 ∙ led.1, led.2)
-led-alike setting marks others alike known node last (suc hops) way led = (
-  led.0,
-  led.1,
-  sym (alike node known).0 ∙ led.2,
-  led.3,
-  rw (alike node known).2 at
-      (led-alike setting marks others alike (known_after known (marks node)) led.0 last hops led.1 led.4),
+led-alike setting marks others alike known node last (suc hops) way led = grind (
+  arith,
+  led-alike setting marks others alike (known_after known (marks node)) led.0 last hops led.1 led.4,
+  marks,
 )

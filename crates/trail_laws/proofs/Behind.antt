@@ -1,14 +1,14 @@
 -- What the marks that a chase has read leave for the next one, and what follows for the whole list. Each is read where
 -- the subscriber was after so many of its commits, and that stays so.
-use Rattle.std.proofs.Common.{◌≡◌, ◌⊎◌, inl, inr, ℕ, ◌-◌, ◌≤◌, false, List, [], ◌∷◌, ◌++◌, Option, refl, ap, ◌∙◌, arith}
+use Rattle.std.proofs.Common.{◌≡◌, ◌⊎◌, inl, inr, ℕ, ◌-◌, ◌≤◌, false, List, [], ◌∷◌, Option, refl, ◌∙◌, arith}
 use Rattle.std.specs.Prelude.{filter_map}
 use Rattle.node_set.specs.Ascending.{IsAscending, IsBelowAll}
 use Rattle.entry_word.specs.declared.mark.PresenceMark.{PresenceMark}
-use Rattle.entry_word.specs.declared.mark.PresenceMark.TheVariants.{Empty, Here, Gone, Coming, Off}
+use Rattle.entry_word.specs.declared.mark.PresenceMark.TheVariants.{Here, Gone, Coming, Off}
 use Rattle.directory.specs.Settings.{Setting, start}
 use Rattle.directory.specs.Histories.{before, History}
-use Rattle.directory.specs.Finds.{after_word, at_origin, chases, climbs, ended, FindCall, is_known, Pursuit}
-use Rattle.directory.specs.Standing.{Commit, commits, number}
+use Rattle.directory.specs.Finds.{after_word, chases, ended, FindCall, is_known, Pursuit}
+use Rattle.directory.specs.Standing.{commits, number}
 use Rattle.trail_laws.specs.Trail.{GoesUp}
 use Rattle.trail_laws.specs.Phases.{moves_begun}
 use Rattle.trail_laws.specs.Chased.{FollowOn, GoesBack, gone_number, mark_chased, marks_chased}
@@ -48,45 +48,35 @@ pub behind-later : {setting : Setting} {sub : ℕ} (t u : ℕ) (history : Histor
     {node : ℕ}
     → t ≤ u → IsBehind setting sub (before t history) behind known node
     → IsBehind setting sub (before u history) behind known node
-behind-later {setting} {sub} t u history {behind} {node} h is = record {
+behind-later {setting} {sub} t u history {behind} h is = record {
   few = omega (arith, is.few, number-grows sub t u history h);
-  stop = at_stop is.stop;
+  stop = elim is.stop [
+    | inl none ↦ inl none
+    | inr stop ↦ inr (rw (commits-grow sub t u history h).1
+        (stop-kept (start setting sub) (commits sub (before t history)) _ behind.place is.few ∙ stop))
+  ];
   early = omega (arith, is.early, begun-grows setting sub t u history h);
   rises = is.rises;
   fresh = is.fresh;
 }
-  where
-    at_stop : (behind.place ≡ 0)
-        ⊎ (stop_after (start setting sub) (commits sub (before t history)) behind.place ≡ node)
-        → (behind.place ≡ 0)
-        ⊎ (stop_after (start setting sub) (commits sub (before u history)) behind.place ≡ node)
-    at_stop (inl none) = inl none
-    at_stop (inr stop) =
-        let more = commits-grow sub t u history h in
-        inr (ap (λ (cs : List Commit). stop_after (start setting sub) cs behind.place) more.1
-        ∙ (stop-kept (start setting sub) (commits sub (before t history)) more.0 behind.place is.few ∙ stop))
 
 -- what is known at a pursuit
 abbrev pub IsTracked : Setting → ℕ → History → Behind → Pursuit → Type 0
-IsTracked setting sub seen behind at_origin = behind ≡ nothing
-IsTracked setting sub seen behind (climbs known weight reader later) = behind ≡ nothing
 IsTracked setting sub seen behind (chases chase node) = IsBehind setting sub seen behind chase.known node
 IsTracked setting sub seen behind (ended found) = Unit {0}
+IsTracked setting sub seen behind pursuit = behind ≡ nothing
 
 pub tracked-nothing : (setting : Setting) (sub : ℕ) (seen : History) (pursuit : Pursuit)
     → IsTracked setting sub seen nothing pursuit
-tracked-nothing setting sub seen at_origin = refl
-tracked-nothing setting sub seen (climbs known weight reader later) = refl
 tracked-nothing setting sub seen (chases chase node) = behind-nothing setting sub seen chase.known node
 tracked-nothing setting sub seen (ended found) = tt
+tracked-nothing setting sub seen pursuit = refl
 
 -- a mark fits what is behind it
 abbrev pub IsBegun : ℕ → PresenceMark → Type 0
-IsBegun n Empty = Unit {0}
-IsBegun n (Here q) = Unit {0}
-IsBegun n (Gone q to) = Unit {0}
 IsBegun n (Coming q from) = n ≤ q
 IsBegun n (Off q) = n ≤ q
+IsBegun n mark = Unit {0}
 
 abbrev pub HeadFits : ℕ → ℕ → List PresenceMark → Type 0
 HeadFits place begun [] = Unit {0}
@@ -119,11 +109,9 @@ abbrev pub after_coming : Behind → ℕ → Behind
 after_coming behind p = record { place = p - 1; begun = p; gone = behind.gone }
 
 abbrev pub Continues : Behind → PresenceMark → List PresenceMark → Type 0
-Continues behind Empty later = later ≡ []
-Continues behind (Here q) later = later ≡ []
 Continues behind (Gone q to) later = Rises (after_gone q) later
 Continues behind (Coming q from) later = Rises (after_coming behind q) later
-Continues behind (Off q) later = later ≡ []
+Continues behind mark later = later ≡ []
 
 pub one-more : (behind : Behind) (mark : PresenceMark) (later : List PresenceMark) → behind.gone ≤ behind.place
     → GoesUp behind.place mark → IsBegun behind.begun mark → Continues behind mark later
@@ -157,6 +145,4 @@ pub ended-none : (setting : Setting) (call : FindCall) (pursuit : Pursuit) (word
     → ((word : ℕ) → (mark_chased pursuit word ≡ []) × (after_word setting call pursuit word ≡ pursuit))
     → marks_chased setting call pursuit words ≡ []
 ended-none setting call pursuit [] still = refl
-ended-none setting call pursuit (word ∷ words) still =
-    ap (λ ms. ms ++ marks_chased setting call (after_word setting call pursuit word) words) (still word).0
-    ∙ (ap (λ s. marks_chased setting call s words) (still word).1 ∙ ended-none setting call pursuit words still)
+ended-none setting call pursuit (word ∷ words) still = grind (arith, ended-none setting call pursuit words still)

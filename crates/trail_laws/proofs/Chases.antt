@@ -1,6 +1,6 @@
 -- Where the marks of a trail lead: the numbers rise from hop to hop, so that no node is met twice.
 use Rattle.std.proofs.lemmas.Bool.{cases_Bool, cases_eq}
-use Rattle.std.proofs.Common.{◌≡◌, ◌≢◌, ◌⊎◌, inl, inr, ℕ, zero, suc, ◌+◌, ◌*◌, ◌<◌, ◌≤◌, max, true, false, cond, List, Option, Some, None, length, refl, sym, ap, ◌∙◌, arith}
+use Rattle.std.proofs.Common.{◌≡◌, ◌≢◌, ◌⊎◌, inl, inr, ℕ, zero, suc, ◌+◌, ◌*◌, ◌<◌, ◌≤◌, max, true, false, List, Option, Some, None, length, refl, ap, ◌∙◌, arith}
 use Rattle.std.specs.Prelude.{nat_le}
 use Rattle.std.proofs.lemmas.Bool.Decides.{nat_tests}
 use Rattle.entry_word.specs.declared.mark.PresenceMark.{PresenceMark}
@@ -43,10 +43,7 @@ knows-less most number (Some k) h low = grind (arith, nat_tests)
 -- a stop that isn't the last is left by a move
 before-end : (from end : ℕ) (moves : List Move) (i v : ℕ) → stop_at from moves (length moves) ≡ end
     → i ≤ length moves → stop_at from moves i ≡ v → v ≢ end → i < length moves
-before-end from end moves i v ends low is_stop other = elim (cases_eq i (length moves)) [
-  | inl e ↦ absurd (other (sym is_stop ∙ (ap (stop_at from moves) e ∙ ends)))
-  | inr before ↦ omega (arith, low, before)
-]
+before-end from end moves i v ends low is_stop other = grind (arith, cases_eq, stop_at)
 
 module _ (setting : Setting) (marks : ℕ → PresenceMark) where
   pub arrived : (known : Option ℕ) (node last most_hops most_way : ℕ) → node ≡ last
@@ -101,10 +98,7 @@ module _ (setting : Setting) (marks : ℕ → PresenceMark) where
       → KnowsAtMost most known → Arrives number last moves more_hops more_way i v known
   unfolding Exits
   leads from number last moves most more_hops more_way linked all exits zero i v known enough low inside is_stop knows =
-      elim (exits i v known low inside is_stop knows) [
-        | inl there ↦ there
-        | inr goes ↦ absurd (omega (arith, goes.1))
-      ]
+      grind (arith, there)
   leads from number last moves most more_hops more_way linked all exits (suc fuel) i v known enough low inside is_stop
       knows =
       at_exit (exits i v known low inside is_stop knows)
@@ -132,12 +126,12 @@ module _ (setting : Setting) (marks : ℕ → PresenceMark) where
               (λ metric. omega (
                 arith,
                 weight-step moves left.place left.move left.is_move,
-                left.its_weight,
+                left.link.its_weight,
                 weight-mono moves i left.place late,
               )) (hopped known v left.move.to last _ _ (ap (lead known) gone) (rw gone (more (suc left.place)
               left.move.to (known_with left.move.number known) (omega (arith, enough, late))
-              (omega (arith, left.within)) left.inside left.goes_on
-              (knows-with most left.move.number known knows (omega (arith, left.its_number, left.within, all))))))
+              (omega (arith, left.within)) left.link.inside left.goes_on
+              (knows-with most left.move.number known knows (omega (arith, left.link.its_number, left.within, all))))))
             where
               late : i ≤ left.place
               late = left.last i goes.1 is_stop
@@ -147,7 +141,7 @@ module _ (setting : Setting) (marks : ℕ → PresenceMark) where
 
               rises : above setting marks (number + suc left.place) < above setting marks (number + i)
               rises = above-less setting marks v (number + suc left.place) (number + i) left.move.to inside
-                  (gone ∙ ap (λ n. Gone n left.move.to) (left.its_number
+                  (gone ∙ ap (λ n. Gone n left.move.to) (left.link.its_number
                   ∙ (let e : suc (number + left.place) ≡ number + suc left.place = omega arith in e)))
                   (omega (arith, late))
 
@@ -158,20 +152,14 @@ module _ (setting : Setting) (marks : ℕ → PresenceMark) where
       → Exits from number last moves most 0 0
   unfolding Exits
   rest-exits from number last moves most ends answered others i v known low inside is_stop knows =
-      elim (cases_eq v last) [
-        | inl same ↦ inl (arrived known v last _ _ same (rw same (answered known)))
-        | inr other ↦ inr (others v inside other, before-end from last moves i v ends low is_stop other)
-      ]
+      grind (arith, cases_eq, arrived, before-end)
 
   -- a Coming that isn't known to be committed leads back
   pub back-leads : (last most p to : ℕ) (known : Option ℕ) → most < p → KnowsAtMost most known
       → marks to ≡ Coming p last
       → ((k : Option ℕ) → answers k (marks last) ≡ true)
       → Arrival setting marks known to last 1 (setting.distance to last + 0)
-  back-leads last most p to known above_most knows comes answered =
-      hopped known to last last 0 0 (ap (lead known) comes
-      ∙ ap (λ b. cond b None (Some last)) (knows-less most p known knows above_most))
-      (arrived (known_after known (marks to)) last last 0 0 refl (answered (known_after known (marks to))))
+  back-leads last most p to known above_most knows comes answered = grind (arith, knows-less, arrived, hopped)
 
   -- before the commit of a move: the node that is come to leads back to where the subscriber stands, no farther than
   -- the trail does
@@ -201,18 +189,12 @@ module _ (setting : Setting) (marks : ℕ → PresenceMark) where
   -- and back
   pub left-leads : (left p to : ℕ) (known : Option ℕ) → marks left ≡ Gone p to → marks to ≡ Coming p left
       → Arrival setting marks known left to 1 (setting.distance left to + 0)
-  left-leads left p to known gone comes =
-      hopped known left to to 0 0 (ap (lead known) gone) (rw gone
-      (arrived (known_with p known) to to 0 0 refl (ap (answers (known_with p known)) comes ∙ knows-it p known)))
+  left-leads left p to known gone comes = grind (arith, knows-it, arrived, hopped)
 
   pub passing-leads : (left p to : ℕ) (known : Option ℕ) → marks left ≡ Gone p to → marks to ≡ Coming p left
       → Arrival setting marks known to to 2 (setting.distance to left + (setting.distance left to + 0))
-  passing-leads left p to known gone comes = elim (cases_Bool (is_known p known)) [
-    | inl e ↦ arrived known to to 2 _ refl (ap (answers known) comes ∙ e)
-    | inr e ↦ hopped known to left to 1 (setting.distance left to + 0)
-        (ap (lead known) comes ∙ ap (λ b. cond b None (Some left)) e)
-        (left-leads left p to (known_after known (marks to)) gone comes)
-  ]
+  passing-leads left p to known gone comes =
+      grind (arith, nat_tests, setting.distance left to, cases_Bool, arrived, left-leads, hopped)
 
   pub passing-exits : (from number left : ℕ) (moves : List Move) (most p to : ℕ)
       → stop_at from moves (length moves) ≡ left → number + length moves < p → left < setting.nodes → to < setting.nodes

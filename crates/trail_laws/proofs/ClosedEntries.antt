@@ -1,5 +1,5 @@
 -- The entries of a subscriber in closed form: at rest after a course, and in each phase of the move that comes next.
-use Rattle.std.proofs.Common.{◌≡◌, ℕ, suc, Bool, true, false, cond, not, ◌==◌, ◌&&◌, ◌||◌, List, [], ◌∷◌, ◌++◌, Option, Some, None, length, map, fold, refl, sym, ap, ◌∙◌, arith}
+use Rattle.std.proofs.Common.{◌≡◌, ℕ, Bool, true, false, cond, not, ◌==◌, ◌&&◌, ◌||◌, List, [], ◌∷◌, ◌++◌, Option, Some, None, map, fold, refl, sym, ap, ◌∙◌, arith}
 use Rattle.std.specs.Prelude.{nat_le, slice_index}
 use Rattle.std.proofs.lemmas.Bool.{eqb-true, eq-eqb}
 use Rattle.std.proofs.lemmas.List.{get_or_append_left, get_or_at, length-map, map-append}
@@ -47,8 +47,7 @@ entered-levels at new level cluster entry (l ∷ levels) =
   where
     twice : (h k : Bool) → cond (h && k) new (cond k new entry) ≡ cond k new entry
     twice true true = refl
-    twice true false = refl
-    twice false k = refl
+    twice h k = refl
 
     at_test : (b : Bool) → (level == l) ≡ b → cond (has level levels && cluster == at level) new
         (cond (b && cluster == at l) new entry) ≡ cond ((b || has level levels) && cluster == at level) new entry
@@ -58,34 +57,28 @@ entered-levels at new level cluster entry (l ∷ levels) =
         ∙ twice (has level levels) (cluster == at level)
     at_test false e = refl
 
+-- the stop where the address of a level was made, whatever moves come behind, and that of a move
+pub old-stop : {setting : Setting} {course : Course} (more : List Move) (level : ℕ) → IsSound setting course
+    → slice_index (course.start ∷ map (λ (m : Move). m.to) (course.moves ++ more)) (base level course.moves)
+    ≡ address_node course level
+old-stop {setting} {course} more level sound = grind (arith, map-append, length-map, base-low, get_or_append_left)
+
+pub new-stop : {setting : Setting} {course : Course} {move : Move} → IsNext setting course move
+    → stop (with_move course move) move.number ≡ move.to
+new-stop {course} {move} next = grind (arith, map-append, length-map, get_or_at)
+
 -- the address of a level after a move
 pub address-with : {setting : Setting} {course : Course} {move : Move} (level : ℕ) → IsSound setting course
     → IsNext setting course move
     → address_node (with_move course move) level ≡ cond (nat_le level move.renewed) move.to
     (address_node course level)
-address-with {setting} {course} {move} level sound next = ap (stop (with_move course move))
-    (base-with level course move)
-    ∙ at_test (nat_le level move.renewed)
+address-with {course} {move} level sound next =
+    ap (stop (with_move course move)) (base-with level course move) ∙ at_test (nat_le level move.renewed)
   where
-    stops : List ℕ
-    stops = course.start ∷ map (λ (m : Move). m.to) course.moves
-
-    longer : course.start ∷ map (λ (m : Move). m.to) (course.moves ++ move ∷ []) ≡ stops ++ move.to ∷ []
-    longer = ap (λ xs. course.start ∷ xs) (map-append (λ (m : Move). m.to) course.moves (move ∷ []))
-
-    count : length stops ≡ suc (length course.moves)
-    count = omega (arith, length-map course.moves (λ (m : Move). m.to))
-
     at_test : (b : Bool) → stop (with_move course move) (cond b move.number (base level course.moves))
         ≡ cond b move.to (address_node course level)
-    at_test true = ap (λ xs. slice_index xs move.number) longer
-        ∙ get_or_at stops move.to [] 0 move.number (omega (arith, next.number, count))
-    at_test false =
-        let same : slice_index (stops ++ move.to ∷ []) (base level course.moves)
-        ≡ slice_index stops (base level course.moves) =
-        get_or_append_left stops (move.to ∷ []) 0 (base level course.moves)
-        (omega (arith, count, base-low level sound)) in
-        ap (λ xs. slice_index xs (base level course.moves)) longer ∙ same
+    at_test true = new-stop next
+    at_test false = old-stop (move ∷ []) level sound
 
 -- when a move has made all its writes its subscriber rests again
 pub entries-rest : {setting : Setting} {course : Course} {move : Move} (written erased : List ℕ) (level cluster : ℕ)
@@ -108,14 +101,10 @@ entries-rest {setting} {course} {move} written erased level cluster sound next a
 
     renewed : (x y z : Bool) → (x ≡ true → y ≡ z) → (y ≡ true → z ≡ true → x ≡ true)
         → cond (not x && y) None (cond z (new_entry move) (cond y its None)) ≡ cond z (new_entry move) None
-    renewed true true true f g = refl
     renewed true true false f g = let e : true ≡ false = f refl in cc
     renewed true false true f g = let e : false ≡ true = f refl in cc
-    renewed true false false f g = refl
     renewed false true true f g = let e : false ≡ true = g refl refl in cc
-    renewed false true false f g = refl
-    renewed false false true f g = refl
-    renewed false false false f g = refl
+    renewed x y z f g = refl
 
     at_test : (b : Bool)
         → cond ((b && not (old == new)) && cluster == old) None

@@ -1,6 +1,6 @@
 -- The marks of a subscriber in closed form: at rest after a course, and in each phase of the move that comes next.
 use Rattle.std.proofs.lemmas.Bool.{or_parts, eqb-true}
-use Rattle.trail_laws.proofs.Links.{stop-inside, IsSound, base-low, renewed-low}
+use Rattle.trail_laws.proofs.Links.{stop-inside, IsSound, base-low, linked-push, renewed-low}
 use Rattle.std.proofs.Common.{◌≡◌, ◌≢◌, ℕ, suc, ◌<◌, ◌≤◌, Bool, true, false, cond, not, ◌==◌, ◌&&◌, ◌||◌, List, [], ◌∷◌, ◌++◌, length, map, drop, fold, refl, sym, ap, ◌∙◌, arith, length-append}
 use Rattle.std.specs.Prelude.{if◌then◌else◌, nat_le}
 use Rattle.std.proofs.lemmas.Bool.Decides.{nat_tests}
@@ -64,9 +64,7 @@ marked-purges v mark (node ∷ nodes) = marked-purges v (cond (v == node) Empty 
   where
     at_test : (a b : Bool) → cond b Empty (cond a Empty mark) ≡ cond (a || b) Empty mark
     at_test true true = refl
-    at_test true false = refl
-    at_test false true = refl
-    at_test false false = refl
+    at_test a b = refl
 
 -- the trail with one more move
 pub trail_mark-push : (moves : List Move) (move : Move) (v : ℕ) (mark : PresenceMark)
@@ -117,6 +115,18 @@ is-next {setting} {course} {node} may = record {
 abbrev pub with_move : Course → Move → Course
 with_move course move = record course { moves = course.moves ++ move ∷ [] }
 
+pub sound-with : {setting : Setting} {course : Course} {move : Move} → IsSound setting course
+    → IsNext setting course move → IsSound setting (with_move course move)
+sound-with {setting} {course} {move} sound next = record {
+  begins = sound.begins;
+  linked = linked-push setting course.start 0 course.moves move (record {
+    its_number = omega (arith, next.number);
+    its_from = next.from;
+    its_weight = next.weight ∙ ap (λ n. setting.distance n move.to) next.from;
+    inside = next.inside;
+  }) sound.linked;
+}
+
 pub stop-with : (course : Course) (move : Move) → last_stop (with_move course move) ≡ move.to
 stop-with course move = fold-append (λ node (m : Move). m.to) course.start course.moves (move ∷ [])
 
@@ -131,41 +141,27 @@ base-with level course move = fold-append (λ last (m : Move). if nat_le level m
 
 there-with : {setting : Setting} {course : Course} {move : Move} → IsNext setting course move
     → there (with_move course move) ≡ Here move.number
-there-with {course} {move} next =
-    ap (λ b. cond b (Off (length (with_move course move).moves)) (Here (length (with_move course move).moves)))
-    next.is_on ∙ ap (λ n. Here n) (count-with course move ∙ sym next.number)
+there-with {course} {move} next = grind (arith, with_move, count-with)
 
 pub trail-has : {setting : Setting} {course : Course} (move : Move) (v : ℕ) → IsSound setting course
     → has v (trail setting course move) ≡ (has v (map (λ (m : Move). m.from) (since_top setting course)) ||
     (v == move.from || false))
-trail-has {setting} {course} move v sound =
-    ap (λ ms. has v (map (λ (m : Move). m.from) ms)) (drop-append-le (base setting.top course.moves) course.moves
-    (move ∷ []) (base-low setting.top sound))
-    ∙ (ap (has v) (map-append (λ (m : Move). m.from) (since_top setting course) (move ∷ []))
-    ∙ has-append v (map (λ (m : Move). m.from) (since_top setting course)) (move.from ∷ []))
+trail-has {setting} {course} move v sound = grind (arith, base-low, drop-append-le, since_top, map-append, has-append)
 
 -- a renewal of the top level leaves the new node alone
-purged-rest : (a b f : Bool) (here gone coming its mark : PresenceMark) → (f ≡ false → mark ≡ Empty)
+purged-rest : (f a b : Bool) (here gone coming its mark : PresenceMark) → (f ≡ false → mark ≡ Empty)
     → cond ((f || (b || false)) && not a) Empty (cond a here (cond b gone (cond a coming (cond b its mark))))
     ≡ cond a here Empty
-purged-rest true true f here gone coming its mark h = at_f f
-  where
-    at_f : (f : Bool) → cond ((f || true) && false) Empty here ≡ here
-    at_f true = refl
-    at_f false = refl
-purged-rest true false true here gone coming its mark h = refl
-purged-rest true false false here gone coming its mark h = refl
-purged-rest false true true here gone coming its mark h = refl
-purged-rest false true false here gone coming its mark h = refl
-purged-rest false false true here gone coming its mark h = refl
 purged-rest false false false here gone coming its mark h = h refl
+purged-rest false true true here gone coming its mark h = refl
+purged-rest true true b here gone coming its mark h = refl
+purged-rest f a b here gone coming its mark h = refl
 
 -- another move adds the node that it left to the trail
 added-rest : (a b : Bool) (here gone coming its mark : PresenceMark)
     → cond a here (cond b gone (cond a coming (cond b its mark))) ≡ cond a here (cond b gone mark)
-added-rest true b here gone coming its mark = refl
 added-rest false true here gone coming its mark = refl
-added-rest false false here gone coming its mark = refl
+added-rest a b here gone coming its mark = refl
 
 -- when a move has made all its writes its subscriber rests again
 pub marks-rest : {setting : Setting} {course : Course} {move : Move} (purged : List ℕ) (v : ℕ)
@@ -202,7 +198,7 @@ marks-rest {setting} {course} {move} purged v sound next whole none =
         ))
         in
         rw (none_since, whole e, trail-has move v sound)
-        (purged-rest (v == move.to) (v == move.from) (has v (map (λ (m : Move). m.from) since)) (Here move.number)
+        (purged-rest (has v (map (λ (m : Move). m.from) since)) (v == move.to) (v == move.from) (Here move.number)
         (Gone move.number move.to) (Coming move.number move.from) (there course) (trail_mark since v Empty)
         (trail_mark-none since v Empty) ∙ ap (cond (v == move.to) (Here move.number)) refl)
     at_top false e =

@@ -1,5 +1,5 @@
 -- What a subscriber's cells show in closed form: at rest, and in each phase of a move.
-use Rattle.std.proofs.Common.{◌≡◌, ◌⊎◌, ℕ, suc, ◌<◌, ◌≤◌, Bool, false, cond, not, ◌==◌, ◌&&◌, List, [], ◌∷◌, ◌++◌, Option, map, take}
+use Rattle.std.proofs.Common.{◌≡◌, ◌⊎◌, ℕ, suc, ◌<◌, ◌≤◌, Bool, false, cond, not, ◌==◌, ◌&&◌, List, [], ◌∷◌, ◌++◌, Option, true, map}
 use Rattle.node_set.specs.Ascending.{has, sift}
 use Rattle.entry_word.specs.declared.mark.PresenceMark.{PresenceMark}
 use Rattle.entry_word.specs.declared.address.Address.{Address}
@@ -51,14 +51,16 @@ phase_commits course move (coming written) = map commit_by course.moves
 phase_commits course move passage = map commit_by (course.moves ++ move ∷ [])
 phase_commits course move (clearing erased purged) = map commit_by (course.moves ++ move ∷ [])
 
--- which phases there are
-pub data IsPhase (setting : Setting) (course : Course) (move : Move) : Phase → Type 0 where
-  while_coming : (j : ℕ) → IsPhase setting course move (coming (take j (renewed_levels move)))
-  while_passing : IsPhase setting course move passage
-  while_clearing : (e p : ℕ) (in_order : (p ≡ 0) ⊎ (take e (old_levels setting course move)
-      ≡ old_levels setting course move))
-      → IsPhase setting course move (clearing (take e (old_levels setting course move))
-      (take p (purged_nodes setting course move)))
+-- where old addresses are erased: the new node isn't purged, what is erased is old, and before a node is purged all is
+-- erased of a move that renews the top level
+pub record IsCleared (setting : Setting) (course : Course) (move : Move) (erased purged : List ℕ) : Type 0 where
+  pub stays : has move.to purged ≡ false
+  pub kept : (level : ℕ) → has level (old_levels setting course move) ≡ false → has level erased ≡ false
+  pub in_order : (purged ≡ []) ⊎ ((erased ≡ old_levels setting course move) × ((move.renewed == setting.top) ≡ true))
+
+abbrev pub IsPhase : Setting → Course → Move → Phase → Type 0
+IsPhase setting course move (clearing erased purged) = IsCleared setting course move erased purged
+IsPhase setting course move phase = Unit {0}
 
 -- what is shown of a subscriber: the node where it began, its marks, its entries, its commits, whether it is off, and
 -- its moves
@@ -82,11 +84,10 @@ pub record IsResting (setting : Setting) (shown : Shown) : Type 0 where
   pub off_is : shown.off ≡ course.is_off
   pub moves_are : shown.moves ≡ course.moves
 
--- and of one that moves
-pub record IsMoving (setting : Setting) (shown : Shown) : Type 0 where
+-- and of one that is in a phase of a move
+pub record IsMoving (setting : Setting) (shown : Shown) (phase : Phase) : Type 0 where
   pub course : Course
   pub move : Move
-  pub phase : Phase
   pub sound : IsSound setting course
   pub next : IsNext setting course move
   pub is_phase : IsPhase setting course move phase
@@ -99,4 +100,4 @@ pub record IsMoving (setting : Setting) (shown : Shown) : Type 0 where
   pub moves_are : shown.moves ≡ course.moves ++ move ∷ []
 
 abbrev pub View : Setting → Shown → Type 0
-View setting shown = IsResting setting shown ⊎ IsMoving setting shown
+View setting shown = IsResting setting shown ⊎ ((phase : Phase) × IsMoving setting shown phase)

@@ -12,7 +12,7 @@ use Rattle.entry_word.specs.declared.mark.PresenceMark.{PresenceMark}
 use Rattle.entry_word.specs.declared.mark.PresenceMark.TheVariants.{Empty, Here, Gone, Coming, Off}
 use Rattle.directory.specs.Settings.{Setting}
 use Rattle.directory.specs.Courses.{Step, move_to, switch_off, switch_on, Move, Course, last_stop, next_move, after_step, after_steps, MayStep, MaySteps}
-use Rattle.directory.specs.Writes.{Write, mark_at, entry_at, new_address, old_home, erasure_writes, trail, move_writes, step_writes, writes}
+use Rattle.directory.specs.Writes.{Write, mark_at, entry_at, new_address, old_home, erasure_writes, move_writes, step_writes, writes}
 use Rattle.directory.specs.Standing.{commit_by}
 use Rattle.directory.specs.States.{entry_after, mark_after, write_commit, write_off}
 use Rattle.trail_laws.proofs.Links.{IsSound, sound-step}
@@ -163,11 +163,7 @@ pub whole-marks : {setting : Setting} {course : Course} {move : Move} (v : ℕ) 
     → mark_erasing setting course move (purged_nodes setting course move) v
     ≡ rest_mark setting (with_move course move) v
 whole-marks {setting} {course} {move} v low sound next =
-    marks-rest (purged_nodes setting course move) v sound next
-    (λ e. ap (λ b. has v (cond b (purge_nodes setting course move) [])) e
-    ∙ has-passing (λ node. has node (trail setting course move) && not (node == move.to)) v 0 setting.nodes
-    (omega arith) (omega arith))
-    (λ e. ap (λ b. has v (cond b (purge_nodes setting course move) [])) e)
+    grind (arith, purged_nodes, purge_nodes, has-passing, marks-rest)
 
 pub whole-entries : {setting : Setting} {course : Course} {move : Move} (level cluster : ℕ) → IsSound setting course
     → IsNext setting course move
@@ -228,8 +224,7 @@ entries-steps {setting} {course} steps level cluster =
         ap (entered level cluster (rest_entry setting course level cluster)) (whole-writes setting course move)
         ∙ ((leaves setting course move (whole_phase setting course move)).entries level cluster
         ∙ whole-entries level cluster sound (is-next may))
-    one course switch_off sound may = refl
-    one course switch_on sound may = refl
+    one course step sound may = refl
 
 pub commits-steps : (setting : Setting) (course : Course) (steps : List Step)
     → map commit_by course.moves ++ filter_map write_commit (writes setting course steps)
@@ -250,8 +245,7 @@ commits-steps setting course (step ∷ steps) =
         let move : Move = next_move setting course node in
         ap (λ ws. map commit_by course.moves ++ filter_map write_commit ws) (whole-writes setting course move)
         ∙ (leaves setting course move (whole_phase setting course move)).commits
-    one switch_off = append-nil (map commit_by course.moves)
-    one switch_on = append-nil (map commit_by course.moves)
+    one step = append-nil (map commit_by course.moves)
 
 pub off-steps : (setting : Setting) (course : Course) (steps : List Step) → IsSound setting course
     → MaySteps setting course steps
@@ -266,5 +260,4 @@ off-steps setting = fold-steps (λ o write. write_off write) setting (λ (c : Co
         let move : Move = next_move setting course node in
         ap (fold (λ o write. write_off write) course.is_off) (whole-writes setting course move)
         ∙ ((leaves setting course move (whole_phase setting course move)).on course.is_off ∙ sym may.is_on)
-    one course switch_off sound may = refl
-    one course switch_on sound may = refl
+    one course step sound may = refl

@@ -1,19 +1,18 @@
 -- The phases of a move cover all that a legal history leaves; in the first one its Coming stands where it goes.
-use Rattle.std.proofs.Common.{◌≡◌, ◌⊎◌, inl, inr, ℕ, suc, ◌<◌, cond, List, [], ◌∷◌, ◌++◌, Some, None, length, map, refl, sym, ap, ◌∙◌, arith, eq-eqb}
+use Rattle.std.proofs.Common.{◌≡◌, ◌⊎◌, inl, inr, ℕ, suc, List, [], ◌∷◌, ◌++◌, Some, None, length, refl, sym, ap, ◌∙◌, arith, eq-eqb}
 use Rattle.std.specs.List.{last_or}
-use Rattle.std.proofs.lemmas.List.{length-map}
 use Rattle.entry_word.specs.declared.mark.PresenceMark.{PresenceMark}
 use Rattle.entry_word.specs.declared.mark.PresenceMark.TheVariants.{Coming}
 use Rattle.directory.specs.Settings.{Setting}
 use Rattle.directory.specs.Courses.{Move}
 use Rattle.directory.specs.Histories.{puts_to}
 use Rattle.directory.specs.Puts.{course_in}
-use Rattle.directory.specs.Standing.{commit_by, number, standing}
+use Rattle.directory.specs.Standing.{number, standing}
 use Rattle.trail_laws.specs.Trail.{mark_seen, MarksTell, MarkTells}
 use Rattle.trail_laws.specs.Phases.{ComingStands, IsBeforeCommit, IsPassingFrom, IsSettled, PhasesCover}
 use Rattle.trail_laws.specs.Ways.{StandsInside}
-use Rattle.trail_laws.proofs.ClosedMarks.{rest_mark}
-use Rattle.trail_laws.proofs.ClosedViews.{clearing, coming, passage, Phase, phase_commits, phase_mark, Shown, View}
+use Rattle.trail_laws.proofs.ClosedViews.{clearing, coming, passage, Shown, View}
+use Rattle.trail_laws.proofs.Tells.{all-committed, count-told}
 use Rattle.trail_laws.proofs.Stops.{view-counts}
 use Rattle.trail_laws.proofs.Laws.{HistoryView, Laws, view}
 use Rattle.directory.specs.ListLaws.{last_or-push}
@@ -48,34 +47,13 @@ last-is xs x y h = same_Some x y (sym (last_or-push None xs x) ∙ h)
 begun-shown : {setting : Setting} {shown : Shown} (move : Move) → View setting shown
     → length shown.moves ≡ suc (length shown.commits) → last_or None shown.moves ≡ Some move
     → shown.marks move.to ≡ Coming move.number move.from
-begun-shown move (inl h) early last = absurd (omega (
-  arith,
-  early,
-  ap length h.moves_are,
-  ap length h.commits_are,
-  length-map h.course.moves commit_by,
-))
-begun-shown {setting} {shown} move (inr h) early last = at_phase h.phase h.marks_are h.commits_are
-  where
-    same : h.move ≡ move
-    same = last-is h.course.moves h.move move (sym (ap (last_or None) h.moves_are) ∙ last)
-
-    late : shown.commits ≡ map commit_by (h.course.moves ++ h.move ∷ []) → ⊥
-    late c = omega (
-      arith,
-      early,
-      ap length h.moves_are,
-      ap length c,
-      length-map (h.course.moves ++ h.move ∷ []) commit_by,
-    )
-
-    at_phase : (phase : Phase)
-        → ((v : ℕ) → v < setting.nodes → shown.marks v ≡ phase_mark setting h.course h.move phase v)
-        → shown.commits ≡ phase_commits h.course h.move phase → shown.marks move.to ≡ Coming move.number move.from
-    at_phase (coming written) are c = rw same at (are h.move.to h.next.inside ∙ ap (λ b. cond b
-        (Coming h.move.number h.move.from) (rest_mark setting h.course h.move.to)) (eq-eqb h.move.to h.move.to refl))
-    at_phase passage are c = absurd (late c)
-    at_phase (clearing erased purged) are c = absurd (late c)
+begun-shown move (inl h) early last =
+    absurd (omega (arith, early, ap length h.moves_are, count-told h.course.moves h.commits_are))
+begun-shown move (inr (coming written, h)) early last =
+    rw (← last-is h.course.moves h.move move (sym (ap (last_or None) h.moves_are) ∙ last))
+    (h.marks_are h.move.to h.next.inside ∙ rw (eq-eqb h.move.to h.move.to refl))
+begun-shown move (inr (passage, h)) early last = absurd (all-committed h h.commits_are early)
+begun-shown move (inr (clearing erased purged, h)) early last = absurd (all-committed h h.commits_are early)
 
 pub coming-stands : Laws → ComingStands
 unfolding HistoryView

@@ -1,42 +1,42 @@
 -- What the ways along the marks weigh, told for each state of the move under way.
-use Rattle.std.proofs.Common.{◌≡◌, ◌≢◌, ℕ, suc, ◌+◌, ◌*◌, ◌<◌, ◌≤◌, true, List, [], ◌∷◌, ◌++◌, None, length, map, sym, ap, ◌∙◌, arith, length-append}
-use Rattle.std.proofs.lemmas.List.{length-map}
-use Rattle.entry_word.specs.declared.mark.PresenceMark.{PresenceMark}
+use Rattle.std.proofs.Common.{◌≡◌, ◌≢◌, ℕ, suc, ◌+◌, ◌*◌, ◌<◌, ◌≤◌, true, List, [], ◌∷◌, ◌++◌, None, length, sym, ap, ◌∙◌, arith}
 use Rattle.entry_word.specs.declared.mark.PresenceMark.TheVariants.{Here, Coming}
 use Rattle.entry_word.specs.declared.address.Address.{Address}
 use Rattle.directory.specs.Settings.{Setting}
-use Rattle.directory.specs.Courses.{address_node, base, Course, last_stop, Move}
-use Rattle.directory.specs.Standing.{commit_by}
+use Rattle.directory.specs.Courses.{address_node, base, last_stop}
 use Rattle.trail_laws.specs.Trail.{answers, HasMetric}
-use Rattle.trail_laws.proofs.Links.{base-low, IsSound}
-use Rattle.trail_laws.proofs.ClosedMarks.{IsNext, mark_coming, mark_erasing, mark_passing}
+use Rattle.trail_laws.proofs.Links.{base-low}
+use Rattle.trail_laws.proofs.ClosedViews.{clearing, coming, IsMoving, IsResting, passage, Phase, Shown}
+use Rattle.trail_laws.proofs.Holders.{move_address, old_address}
 use Rattle.trail_laws.proofs.LinkedStops.{weight_from}
-use Rattle.trail_laws.proofs.Tells.{next-stands, rest-stands, stands}
+use Rattle.trail_laws.proofs.Tells.{all-committed, begun-count, count-told, next-count, next-stands, rest-stands, standing_of}
 use Rattle.trail_laws.proofs.Leads.{coming-there, clearing-here, passing-at_to}
 use Rattle.trail_laws.proofs.Prices.{AreLazy, lazy-front, lazy-whole, price-clearing}
 
 -- the way from the node of an address, told for each state: before the commit, from an old address and from the new
 -- one; between commit and confirm; and after the confirm, from an old address and from one that stays
-pub record IsFine (setting : Setting) (marks : ℕ → PresenceMark) (last number : ℕ) (moves : List Move) (level : ℕ)
-    (address : Address) (way : ℕ) : Type 0 where
-  pub before_old : HasMetric setting → AreLazy setting moves → length moves ≡ suc number → address.number ≤ number
+pub record IsFine (setting : Setting) (shown : Shown) (level : ℕ) (address : Address) (way : ℕ) : Type 0 where
+  pub before_old : HasMetric setting → AreLazy setting shown.moves
+      → length shown.moves ≡ suc (length shown.commits) → address.number ≤ length shown.commits
       → way < setting.threshold level
-  pub before_new : HasMetric setting → AreLazy setting moves → length moves ≡ suc number
-      → address.number ≡ suc number → way ≤ setting.distance address.node last
-  pub passing : HasMetric setting → AreLazy setting moves → (u : ℕ) → marks last ≡ Coming number u
-      → way < setting.threshold level + 2 * setting.distance u last
-  pub settled : HasMetric setting → AreLazy setting moves → length moves ≡ number
-      → ((u : ℕ) → marks last ≢ Coming number u)
-      → way + 2 ≤ 2 * setting.threshold level + setting.distance address.node last
-  pub current : HasMetric setting → AreLazy setting moves → length moves ≡ number
-      → ((u : ℕ) → marks last ≢ Coming number u) → address.number ≡ base level moves
-      → way < setting.threshold level
+  pub before_new : HasMetric setting → AreLazy setting shown.moves
+      → length shown.moves ≡ suc (length shown.commits) → address.number ≡ suc (length shown.commits)
+      → way ≤ setting.distance address.node (standing_of shown)
+  pub passing : HasMetric setting → AreLazy setting shown.moves → (u : ℕ)
+      → shown.marks (standing_of shown) ≡ Coming (length shown.commits) u
+      → way < setting.threshold level + 2 * setting.distance u (standing_of shown)
+  pub settled : HasMetric setting → AreLazy setting shown.moves → length shown.moves ≡ length shown.commits
+      → ((u : ℕ) → shown.marks (standing_of shown) ≢ Coming (length shown.commits) u)
+      → way + 2 ≤ 2 * setting.threshold level + setting.distance address.node (standing_of shown)
+  pub current : HasMetric setting → AreLazy setting shown.moves → length shown.moves ≡ length shown.commits
+      → ((u : ℕ) → shown.marks (standing_of shown) ≢ Coming (length shown.commits) u)
+      → address.number ≡ base level shown.moves → way < setting.threshold level
 
-fine-short : (setting : Setting) (marks : ℕ → PresenceMark) (last number : ℕ) (moves : List Move) (level : ℕ)
-    (address : Address) (way : ℕ) → (AreLazy setting moves → way < setting.threshold level)
-    → (length moves ≡ suc number → address.number ≡ suc number → way ≤ setting.distance address.node last)
-    → IsFine setting marks last number moves level address way
-fine-short setting marks last number moves level address way short new = record {
+fine-short : (setting : Setting) (shown : Shown) (level : ℕ) (address : Address) (way : ℕ)
+    → (AreLazy setting shown.moves → way < setting.threshold level)
+    → (length shown.moves ≡ suc (length shown.commits) → address.number ≡ suc (length shown.commits)
+    → way ≤ setting.distance address.node (standing_of shown)) → IsFine setting shown level address way
+fine-short setting shown level address way short new = record {
   before_old = λ metric lazy all old. short lazy;
   before_new = λ metric lazy all is_new. new all is_new;
   passing = λ metric lazy u comes. omega (arith, short lazy);
@@ -44,126 +44,91 @@ fine-short setting marks last number moves level address way short new = record 
   current = λ metric lazy all other same. short lazy;
 }
 
-pub fine-rest : (setting : Setting) (marks : ℕ → PresenceMark) (course : Course) (level last : ℕ) (address : Address)
+pub fine-rest : {setting : Setting} {shown : Shown} (h : IsResting setting shown) (level : ℕ) (address : Address)
     → level ≤ setting.top
-    → IsFine setting marks last (length (map commit_by course.moves)) course.moves level address
-    (weight_from course.moves (base level course.moves))
-fine-rest setting marks course level last address below = fine-short setting marks last
-    (length (map commit_by course.moves)) course.moves level address
-    (weight_from course.moves (base level course.moves))
-    (λ lazy. lazy-whole setting course.moves level below lazy)
-    (λ all new. absurd (omega (arith, all, length-map course.moves commit_by)))
+    → IsFine setting shown level address (weight_from h.course.moves (base level h.course.moves) + 0)
+fine-rest {setting} {shown} h level address below = grind (arith, lazy-whole, count-told, fine-short)
 
-pub fine-coming : {setting : Setting} (marks : ℕ → PresenceMark) {course : Course} (move : Move) (level last node : ℕ)
-    → IsSound setting course → level ≤ setting.top
-    → IsFine setting marks last (length (map commit_by course.moves)) (course.moves ++ move ∷ []) level
-    (record { number = base level course.moves; node = node })
-    (weight_from course.moves (base level course.moves) + 0)
-fine-coming {setting} marks {course} move level last node sound below = fine-short setting marks last
-    (length (map commit_by course.moves)) (course.moves ++ move ∷ []) level
-    (record { number = base level course.moves; node = node }) (weight_from course.moves (base level course.moves) + 0)
-    (λ lazy. omega (arith, lazy-front setting course.moves (move ∷ []) level below lazy))
-    (λ all new. absurd (omega (arith, new, base-low level sound, length-map course.moves commit_by)))
+pub fine-coming : {setting : Setting} {shown : Shown} {written : List ℕ} (h : IsMoving setting shown (coming written))
+    (level : ℕ) → level ≤ setting.top
+    → IsFine setting shown level (old_address h.course level)
+    (weight_from h.course.moves (base level h.course.moves) + 0)
+fine-coming {setting} {shown} h level below = fine-short setting shown level (old_address h.course level) _
+    (λ lazy. omega (arith, lazy-front setting h.course.moves (h.move ∷ []) level below (rw h.moves_are at lazy)))
+    (λ all new. absurd (omega (arith, new, base-low level h.sound, count-told h.course.moves h.commits_are)))
 
-pub fine-new : (setting : Setting) (marks : ℕ → PresenceMark) (course : Course) (move : Move) (level last number : ℕ)
-    (address : Address) → level ≤ setting.top
-    → IsFine setting marks last number (course.moves ++ move ∷ []) level address 0
-fine-new setting marks course move level last number address below = fine-short setting marks last number
-    (course.moves ++ move ∷ []) level address 0
-    (λ lazy. omega (arith, lazy-front setting course.moves (move ∷ []) level below lazy)) (λ all new. omega arith)
+pub fine-new : {setting : Setting} {shown : Shown} {phase : Phase} (h : IsMoving setting shown phase) (level : ℕ)
+    (address : Address) → level ≤ setting.top → IsFine setting shown level address 0
+fine-new {setting} {shown} h level address below = fine-short setting shown level address 0
+    (λ lazy. omega (arith, lazy-front setting h.course.moves (h.move ∷ []) level below (rw h.moves_are at lazy)))
+    (λ all new. omega arith)
 
-pub fine-coming_new : {setting : Setting} (from : ℕ) (marks : ℕ → PresenceMark) {course : Course} {move : Move}
-    (level : ℕ) → IsSound setting course → IsNext setting course move → course.start ≡ from
-    → ((v : ℕ) → v < setting.nodes → marks v ≡ mark_coming setting course move v)
-    → IsFine setting marks (stands from (map commit_by course.moves)) (length (map commit_by course.moves))
-    (course.moves ++ move ∷ []) level (record { number = move.number; node = move.to })
-    (setting.distance move.to (last_stop course) + 0)
-fine-coming_new {setting} from marks {course} {move} level sound next begins marks_are = record {
-  before_old = λ metric lazy all old. absurd (omega (arith, old, next.number, length-map course.moves commit_by));
-  before_new = λ metric lazy all new. omega (arith, ap (setting.distance move.to) (rest-stands course from begins));
+pub fine-coming_new : {setting : Setting} {shown : Shown} {written : List ℕ}
+    (h : IsMoving setting shown (coming written)) (level : ℕ)
+    → IsFine setting shown level (move_address h.move) (setting.distance h.move.to (last_stop h.course) + 0)
+fine-coming_new {setting} {shown} h level = record {
+  before_old = λ metric lazy all old.
+      absurd (omega (arith, old, h.next.number, count-told h.course.moves h.commits_are));
+  before_new = λ metric lazy all new. omega (arith, ap (setting.distance h.move.to) stood);
   passing = λ metric lazy u comes. absurd (clash u comes);
   settled = λ metric lazy all other. absurd (longer all);
   current = λ metric lazy all other same. absurd (longer all);
 }
   where
-    longer : length (course.moves ++ move ∷ []) ≡ length (map commit_by course.moves) → ⊥
-    longer all = omega (arith, all, length-append course.moves (move ∷ []), length-map course.moves commit_by)
+    stood : standing_of shown ≡ last_stop h.course
+    stood = rest-stands shown h.course h.begins h.commits_are
 
-    clash : (u : ℕ) → marks (stands from (map commit_by course.moves)) ≡ Coming (length (map commit_by course.moves)) u
-        → ⊥
+    longer : length shown.moves ≡ length shown.commits → ⊥
+    longer all = omega (arith, all, begun-count h, h.next.number, count-told h.course.moves h.commits_are)
+
+    clash : (u : ℕ) → shown.marks (standing_of shown) ≡ Coming (length shown.commits) u → ⊥
     clash u comes =
-        let there : answers None (Coming (length (map commit_by course.moves)) u) ≡ true =
-        sym (ap (answers None) (sym (ap marks (rest-stands course from begins)) ∙ comes))
-        ∙ coming-there marks sound next marks_are None in cc
+        let there : answers None (Coming (length shown.commits) u) ≡ true =
+        sym (ap (answers None) (sym (ap shown.marks stood) ∙ comes)) ∙ coming-there h None in cc
 
-pub fine-passing : {setting : Setting} (from : ℕ) (marks : ℕ → PresenceMark) {course : Course} {move : Move}
-    (level : ℕ) (address : Address) (way : ℕ) → IsSound setting course → IsNext setting course move
-    → course.start ≡ from
-    → ((v : ℕ) → v < setting.nodes → marks v ≡ mark_passing setting course move v)
-    → (HasMetric setting → AreLazy setting (course.moves ++ move ∷ [])
-    → way < setting.threshold level + 2 * setting.distance move.from move.to)
-    → IsFine setting marks (stands from (map commit_by (course.moves ++ move ∷ [])))
-    (length (map commit_by (course.moves ++ move ∷ []))) (course.moves ++ move ∷ []) level address way
-fine-passing {setting} from marks {course} {move} level address way sound next begins marks_are short = record {
-  before_old = λ metric lazy all old. absurd (same_count all);
-  before_new = λ metric lazy all new. absurd (same_count all);
+pub fine-passing : {setting : Setting} {shown : Shown} (h : IsMoving setting shown passage) (level : ℕ)
+    (address : Address) (way : ℕ)
+    → (HasMetric setting → AreLazy setting (h.course.moves ++ h.move ∷ [])
+    → way < setting.threshold level + 2 * setting.distance h.move.from h.move.to)
+    → IsFine setting shown level address way
+fine-passing {setting} {shown} h level address way short = record {
+  before_old = λ metric lazy all old. absurd (all-committed h h.commits_are all);
+  before_new = λ metric lazy all new. absurd (all-committed h h.commits_are all);
   passing = λ metric lazy u comes. omega (
     arith,
-    short metric lazy,
-    ap (setting.distance u) stood,
-    ap (λ n. setting.distance n move.to) (left_is u (sym comes_here ∙ comes)),
+    short metric (rw h.moves_are at lazy),
+    ap (setting.distance u) (next-stands h h.commits_are),
+    ap (λ n. setting.distance n h.move.to) (left_is u (sym comes_here ∙ comes)),
   );
-  settled = λ metric lazy all other. absurd (other move.from comes_here);
-  current = λ metric lazy all other same. absurd (other move.from comes_here);
+  settled = λ metric lazy all other. absurd (other h.move.from comes_here);
+  current = λ metric lazy all other same. absurd (other h.move.from comes_here);
 }
   where
-    same_count : length (course.moves ++ move ∷ []) ≡ suc (length (map commit_by (course.moves ++ move ∷ []))) → ⊥
-    same_count all = omega (arith, all, length-map (course.moves ++ move ∷ []) commit_by)
+    comes_here : shown.marks (standing_of shown) ≡ Coming (length shown.commits) h.move.from
+    comes_here = ap shown.marks (next-stands h h.commits_are)
+        ∙ (passing-at_to h ∙ ap (λ n. Coming n h.move.from) (next-count h h.commits_are))
 
-    stood : stands from (map commit_by (course.moves ++ move ∷ [])) ≡ move.to
-    stood = next-stands from next begins
-
-    count : move.number ≡ length (map commit_by (course.moves ++ move ∷ []))
-    count = omega (
-      arith,
-      next.number,
-      length-append course.moves (move ∷ []),
-      length-map (course.moves ++ move ∷ []) commit_by,
-    )
-
-    comes_here : marks (stands from (map commit_by (course.moves ++ move ∷ [])))
-        ≡ Coming (length (map commit_by (course.moves ++ move ∷ []))) move.from
-    comes_here = ap marks stood ∙ (passing-at_to marks sound next marks_are
-        ∙ ap (λ n. Coming n move.from) count)
-
-    left_is : (u : ℕ) → Coming (length (map commit_by (course.moves ++ move ∷ []))) move.from
-        ≡ Coming (length (map commit_by (course.moves ++ move ∷ []))) u → u ≡ move.from
+    left_is : (u : ℕ) → Coming (length shown.commits) h.move.from ≡ Coming (length shown.commits) u → u ≡ h.move.from
     left_is u e = cc
 
-pub fine-clearing : {setting : Setting} (from : ℕ) (marks : ℕ → PresenceMark) {course : Course} {move : Move}
-    (level : ℕ) → IsSound setting course → IsNext setting course move → course.start ≡ from → level ≤ setting.top
-    → ((v : ℕ) → v < setting.nodes → marks v ≡ mark_erasing setting course move [] v)
-    → IsFine setting marks (stands from (map commit_by (course.moves ++ move ∷ [])))
-    (length (map commit_by (course.moves ++ move ∷ []))) (course.moves ++ move ∷ []) level
-    (record { number = base level course.moves; node = address_node course level })
-    (weight_from (course.moves ++ move ∷ []) (base level course.moves))
-fine-clearing {setting} from marks {course} {move} level sound next begins below marks_are = record {
-  before_old = λ metric lazy all old. absurd (same_count all);
-  before_new = λ metric lazy all new. absurd (same_count all);
+pub fine-clearing : {setting : Setting} {shown : Shown} {erased purged : List ℕ}
+    (h : IsMoving setting shown (clearing erased purged)) (level : ℕ) → level ≤ setting.top
+    → IsFine setting shown level (old_address h.course level)
+    (weight_from (h.course.moves ++ h.move ∷ []) (base level h.course.moves) + 0)
+fine-clearing {setting} {shown} h level below = record {
+  before_old = λ metric lazy all old. absurd (all-committed h h.commits_are all);
+  before_new = λ metric lazy all new. absurd (all-committed h h.commits_are all);
   passing = λ metric lazy u comes. absurd (clash u comes);
   settled = λ metric lazy all other. omega (
     arith,
-    price-clearing from level sound next begins below metric lazy,
+    price-clearing level h.sound h.next below metric (rw h.moves_are at lazy),
+    ap (setting.distance (address_node h.course level)) (next-stands h h.commits_are),
   );
-  current = λ metric lazy all other same. rw same (lazy-whole setting (course.moves ++ move ∷ []) level below lazy);
+  current = λ metric lazy all other same. rw (same, h.moves_are)
+      (omega (arith, lazy-whole setting (h.course.moves ++ h.move ∷ []) level below (rw h.moves_are at lazy)));
 }
   where
-    same_count : length (course.moves ++ move ∷ []) ≡ suc (length (map commit_by (course.moves ++ move ∷ []))) → ⊥
-    same_count all = omega (arith, all, length-map (course.moves ++ move ∷ []) commit_by)
-
-    clash : (u : ℕ) → marks (stands from (map commit_by (course.moves ++ move ∷ [])))
-        ≡ Coming (length (map commit_by (course.moves ++ move ∷ []))) u → ⊥
+    clash : (u : ℕ) → shown.marks (standing_of shown) ≡ Coming (length shown.commits) u → ⊥
     clash u comes =
-        let both : Here move.number ≡ Coming (length (map commit_by (course.moves ++ move ∷ []))) u =
-        sym (ap marks (next-stands from next begins)
-        ∙ clearing-here marks sound next marks_are) ∙ comes in cc
+        let both : Here h.move.number ≡ Coming (length shown.commits) u =
+        sym (ap shown.marks (next-stands h h.commits_are) ∙ clearing-here h) ∙ comes in cc

@@ -1,20 +1,19 @@
 -- How the marks of a chase follow one another, by the looks of a find: what a Gone or a Coming tells of the node where
 -- it leads holds at every later look.
 use Rattle.std.proofs.lemmas.Bool.{cases_Bool}
-use Rattle.std.proofs.Common.{◌≡◌, ◌⊎◌, inl, inr, ℕ, zero, suc, ◌-◌, ◌<◌, ◌≤◌, ◌^◌, max, true, false, List, [], ◌∷◌, ◌++◌, Option, Some, None, length, refl, sym, ap, ◌∙◌, subst, arith}
+use Rattle.std.proofs.Common.{◌≡◌, inl, inr, ℕ, zero, suc, ◌-◌, ◌<◌, ◌≤◌, ◌^◌, max, true, false, List, [], ◌∷◌, Option, Some, None, length, refl, sym, ◌∙◌, arith}
 use Rattle.std.specs.Prelude.{flat_map}
 use Rattle.std.proofs.lemmas.Bool.Decides.{nat_tests}
-use Rattle.entry_word.specs.Marks.{mark_in}
 use Rattle.entry_word.specs.declared.mark.PresenceMark.{PresenceMark}
 use Rattle.entry_word.specs.declared.mark.PresenceMark.TheVariants.{Empty, Here, Gone, Coming, Off}
 use Rattle.entry_word.specs.declared.visit.Key.{Key}
 use Rattle.entry_word.specs.declared.visit.Key.TheVariants.{Presence}
 use Rattle.directory.specs.Settings.{Setting, start}
-use Rattle.directory.specs.Histories.{before, cell, History, words_at, words_by}
+use Rattle.directory.specs.Histories.{before, cell, History, words_at}
 use Rattle.directory.specs.Legal.{IsLegal}
 use Rattle.directory.specs.Finds.{after_mark, after_word, at_origin, Chase, chases, ended, FindCall, hop, is_known, key_of, known_with, Pursuit}
 use Rattle.directory.specs.Looks.{AreLooks}
-use Rattle.directory.specs.Standing.{commits, number, off, standing}
+use Rattle.directory.specs.Standing.{commits, number, off}
 use Rattle.directory.specs.Statements.{FrontsAreLegal}
 use Rattle.directory.specs.declared.answers.Found.{Found}
 use Rattle.directory.specs.declared.answers.Found.TheVariants.{At, Off as OffAt, Again}
@@ -23,7 +22,7 @@ use Rattle.trail_laws.specs.Trail.{EntriesTell, GoesUp, mark_seen, MarksTell, Ma
 use Rattle.trail_laws.specs.Phases.{moves_begun}
 use Rattle.trail_laws.specs.Chased.{ChasesRise, marks_chased}
 use Rattle.trail_laws.proofs.Laws.{HistoryView, Laws, view}
-use Rattle.trail_laws.proofs.Stops.{off-counts, stop_after, stop-last, stop-left, stop-listed, view-counts}
+use Rattle.trail_laws.proofs.Stops.{off-counts, stop-last, stop-left, stop-listed, view-counts}
 use Rattle.trail_laws.proofs.Passing.{front-legal, number-grows}
 use Rattle.trail_laws.proofs.Rising.{stop-goes_up}
 use Rattle.trail_laws.proofs.Right.{good-safe, gone-known, IsSafe, look-good, safe-later}
@@ -62,13 +61,8 @@ zero-up setting sub seen node mark tells = omega arith
 fits-up : ChaseLaws → {setting : Setting} {sub : ℕ} {seen : History} {behind : Behind} {known : Option ℕ} {node : ℕ}
     → setting.nodes ≤ 2 ^ 16 → IsLegal setting sub seen → node < setting.nodes
     → IsBehind setting sub seen behind known node → GoesUp behind.place (mark_seen setting sub seen node)
-fits-up laws {setting} {sub} {seen} {behind} {node} low legal inside is = at_stop is.stop
-  where
-    at_stop : (behind.place ≡ 0) ⊎ (stop_after (start setting sub) (commits sub seen) behind.place ≡ node)
-        → GoesUp behind.place (mark_seen setting sub seen node)
-    at_stop (inl none) = rw none (zero-up setting sub seen node (mark_seen setting sub seen node)
-        (laws.marks setting sub seen low legal node inside))
-    at_stop (inr stop) = stop-goes_up laws.cells laws.marks seen low legal behind.place node is.few stop inside
+fits-up laws {setting} {sub} {seen} {behind} {node} low legal inside is =
+    grind (arith, laws.marks setting sub seen low legal node inside, zero-up, stop-goes_up)
 
 fits-begun : ChaseLaws → {setting : Setting} {sub : ℕ} (seen : History) (n node : ℕ) (mark : PresenceMark)
     → setting.nodes ≤ 2 ^ 16 → IsLegal setting sub seen → n ≤ moves_begun setting sub seen
@@ -89,11 +83,7 @@ gone-leads : ChaseLaws → {setting : Setting} {sub : ℕ} (seen : History) (kno
 gone-leads laws {setting} {sub} seen known node p to low legal tells = record {
   few = gone-known setting sub seen node p to tells;
   stop = inr (stop-listed (start setting sub) (commits sub seen) p _ tells.0 tells.1);
-  early = omega (
-    arith,
-    gone-known setting sub seen node p to tells,
-    number-few laws.cells seen low legal,
-  );
+  early = omega (arith, gone-known setting sub seen node p to tells, number-few laws.cells seen low legal);
   rises = omega arith;
   fresh = λ q h. unknown p q known h;
 }
@@ -104,28 +94,20 @@ coming-leads : ChaseLaws → {setting : Setting} {sub : ℕ} {seen : History} {b
     → is_known p known ≡ false → IsBehind setting sub seen (after_coming behind p) known from
 unfolding HistoryView
 coming-leads laws {setting} {sub} {seen} {node} p from low legal tells is new = record {
-  few = (led tells.3).0;
-  stop = inr (led tells.3).1;
+  few = omega (arith, tells.3);
+  stop = inr (elim tells.3 [
+    | inl early ↦
+        let e : p - 1 ≡ length (commits sub seen) = omega (arith, early.0) in
+        rw e (stop-last (start setting sub) (commits sub seen) ∙ sym early.1)
+    | inr late ↦
+        let gone : MarkTells setting sub seen from (Gone p node) =
+        rw late.2 at (laws.marks setting sub seen low legal from tells.1) in
+        stop-left (view laws.cells seen low legal) (p - 1) _ gone.1
+  ]);
   early = omega (arith, tells.0);
   rises = is.fresh p new;
   fresh = is.fresh;
 }
-  where
-    led : ((p ≡ suc (number sub seen)) × (from ≡ standing setting sub seen))
-        ⊎ ((p ≡ number sub seen) × (node ≡ standing setting sub seen) × (mark_seen setting sub seen from ≡ Gone p node))
-        → (p - 1 ≤ number sub seen) × (stop_after (start setting sub) (commits sub seen) (p - 1) ≡ from)
-    led (inl early) =
-        let e : p - 1 ≡ length (commits sub seen) = omega (arith, early.0) in (
-          omega (arith, early.0),
-          ap (stop_after (start setting sub) (commits sub seen)) e
-              ∙ (stop-last (start setting sub) (commits sub seen) ∙ sym early.1),
-        )
-    led (inr late) =
-        let gone : MarkTells setting sub seen from (Gone p node) = subst (MarkTells setting sub seen from) late.2
-        (laws.marks setting sub seen low legal from tells.1) in (
-          omega (arith, late.0),
-          stop-left (view laws.cells seen low legal) (p - 1) _ gone.1,
-        )
 
 -- one look of a chase
 module _ (laws : ChaseLaws) {setting : Setting} (history : History) (call : FindCall) (t : ℕ) (chase : Chase)
@@ -143,8 +125,7 @@ module _ (laws : ChaseLaws) {setting : Setting} (history : History) (call : Find
       → IsBehind setting call.sub (before t history) b known to
       → Later (hop setting known level weight left node to)
       → Rises b (marks_chased setting call (hop setting known level weight left node to) words)
-  hop-rises known level weight zero to b its more = subst (Rises b)
-      (sym (ended-so (Again Chased weight))) (none-rise b)
+  hop-rises known level weight zero to b its more = rw (ended-so (Again Chased weight)) (none-rise b)
   hop-rises known level weight (suc left) to b its more = more b (behind-later t (suc t) history (omega arith) its)
 
   continues : (mark : PresenceMark) → MarkTells setting call.sub (before t history) node mark
@@ -187,17 +168,10 @@ look-rises : ChaseLaws → {setting : Setting} (history : History) (call : FindC
     → Rises behind (marks_chased setting call pursuit (cell setting (before t history) key ∷ words))
 look-rises laws {setting} history call t (chases chase node) key words behind low legal safe tracked wanted more =
     let e : key ≡ Presence node call.sub = cc in
-    subst (λ (k : Key). ((b : Behind) → IsTracked setting call.sub (before (suc t) history) b
-    (after_mark setting chase node (mark_in (cell setting (before t history) k)))
-    → Rises b (marks_chased setting call
-    (after_mark setting chase node (mark_in (cell setting (before t history) k))) words))
-    → Rises behind (mark_in (cell setting (before t history) k) ∷ marks_chased setting call
-    (after_mark setting chase node (mark_in (cell setting (before t history) k))) words)) (sym e)
-    (chase-rises laws history call t chase words low legal tracked safe.1) more
+    rw e (chase-rises laws history call t chase words low legal tracked safe.1 (rw e at more))
 look-rises laws history call t (ended found) key words behind low legal safe tracked wanted more = cc
 look-rises laws {setting} history call t pursuit key words behind low legal safe tracked wanted more =
-    subst (λ b. Rises b (marks_chased setting call pursuit (cell setting (before t history) key ∷ words)))
-    (sym tracked) (more nothing (tracked-nothing setting call.sub (before (suc t) history) _))
+    rw tracked (more nothing (tracked-nothing setting call.sub (before (suc t) history) _))
 
 tracked-later : (setting : Setting) (sub t u : ℕ) (history : History) (behind : Behind) (pursuit : Pursuit) → t ≤ u
     → IsTracked setting sub (before t history) behind pursuit → IsTracked setting sub (before u history) behind pursuit
@@ -218,37 +192,24 @@ looks-rise laws history actor call low inside legal [] earliest pursuit behind s
     none-rise behind
 looks-rise laws {setting} history actor call low inside legal (t ∷ later) earliest pursuit behind safe tracked
     (first, (key, wanted, is_look, rest)) =
-    subst (Rises behind) (sym read) (look-rises laws history call t pursuit key
+    rw is_look (look-rises laws history call t pursuit key
     (flat_map (words_at setting history) later) behind low legal_now safe_now
     (tracked-later setting call.sub earliest t history behind pursuit first tracked) wanted
     (λ b its. looks-rise laws history actor call low inside legal later (suc t) next b safe_next its rest))
   where
-    word : ℕ
-    word = cell setting (before t history) key
-
     next : Pursuit
     next = after_word setting call pursuit (cell setting (before t history) key)
-
-    read : marks_chased setting call pursuit (flat_map (words_at setting history) (t ∷ later))
-        ≡ marks_chased setting call pursuit
-        (cell setting (before t history) key ∷ flat_map (words_at setting history) later)
-    read = ap (λ o. marks_chased setting call pursuit (words_by setting (before t history) o
-        ++ flat_map (words_at setting history) later)) is_look
 
     legal_now : IsLegal setting call.sub (before t history)
     legal_now = front-legal laws.fronts setting call.sub history t low legal
 
     safe_now : IsSafe setting (number call.sub (before t history)) pursuit
-    safe_now = safe-later setting (number call.sub (before earliest history)) (number call.sub (before t history))
-        pursuit (number-grows call.sub earliest t history first) safe
+    safe_now = safe-later setting _ _ pursuit (number-grows call.sub earliest t history first) safe
 
-    safe_next : IsSafe setting (number call.sub (before (suc t) history))
-        (after_word setting call pursuit (cell setting (before t history) key))
-    safe_next = safe-later setting (number call.sub (before t history)) (number call.sub (before (suc t) history))
-        (after_word setting call pursuit (cell setting (before t history) key))
-        (number-grows call.sub t (suc t) history (omega arith)) (good-safe setting call.sub (before t history)
-        (after_word setting call pursuit (cell setting (before t history) key)) (look-good laws.marks laws.entries
-        (before t history) call pursuit key low inside legal_now safe_now wanted))
+    safe_next : IsSafe setting (number call.sub (before (suc t) history)) next
+    safe_next = safe-later setting _ _ next (number-grows call.sub t (suc t) history (omega arith))
+        (good-safe setting call.sub (before t history) next (look-good laws.marks laws.entries (before t history) call
+        pursuit key low inside legal_now safe_now wanted))
 
 pub chases-rise : ChaseLaws → ChasesRise
 chases-rise laws setting history actor call tickets low inside legal looks =

@@ -4,7 +4,7 @@ use Rattle.std.specs.Prelude.{nat_lt}
 use Rattle.std.proofs.lemmas.Bool.Decides.{nat_tests}
 use Rattle.node_set.specs.Ascending.{sift}
 use Rattle.entry_word.specs.declared.mark.PresenceMark.{PresenceMark}
-use Rattle.entry_word.specs.declared.mark.PresenceMark.TheVariants.{Empty, Here, Gone, Coming, Off}
+use Rattle.entry_word.specs.declared.mark.PresenceMark.TheVariants.{Gone}
 use Rattle.directory.specs.Settings.{Setting}
 use Rattle.node_set.specs.SetLaws.{length-passing_all}
 
@@ -20,11 +20,7 @@ cond-fewer false false v d xs ys e more = more
 pub passing-fewer : (f g : ℕ → Bool) (v k : ℕ) → ((x : ℕ) → f x ≡ true → g x ≡ true)
     → length (sift f v k) ≤ length (sift g v k)
 passing-fewer f g v zero h = omega arith
-passing-fewer f g v (suc k) h = omega (
-  arith,
-  cond-fewer (f v) (g v) v 0 (sift f (suc v) k) (sift g (suc v) k) (h v)
-      (omega (arith, passing-fewer f g (suc v) k h)),
-)
+passing-fewer f g v (suc k) h = grind (arith, passing-fewer f g (suc v) k h, cond-fewer)
 
 pub passing-less : (f g : ℕ → Bool) (x v k : ℕ) → v ≤ x → x < v + k → ((y : ℕ) → f y ≡ true → g y ≡ true)
     → f x ≡ false → g x ≡ true → length (sift f v k) < length (sift g v k)
@@ -56,11 +52,8 @@ some-out test x n low out = omega (
 
 -- ---- how many nodes hold a Gone above a number
 abbrev pub gone_above : ℕ → PresenceMark → Bool
-gone_above number Empty = false
-gone_above number (Here q) = false
 gone_above number (Gone q to) = nat_lt number q
-gone_above number (Coming q from) = false
-gone_above number (Off q) = false
+gone_above number mark = false
 
 abbrev pub above : Setting → (ℕ → PresenceMark) → ℕ → ℕ
 above setting marks number = length (sift (λ v. gone_above number (marks v)) 0 setting.nodes)

@@ -1,11 +1,11 @@
 -- Each line of an actor's finds begins behind the last visit of those before it.
-use Rattle.std.proofs.Common.{◌≡◌, ◌⊎◌, inl, inr, ℕ, zero, suc, ◌+◌, ◌<◌, ◌≤◌, List, [], ◌∷◌, ◌++◌, length, map, take, drop, fold, get_or, refl, sym, ap, ◌∙◌, subst, arith, Option}
+use Rattle.std.proofs.Common.{◌≡◌, ◌⊎◌, inl, inr, ℕ, zero, suc, ◌+◌, ◌<◌, ◌≤◌, List, [], ◌∷◌, ◌++◌, length, map, drop, fold, get_or, refl, ap, arith, Option}
 use Rattle.std.specs.Prelude.{Some, None, flat_map, slice_get}
 use Rattle.std.proofs.lemmas.Option.{slice_get_within}
 use Rattle.directory.specs.Settings.{Setting, start, subs}
 use Rattle.directory.specs.Statements.{CallersCount, FindsFollow, TicketsAscend}
 use Rattle.directory.specs.Courses.{Course, Step, after_step, course_at, move_to}
-use Rattle.directory.specs.Finds.{FindCall, Pursuit, after_word, answer_of}
+use Rattle.directory.specs.Finds.{FindCall, Pursuit}
 use Rattle.directory.specs.Histories.{History, tickets, words_read}
 use Rattle.directory.specs.Orders.{Answer, Caller as Seeker, IsPlayed, Scripts, after_read, caller_at, caller_in, finds_of, read_by, steps_of, with_pursuit}
 use Rattle.directory.specs.Outcomes.{FollowEachOther, answer_line, caller_lines, found_line, step_line, step_lines, sub_lines}
@@ -14,7 +14,7 @@ use Rattle.directory.specs.CallLines.{actor_of, find_of}
 use Rattle.directory.specs.declared.answers.FindLine.{FindLine}
 use Rattle.directory.specs.declared.answers.Done.{Done}
 use Rattle.directory.specs.declared.answers.Found.{Found}
-use Rattle.directory.specs.declared.answers.Found.TheVariants.{At, Off as OffAt, Again}
+use Rattle.directory.specs.declared.answers.Found.TheVariants.{At}
 use Rattle.trail_laws.specs.RightOutcomes.{LinesAreInTurn}
 use Rattle.node_set.specs.SetLaws.{place-rises, place-stays_or_rises}
 
@@ -23,19 +23,14 @@ append-at : {A : Type 0} (xs ys : List A) (i : ℕ) (y : A) → slice_get (xs ++
     → (slice_get xs i ≡ Some y) ⊎ ((k : ℕ) × (i ≡ length xs + k) × (slice_get ys k ≡ Some y))
 append-at [] ys i y h = inr (i, omega arith, h)
 append-at (x ∷ xs) ys zero y h = inl h
-append-at (x ∷ xs) ys (suc i) y h = elim (append-at xs ys i y h) [
-  | inl here ↦ inl here
-  | inr there ↦ inr (there.0, omega (arith, there.1), there.2)
-]
+append-at (x ∷ xs) ys (suc i) y h = grind (arith, append-at xs ys i y h)
 
 -- the answers of a caller come one after another, and their last looks have been made
 follow-above : (place : ℕ) (answers : List Answer) (j : ℕ) (b : Answer) → FollowEachOther place answers
     → slice_get answers j ≡ Some b → (place ≤ b.first) × (b.first ≤ b.last)
 unfolding FollowEachOther
 follow-above place [] j b follows at = cc
-follow-above place (a ∷ answers) zero b follows at =
-    let same : a ≡ b = cc in
-    subst (λ (x : Answer). (place ≤ x.first) × (x.first ≤ x.last)) same (follows.0, follows.1)
+follow-above place (a ∷ answers) zero b follows at = grind arith
 follow-above place (a ∷ answers) (suc j) b follows at =
     let above = follow-above (suc a.last) answers j b follows.2 at in
     (omega (arith, above.0, follows.0, follows.1), above.1)
@@ -80,9 +75,7 @@ looked-more : (setting : Setting) (caller : Seeker) (calls : List FindCall) (wor
     → AreLooked caller.next caller.answers
     → AreLooked (read_by setting caller calls word).next (read_by setting caller calls word).answers
 looked-more setting caller [] word h = h
-looked-more setting caller (call ∷ later) word h =
-    looked-on caller call later (after_word setting call caller.pursuit word)
-    (answer_of (after_word setting call caller.pursuit word)) h
+looked-more setting caller (call ∷ later) word h = grind (arith, looked-on)
 
 looked-all : (setting : Setting) (words : List ℕ) (caller : Seeker) → AreLooked caller.next caller.answers
     → AreLooked (fold (after_read setting) caller words).next (fold (after_read setting) caller words).answers
@@ -109,14 +102,12 @@ line-visits : (caller : ℕ) (call : FindCall) (found : Found) (first last : ℕ
     → find_of (found_line caller call found first last) ≡ Some find → (first ≡ find.first) × (last ≡ find.last)
 unfolding first-of last-of
 line-visits caller call (At node number level weight) first last find is = (ap first-of is, ap last-of is)
-line-visits caller call (OffAt node number level weight) first last find is = (ap first-of is, ap last-of is)
-line-visits caller call (Again why weight) first last find is = (ap first-of is, ap last-of is)
+line-visits caller call found first last find is = (ap first-of is, ap last-of is)
 
 actor-found : (caller : ℕ) (call : FindCall) (found : Found) (first last : ℕ)
     → actor_of (found_line caller call found first last) ≡ caller
 actor-found caller call (At node number level weight) first last = refl
-actor-found caller call (OffAt node number level weight) first last = refl
-actor-found caller call (Again why weight) first last = refl
+actor-found caller call found first last = refl
 
 abbrev AreInTurn : Done → Done → Type 0
 AreInTurn one other = (earlier later : FindLine) → find_of one ≡ Some earlier → find_of other ≡ Some later
@@ -158,11 +149,7 @@ caller-in-turn follow count ascend setting scripts history played actor i j one 
 
 line-of-caller : (setting : Setting) (scripts : Scripts) (history : History) (actor i : ℕ) (line : Done)
     → slice_get (caller_lines setting scripts history actor) i ≡ Some line → actor_of line ≡ actor
-line-of-caller setting scripts history actor i line at =
-    let seen : List ℕ = tickets actor history in
-    let a = map-at (answer_line actor seen) (caller_in setting scripts history actor).answers i line at in
-    sym (ap actor_of a.2)
-    ∙ actor-found actor a.0.call a.0.found (get_or seen a.0.first 0) (get_or seen a.0.last 0)
+line-of-caller setting scripts history actor i line at = grind (arith, map-at, actor-found)
 
 -- the lines of each actor lie together
 block-above : (f : ℕ → List Done) (x k : ℕ) → ((a i : ℕ) (y : Done) → x ≤ a → slice_get (f a) i ≡ Some y
@@ -182,27 +169,23 @@ all-in-turn : (f : ℕ → List Done) (x k : ℕ) → ((a i : ℕ) (y : Done) �
     → slice_get (flat_map f (numbers_from x k)) j ≡ Some other → actor_of one ≡ actor_of other → AreInTurn one other
 all-in-turn f x zero each order i j one other le at_one at_other same = cc
 all-in-turn f x (suc k) each order i j one other le at_one at_other same =
-    at_parts (append-at (f x) (flat_map f (numbers_from (suc x) k)) i one at_one)
-    (append-at (f x) (flat_map f (numbers_from (suc x) k)) j other at_other)
-    (λ m n low a b. all-in-turn f (suc x) k (λ c i y h. each c i y (omega (arith, h)))
-    (λ c i j y z h. order c i j y z (omega (arith, h))) m n one other low a b same)
-  where
-    rest : List Done
-    rest = flat_map f (numbers_from (suc x) k)
-
-    at_parts : (slice_get (f x) i ≡ Some one) ⊎ ((m : ℕ) × (i ≡ length (f x) + m) × (slice_get rest m ≡ Some one))
-        → (slice_get (f x) j ≡ Some other) ⊎ ((n : ℕ) × (j ≡ length (f x) + n) × (slice_get rest n ≡ Some other))
-        → ((m n : ℕ) → m < n → slice_get rest m ≡ Some one → slice_get rest n ≡ Some other → AreInTurn one other)
-        → AreInTurn one other
-    at_parts (inl a) (inl b) later = order x i j one other (omega arith) le a b
-    at_parts (inl a) (inr b) later = absurd (omega (
-      arith,
-      same,
-      each x i one (omega arith) a,
-      block-above f (suc x) k (λ c i y h. each c i y (omega (arith, h))) b.0 other b.2,
-    ))
-    at_parts (inr a) (inl b) later = absurd (omega (arith, le, a.1, slice_get_within (f x) j other b))
-    at_parts (inr a) (inr b) later = later a.0 b.0 (omega (arith, le, a.1, b.1)) a.2 b.2
+    elim (append-at (f x) (flat_map f (numbers_from (suc x) k)) i one at_one) [
+      | inl a ↦ elim (append-at (f x) (flat_map f (numbers_from (suc x) k)) j other at_other) [
+        | inl b ↦ order x i j one other (omega arith) le a b
+        | inr b ↦ absurd (omega (
+          arith,
+          same,
+          each x i one (omega arith) a,
+          block-above f (suc x) k (λ c i y h. each c i y (omega (arith, h))) b.0 other b.2,
+        ))
+      ]
+      | inr a ↦ elim (append-at (f x) (flat_map f (numbers_from (suc x) k)) j other at_other) [
+        | inl b ↦ absurd (omega (arith, le, a.1, slice_get_within (f x) j other b))
+        | inr b ↦ all-in-turn f (suc x) k (λ c i y h. each c i y (omega (arith, h)))
+            (λ c i j y z h. order c i j y z (omega (arith, h))) a.0 b.0 one other (omega (arith, le, a.1, b.1)) a.2 b.2
+            same
+      ]
+    ]
 
 -- the lines of subscribers tell of no find
 step-untold : (setting : Setting) (sub : ℕ) (course : Course) (step : Step) (seen : List ℕ) (find : FindLine)
@@ -210,25 +193,24 @@ step-untold : (setting : Setting) (sub : ℕ) (course : Course) (step : Step) (s
 step-untold setting sub course (move_to node) seen find told = cc
 step-untold setting sub course step seen find told = cc
 
-steps-untold : (setting : Setting) (sub : ℕ) (course : Course) (steps : List Step) (seen : List ℕ) (i : ℕ)
-    (line : Done) (find : FindLine) → slice_get (step_lines setting sub course steps seen) i ≡ Some line
+abbrev AreUntold : List Done → Type 0
+AreUntold lines = (i : ℕ) (line : Done) (find : FindLine) → slice_get lines i ≡ Some line
     → find_of line ≡ Some find → ⊥
-unfolding step_lines
-steps-untold setting sub course [] seen i line find at told = cc
-steps-untold setting sub course (step ∷ steps) seen zero line find at told =
-    let first : List ℕ = take (length (step_writes setting course step)) seen in
-    let same : step_line setting sub course step first ≡ line = cc in
-    step-untold setting sub course step first find (rw same told)
-steps-untold setting sub course (step ∷ steps) seen (suc i) line find at told =
-    steps-untold setting sub (after_step setting course step) steps
-    (drop (length (step_writes setting course step)) seen) i line find at told
 
-subs-untold : (setting : Setting) (scripts : Scripts) (history : History) (some : List ℕ) (i : ℕ) (line : Done)
-    (find : FindLine) → slice_get (flat_map (sub_lines setting scripts history) some) i ≡ Some line
-    → find_of line ≡ Some find → ⊥
-subs-untold setting scripts history [] i line find at told = cc
-subs-untold setting scripts history (sub ∷ some) i line find at told = elim
-    (append-at (sub_lines setting scripts history sub) (flat_map (sub_lines setting scripts history) some) i line at) [
+steps-untold : (setting : Setting) (sub : ℕ) (course : Course) (steps : List Step) (seen : List ℕ)
+    → AreUntold (step_lines setting sub course steps seen)
+unfolding step_lines
+steps-untold setting sub course [] seen i line find is told = cc
+steps-untold setting sub course (step ∷ steps) seen zero line find is told = grind (arith, step-untold)
+steps-untold setting sub course (step ∷ steps) seen (suc i) line find is told =
+    steps-untold setting sub (after_step setting course step) steps
+    (drop (length (step_writes setting course step)) seen) i line find is told
+
+subs-untold : (setting : Setting) (scripts : Scripts) (history : History) (some : List ℕ)
+    → AreUntold (flat_map (sub_lines setting scripts history) some)
+subs-untold setting scripts history [] i line find is told = cc
+subs-untold setting scripts history (sub ∷ some) i line find is told = elim
+    (append-at (sub_lines setting scripts history sub) (flat_map (sub_lines setting scripts history) some) i line is) [
       | inl here ↦ steps-untold setting sub (course_at (start setting sub)) (steps_of scripts sub)
           (tickets sub history) i line find here told
       | inr there ↦ subs-untold setting scripts history some there.0 line find there.2 told
@@ -238,20 +220,19 @@ subs-untold setting scripts history (sub ∷ some) i line find at told = elim
 pub outcome-in-turn : FindsFollow → CallersCount → TicketsAscend → LinesAreInTurn
 outcome-in-turn follow count ascend setting scripts history played i j one other le at_one at_other same
     earlier later is_earlier is_later =
-    at_parts (append-at steps finds i one at_one) (append-at steps finds j other at_other)
+    elim (append-at steps finds i one at_one) [
+      | inl a ↦ absurd (subs-untold setting scripts history _ i one earlier a is_earlier)
+      | inr a ↦ elim (append-at steps finds j other at_other) [
+        | inl b ↦ absurd (subs-untold setting scripts history _ j other later b is_later)
+        | inr b ↦ all-in-turn (caller_lines setting scripts history) (subs setting) (length scripts.finds)
+            (λ actor k line high. line-of-caller setting scripts history actor k line)
+            (λ actor m n x y high. caller-in-turn follow count ascend setting scripts history played actor m n x y high)
+            a.0 b.0 one other (omega (arith, le, a.1, b.1)) a.2 b.2 same earlier later is_earlier is_later
+      ]
+    ]
   where
     steps : List Done
     steps = flat_map (sub_lines setting scripts history) (numbers_from 0 (subs setting))
 
     finds : List Done
     finds = flat_map (caller_lines setting scripts history) (numbers_from (subs setting) (length scripts.finds))
-
-    at_parts : (slice_get steps i ≡ Some one) ⊎ ((m : ℕ) × (i ≡ length steps + m) × (slice_get finds m ≡ Some one))
-        → (slice_get steps j ≡ Some other) ⊎ ((n : ℕ) × (j ≡ length steps + n) × (slice_get finds n ≡ Some other))
-        → (earlier.last < later.first) × (later.first ≤ later.last)
-    at_parts (inl a) b = absurd (subs-untold setting scripts history _ i one earlier a is_earlier)
-    at_parts (inr a) (inl b) = absurd (subs-untold setting scripts history _ j other later b is_later)
-    at_parts (inr a) (inr b) = all-in-turn (caller_lines setting scripts history) (subs setting) (length scripts.finds)
-        (λ actor k line high. line-of-caller setting scripts history actor k line)
-        (λ actor m n x y high. caller-in-turn follow count ascend setting scripts history played actor m n x y high)
-        a.0 b.0 one other (omega (arith, le, a.1, b.1)) a.2 b.2 same earlier later is_earlier is_later

@@ -9,15 +9,14 @@ use Rattle.directory.specs.Histories.{History, puts_to}
 use Rattle.directory.specs.Courses.{Move, stop, course_at}
 use Rattle.directory.specs.Puts.{course_in, steps_in}
 use Rattle.directory.specs.Legal.{IsLegal}
-use Rattle.directory.specs.Standing.{commits, off, standing}
+use Rattle.directory.specs.Standing.{off, standing}
 use Rattle.directory.specs.Statements.{CommitsAreTold, EntriesAreLeft, LegalIsAmid, MarksAreLeft, OffIsTold}
 use Rattle.trail_laws.specs.Trail.{AddressesLead, ComingsLead, EntriesTell, entry_seen, EntryTells, IsLed, mark_seen, MarksTell, MarkTells, OneComing, TopHasEntry, answers}
 use Rattle.directory.specs.Parts.{lead}
 use Rattle.trail_laws.proofs.ClosedViews.{View}
 use Rattle.trail_laws.proofs.Views.{legal-view, shown}
 use Rattle.trail_laws.proofs.Tells.{mark-is, MarkIs}
-use Rattle.trail_laws.proofs.Addresses.{entry-placed}
-use Rattle.trail_laws.proofs.PlacedPhases.{IsPlaced}
+use Rattle.trail_laws.proofs.PlacedPhases.{IsPlaced, entry-placed}
 use Rattle.trail_laws.proofs.Comings.{coming-leads_on, coming-one}
 use Rattle.trail_laws.proofs.Nearby.{level-has}
 use Rattle.directory.specs.StepLaws.{start-kept}
@@ -48,8 +47,7 @@ unfolding HistoryView
 marks-tell laws setting sub history low legal node inside = told (mark_seen setting sub history node)
     (mark-is node inside (view laws history low legal))
   where
-    told : (mark : PresenceMark) → MarkIs setting.nodes (start setting sub) (mark_seen setting sub history)
-        (commits sub history) (off sub history) (course_in setting sub (puts_to sub history)).moves node mark
+    told : (mark : PresenceMark) → MarkIs setting.nodes (shown setting sub history) node mark
         → MarkTells setting sub history node mark
     told mark h = h
 
@@ -63,8 +61,7 @@ one-coming laws setting sub history low legal one other p q u v one_in other_in 
 pub placed : Laws → {setting : Setting} {sub : ℕ} (history : History) → setting.nodes ≤ 2 ^ 16
     → IsLegal setting sub history → (level cluster : ℕ) (address : Address) → level ≤ setting.top
     → entry_seen setting sub history level cluster ≡ Some address
-    → IsPlaced setting (start setting sub) (mark_seen setting sub history) (commits sub history)
-    (course_in setting sub (puts_to sub history)).moves level cluster address
+    → IsPlaced setting (shown setting sub history) level cluster address
 unfolding HistoryView
 placed laws {setting} {sub} history low legal level cluster address below is_some =
     entry-placed level cluster address below (view laws history low legal) is_some

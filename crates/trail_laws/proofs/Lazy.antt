@@ -7,10 +7,10 @@ use Rattle.std.proofs.lemmas.List.{take_all, take-append-le}
 use Rattle.std.proofs.Math.ListN.{drop_of_length-le}
 use Rattle.directory.specs.Settings.{levels, Setting, start}
 use Rattle.directory.specs.Histories.{History, puts_to}
-use Rattle.directory.specs.Courses.{after_step, after_steps, base, Course, course_at, gathered_weight, highest, MaySteps, Move, move_to, next_move, Step, switch_off, switch_on}
+use Rattle.directory.specs.Courses.{after_step, after_steps, base, Course, course_at, gathered_weight, highest, MaySteps, Move, move_to, next_move, Step}
 use Rattle.directory.specs.Legal.{IsLegal}
 use Rattle.directory.specs.Puts.{course_in}
-use Rattle.trail_laws.proofs.Links.{AreLinked, IsSound, base-low, sound-step}
+use Rattle.trail_laws.proofs.Links.{IsSound, base-low, sound-step}
 use Rattle.trail_laws.proofs.ClosedMarks.{base-with}
 use Rattle.trail_laws.proofs.LinkedStops.{weight_from}
 use Rattle.trail_laws.proofs.Prices.{AreLazy, weight-push}
@@ -32,10 +32,8 @@ lazy-push : (setting : Setting) (moves : List Move) (move : Move) → AreLazy se
     → ((level : ℕ) → level ≤ setting.top
     → weight_from (moves ++ move ∷ []) (base level (moves ++ move ∷ [])) < setting.threshold level)
     → AreLazy setting (moves ++ move ∷ [])
-lazy-push setting moves move lazy whole k level low below = elim (cases_lt (length moves) k) [
-  | inl h ↦ rw (take_all k (moves ++ move ∷ []) (omega (arith, h, length-append moves (move ∷ [])))) (whole level below)
-  | inr h ↦ rw (take-append-le k moves (move ∷ []) h) (lazy k level h below)
-]
+lazy-push setting moves move lazy whole k level low below =
+    grind (arith, cases_lt, move, length-append, take_all, take-append-le)
 
 -- a move renews each level that reaches its threshold
 lazy-whole_move : {setting : Setting} {course : Course} (node level : ℕ) → IsSound setting course
@@ -73,8 +71,7 @@ lazy-step : {setting : Setting} {course : Course} (step : Step) → IsSound sett
     → AreLazy setting (after_step setting course step).moves
 lazy-step {setting} {course} (move_to node) sound some lazy = lazy-push setting course.moves
     (next_move setting course node) lazy (λ level below. lazy-whole_move node level sound some below)
-lazy-step switch_off sound some lazy = lazy
-lazy-step switch_on sound some lazy = lazy
+lazy-step step sound some lazy = lazy
 
 lazy-steps : (setting : Setting) (course : Course) (steps : List Step) → IsSound setting course
     → MaySteps setting course steps → ((i : ℕ) → i ≤ setting.top → 1 ≤ setting.threshold i)
@@ -93,7 +90,6 @@ lazy-none setting some (suc k) level low below = some level below
 pub legal-lazy : {setting : Setting} {sub : ℕ} (history : History)
     → ((i : ℕ) → i ≤ setting.top → 1 ≤ setting.threshold i) → IsLegal setting sub history
     → AreLazy setting (course_in setting sub (puts_to sub history)).moves
-unfolding AreLinked
 legal-lazy {setting} {sub} history some legal =
     lazy-steps setting (course_at (start setting sub)) _ (record { begins = legal.script.begins; linked = tt })
     legal.script.allowed some (lazy-none setting some)

@@ -9,14 +9,13 @@ mod GoneCounts
 mod LinkedStops
 mod Chases
 mod Tells
+mod Holders
 mod Leads
 mod Stops
 mod Prices
 mod Fine
 mod Lazy
-mod Holders
 mod PlacedPhases
-mod Addresses
 mod Comings
 mod Nearby
 mod Laws

@@ -1,19 +1,23 @@
 -- The moves of a course are linked: each begins where the one before ended, and is numbered after it.
-use Rattle.std.proofs.Common.{inl, inr, ◌≡◌, ◌≢◌, ℕ, suc, ◌+◌, ◌<◌, ◌≤◌, List, [], ◌∷◌, ◌++◌, length, fold, refl, ◌∙◌, arith, length-append}
+use Rattle.std.proofs.Common.{◌≡◌, ℕ, suc, ◌+◌, ◌<◌, ◌≤◌, List, [], ◌∷◌, ◌++◌, length, fold, refl, arith, length-append}
 use Rattle.std.proofs.lemmas.Bool.{cases_Bool}
 use Rattle.std.specs.Prelude.{nat_le, if◌then◌else◌}
 use Rattle.directory.specs.Settings.{Setting}
-use Rattle.directory.specs.Courses.{Step, move_to, switch_off, switch_on, Move, Course, last_stop, base, next_move, after_step, after_steps, MayStep, MaySteps}
+use Rattle.directory.specs.Courses.{Step, move_to, Move, Course, last_stop, base, next_move, after_step, after_steps, MayStep, MaySteps}
 use Rattle.directory.specs.StepLaws.{highest-low}
 
--- moves after this node and this number
-unfoldable pub AreLinked : Setting → ℕ → ℕ → List Move → Type 0
+-- a move after this node and this number
+pub record IsLink (setting : Setting) (from number : ℕ) (move : Move) : Type 0 where
+  pub its_number : move.number ≡ suc number
+  pub its_from : move.from ≡ from
+  pub its_weight : move.weight ≡ setting.distance from move.to
+  pub inside : move.to < setting.nodes
+
+-- and moves after them, each behind the one before
+abbrev pub AreLinked : Setting → ℕ → ℕ → List Move → Type 0
 AreLinked setting from number [] = Unit {0}
 AreLinked setting from number (move ∷ later) =
-    (move.number ≡ suc number) × (move.from ≡ from) × (move.from < setting.nodes) × (move.to < setting.nodes)
-    × (move.to ≢ move.from)
-    × (move.renewed ≤ setting.top) × (move.weight ≡ setting.distance move.from move.to)
-    × AreLinked setting move.to (suc number) later
+    IsLink setting from number move × AreLinked setting move.to (suc number) later
 
 -- what is known of a course that was begun at a node of the network
 pub record IsSound (setting : Setting) (course : Course) : Type 0 where
@@ -21,32 +25,19 @@ pub record IsSound (setting : Setting) (course : Course) : Type 0 where
   pub linked : AreLinked setting course.start 0 course.moves
 
 pub linked-push : (setting : Setting) (from number : ℕ) (moves : List Move) (move : Move)
-    → move.number ≡ suc (number + length moves) → move.from ≡ fold (λ node (m : Move). m.to) from moves
-    → move.from < setting.nodes → move.to < setting.nodes → move.to ≢ move.from → move.renewed ≤ setting.top
-    → move.weight ≡ setting.distance move.from move.to → AreLinked setting from number moves
-    → AreLinked setting from number (moves ++ move ∷ [])
-unfolding AreLinked
-linked-push setting from number [] move h g a b c d w linked =
-    (h ∙ (let e : suc (number + 0) ≡ suc number = omega arith in e), g, a, b, c, d, w, tt)
-linked-push setting from number (first ∷ later) move h g a b c d w (f0, f1, f2, f3, f4, f5, f6, f7) = (
-  f0,
-  f1,
-  f2,
-  f3,
-  f4,
-  f5,
-  f6,
-  linked-push setting first.to (suc number) later move
-      (h ∙ (let e : suc (number + suc (length later)) ≡ suc (suc number + length later) = omega arith in e)) g a b c
-      d w f7,
-)
+    → IsLink setting (fold (λ node (m : Move). m.to) from moves) (number + length moves) move
+    → AreLinked setting from number moves → AreLinked setting from number (moves ++ move ∷ [])
+linked-push setting from number [] move link linked =
+    let e : number + 0 ≡ number = omega arith in (rw e at link, tt)
+linked-push setting from number (first ∷ later) move link linked =
+    let e : number + suc (length later) ≡ suc number + length later = omega arith in
+    (linked.0, linked-push setting first.to (suc number) later move (rw e at link) linked.1)
 
 pub last-inside : (setting : Setting) (from number : ℕ) (moves : List Move) → from < setting.nodes
     → AreLinked setting from number moves → fold (λ node (m : Move). m.to) from moves < setting.nodes
-unfolding AreLinked
 last-inside setting from number [] h linked = h
-last-inside setting from number (move ∷ later) h (f0, f1, f2, f3, f4, f5, f6, f7) = last-inside setting move.to
-    (suc number) later f3 f7
+last-inside setting from number (move ∷ later) h linked =
+    last-inside setting move.to (suc number) later linked.0.inside linked.1
 
 -- a subscriber stands at a node of the network
 pub stop-inside : {setting : Setting} {course : Course} → IsSound setting course → last_stop course < setting.nodes
@@ -61,11 +52,10 @@ pub sound-step : {setting : Setting} {course : Course} (step : Step) → IsSound
 sound-step {setting} {course} (move_to node) sound may = record {
   begins = sound.begins;
   linked = linked-push setting course.start 0 course.moves (next_move setting course node)
-      (let e : suc (length course.moves) ≡ suc (0 + length course.moves) = omega arith in e) refl
-      (stop-inside sound) may.inside may.moving (renewed-low setting course node) refl sound.linked;
+      (record { its_number = omega arith; its_from = refl; its_weight = refl; inside = may.inside })
+      sound.linked;
 }
-sound-step switch_off sound may = record { begins = sound.begins; linked = sound.linked }
-sound-step switch_on sound may = record { begins = sound.begins; linked = sound.linked }
+sound-step step sound may = record { begins = sound.begins; linked = sound.linked }
 
 pub sound-steps : (setting : Setting) (course : Course) (steps : List Step) → IsSound setting course
     → MaySteps setting course steps → IsSound setting (after_steps setting course steps)
@@ -79,24 +69,17 @@ base-from : (level last from number : ℕ) (setting : Setting) (moves : List Mov
     → AreLinked setting from number moves
     → fold (λ l (move : Move). if nat_le level move.renewed then move.number else l) last moves ≤ number + length
     moves
-unfolding AreLinked
 base-from level last from number setting [] low linked = omega (arith, low)
-base-from level last from number setting (move ∷ later) low (f0, f1, f2, f3, f4, f5, f6, f7) =
-    elim (cases_Bool (nat_le level move.renewed)) [
-      | inl e ↦ rw e (omega (
-        arith,
-        base-from level move.number move.to (suc number) setting later (omega (arith, f0)) f7,
-      ))
-      | inr e ↦ rw e (omega (arith, base-from level last move.to (suc number) setting later (omega (arith, low)) f7))
-    ]
+base-from level last from number setting (move ∷ later) low (link, linked) = grind (
+  arith,
+  base-from level move.number move.to (suc number) setting later (omega (arith, link.its_number)) linked,
+  base-from level last move.to (suc number) setting later (omega (arith, low)) linked,
+  cases_Bool,
+)
 
 pub base-low : {setting : Setting} {course : Course} (level : ℕ) → IsSound setting course
     → base level course.moves ≤ length course.moves
-base-low {setting} {course} level sound = omega (
-  arith,
-  base-from level 0 course.start 0 setting course.moves
-      (omega arith) sound.linked,
-)
+base-low {setting} {course} level sound = grind (arith, base-from)
 
 -- one move more is moves-count
 pub moves-count : (course : Course) (move : Move) → length (course.moves ++ move ∷ []) ≡ suc (length course.moves)

@@ -1,17 +1,17 @@
 -- Whom a census lists: what the mark of a subscriber at its node says.
-use Rattle.std.proofs.Common.{◌≡◌, ℕ, true, false, sym, ap, ◌∙◌, subst, inl, inr}
+use Rattle.std.proofs.Common.{arith}
+use Rattle.std.proofs.Common.{◌≡◌, ℕ, true, false}
 use Rattle.entry_word.specs.Marks.{says_here}
 use Rattle.entry_word.specs.declared.mark.PresenceMark.{PresenceMark}
-use Rattle.entry_word.specs.declared.mark.PresenceMark.TheVariants.{Here, Off}
+use Rattle.entry_word.specs.declared.mark.PresenceMark.TheVariants.{Here}
 use Rattle.directory.specs.Settings.{Setting}
 use Rattle.directory.specs.Histories.{History}
 use Rattle.directory.specs.Legal.{IsLegal}
 use Rattle.directory.specs.Orders.{history_of}
-use Rattle.directory.specs.Standing.{number, off}
 use Rattle.directory.specs.Statements.{DoneIsRest, OrdersAreDone, OrdersArePlayed, PlayedIsLegal, CensusIsMark}
 use Rattle.trail_laws.specs.Censuses.{CensusesEndRight, IsOnAt, ListedStandThere, RestingAreListed}
 use Rattle.trail_laws.specs.Phases.{RestIsSettled}
-use Rattle.trail_laws.specs.Trail.{mark_seen, MarksTell, MarkTells}
+use Rattle.trail_laws.specs.Trail.{MarksTell, MarkTells}
 
 here-tells : (setting : Setting) (sub : ℕ) (history : History) (node : ℕ) (mark : PresenceMark)
     → says_here mark ≡ true → MarkTells setting sub history node mark → IsOnAt setting sub history node
@@ -19,26 +19,10 @@ here-tells setting sub history node (Here p) h tells = (tells.0, tells.2)
 here-tells setting sub history node mark h tells = let clash : false ≡ true = h in cc
 
 pub listed-stand : CensusIsMark → MarksTell → ListedStandThere
-listed-stand says tells setting sub history node low below legal h =
-    here-tells setting sub history node (mark_seen setting sub history node)
-    (sym (says setting history node sub legal.script.known) ∙ h) (tells setting sub history low legal node below)
-
--- an Off where the subscriber stands says that it is off
-off-tells : (setting : Setting) (sub : ℕ) (history : History) (node p : ℕ)
-    → MarkTells setting sub history node (mark_seen setting sub history node)
-    → mark_seen setting sub history node ≡ Off p → off sub history ≡ true
-off-tells setting sub history node p tells is = (subst (MarkTells setting sub history node) is tells).2
+listed-stand says tells setting sub history node low below legal h = grind (arith, here-tells)
 
 pub resting-listed : CensusIsMark → MarksTell → RestIsSettled → RestingAreListed
-resting-listed says tells rests setting sub history node low below legal rest on =
-    says setting history node sub legal.script.known
-    ∙ elim (rests setting sub history low legal rest).2 [
-      | inl here ↦ ap says_here (ap (mark_seen setting sub history) on.0 ∙ here)
-      | inr is_off ↦
-          let clash : off sub history ≡ true = off-tells setting sub history node (number sub history)
-          (tells setting sub history low legal node below) (ap (mark_seen setting sub history) on.0 ∙ is_off) in
-          let same : true ≡ false = sym clash ∙ on.1 in cc
-    ]
+resting-listed says tells rests setting sub history node low below legal rest on = grind arith
 
 pub end-right : ListedStandThere → RestingAreListed → DoneIsRest → OrdersArePlayed → OrdersAreDone → PlayedIsLegal
     → CensusesEndRight

@@ -2,7 +2,7 @@
 use Rattle.std.proofs.Math.Bool.{and-false}
 use Rattle.std.proofs.lemmas.Bool.{cases_Bool, cond_both, eqb-true, eq-eqb}
 use Rattle.trail_laws.proofs.ClosedMarks.{from-inside, base-with, IsNext}
-use Rattle.std.proofs.Common.{◌≡◌, inl, inr, ℕ, suc, ◌<◌, ◌≤◌, Bool, true, false, cond, not, ◌==◌, ◌&&◌, List, [], ◌∷◌, ◌++◌, Some, None, map, take, refl, sym, ap, ◌∙◌, subst, arith}
+use Rattle.std.proofs.Common.{◌≡◌, inl, inr, ℕ, suc, ◌<◌, ◌≤◌, Bool, true, false, cond, not, ◌==◌, ◌&&◌, List, [], ◌∷◌, ◌++◌, Some, None, map, refl, sym, ap, ◌∙◌, arith}
 use Rattle.std.specs.Prelude.{nat_le}
 use Rattle.std.proofs.lemmas.Bool.Decides.{nat_tests}
 use Rattle.node_set.specs.Ascending.{has}
@@ -15,11 +15,10 @@ use Rattle.directory.specs.Standing.{commit_by}
 use Rattle.trail_laws.specs.Trail.{HasMetric}
 use Rattle.trail_laws.proofs.Links.{base-low, IsSound}
 use Rattle.trail_laws.proofs.ClosedEntries.{entry_written, new_entry, rest_entry}
-use Rattle.trail_laws.proofs.ClosedViews.{clearing, coming, IsPhase, old_levels, passage, Phase, phase_commits, phase_entry, renewed_levels, Shown, View, while_clearing}
+use Rattle.trail_laws.proofs.ClosedViews.{clearing, coming, IsMoving, old_levels, passage, Phase, renewed_levels, Shown, View}
 use Rattle.trail_laws.proofs.ClosedWrites.{in-levels}
 use Rattle.trail_laws.proofs.LinkedStops.{old-inside}
-use Rattle.trail_laws.proofs.Tells.{next-stands, rest-stands, stands}
-use Rattle.trail_laws.proofs.Addresses.{not-taken}
+use Rattle.trail_laws.proofs.Tells.{next-stands, rest-stands, standing_of}
 use Rattle.trail_laws.proofs.Holders.{move_address}
 use Rattle.trail_laws.proofs.Prices.{address-near, AreLazy, lazy-front, lazy-whole, weight-push}
 
@@ -66,7 +65,50 @@ HasNear setting shown level =
     (node : ℕ) × (address : Address) × (node < setting.nodes)
     × (shown.entries level (setting.home level node) ≡ Some address)
     × (HasMetric setting → AreLazy setting shown.moves
-    → setting.distance node (stands shown.from shown.commits) < setting.threshold level)
+    → setting.distance node (standing_of shown) < setting.threshold level)
+
+-- while a move is under way: the old address is there, or the new one
+module _ {setting : Setting} {shown : Shown} {phase : Phase} (h : IsMoving setting shown phase) (level : ℕ)
+    (below : level ≤ setting.top) where
+  old-one : ((address : Address) × (shown.entries level (setting.home level (address_node h.course level))
+      ≡ Some address)) → (HasMetric setting → AreLazy setting (h.course.moves ++ h.move ∷ [])
+      → setting.distance (address_node h.course level) (standing_of shown) < setting.threshold level)
+      → HasNear setting shown level
+  old-one found near = (
+    address_node h.course level,
+    found.0,
+    old-inside level h.sound,
+    found.1,
+    λ metric lazy. near metric (rw h.moves_are at lazy),
+  )
+
+  new-one : shown.commits ≡ map commit_by (h.course.moves ++ h.move ∷ [])
+      → shown.entries level (setting.home level h.move.to) ≡ new_entry h.move → HasNear setting shown level
+  new-one are e = (
+    h.move.to,
+    move_address h.move,
+    h.next.inside,
+    e,
+    λ metric lazy. omega (
+      arith,
+      ap (setting.distance h.move.to) (next-stands h are),
+      metric.none h.move.to h.next.inside,
+      lazy-front setting h.course.moves (h.move ∷ []) level below (rw h.moves_are at lazy),
+    ),
+  )
+
+  old-near : shown.commits ≡ map commit_by (h.course.moves ++ h.move ∷ []) → nat_le level h.move.renewed ≡ false
+      → HasMetric setting → AreLazy setting (h.course.moves ++ h.move ∷ [])
+      → setting.distance (address_node h.course level) (standing_of shown) < setting.threshold level
+  old-near are t metric lazy = rw (next-stands h are) (near-kept level metric h.sound h.next below lazy t)
+
+  new-written : nat_le level h.move.renewed ≡ true
+      → entry_written setting h.course h.move (renewed_levels h.move) level (setting.home level h.move.to)
+      ≡ new_entry h.move
+  new-written t = rw (
+    in-levels level h.move ∙ t,
+    eq-eqb (setting.home level h.move.to) (setting.home level h.move.to) refl,
+  )
 
 pub level-has : {setting : Setting} {shown : Shown} (level : ℕ) → level ≤ setting.top → View setting shown
     → HasNear setting shown level
@@ -75,117 +117,50 @@ level-has {setting} {shown} level below (inl h) = (
   _,
   old-inside level h.sound,
   h.entries_are level _ below ∙ rest-has setting h.course level,
-  λ metric lazy. rw (ap (stands shown.from) h.commits_are ∙ rest-stands h.course shown.from h.begins) (omega (
+  λ metric lazy. rw (rest-stands shown h.course h.begins h.commits_are) (omega (
     arith,
     address-near level h.sound metric,
-    lazy-whole setting h.course.moves level below (subst (AreLazy setting) h.moves_are lazy),
+    lazy-whole setting h.course.moves level below (rw h.moves_are at lazy),
   )),
 )
-level-has {setting} {shown} level below (inr h) = at_phase h.phase h.is_phase
-    (λ cluster. h.entries_are level cluster below) h.commits_are
+level-has {setting} {shown} level below (inr (coming written, h)) =
+    let found = written-has setting h.course h.move written level in
+    old-one h level below (found.0, h.entries_are level _ below ∙ found.1) (λ metric lazy. omega (
+      arith,
+      ap (setting.distance (address_node h.course level)) (rest-stands shown h.course h.begins h.commits_are),
+      address-near level h.sound metric,
+      lazy-front setting h.course.moves (h.move ∷ []) level below lazy,
+    ))
+level-has {setting} level below (inr (passage, h)) = elim (cases_Bool (nat_le level h.move.renewed)) [
+  | inl t ↦ new-one h level below h.commits_are (h.entries_are level _ below ∙ new-written h level below t)
+  | inr t ↦
+      let found = written-has setting h.course h.move (renewed_levels h.move) level in
+      old-one h level below (found.0, h.entries_are level _ below ∙ found.1) (old-near h level below h.commits_are t)
+]
+level-has {setting} {shown} level below (inr (clearing erased purged, h)) =
+    elim (cases_Bool (nat_le level h.move.renewed)) [
+      | inl t ↦ new-one h level below h.commits_are (h.entries_are level _ below
+          ∙ rw (kept t (new_home == its_old) refl) (new-written h level below t))
+      | inr t ↦
+          let found = written-has setting h.course h.move (renewed_levels h.move) level in
+          old-one h level below (found.0, h.entries_are level _ below ∙ rw (h.is_phase.kept level (outside t)) found.1)
+          (old-near h level below h.commits_are t)
+    ]
   where
-    course : Course
-    course = h.course
-
-    move : Move
-    move = h.move
-
-    Near : ℕ → Type 0
-    Near node = HasMetric setting → AreLazy setting shown.moves
-        → setting.distance node (stands shown.from shown.commits) < setting.threshold level
-
     new_home : ℕ
-    new_home = setting.home level move.to
+    new_home = setting.home level h.move.to
 
     its_old : ℕ
-    its_old = old_home setting course level
+    its_old = old_home setting h.course level
 
-    -- the old address is there, or the new one
-    old_one : ((address : Address) × (shown.entries level (setting.home level (address_node course level))
-        ≡ Some address)) → Near (address_node course level) → HasNear setting shown level
-    old_one found near =
-        (address_node course level, found.0, old-inside level h.sound, found.1, near)
+    outside : nat_le level h.move.renewed ≡ false → has level (old_levels setting h.course h.move) ≡ false
+    outside t = passing_over (λ l. not (old_home setting h.course l == setting.home l h.move.to)) level 0
+        (suc h.move.renewed) (grind (arith, nat_tests, t))
 
-    new_one : shown.commits ≡ map commit_by (course.moves ++ move ∷ [])
-        → shown.entries level new_home ≡ new_entry move → HasNear setting shown level
-    new_one c e = (
-      move.to,
-      move_address move,
-      h.next.inside,
-      e,
-      λ metric lazy. omega (
-        arith,
-        ap (setting.distance move.to) (ap (stands shown.from) c ∙ next-stands shown.from h.next h.begins),
-        metric.none move.to h.next.inside,
-        lazy-front setting course.moves (move ∷ []) level below (subst (AreLazy setting) h.moves_are lazy),
-      ),
-    )
-
-    found_old : (written : List ℕ) → ((cluster : ℕ) → shown.entries level cluster
-        ≡ entry_written setting course move written level cluster)
-        → (address : Address) × (shown.entries level (setting.home level (address_node course level)) ≡ Some address)
-    found_old written e = let found = written-has setting course move written level in
-        (found.0, e (setting.home level (address_node course level)) ∙ found.1)
-
-    old_near : shown.commits ≡ map commit_by (course.moves ++ move ∷ []) → nat_le level move.renewed ≡ false
-        → Near (address_node course level)
-    old_near c t metric lazy = omega (
-      arith,
-      ap (setting.distance (address_node course level))
-          (ap (stands shown.from) c ∙ next-stands shown.from h.next h.begins),
-      near-kept level metric h.sound h.next below (subst (AreLazy setting) h.moves_are lazy) t,
-    )
-
-    new_written : nat_le level move.renewed ≡ true
-        → entry_written setting course move (renewed_levels move) level new_home ≡ new_entry move
-    new_written t =
-        ap (λ b. cond (b && new_home == new_home) (new_entry move)
-        (rest_entry setting course level new_home)) (in-levels level move ∙ t)
-        ∙ ap (λ b. cond b (new_entry move) (rest_entry setting course level new_home))
-        (eq-eqb new_home new_home refl)
-
-    at_phase : (phase : Phase) → IsPhase setting course move phase
-        → ((cluster : ℕ) → shown.entries level cluster ≡ phase_entry setting course move phase level cluster)
-        → shown.commits ≡ phase_commits course move phase → HasNear setting shown level
-    at_phase (coming written) p e c = old_one (found_old written e) (λ metric lazy. omega (
-      arith,
-      ap (setting.distance (address_node course level))
-          (ap (stands shown.from) c ∙ rest-stands course shown.from h.begins),
-      address-near level h.sound metric,
-      lazy-front setting course.moves (move ∷ []) level below (subst (AreLazy setting) h.moves_are lazy),
-    ))
-    at_phase passage p e c = elim (cases_Bool (nat_le level move.renewed)) [
-      | inl t ↦ new_one c (e new_home ∙ new_written t)
-      | inr t ↦ old_one (found_old (renewed_levels move) e) (old_near c t)
-    ]
-    at_phase (clearing erased purged) (while_clearing n k in_order) e c = at_level
-        (nat_le level move.renewed) refl
-      where
-        erased_few : nat_le level move.renewed ≡ false
-            → has level (take n (old_levels setting course move)) ≡ false
-        erased_few t = not-taken level n (old_levels setting course move)
-            (passing_over (λ l. not (old_home setting course l == setting.home l move.to)) level 0
-            (suc move.renewed) (let high : move.renewed < level = grind (arith, nat_tests, t) in omega
-            (arith, high)))
-
-        kept : nat_le level move.renewed ≡ true → (b : Bool) → (new_home == its_old) ≡ b
-            → (has level (take n (old_levels setting course move)) && b) ≡ false
-        kept t false e2 = and-false (has level (take n (old_levels setting course move)))
-        kept t true e2 = ap (λ b. b && true) (not-taken level n (old_levels setting course move)
-            (has-passing (λ l. not (old_home setting course l == setting.home l move.to)) level 0
-            (suc move.renewed) (omega arith) (let low : level ≤ move.renewed = grind
-            (arith, nat_tests, t) in omega (arith, low))
-            ∙ ap not (eq-eqb its_old new_home (sym (eqb-true new_home its_old e2)))))
-
-        at_level : (b : Bool) → nat_le level move.renewed ≡ b → HasNear setting shown level
-        at_level true t = new_one c (e new_home
-            ∙ (ap (λ b. cond b None (entry_written setting course move (renewed_levels move) level new_home))
-            (kept t (new_home == its_old) refl) ∙ new_written t))
-        at_level false t =
-            let found = written-has setting course move (renewed_levels move) level in
-            old_one (
-              found.0,
-              e its_old ∙ (ap (λ b. cond (b && its_old == its_old) None
-                  (entry_written setting course move (renewed_levels move) level its_old)) (erased_few t) ∙ found.1),
-            )
-            (old_near c t)
+    kept : nat_le level h.move.renewed ≡ true → (b : Bool) → (new_home == its_old) ≡ b
+        → (has level erased && b) ≡ false
+    kept t false e = and-false (has level erased)
+    kept t true e = rw (h.is_phase.kept level
+        (has-passing (λ l. not (old_home setting h.course l == setting.home l h.move.to)) level 0 (suc h.move.renewed)
+        (omega arith) (grind (arith, nat_tests, t))
+        ∙ ap not (eq-eqb its_old new_home (sym (eqb-true new_home its_old e)))))

@@ -1,7 +1,7 @@
 -- What a legal history is at its fronts: they are legal, numbers only grow, and a look changes nothing.
 use Rattle.std.proofs.Math.Seq.{take-nil}
-use Rattle.std.proofs.Common.{inl, inr, ◌<◌, ◌≡◌, ℕ, zero, suc, ◌+◌, ◌-◌, ◌≤◌, ◌^◌, Bool, false, List, [], ◌∷◌, ◌++◌, Some, length, take, filter, refl, sym, ap, ◌∙◌, subst, arith, length-append}
-use Rattle.std.proofs.lemmas.Bool.{cases_Bool}
+use Rattle.std.proofs.Common.{inl, inr, ◌<◌, ◌≡◌, ℕ, zero, suc, ◌+◌, ◌-◌, ◌≤◌, ◌^◌, Bool, false, List, [], ◌∷◌, ◌++◌, Some, length, take, filter, refl, sym, ap, ◌∙◌, arith, length-append}
+use Rattle.std.proofs.lemmas.Bool.{cases_Bool, cases_eq}
 use Rattle.std.specs.Prelude.{slice_get}
 use Rattle.std.proofs.lemmas.List.{append-nil, length-take}
 use Rattle.std.proofs.lemmas.List.Elements.{filter-append}
@@ -9,10 +9,10 @@ use Rattle.std.proofs.lemmas.List.Sums.{fold-append}
 use Rattle.entry_word.specs.declared.visit.Key.{Key}
 use Rattle.entry_word.specs.declared.visit.Visit.{Visit}
 use Rattle.directory.specs.Settings.{Setting, start}
-use Rattle.directory.specs.Courses.{Course, Step, after_step, after_steps, course_at, move_to, next_move, switch_off, switch_on}
+use Rattle.directory.specs.Courses.{Course, Step, after_step, after_steps, course_at, move_to}
 use Rattle.directory.specs.Keys.{key_sub}
 use Rattle.directory.specs.Histories.{before, cell, History, is_put_for, puts_to, through}
-use Rattle.directory.specs.Legal.{ArePuts, IsLegal}
+use Rattle.directory.specs.Legal.{IsLegal}
 use Rattle.directory.specs.Looks.{look_by, moves_at, moves_by}
 use Rattle.directory.specs.Puts.{course_in, ends_off, is_of_move, steps_from, steps_in}
 use Rattle.directory.specs.Standing.{Commit, commits, number}
@@ -25,47 +25,32 @@ filter-front : (p : Visit → Bool) (t : ℕ) (xs : List Visit)
     → filter p (take t xs) ≡ take (length (filter p (take t xs))) (filter p xs)
 filter-front p zero xs = refl
 filter-front p (suc t) [] = refl
-filter-front p (suc t) (x ∷ xs) = elim (cases_Bool (p x)) [
-  | inl e ↦ rw e (ap (λ zs. x ∷ zs) (filter-front p t xs))
-  | inr e ↦ rw e (filter-front p t xs)
-]
+filter-front p (suc t) (x ∷ xs) = grind (arith, filter-front p t xs, cases_Bool)
 
 -- a front of a legal history is legal
 pub front-legal : FrontsAreLegal → (setting : Setting) (sub : ℕ) (history : History) (t : ℕ) → setting.nodes ≤ 2 ^ 16
     → IsLegal setting sub history → IsLegal setting sub (take t history)
-front-legal fronts setting sub history t low legal =
-    let same : puts_to sub (take t history) ≡ take (length (puts_to sub (take t history)))
-    (puts_to sub history) = filter-front (λ (v : Visit). is_put_for sub v.act) t history in
-    subst (ArePuts setting sub) (sym same)
-    (fronts setting sub (puts_to sub history) (length (puts_to sub (take t history))) low
-    (omega (arith, ap length same, length-take (length (puts_to sub (take t history))) (puts_to sub history)))
-    legal)
+front-legal fronts setting sub history t low legal = grind (arith, filter-front, length-take)
 
 -- what a visit keeps that is none of a move holds from a front to a later one, while no move is made
 module _ (fronts : FrontsAreLegal) {setting : Setting} {sub : ℕ} (history : History) (P : History → Type 0)
     (low : setting.nodes ≤ 2 ^ 16) (legal : IsLegal setting sub history)
     (one : (seen : History) (visit : Visit) → IsLegal setting sub seen → IsLegal setting sub (seen ++ visit ∷ [])
     → is_of_move sub seen visit.act ≡ false → P seen → P (seen ++ visit ∷ [])) where
-  quiet-steps : (k t : ℕ) → k + t ≤ length history
-      → ((u : ℕ) → t ≤ u → u < k + t → moves_at sub history u ≡ false) → P (before t history)
-      → P (before (k + t) history)
-  quiet-steps zero t within quiet now = let e : 0 + t ≡ t = omega arith in rw e now
-  quiet-steps (suc k) t within quiet now =
-      let found = slice_get-within history (k + t) (omega (arith, within)) in
-      let more : before (suc (k + t)) history ≡ before (k + t) history ++ found.0 ∷ [] =
-      take-more history (k + t) found.0 found.1 in
-      let e : suc k + t ≡ suc (k + t) = omega arith in
-      subst P (sym (ap (λ n. before n history) e ∙ more))
-      (one (before (k + t) history) found.0 (front-legal fronts setting sub history (k + t) low legal)
-      (subst (IsLegal setting sub) more (front-legal fronts setting sub history (suc (k + t)) low legal))
-      (sym (ap (λ o. moves_by sub (before (k + t) history) o) found.1) ∙ quiet (k + t) (omega arith) (omega arith))
-      (quiet-steps k t (omega (arith, within)) (λ u h g. quiet u h (omega (arith, g))) now))
-
   pub while-quiet : (t u : ℕ) → t ≤ u → u ≤ length history
       → ((x : ℕ) → t ≤ x → x < u → moves_at sub history x ≡ false) → P (before t history) → P (before u history)
-  while-quiet t u order within quiet now =
-      let e : (u - t) + t ≡ u = omega (arith, order) in
-      rw e at (quiet-steps (u - t) t (omega (arith, within, e)) (λ x h g. quiet x h (omega (arith, g, e))) now)
+  while-quiet t zero order within quiet now = let e : t ≡ 0 = omega arith in rw e at now
+  while-quiet t (suc u) order within quiet now = elim (cases_eq t (suc u)) [
+    | inl same ↦ rw same at now
+    | inr apart ↦
+        let found = slice_get-within history u (omega arith) in
+        let more : before (suc u) history ≡ before u history ++ found.0 ∷ [] =
+        take-more history u found.0 found.1 in
+        rw more (one (before u history) found.0 (front-legal fronts setting sub history u low legal)
+        (rw more at (front-legal fronts setting sub history (suc u) low legal))
+        (sym (ap (λ o. moves_by sub (before u history) o) found.1) ∙ quiet u (omega arith) (omega arith))
+        (while-quiet t u (omega arith) (omega arith) (λ x h g. quiet x h (omega arith)) now))
+  ]
 
 take-further : (k t : ℕ) (xs : History) → (rest : History) × (take (k + t) xs ≡ take t xs ++ rest)
 take-further k zero xs = (take (k + 0) xs, refl)
@@ -95,13 +80,9 @@ number-grows sub t u history h =
 moves-kept : (setting : Setting) (course : Course) (steps : List Step)
     → length course.moves ≤ length (after_steps setting course steps).moves
 moves-kept setting course [] = omega arith
-moves-kept setting course (move_to node ∷ steps) = omega (
-  arith,
-  length-append course.moves (next_move setting course node ∷ []),
-  moves-kept setting (after_step setting course (move_to node)) steps,
-)
-moves-kept setting course (switch_off ∷ steps) = moves-kept setting (after_step setting course switch_off) steps
-moves-kept setting course (switch_on ∷ steps) = moves-kept setting (after_step setting course switch_on) steps
+moves-kept setting course (move_to node ∷ steps) =
+    grind (arith, moves-kept setting (after_step setting course (move_to node)) steps, length-append)
+moves-kept setting course (step ∷ steps) = moves-kept setting (after_step setting course step) steps
 
 pub begun-grows : (setting : Setting) (sub t u : ℕ) (history : History) → t ≤ u
     → moves_begun setting sub (take t history) ≤ moves_begun setting sub (take u history)
@@ -139,8 +120,4 @@ through-puts sub actor key t history h = ap (puts_to sub) (through-look actor ke
 pub cell-kept : CellsOfPuts → (setting : Setting) (sub : ℕ) (history : History) (visit : Visit) (key : Key)
     → key_sub key ≡ sub → is_put_for sub visit.act ≡ false
     → cell setting (history ++ visit ∷ []) key ≡ cell setting history key
-cell-kept cells setting sub history visit key its other =
-    cells setting (history ++ visit ∷ []) key
-    ∙ (ap (λ puts. cell setting puts key) (ap (λ s. puts_to s (history ++ visit ∷ [])) its
-    ∙ (puts-push_other sub history visit other ∙ ap (λ s. puts_to s history) (sym its)))
-    ∙ sym (cells setting history key))
+cell-kept cells setting sub history visit key its other = grind (arith, puts-push_other)

@@ -1,17 +1,15 @@
 -- What the ways along the marks weigh: no level has gathered its threshold, so that the trail from its address is
 -- short.
 use Rattle.trail_laws.proofs.ClosedMarks.{from-inside, IsNext}
-use Rattle.std.proofs.Common.{◌≡◌, ℕ, ◌+◌, ◌*◌, ◌<◌, ◌≤◌, List, [], ◌∷◌, ◌++◌, length, map, take, drop, refl, ap, ◌∙◌, arith, length-append}
+use Rattle.std.proofs.Common.{◌≡◌, ℕ, ◌+◌, ◌*◌, ◌<◌, ◌≤◌, List, [], ◌∷◌, ◌++◌, length, take, drop, refl, ap, ◌∙◌, arith, length-append}
 use Rattle.std.specs.Prelude.{sum_by}
 use Rattle.std.proofs.lemmas.List.{drop-append-le, take_all, take_at}
 use Rattle.std.proofs.lemmas.List.Sums.{sum_by_push}
 use Rattle.directory.specs.Settings.{Setting}
 use Rattle.directory.specs.Courses.{Move, Course, address_node, base, last_stop}
-use Rattle.directory.specs.Standing.{commit_by}
 use Rattle.trail_laws.specs.Trail.{HasMetric}
 use Rattle.trail_laws.proofs.Links.{IsSound, base-low}
 use Rattle.trail_laws.proofs.LinkedStops.{way-short, weight_from, old-inside}
-use Rattle.trail_laws.proofs.Tells.{next-stands, stands}
 use Rattle.trail_laws.proofs.Leads.{stop-end}
 
 -- after each of these moves each level has gathered less than its threshold
@@ -45,13 +43,12 @@ address-near {setting} {course} level sound metric =
     sound.begins metric (base-low level sound))
 
 -- after the confirm the trail from an old address is short
-pub price-clearing : {setting : Setting} (from : ℕ) {course : Course} {move : Move} (level : ℕ) → IsSound setting course
-    → IsNext setting course move → course.start ≡ from → level ≤ setting.top → HasMetric setting
+pub price-clearing : {setting : Setting} {course : Course} {move : Move} (level : ℕ) → IsSound setting course
+    → IsNext setting course move → level ≤ setting.top → HasMetric setting
     → AreLazy setting (course.moves ++ move ∷ [])
     → weight_from (course.moves ++ move ∷ []) (base level course.moves) + 2
-    ≤ 2 * setting.threshold level
-    + setting.distance (address_node course level) (stands from (map commit_by (course.moves ++ move ∷ [])))
-price-clearing {setting} from {course} {move} level sound next begins below metric lazy = omega (
+    ≤ 2 * setting.threshold level + setting.distance (address_node course level) move.to
+price-clearing {setting} {course} {move} level sound next below metric lazy = omega (
   arith,
   lazy-front setting course.moves (move ∷ []) level below lazy,
   weight-push course.moves move (base level course.moves) (base-low level sound),
@@ -60,7 +57,6 @@ price-clearing {setting} from {course} {move} level sound next begins below metr
   metric.both_ways move.from (address_node course level) (from-inside sound next) old_inside,
   ap (setting.distance (address_node course level)) next.from,
   address-near level sound metric,
-  ap (setting.distance (address_node course level)) (next-stands from next begins),
 )
   where
     old_inside : address_node course level < setting.nodes

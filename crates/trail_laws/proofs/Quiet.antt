@@ -1,6 +1,6 @@
 -- A quiet find has its answer: what it stands on stays while no visit of a move is made.
 use Rattle.std.proofs.lemmas.Bool.{cases_Bool, cases_eq, or_cases, eqb-true, cases_lt}
-use Rattle.std.proofs.Common.{◌≡◌, ◌⊎◌, inl, inr, ℕ, zero, suc, ◌+◌, ◌-◌, ◌*◌, ◌<◌, ◌≤◌, ◌^◌, true, false, ◌==◌, List, [], ◌∷◌, ◌++◌, Option, Some, None, map, fold, refl, sym, ap, ◌∙◌, subst, arith}
+use Rattle.std.proofs.Common.{◌≡◌, ◌⊎◌, inl, inr, ℕ, zero, suc, ◌+◌, ◌-◌, ◌*◌, ◌<◌, ◌≤◌, ◌^◌, true, false, ◌==◌, List, [], ◌∷◌, ◌++◌, Option, Some, None, map, fold, refl, sym, ap, ◌∙◌, arith}
 use Rattle.std.specs.Prelude.{All, flat_map, is_some}
 use Rattle.std.proofs.lemmas.List.Elements.{All-head, All-tail}
 use Rattle.std.proofs.lemmas.Option.{slice_get_within}
@@ -28,14 +28,12 @@ pub last-late : (setting : Setting) (history : History) (actor : ℕ) (call : Fi
     (later : List ℕ) → AreLooks setting history actor call earliest pursuit (t ∷ later) → t ≤ last_of (t ∷ later)
 unfolding AreLooks
 last-late setting history actor call earliest pursuit t [] looks = omega arith
-last-late setting history actor call earliest pursuit t (u ∷ later) (first, (key, wanted, is_look, rest)) =
-    rw (last-more t u later)
-    (omega (
-      arith,
-      rest.0,
-      last-late setting history actor call (suc t)
-          (after_word setting call pursuit (cell setting (before t history) key)) u later rest,
-    ))
+last-late setting history actor call earliest pursuit t (u ∷ later) (first, (key, wanted, is_look, rest)) = grind (
+  arith,
+  last-late setting history actor call (suc t)
+      (after_word setting call pursuit (cell setting (before t history) key)) u later rest,
+  last-more,
+)
 
 module _ (used : Used) {setting : Setting} (history : History) (actor : ℕ) (call : FindCall) (Within : ℕ → Type 0)
     (found : Found) (low : setting.nodes ≤ 2 ^ 16) (inside : call.from < setting.nodes)
@@ -47,8 +45,7 @@ module _ (used : Used) {setting : Setting} (history : History) (actor : ℕ) (ca
       → fold (after_word setting call) pursuit (flat_map (words_at setting history) later) ≡ ended found
       → IsAnswered found × Within (found_weight found)
   unfolding AreLooks
-  sure-looks [] t pursuit sure looks quiet ends =
-      subst (IsSure setting call.sub (before t history) call Within) ends sure
+  sure-looks [] t pursuit sure looks quiet ends = rw ends at sure
   sure-looks (u ∷ later) t pursuit sure (first, (key, wanted, is_look, rest)) quiet ends =
       sure-looks later u (after_word setting call pursuit (cell setting (before u history) key))
       (look-sure setting (before u history) call Within pursuit key waited wanted) rest
@@ -72,9 +69,7 @@ module _ (used : Used) {setting : Setting} (history : History) (actor : ℕ) (ca
   unfolding AreLooks
   first-looks [] begins quiet looks ends = let clash : at_origin ≡ ended found = ends in cc
   first-looks (t ∷ later) begins quiet (first, (key, wanted, is_look, rest)) ends =
-      sure-looks later t (after_word setting call at_origin (cell setting (before t history) key)) (first-sure used key
-      begins low inside (front-legal used.fronts setting call.sub history t low legal) wanted) rest quiet
-      (sym (read-one setting history actor t key call at_origin later is_look) ∙ ends)
+      grind (arith, front-legal, first-sure, read-one, sure-looks)
 
 pub quiet-within : Used → {setting : Setting} {history : History} {actor : ℕ} {call : FindCall} {Within : ℕ → Type 0}
     {found : Found} {tickets : List ℕ} → setting.nodes ≤ 2 ^ 16 → call.from < setting.nodes
@@ -184,16 +179,8 @@ either-quiet : (sub : ℕ) (history : History) (first count : ℕ)
     → ((u : ℕ) → first ≤ u → u < first + count → moves_at sub history u ≡ false)
     ⊎ ((ticket : ℕ) × (first ≤ ticket) × (ticket < first + count) × (moves_at sub history ticket ≡ true))
 either-quiet sub history first zero = inl (λ u h g. absurd (omega arith))
-either-quiet sub history first (suc count) = elim (either-quiet sub history first count) [
-  | inr found ↦ inr (found.0, found.1, omega (arith, found.2), found.3)
-  | inl all ↦ elim (cases_Bool (moves_at sub history (first + count))) [
-    | inl e ↦ inr (first + count, omega arith, omega arith, e)
-    | inr e ↦ inl (λ u h g. elim (cases_lt u (first + count)) [
-      | inl low ↦ all u h low
-      | inr high ↦ let same : u ≡ first + count = omega arith in ap (moves_at sub history) same ∙ e
-    ])
-  ]
-]
+either-quiet sub history first (suc count) =
+    grind (arith, either-quiet sub history first count, cases_Bool (moves_at sub history (first + count)), cases_lt)
 
 pub again-cause : Used → AgainHasItsCause
 again-cause used setting history actor call why weight tickets low reads inside legal find =

@@ -1,27 +1,24 @@
 -- How far the marks lead in each phase, and what rest is.
 use Rattle.std.proofs.lemmas.Bool.{cases_Bool}
-use Rattle.std.proofs.Common.{◌≡◌, ◌≢◌, ℕ, ◌^◌, ◌≤◌, false, cond, Some, length, map, sym, ap, ◌∙◌, arith, inl, inr}
-use Rattle.std.specs.Prelude.{filter_map, fold}
-use Rattle.std.proofs.lemmas.List.{length-drop, length-map, take_all}
+use Rattle.std.proofs.Common.{◌≡◌, ◌≢◌, ℕ, ◌^◌, ◌≤◌, Some, length, map, sym, ap, ◌∙◌, arith, inl, inr}
+use Rattle.std.specs.Prelude.{filter_map}
+use Rattle.std.proofs.lemmas.List.{length-map}
 use Rattle.entry_word.specs.declared.address.Address.{Address}
-use Rattle.entry_word.specs.declared.mark.PresenceMark.TheVariants.{Here, Coming, Off}
+use Rattle.entry_word.specs.declared.mark.PresenceMark.TheVariants.{Coming}
 use Rattle.directory.specs.Settings.{Setting, start}
 use Rattle.directory.specs.Histories.{History, puts_to}
 use Rattle.directory.specs.Legal.{IsLegal}
 use Rattle.directory.specs.Courses.{Course, course_at, last_stop}
-use Rattle.directory.specs.Writes.{visit_of, visits}
 use Rattle.directory.specs.Puts.{course_in, steps_in}
 use Rattle.directory.specs.Standing.{commit_by, commits, number, off, standing}
-use Rattle.directory.specs.States.{entry_left, mark_left, write_commit, write_off, writes_made}
+use Rattle.directory.specs.States.{entry_left, write_commit}
 use Rattle.trail_laws.specs.Trail.{entry_seen, mark_seen}
 use Rattle.trail_laws.specs.Phases.{AddressesLeadByPhase, IsAtRest, IsCurrent, IsMarked, RestEndsItsCourse, RestIsSettled}
-use Rattle.trail_laws.proofs.Links.{stop-inside}
 use Rattle.trail_laws.proofs.ClosedMarks.{there}
 use Rattle.trail_laws.proofs.ClosedEntries.{rest_entry}
 use Rattle.trail_laws.proofs.ClosedWrites.{commits-steps, off-steps}
-use Rattle.trail_laws.proofs.Leads.{rest-there}
-use Rattle.trail_laws.proofs.Views.{rest-entries_of, rest-marks_of, sound-opening, sound-script, writes_of}
-use Rattle.trail_laws.proofs.Tells.{rest-stands, stands}
+use Rattle.trail_laws.proofs.Views.{all-made, mark-there, shown, rest-entries_of, sound-opening}
+use Rattle.trail_laws.proofs.Tells.{rest-stands}
 use Rattle.trail_laws.proofs.Holders.{IsOld, rest-some}
 use Rattle.trail_laws.proofs.Laws.{Laws, placed}
 use Rattle.trail_laws.proofs.Lazy.{legal-lazy}
@@ -51,53 +48,34 @@ module _ (laws : Laws) (setting : Setting) (sub : ℕ) (history : History) (low 
   abbrev pub course : Course
   course = course_in setting sub (puts_to sub history)
 
-  -- a subscriber that rests has made all writes of its steps, and committed all its moves
-  all-made : writes_made setting sub (puts_to sub history) ≡ writes_of setting sub (steps_in (puts_to sub history))
-  all-made =
-      take_all (length (puts_to sub history)) (writes_of setting sub (steps_in (puts_to sub history)))
-      (omega (
-        arith,
-        length-drop (length (puts_to sub history)) (visits setting sub (steps_in (puts_to sub history))),
-        ap length rest,
-        length-map (writes_of setting sub (steps_in (puts_to sub history))) (visit_of sub),
-      ))
-
+  -- a subscriber that rests has committed all its moves
   all-committed : commits sub history ≡ map commit_by course.moves
-  all-committed = laws.told setting sub history low legal ∙ (ap (filter_map write_commit) all-made
+  all-committed = laws.told setting sub history low legal
+      ∙ (ap (filter_map write_commit) (all-made setting sub history rest)
       ∙ commits-steps setting (course_at (start setting sub)) (steps_in (puts_to sub history)))
 
   all : length course.moves ≡ number sub history
   all = omega (arith, ap length all-committed, length-map course.moves commit_by)
 
   stood : standing setting sub history ≡ last_stop course
-  stood = ap (stands (start setting sub)) all-committed ∙ rest-stands course (start setting sub)
-      (start-kept setting (course_at (start setting sub)) (steps_in (puts_to sub history)))
+  stood = rest-stands (shown setting sub history) course
+      (start-kept setting (course_at (start setting sub)) (steps_in (puts_to sub history))) all-committed
 
   off-there : off sub history ≡ course.is_off
-  off-there = laws.off_told setting sub history low legal
-      ∙ (ap (fold (λ o write. write_off write) false) all-made
-      ∙ off-steps setting (course_at (start setting sub)) (steps_in (puts_to sub history))
-      (sound-opening setting sub (steps_in (puts_to sub history)) legal.script) legal.script.allowed)
+  off-there = grind (arith, laws.off_told setting sub history low legal, all-made, sound-opening, off-steps)
 
-  mark-there : mark_seen setting sub history (last_stop course) ≡ there course
-  mark-there = laws.marks setting sub history low legal (last_stop course)
-      ∙ (ap (λ ws. mark_left setting sub ws (last_stop course)) all-made
-      ∙ (rest-marks_of setting sub (steps_in (puts_to sub history)) (last_stop course) legal.script
-      (stop-inside (sound-script setting sub (steps_in (puts_to sub history)) legal.script))
-      ∙ rest-there setting course))
+  mark_stands : mark_seen setting sub history (standing setting sub history) ≡ there course
+  mark_stands = ap (mark_seen setting sub history) stood ∙ mark-there setting sub history rest laws.marks low legal
 
   marked : IsMarked setting sub history
   marked = elim (cases_Bool course.is_off) [
-    | inl e ↦ inr (ap (mark_seen setting sub history) stood ∙ (mark-there
-        ∙ (ap (λ b. cond b (Off (length course.moves)) (Here (length course.moves))) e ∙ ap Off all)))
-    | inr e ↦ inl (ap (mark_seen setting sub history) stood ∙ (mark-there
-        ∙ (ap (λ b. cond b (Off (length course.moves)) (Here (length course.moves))) e ∙ ap Here all)))
+    | inl e ↦ inr (mark_stands ∙ rw (e, all))
+    | inr e ↦ inl (mark_stands ∙ rw (e, all))
   ]
 
   not-coming : (from : ℕ) → mark_seen setting sub history (standing setting sub history)
       ≢ Coming (number sub history) from
-  not-coming from comes = there-not_coming course (number sub history) from
-      (sym mark-there ∙ (ap (mark_seen setting sub history) (sym stood) ∙ comes))
+  not-coming from comes = there-not_coming course (number sub history) from (sym mark_stands ∙ comes)
 
   current : (level cluster : ℕ) (address : Address) → level ≤ setting.top
       → entry_seen setting sub history level cluster ≡ Some address → IsCurrent setting sub history level address
@@ -107,7 +85,7 @@ module _ (laws : Laws) (setting : Setting) (sub : ℕ) (history : History) (low 
     where
       its_entry : entry_seen setting sub history level cluster ≡ rest_entry setting course level cluster
       its_entry = laws.entries setting sub history low legal level cluster
-          ∙ (ap (λ ws. entry_left setting sub ws level cluster) all-made
+          ∙ (ap (λ ws. entry_left setting sub ws level cluster) (all-made setting sub history rest)
           ∙ rest-entries_of setting sub (steps_in (puts_to sub history)) level cluster legal.script below)
 
 pub rest-ends : Laws → RestEndsItsCourse

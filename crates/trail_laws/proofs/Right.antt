@@ -1,31 +1,26 @@
 -- The answers of finds are right: what is known grows with the commits, and the mark that answers says where the
 -- subscriber stands.
 use Rattle.std.proofs.lemmas.Bool.{cond_both}
-use Rattle.std.proofs.Common.{◌≡◌, inl, inr, ℕ, zero, suc, ◌+◌, ◌-◌, ◌*◌, ◌<◌, ◌≤◌, ◌^◌, true, false, List, [], ◌∷◌, ◌++◌, Option, Some, None, length, map, fold, sym, ap, ◌∙◌, subst, arith}
-use Rattle.std.specs.Prelude.{All, filter_map, flat_map, slice_get, slice_index}
+use Rattle.std.proofs.Common.{◌≡◌, ℕ, zero, suc, ◌+◌, ◌*◌, ◌<◌, ◌≤◌, ◌^◌, true, false, List, [], ◌∷◌, Option, Some, None, map, fold, sym, ◌∙◌, arith}
+use Rattle.std.specs.Prelude.{All, flat_map, slice_get}
 use Rattle.std.proofs.lemmas.Bool.Decides.{nat_tests}
-use Rattle.std.proofs.lemmas.List.Elements.{All-append, All-cons, All-head, All-nil, All-tail}
+use Rattle.std.proofs.lemmas.List.Elements.{All-append, All-map, All-head, All-nil, All-tail}
 use Rattle.std.proofs.lemmas.Option.{slice_get_within}
-use Rattle.entry_word.specs.Marks.{mark_in}
-use Rattle.entry_word.specs.Addresses.{address_in}
 use Rattle.entry_word.specs.declared.address.Address.{Address}
 use Rattle.entry_word.specs.declared.mark.PresenceMark.{PresenceMark}
 use Rattle.entry_word.specs.declared.mark.PresenceMark.TheVariants.{Empty, Here, Gone, Coming, Off}
 use Rattle.entry_word.specs.declared.visit.Key.{Key}
-use Rattle.entry_word.specs.declared.visit.Key.TheVariants.{Presence, Entry}
-use Rattle.directory.specs.Settings.{levels, Setting, start}
-use Rattle.directory.specs.Histories.{before, cell, History, through, words_at, words_by}
+use Rattle.directory.specs.Settings.{levels, Setting}
+use Rattle.directory.specs.Histories.{before, cell, History, through, words_at}
 use Rattle.directory.specs.Writes.{numbers_from}
 use Rattle.directory.specs.Legal.{IsLegal}
 use Rattle.directory.specs.Finds.{after_entry, after_mark, after_origin, after_word, all_readers, at_origin, Chase, chases, climb, climbs, ended, find, FindCall, hop, is_known, key_of, known_with, Reader, Pursuit, way_in}
 use Rattle.directory.specs.Looks.{AreLooks, last_of, look_by}
-use Rattle.entry_word.specs.declared.visit.Visit.{Visit}
-use Rattle.directory.specs.Puts.{ends_off, mark_put, node_put}
-use Rattle.directory.specs.Standing.{Commit, commit_of, commits, number, off, standing}
+use Rattle.directory.specs.Standing.{number, off, standing}
 use Rattle.directory.specs.Statements.{FrontsAreLegal}
 use Rattle.directory.specs.declared.answers.Found.{Found}
 use Rattle.directory.specs.declared.answers.Found.TheVariants.{At, Off as OffAt, Again}
-use Rattle.trail_laws.specs.Trail.{entry_seen, EntryTells, EntriesTell, KnowsAtMost, mark_seen, MarksTell, MarkTells}
+use Rattle.trail_laws.specs.Trail.{EntryTells, EntriesTell, KnowsAtMost, MarksTell, MarkTells}
 use Rattle.trail_laws.specs.Rightness.{AnswersAreRight, HasNumber, IsRight, NumbersNeverFall}
 use Rattle.trail_laws.proofs.Passing.{front-legal, number-grows, through-puts}
 use Rattle.trail_laws.proofs.Chases.{knows-with}
@@ -76,15 +71,8 @@ low-readers : (setting : Setting) (node first count : ℕ) → first + count ≤
     (setting.readers level node)) (numbers_from first count))
 low-readers setting node first zero h = All-nil (Low setting)
 low-readers setting node first (suc count) h =
-    All-append (Low setting) (map (λ cluster. record { level = first; cluster = cluster })
-    (setting.readers first node)) _ (of_level (setting.readers first node))
-    (low-readers setting node (suc first) count (omega arith))
-  where
-    of_level : (clusters : List ℕ) → All (Low setting)
-        (map (λ cluster. record { level = first; cluster = cluster }) clusters)
-    of_level [] = All-nil (Low setting)
-    of_level (cluster ∷ clusters) = All-cons (Low setting) (record { level = first; cluster = cluster }) _
-        (omega arith) (of_level clusters)
+    All-append (Low setting) _ _ (All-map (Low setting) (λ cluster. record { level = first; cluster = cluster })
+    (setting.readers first node) (λ k d low. omega arith)) (low-readers setting node (suc first) count (omega arith))
 
 pub readers-low : (setting : Setting) (node : ℕ) → All (Low setting) (all_readers setting node)
 readers-low setting node = low-readers setting node 0 (levels setting) (omega arith)
@@ -98,11 +86,7 @@ climb-good setting sub seen known weight (reader ∷ later) knows all = (knows, 
 -- a Gone is committed
 pub gone-known : (setting : Setting) (sub : ℕ) (seen : History) (node p to : ℕ)
     → MarkTells setting sub seen node (Gone p to) → p ≤ number sub seen
-gone-known setting sub seen node p to tells = omega (
-  arith,
-  tells.0,
-  slice_get_within (commits sub seen) (p - 1) _ tells.1,
-)
+gone-known setting sub seen node p to tells = grind (arith, slice_get_within)
 
 origin-good : (setting : Setting) (seen : History) (call : FindCall) (mark : PresenceMark)
     → MarkTells setting call.sub seen call.from mark → IsGood setting call.sub seen (after_origin setting call mark)
@@ -143,71 +127,37 @@ mark-good setting sub seen chase node (Off q) knows tells = tells
 mark-good setting sub seen chase node (Gone q to) knows tells =
     hop-good setting sub seen (known_with q chase.known) chase.level chase.weight chase.hops_left node to
     (knows-with (number sub seen) q chase.known knows (gone-known setting sub seen node q to tells)) tells.2
-mark-good setting sub seen chase node (Coming q from) knows tells = cond_both (is_known q chase.known)
-    (ended (At node q chase.level chase.weight))
-    (hop setting chase.known chase.level chase.weight chase.hops_left node from) (IsGood setting sub seen)
-    (λ e. elim tells.3 [
-      | inl early ↦ absurd (omega (arith, early.0, known-low (number sub seen) q chase.known knows e))
-      | inr late ↦ (late.1, late.0, tells.2)
-    ])
-    (λ e. hop-good setting sub seen chase.known chase.level chase.weight chase.hops_left node from knows tells.1)
+mark-good setting sub seen chase node (Coming q from) knows tells =
+    grind (arith, IsGood, known-low, hop-good, cond_both)
 
 -- one look
 pub look-good : MarksTell → EntriesTell → {setting : Setting} (seen : History) (call : FindCall) (pursuit : Pursuit)
     (key : Key) → setting.nodes ≤ 2 ^ 16 → call.from < setting.nodes → IsLegal setting call.sub seen
     → IsSafe setting (number call.sub seen) pursuit → key_of call pursuit ≡ Some key
     → IsGood setting call.sub seen (after_word setting call pursuit (cell setting seen key))
-look-good marks entries {setting} seen call at_origin key low inside legal safe wanted =
-    let e : Presence call.from call.sub ≡ key = cc in
-    subst (λ (k : Key). IsGood setting call.sub seen (after_origin setting call (mark_in (cell setting seen k)))) e
-    (origin-good setting seen call (mark_seen setting call.sub seen call.from)
-    (marks setting call.sub seen low legal call.from inside))
+look-good marks entries {setting} seen call at_origin key low inside legal safe wanted = grind (arith, origin-good)
 look-good marks entries {setting} seen call (climbs known weight reader later) key low inside legal safe wanted =
-    let e : Entry reader.level reader.cluster call.sub ≡ key = cc in
-    subst (λ (k : Key). IsGood setting call.sub seen (after_entry setting call known weight reader later
-    (address_in (cell setting seen k)))) e
-    (entry-good setting seen call known weight reader later
-    (entry_seen setting call.sub seen reader.level reader.cluster) safe.0 safe.1
-    (entries setting call.sub seen low legal reader.level reader.cluster
-    (All-head (Low setting) reader later safe.1)))
+    grind (arith, Low, All-head, entry-good)
 look-good marks entries {setting} seen call (chases chase node) key low inside legal safe wanted =
-    let e : Presence node call.sub ≡ key = cc in
-    subst (λ (k : Key). IsGood setting call.sub seen (after_mark setting chase node (mark_in (cell setting seen k))))
-    e
-    (mark-good setting call.sub seen chase node (mark_seen setting call.sub seen node) safe.0
-    (marks setting call.sub seen low legal node safe.1))
+    grind (arith, mark-good)
 look-good marks entries seen call (ended found) key low inside legal safe wanted = cc
 
 -- what is right before a look is right through it
-pub commits-through : (sub actor t : ℕ) (key : Key) (history : History)
-    → slice_get history t ≡ Some (look_by actor key) → commits sub (through t history)
-    ≡ commits sub (before t history)
-commits-through sub actor t key history h = ap (filter_map
-    (λ (v : Visit). commit_of (node_put v.act) (mark_put v.act))) (through-puts sub actor key t history h)
-
 right-through : (setting : Setting) (history : History) (sub actor t : ℕ) (key : Key) (found : Found)
     → slice_get history t ≡ Some (look_by actor key) → RightAt setting sub (before t history) found
     → IsRight setting history sub found t
 right-through setting history sub actor t key (Again why weight) h right = tt
-right-through setting history sub actor t key found h right = (
-  right.0 ∙ sym (ap (fold (λ n (c : Commit). c.to) (start setting sub)) (commits-through sub actor t key history h)),
-  right.1 ∙ sym (ap length (commits-through sub actor t key history h)),
-  ap ends_off (through-puts sub actor key t history h) ∙ right.2,
-)
+right-through setting history sub actor t key found h right = rw (through-puts sub actor key t history h) right
 
 pub last-more : (t u : ℕ) (later : List ℕ) → last_of (t ∷ u ∷ later) ≡ last_of (u ∷ later)
-last-more t u later = ap (λ n. slice_index (t ∷ u ∷ later) n)
-    (let e : length (t ∷ u ∷ later) - 1 ≡ suc (length later) = omega arith in e)
-    ∙ sym (ap (λ n. slice_index (u ∷ later) n) (let e : length (u ∷ later) - 1 ≡ length later = omega arith in e))
+last-more t u later = grind arith
 
 pub read-one : (setting : Setting) (history : History) (actor t : ℕ) (key : Key) (call : FindCall) (pursuit : Pursuit)
     (later : List ℕ) → slice_get history t ≡ Some (look_by actor key)
     → fold (after_word setting call) pursuit (flat_map (words_at setting history) (t ∷ later))
     ≡ fold (after_word setting call) (after_word setting call pursuit (cell setting (before t history) key))
     (flat_map (words_at setting history) later)
-read-one setting history actor t key call pursuit later h = ap
-    (λ o. fold (after_word setting call) pursuit (words_by setting (before t history) o ++ flat_map
-    (words_at setting history) later)) h
+read-one setting history actor t key call pursuit later h = grind arith
 
 -- the looks of a find end with a right answer
 module _ (marks : MarksTell) (entries : EntriesTell) (fronts : FrontsAreLegal) {setting : Setting} (history : History)
@@ -226,14 +176,12 @@ module _ (marks : MarksTell) (entries : EntriesTell) (fronts : FrontsAreLegal) {
       → IsRight setting history call.sub found (last_of (t ∷ later))
   unfolding AreLooks
   right-looks [] t key pursuit is_look good looks ends =
-      right-through setting history call.sub actor t key found is_look
-      (subst (IsGood setting call.sub (before t history)) ends good)
+      right-through setting history call.sub actor t key found is_look (rw ends at good)
   right-looks (u ∷ later) t key pursuit is_look good (first, (next, wanted, its_look, rest)) ends =
-      subst (IsRight setting history call.sub found) (sym (last-more t u later))
-      (right-looks later u next (after_word setting call pursuit (cell setting (before u history) next)) its_look
-      (next-good u pursuit next (safe-later setting (number call.sub (before t history)) _ pursuit
-      (number-grows call.sub t u history (omega (arith, first)))
-      (good-safe setting call.sub (before t history) pursuit good)) wanted)
+      rw (last-more t u later) (right-looks later u next
+      (after_word setting call pursuit (cell setting (before u history) next)) its_look
+      (next-good u pursuit next (safe-later setting _ _ pursuit (number-grows call.sub t u history
+      (omega (arith, first))) (good-safe setting call.sub (before t history) pursuit good)) wanted)
       rest (sym (read-one setting history actor u next call pursuit later its_look) ∙ ends))
 
   first-right : (tickets : List ℕ) → AreLooks setting history actor call 0 at_origin tickets

@@ -1,7 +1,8 @@
 -- The lines of outcomes are right, since each is made by the looks of a find.
-use Rattle.std.proofs.Common.{◌≡◌, ℕ, zero, suc, ◌<◌, ◌≤◌, ◌^◌, List, [], ◌∷◌, sym, subst, arith}
+use Rattle.std.proofs.Common.{◌≡◌, ℕ, ◌<◌, ◌≤◌, ◌^◌, List, sym, subst, arith}
 use Rattle.std.specs.Prelude.{All, Some, slice_get}
-use Rattle.std.proofs.lemmas.List.Elements.{All-head, All-tail, All-weaker}
+use Rattle.std.proofs.lemmas.Option.{get_or_from_slice_get, slice_get_within}
+use Rattle.std.proofs.lemmas.List.Elements.{All-weaker}
 use Rattle.directory.specs.Settings.{Setting, subs}
 use Rattle.directory.specs.Histories.{History}
 use Rattle.directory.specs.Legal.{IsLegal}
@@ -12,7 +13,7 @@ use Rattle.directory.specs.Orders.{AreValid, IsFindCall, Scripts, history_of}
 use Rattle.directory.specs.Outcomes.{IsFindLine, IsMade, found_line, outcome_of}
 use Rattle.directory.specs.Statements.{LinesAreMade, OrdersAreDone, OrdersArePlayed, PlayedIsLegal}
 use Rattle.directory.specs.declared.answers.Done.{Done}
-use Rattle.directory.specs.declared.answers.Done.TheVariants.{Moved, Switched, Found as FoundBy, Off as OffBy, Again as AgainBy}
+use Rattle.directory.specs.declared.answers.Done.TheVariants.{Moved, Switched, Found as FoundBy, Off as OffBy}
 use Rattle.directory.specs.declared.answers.Found.{Found}
 use Rattle.directory.specs.declared.answers.Found.TheVariants.{Again}
 use Rattle.trail_laws.specs.Rightness.{AgainHasItsCause, AnswersAreRight, HasNumber, NumbersNeverFall, ReadsTop}
@@ -45,15 +46,7 @@ made_right : AnswersAreRight → AgainHasItsCause → {setting : Setting} {scrip
     → IsMade setting scripts history line → IsRightLine setting history line
 made_right right cause history low reads valid legal (Moved actor n from to weight first commit last) h = tt
 made_right right cause history low reads valid legal (Switched actor is_off node n ticket) h = tt
-made_right right cause {setting} {scripts} history low reads valid legal
-    (FoundBy actor from sub node n level weight first last) h =
-    right_line right cause low reads valid legal h
-made_right right cause {setting} {scripts} history low reads valid legal
-    (OffBy actor from sub node n level weight first last) h =
-    right_line right cause low reads valid legal h
-made_right right cause {setting} {scripts} history low reads valid legal
-    (AgainBy actor from sub why weight first last) h =
-    right_line right cause low reads valid legal h
+made_right right cause history low reads valid legal line h = right_line right cause low reads valid legal h
 
 pub outcomes-right : AnswersAreRight → AgainHasItsCause → OrdersArePlayed → OrdersAreDone → PlayedIsLegal
     → LinesAreMade → OutcomesAreRight
@@ -82,11 +75,10 @@ told_by : (setting : Setting) (history : History) (actor from : ℕ) (found : Fo
     → line ≡ found_line actor (record { from = from; sub = sub }) found (first_of seen) (last_of seen)
     → TellsNumber line s p ticket → Numbered setting history s p ticket
 told_by setting history actor from (Again why weight) seen line sub s p ticket is find tells told =
-    absurd (subst (λ (l : Done). TellsNumber l s p ticket) tells told)
+    absurd (rw tells at told)
 told_by setting history actor from found seen line sub s p ticket is find tells told =
-    let told_there : (sub ≡ s) × HasNumber found p × (last_of seen ≡ ticket) =
-    subst (λ (l : Done). TellsNumber l s p ticket) tells told in
-    subst (λ (x : ℕ). Numbered setting history x p ticket) told_there.0 (record {
+    let told_there : (sub ≡ s) × HasNumber found p × (last_of seen ≡ ticket) = rw tells at told in
+    rw (← told_there.0) (record {
       actor = actor;
       from = from;
       found = found;
@@ -100,8 +92,6 @@ told_by setting history actor from found seen line sub s p ticket is find tells 
 numbered : {setting : Setting} {scripts : Scripts} (history : History) → AreValid setting scripts → (line : Done)
     (s p ticket : ℕ) → IsMade setting scripts history line → TellsNumber line s p ticket
     → Numbered setting history s p ticket
-numbered history valid (Moved actor n from to weight first commit last) s p ticket h told = absurd told
-numbered history valid (Switched actor is_off node n at) s p ticket h told = absurd told
 numbered {setting} {scripts} history valid (FoundBy actor from sub node n level weight first last) s p ticket h told =
     told_by setting history actor from h.found h.seen _ sub s p ticket
     (call_of_valid setting scripts actor h.before (record { from = from; sub = sub }) h.later valid h.script) h.find
@@ -110,12 +100,10 @@ numbered {setting} {scripts} history valid (OffBy actor from sub node n level we
     told_by setting history actor from h.found h.seen _ sub s p ticket
     (call_of_valid setting scripts actor h.before (record { from = from; sub = sub }) h.later valid h.script) h.find
     h.tells told
-numbered history valid (AgainBy actor from sub why weight first last) s p ticket h told = absurd told
+numbered history valid line s p ticket h told = absurd told
 
 at_place : {A : Type 0} (P : A → Type 0) (xs : List A) (i : ℕ) (x : A) → All P xs → slice_get xs i ≡ Some x → P x
-at_place P [] i x all e = cc
-at_place P (y ∷ xs) zero x all e = let same : y ≡ x = cc in subst P same (All-head P y xs all)
-at_place P (y ∷ xs) (suc i) x all e = at_place P xs i x (All-tail P y xs all) e
+at_place P xs i x all e = rw (get_or_from_slice_get xs i x x e) at (all i x (slice_get_within xs i x e))
 
 pub numbers-rise : NumbersNeverFall → OrdersArePlayed → OrdersAreDone → PlayedIsLegal → LinesAreMade → NumbersRise
 numbers-rise fall played done legal made setting scripts order low valid i j one other at_one at_other sub p q earlier

@@ -1,98 +1,43 @@
 -- Where a subscriber was after so many commits, the number is no lower: so the marks of a trail rise from hop to hop.
 use Rattle.std.proofs.lemmas.Bool.{cases_Bool, cases_cond, eqb-false, cases_eq, cases_lt}
-use Rattle.std.proofs.Common.{◌≡◌, ◌≢◌, ◌⊎◌, inl, inr, ℕ, ◌+◌, ◌-◌, ◌<◌, ◌≤◌, ◌^◌, ◌==◌, Bool, true, false, cond, List, [], ◌∷◌, ◌++◌, length, length-append, map, refl, sym, ap, ◌∙◌, subst, arith, eqb-true}
-use Rattle.std.proofs.lemmas.List.{length-map}
+use Rattle.std.proofs.Common.{◌≡◌, ◌≢◌, inl, inr, ℕ, ◌+◌, ◌-◌, ◌<◌, ◌≤◌, ◌^◌, ◌==◌, Bool, true, false, cond, List, [], ◌∷◌, ◌++◌, length, map, drop, refl, sym, ap, ◌∙◌, arith, eqb-true}
 use Rattle.std.proofs.lemmas.Option.{slice_get_within}
 use Rattle.node_set.specs.Ascending.{has}
 use Rattle.entry_word.specs.declared.mark.PresenceMark.{PresenceMark}
-use Rattle.entry_word.specs.declared.mark.PresenceMark.TheVariants.{Empty, Here, Gone, Coming, Off}
+use Rattle.entry_word.specs.declared.mark.PresenceMark.TheVariants.{Empty, Here, Gone, Coming}
 use Rattle.directory.specs.Settings.{Setting, start}
 use Rattle.directory.specs.Courses.{Course, Move, last_stop}
 use Rattle.directory.specs.Histories.{History}
 use Rattle.directory.specs.Legal.{IsLegal}
-use Rattle.directory.specs.Standing.{Commit, commit_by, commits, number}
+use Rattle.directory.specs.Standing.{commit_by, commits, number}
 use Rattle.trail_laws.specs.Trail.{GoesUp, MarksTell, MarkTells, NumbersGoUp, mark_seen}
-use Rattle.trail_laws.proofs.Links.{AreLinked, IsSound}
-use Rattle.trail_laws.proofs.ClosedMarks.{IsNext, mark_coming, mark_erasing, mark_passing, rest_mark, since_top, there, trail_mark, trail_mark-push}
-use Rattle.trail_laws.proofs.ClosedViews.{Phase, View, coming, passage, clearing, phase_commits, phase_mark, Shown}
-use Rattle.trail_laws.proofs.LinkedStops.{last-left, LeavesMark, stop_at}
-use Rattle.trail_laws.proofs.Leads.{trail-count, trail-ends, trail-linked, trail-stops, with-end, with-linked, with-stops}
+use Rattle.trail_laws.proofs.Links.{AreLinked, IsSound, base-low}
+use Rattle.trail_laws.proofs.ClosedMarks.{IsNext, mark_coming, mark_erasing, mark_passing, rest_mark, since_top, sound-with, stop-with, there, trail_mark, trail_mark-push}
+use Rattle.trail_laws.proofs.ClosedViews.{IsMoving, Phase, View, coming, passage, clearing, Shown}
+use Rattle.trail_laws.proofs.LinkedStops.{last-left, stop_at}
+use Rattle.trail_laws.proofs.Leads.{low-with, trail-count, trail-ends, trail-linked, trail-stops, trail-with}
+use Rattle.trail_laws.proofs.Tells.{count-told}
 use Rattle.trail_laws.proofs.Laws.{HistoryView, Laws, view}
 use Rattle.trail_laws.proofs.Stops.{stop_after, stop-listed, stops-told}
 
--- each Gone is that of the last of these moves that left its node, and there is none where they end
-record IsTrailOf (setting : Setting) (marks : ℕ → PresenceMark) (from number : ℕ) (moves : List Move) : Type 0 where
-  linked : AreLinked setting from number moves
-  gone : (v p w : ℕ) → v < setting.nodes → marks v ≡ Gone p w → trail_mark moves v Empty ≡ Gone p w
-  ends : (v p w : ℕ) → v < setting.nodes → marks v ≡ Gone p w → v ≢ stop_at from moves (length moves)
-
-gone-number : (a b c d : ℕ) → Gone a b ≡ Gone c d → a ≡ c
-gone-number a b c d h = cc
-
-not-empty : (p w : ℕ) (mark : PresenceMark) → mark ≡ Empty → mark ≡ Gone p w → ⊥
-not-empty p w mark none h = let clash : Empty ≡ Gone p w = sym none ∙ h in cc
-
--- a Gone where these moves had stopped is that of a later move
-later : {setting : Setting} {marks : ℕ → PresenceMark} {from number : ℕ} {moves : List Move}
-    → IsTrailOf setting marks from number moves → (j w q x : ℕ) → w < setting.nodes
-    → j ≤ number + length moves → (number ≤ j → stop_at from moves (j - number) ≡ w) → marks w ≡ Gone q x → j < q
-later {setting} {from} {number} {moves} is j w q x low few stops at_w =
-    at_left (last-left setting from number moves w Empty is.linked)
-  where
-    at_left : LeavesMark setting from number moves w Empty → j < q
-    at_left (inl none) = absurd (not-empty q x (trail_mark moves w Empty) none.0 (is.gone w q x low at_w))
-    at_left (inr left) = at_place (cases_lt j number)
-      where
-        q_is : left.move.number ≡ q
-        q_is = gone-number _ _ q x (sym left.mark_is ∙ is.gone w q x low at_w)
-
-        at_place : (j < number) ⊎ (number ≤ j) → j < q
-        at_place (inl early) = omega (arith, early, q_is, left.its_number)
-        at_place (inr there) = at_end (cases_eq (j - number) (length moves))
-          where
-            at_end : ((j - number) ≡ length moves) ⊎ ((j - number) ≢ length moves) → j < q
-            at_end (inl end) = absurd (is.ends w q x low at_w (sym (stops there) ∙ ap (stop_at from moves) end))
-            at_end (inr other) = omega (
-              arith,
-              there,
-              q_is,
-              left.its_number,
-              left.last (j - number) (omega (arith, few, there, other)) (stops there),
-            )
-
 -- at rest, and in each phase of a move
 there-not : (course : Course) (p w : ℕ) → there course ≡ Gone p w → ⊥
-there-not course p w h =
-    elim (cases_cond course.is_off (Off (length course.moves)) (Here (length course.moves)) (Gone p w) (sym h))
-    [ inl is_off ↦ cc | inr here ↦ cc ]
+there-not course p w h = grind (arith, cases_cond)
 
 rest-gone : (setting : Setting) (course : Course) (v p w : ℕ) → rest_mark setting course v ≡ Gone p w
     → (trail_mark (since_top setting course) v Empty ≡ Gone p w) × (v ≢ last_stop course)
-rest-gone setting course v p w h = elim (cases_Bool (v == last_stop course)) [
-  | inl e ↦ absurd (there-not course p w (rw e at h))
-  | inr e ↦ (rw e at h, eqb-false v (last_stop course) e)
-]
+rest-gone setting course v p w h = grind (arith, cases_Bool, there-not, eqb-false)
 
 coming-gone : (setting : Setting) (course : Course) (move : Move) (v p w : ℕ)
     → mark_coming setting course move v ≡ Gone p w
     → (trail_mark (since_top setting course) v Empty ≡ Gone p w) × (v ≢ last_stop course) × (v ≢ move.to)
-coming-gone setting course move v p w h = elim (cases_Bool (v == move.to)) [
-  | inl e ↦ let clash : Coming move.number move.from ≡ Gone p w = rw e at h in cc
-  | inr e ↦ let rest = rest-gone setting course v p w (rw e at h) in (rest.0, rest.1, eqb-false v move.to e)
-]
+coming-gone setting course move v p w h = grind (arith, cases_Bool, rest-gone, eqb-false)
 
 passing-gone : {setting : Setting} {course : Course} {move : Move} (v p w : ℕ) → IsNext setting course move
     → mark_passing setting course move v ≡ Gone p w
     → (trail_mark (since_top setting course ++ move ∷ []) v Empty ≡ Gone p w) × (v ≢ move.to)
-passing-gone {setting} {course} {move} v p w next h = elim (cases_Bool (v == move.from)) [
-  | inl e ↦ (
-    rw (trail_mark-push (since_top setting course) move v Empty, e) (rw e at h),
-    λ same. next.moving (sym same ∙ eqb-true v move.from e),
-  )
-  | inr e ↦
-      let rest = coming-gone setting course move v p w (rw e at h) in
-      (rw (trail_mark-push (since_top setting course) move v Empty, e) rest.0, rest.2)
-]
+passing-gone {setting} {course} {move} v p w next h =
+    grind (arith, cases_Bool, since_top, trail_mark-push, eqb-true, coming-gone)
 
 clearing-gone : {setting : Setting} {course : Course} {move : Move} (purged : List ℕ) (v p w : ℕ)
     → IsNext setting course move → mark_erasing setting course move purged v ≡ Gone p w
@@ -105,84 +50,83 @@ clearing-gone {setting} {course} {move} purged v p w next h = at_purged (has v p
     at_purged false true g = cc
     at_purged false false g = passing-gone v p w next g
 
+-- each Gone is that of the last of these moves that left its node, and there is none at this node
+abbrev AreLast : Setting → (ℕ → PresenceMark) → List Move → ℕ → Type 0
+AreLast setting marks moves end = (v p w : ℕ) → v < setting.nodes → marks v ≡ Gone p w
+    → (trail_mark moves v Empty ≡ Gone p w) × (v ≢ end)
+
 -- the trail of a view, which ends the commits
-record HasTrail (setting : Setting) (marks : ℕ → PresenceMark) (begin : ℕ) (commits : List Commit) : Type 0 where
+record HasTrail (setting : Setting) (shown : Shown) : Type 0 where
   from : ℕ
   number : ℕ
   moves : List Move
-  is : IsTrailOf setting marks from number moves
-  count : length commits ≡ number + length moves
-  stops : (j : ℕ) → number ≤ j → stop_at from moves (j - number) ≡ stop_after begin commits j
+  linked : AreLinked setting from number moves
+  last : AreLast setting shown.marks moves (stop_at from moves (length moves))
+  count : length shown.commits ≡ number + length moves
+  stops : (j : ℕ) → number ≤ j → stop_at from moves (j - number) ≡ stop_after shown.from shown.commits j
 
--- the moves from a number on, which end at this node, as all moves do
-trail-of : (setting : Setting) (marks : ℕ → PresenceMark) (from number start last begin : ℕ) (moves all : List Move)
-    (commits : List Commit) → AreLinked setting from number moves → stop_at from moves (length moves) ≡ last
-    → ((i : ℕ) → stop_at from moves i ≡ stop_at start all (number + i)) → number + length moves ≡ length all
-    → start ≡ begin → commits ≡ map commit_by all
-    → ((v p w : ℕ) → v < setting.nodes → marks v ≡ Gone p w → (trail_mark moves v Empty ≡ Gone p w) × (v ≢ last))
-    → HasTrail setting marks begin commits
-trail-of setting marks from number start last begin moves all commits linked ends stops count begins commits_are told =
-    record {
-      from = from;
-      number = number;
-      moves = moves;
-      is = record {
-        linked = linked;
-        gone = λ v p w low h. (told v p w low h).0;
-        ends = λ v p w low h same. (told v p w low h).1 (same ∙ ends);
-      };
-      count = omega (arith, ap length commits_are, length-map all commit_by, count);
-      stops = λ j h.
-          let placed : number + (j - number) ≡ j = omega (arith, h) in
-          stops (j - number) ∙ (ap (stop_at start all) placed
-          ∙ stops-told begin start commits all j begins commits_are);
-    }
+-- a Gone where the subscriber had stopped is that of a later move
+later : {setting : Setting} {shown : Shown} (trail : HasTrail setting shown) (j w q x : ℕ) → w < setting.nodes
+    → j ≤ length shown.commits → stop_after shown.from shown.commits j ≡ w → shown.marks w ≡ Gone q x → j < q
+later {setting} trail j w q x low few stop at_w =
+    let gone = trail.last w q x low at_w in
+    elim (last-left setting trail.from trail.number trail.moves w Empty trail.linked) [
+      | inl none ↦ let clash : Empty ≡ Gone q x = sym none.0 ∙ gone.0 in cc
+      | inr left ↦
+          let both : Gone left.move.number left.move.to ≡ Gone q x = sym left.mark_is ∙ gone.0 in
+          let q_is : left.move.number ≡ q = cc in
+          elim (cases_lt j trail.number) [
+            | inl early ↦ omega (arith, early, q_is, left.link.its_number)
+            | inr there ↦ elim (cases_eq (j - trail.number) (length trail.moves)) [
+              | inl end ↦ absurd
+                  (gone.1 (sym (trail.stops j there ∙ stop) ∙ ap (stop_at trail.from trail.moves) end))
+              | inr other ↦ omega (
+                arith,
+                q_is,
+                left.link.its_number,
+                left.last (j - trail.number) (omega (arith, few, trail.count, there, other))
+                    (trail.stops j there ∙ stop),
+              )
+            ]
+          ]
+    ]
 
-short-trail : {setting : Setting} {course : Course} (marks : ℕ → PresenceMark) (begin : ℕ) (commits : List Commit)
-    → IsSound setting course → course.start ≡ begin → commits ≡ map commit_by course.moves
-    → ((v p w : ℕ) → v < setting.nodes → marks v ≡ Gone p w
-    → (trail_mark (since_top setting course) v Empty ≡ Gone p w) × (v ≢ last_stop course))
-    → HasTrail setting marks begin commits
-short-trail {setting} {course} marks begin commits sound =
-    trail-of setting marks _ _ course.start (last_stop course) begin _ course.moves commits (trail-linked sound)
-    (trail-ends sound) (λ i. trail-stops i sound) (trail-count sound)
+-- the moves of a course from a number on
+trail-of : {setting : Setting} (shown : Shown) {course : Course} (b : ℕ) → IsSound setting course
+    → b ≤ length course.moves → course.start ≡ shown.from → shown.commits ≡ map commit_by course.moves
+    → AreLast setting shown.marks (drop b course.moves) (last_stop course) → HasTrail setting shown
+trail-of shown {course} b sound low begins are told = record {
+  from = stop_at course.start course.moves b;
+  number = b;
+  moves = drop b course.moves;
+  linked = trail-linked sound b low;
+  last = rw (trail-ends sound b low) told;
+  count = omega (arith, count-told course.moves are, trail-count sound b low);
+  stops = λ j h.
+      let placed : b + (j - b) ≡ j = omega (arith, h) in
+      trail-stops sound b low (j - b) ∙ (ap (stop_at course.start course.moves) placed
+      ∙ stops-told shown.from course.start shown.commits course.moves j begins are);
+}
 
-long-trail : {setting : Setting} {course : Course} {move : Move} (marks : ℕ → PresenceMark) (begin : ℕ)
-    (commits : List Commit) → IsSound setting course → IsNext setting course move → course.start ≡ begin
-    → commits ≡ map commit_by (course.moves ++ move ∷ [])
-    → ((v p w : ℕ) → v < setting.nodes → marks v ≡ Gone p w
-    → (trail_mark (since_top setting course ++ move ∷ []) v Empty ≡ Gone p w) × (v ≢ move.to))
-    → HasTrail setting marks begin commits
-long-trail {setting} {course}
-    {move} marks begin commits sound next = trail-of setting marks _ _ course.start move.to begin _
-    (course.moves ++ move ∷ []) commits (with-linked sound next) (with-end setting course move)
-    (λ i. with-stops move i sound) (omega (
-      arith,
-      length-append course.moves (move ∷ []),
-      length-append (since_top setting course) (move ∷ []),
-      trail-count sound,
-    ))
+-- that of a course with one move more
+long-trail : {setting : Setting} {shown : Shown} {phase : Phase} (h : IsMoving setting shown phase)
+    → shown.commits ≡ map commit_by (h.course.moves ++ h.move ∷ [])
+    → AreLast setting shown.marks (since_top setting h.course ++ h.move ∷ []) h.move.to → HasTrail setting shown
+long-trail {shown} h are told = trail-of shown _ (sound-with h.sound h.next) (low-with h.move h.sound) h.begins are
+    (rw (trail-with h.move h.sound, stop-with h.course h.move) told)
 
-has-trail : {setting : Setting} {shown : Shown} → View setting shown
-    → HasTrail setting shown.marks shown.from shown.commits
+has-trail : {setting : Setting} {shown : Shown} → View setting shown → HasTrail setting shown
 has-trail {setting} {shown} (inl h) =
-    short-trail shown.marks shown.from shown.commits h.sound h.begins h.commits_are
+    trail-of shown _ h.sound (base-low setting.top h.sound) h.begins h.commits_are
     (λ v p w low is. rest-gone setting h.course v p w (sym (h.marks_are v low) ∙ is))
-has-trail {setting} {shown} (inr h) = at_phase h.phase h.marks_are h.commits_are
-  where
-    at_phase : (phase : Phase)
-        → ((v : ℕ) → v < setting.nodes → shown.marks v ≡ phase_mark setting h.course h.move phase v)
-        → shown.commits ≡ phase_commits h.course h.move phase → HasTrail setting shown.marks shown.from shown.commits
-    at_phase (coming written) are c =
-        short-trail shown.marks shown.from shown.commits h.sound h.begins c
-        (λ v p w low is. let rest = coming-gone setting h.course h.move v p w (sym (are v low) ∙ is) in
-        (rest.0, rest.1))
-    at_phase passage are c =
-        long-trail shown.marks shown.from shown.commits h.sound h.next h.begins c
-        (λ v p w low is. passing-gone v p w h.next (sym (are v low) ∙ is))
-    at_phase (clearing erased purged) are c =
-        long-trail shown.marks shown.from shown.commits h.sound h.next h.begins c
-        (λ v p w low is. clearing-gone purged v p w h.next (sym (are v low) ∙ is))
+has-trail {setting} {shown} (inr (coming written, h)) =
+    trail-of shown _ h.sound (base-low setting.top h.sound) h.begins h.commits_are
+    (λ v p w low is. let rest = coming-gone setting h.course h.move v p w (sym (h.marks_are v low) ∙ is) in
+    (rest.0, rest.1))
+has-trail (inr (passage, h)) = long-trail h h.commits_are
+    (λ v p w low is. passing-gone v p w h.next (sym (h.marks_are v low) ∙ is))
+has-trail (inr (clearing erased purged, h)) = long-trail h h.commits_are
+    (λ v p w low is. clearing-gone purged v p w h.next (sym (h.marks_are v low) ∙ is))
 
 -- where a subscriber was after so many commits, the number is no lower, and that of a Gone is higher
 pub stop-goes_up : Laws → MarksTell → {setting : Setting} {sub : ℕ} (history : History) → setting.nodes ≤ 2 ^ 16
@@ -193,34 +137,13 @@ unfolding HistoryView
 stop-goes_up laws tells {setting} {sub} history low legal j w few stop inside =
     at_mark (mark_seen setting sub history w) refl (tells setting sub history low legal w inside)
   where
-    trail : HasTrail setting (mark_seen setting sub history) (start setting sub) (commits sub history)
-    trail = has-trail (view laws history low legal)
-
     at_mark : (mark : PresenceMark) → mark_seen setting sub history w ≡ mark
-        → MarkTells setting sub history w (mark_seen setting sub history w) → GoesUp j mark
+        → MarkTells setting sub history w mark → GoesUp j mark
     at_mark Empty e told = tt
-    at_mark (Here q) e told =
-        let h : MarkTells setting sub history w (Here q) = subst (MarkTells setting sub history w) e told in
-        omega (arith, few, h.1)
-    at_mark (Off q) e told =
-        let h : MarkTells setting sub history w (Off q) = subst (MarkTells setting sub history w) e told in
-        omega (arith, few, h.1)
-    at_mark (Gone q x) e told =
-        later trail.is j w q x inside (omega (arith, few, trail.count)) (λ h. trail.stops j h ∙ stop) e
-    at_mark (Coming q u) e told =
-        let h : MarkTells setting sub history w (Coming q u) = subst (MarkTells setting sub history w) e told in
-        elim h.3 [
-          | inl before ↦ omega (arith, few, before.0)
-          | inr behind ↦ omega (arith, few, behind.0)
-        ]
+    at_mark (Gone q x) e told = later (has-trail (view laws history low legal)) j w q x inside few stop e
+    at_mark (Coming q u) e told = omega (arith, few, told.3)
+    at_mark mark e told = omega (arith, few, told.1)
 
 pub numbers-go_up : Laws → MarksTell → NumbersGoUp
 numbers-go_up laws tells setting sub history low legal node p to inside is =
-    stop-goes_up laws tells history low legal p to few
-    (stop-listed (start setting sub) (commits sub history) p _ its.0 its.1) its.2
-  where
-    its : MarkTells setting sub history node (Gone p to)
-    its = subst (MarkTells setting sub history node) is (tells setting sub history low legal node inside)
-
-    few : p ≤ number sub history
-    few = omega (arith, its.0, slice_get_within (commits sub history) (p - 1) _ its.1)
+    grind (arith, stop-listed, stop-goes_up, number, slice_get_within)

@@ -1,7 +1,7 @@
 -- The laws of near levels and of short ways after every legal history.
-use Rattle.std.proofs.Common.{◌≡◌, ◌⊎◌, inl, inr, ℕ, suc, ◌+◌, ◌*◌, ◌≤◌, Some, None, refl, sym, ap, ◌∙◌, subst, arith}
+use Rattle.std.proofs.Common.{◌≡◌, ◌⊎◌, inl, inr, ℕ, suc, ◌≤◌, Some, None, refl, sym, ap, ◌∙◌, arith}
 use Rattle.std.proofs.lemmas.Bool.Decides.{nat_tests}
-use Rattle.entry_word.specs.declared.mark.PresenceMark.TheVariants.{Gone, Coming}
+use Rattle.entry_word.specs.declared.mark.PresenceMark.TheVariants.{Coming}
 use Rattle.directory.specs.Standing.{number, standing}
 use Rattle.trail_laws.specs.Trail.{EntriesTell, EntryTells, mark_seen, MarksTell, MarkTells}
 use Rattle.trail_laws.specs.Phases.{AddressesLeadByPhase, PhasesCover}
@@ -37,9 +37,7 @@ addresses-short by_phase cover tell setting sub history low metric some legal le
     is_some knows opens =
     let there = by_phase setting sub history low metric some legal level cluster address known below is_some knows in
     let its : EntryTells setting sub history level cluster (Some address) =
-    subst (EntryTells setting sub history level cluster) is_some
-    (tell setting sub history low legal level cluster below)
-    in (
+    rw is_some at (tell setting sub history low legal level cluster below) in (
       there.0,
       there.1,
       there.2,
@@ -64,35 +62,31 @@ addresses-short by_phase cover tell setting sub history low metric some legal le
 pub comings-short : Laws → MarksTell → ComingsLeadShortly
 unfolding HistoryView
 comings-short laws marks setting sub history low metric legal node p u pass inside comes opens =
-    let there = coming-leads_on node p u None inside (view laws history low legal) comes in (
+    let there = coming-leads_on node p u None inside (view laws history low legal) comes in
+    let tells : MarkTells setting sub history node (Coming p u) =
+    rw comes at (marks setting sub history low legal node inside) in
+    let short = there.2.short metric in (
       there.2.hops,
       there.2.way,
       there.2.few,
       there.2.led,
-      at_cases tells.3 there.2.way (omega (arith, there.2.short metric, there.1)),
-    )
-  where
-    tells : MarkTells setting sub history node (Coming p u)
-    tells = subst (MarkTells setting sub history node) comes (marks setting sub history low legal node inside)
-
-    at_cases : (((p ≡ suc (number sub history)) × (u ≡ standing setting sub history))
-        ⊎ ((p ≡ number sub history) × (node ≡ standing setting sub history)
-        × (mark_seen setting sub history u ≡ Gone p node)))
-        → (way : ℕ) → way ≤ setting.distance u (standing setting sub history)
-        → setting.distance node u + way ≤ setting.distance node (standing setting sub history)
-        + 2 * pass
-    at_cases (inl before) way short = omega (
-      arith,
-      short,
-      ap (setting.distance node) before.1,
-      ap (λ n. setting.distance n (standing setting sub history)) before.1,
-      metric.none (standing setting sub history) (stands-inside laws setting sub history low legal),
-    )
-    at_cases (inr after) way short = omega (
-      arith,
-      short,
-      ap (setting.distance u) (sym after.1),
-      metric.both_ways node u inside tells.1,
-      ap (setting.distance u) after.1,
-      opens p u (ap (mark_seen setting sub history) (sym after.1) ∙ comes) after.0,
+      elim tells.3 [
+        | inl before ↦ omega (
+          arith,
+          short,
+          there.1,
+          ap (setting.distance node) before.1,
+          ap (λ n. setting.distance n (standing setting sub history)) before.1,
+          metric.none (standing setting sub history) (stands-inside laws setting sub history low legal),
+        )
+        | inr after ↦ omega (
+          arith,
+          short,
+          there.1,
+          ap (setting.distance u) (sym after.1),
+          metric.both_ways node u inside tells.1,
+          ap (setting.distance u) after.1,
+          opens p u (ap (mark_seen setting sub history) (sym after.1) ∙ comes) after.0,
+        )
+      ],
     )

@@ -1,25 +1,22 @@
 -- While a find is quiet its subscriber stands still, and what passage is open stays so.
-use Rattle.std.proofs.Common.{◌≡◌, ℕ, suc, ◌<◌, ◌≤◌, ◌^◌, Bool, true, false, List, [], ◌∷◌, ◌++◌, length, drop, refl, sym, ap, ◌∙◌, subst, arith}
+use Rattle.std.proofs.Common.{◌≡◌, ℕ, suc, ◌<◌, ◌≤◌, ◌^◌, Bool, true, false, List, [], ◌∷◌, ◌++◌, length, refl, sym, ap, ◌∙◌, arith}
 use Rattle.std.proofs.lemmas.Option.{slice_get_within}
-use Rattle.std.proofs.Math.ListN.{drop_of_length-le}
 use Rattle.entry_word.specs.Marks.{mark_in}
 use Rattle.entry_word.specs.declared.mark.PresenceMark.TheVariants.{Coming}
 use Rattle.entry_word.specs.declared.visit.Key.TheVariants.{Presence}
 use Rattle.entry_word.specs.declared.visit.Visit.{Visit}
 use Rattle.directory.specs.Settings.{Setting}
-use Rattle.directory.specs.Histories.{before, cell, History, is_put_for, puts_to, through}
+use Rattle.directory.specs.Histories.{before, cell, History, is_put_for, through}
 use Rattle.directory.specs.Finds.{after_word, at_origin, ended, FindCall, Pursuit}
-use Rattle.directory.specs.Legal.{ArePuts, IsLegal}
+use Rattle.directory.specs.Legal.{IsLegal}
 use Rattle.directory.specs.Looks.{AreLooks, last_of, look_by}
-use Rattle.directory.specs.Puts.{is_of_move, steps_in}
+use Rattle.directory.specs.Puts.{is_of_move}
 use Rattle.directory.specs.Standing.{number, passage, standing}
-use Rattle.directory.specs.StepLaws.{puts-push_own}
-use Rattle.directory.specs.Writes.{visits}
 use Rattle.trail_laws.specs.Trail.{mark_seen}
 use Rattle.trail_laws.specs.Phases.{RestIsSettled}
 use Rattle.trail_laws.specs.Ways.{IsOpenAtMost, PassagesAreOpen, StandsInside}
 use Rattle.trail_laws.specs.Within.{QuietFindsStandStill}
-use Rattle.trail_laws.proofs.Alike.{alike-step, IsSwitching, switching}
+use Rattle.trail_laws.proofs.Alike.{alike-step, switch-rests, switching}
 use Rattle.trail_laws.proofs.Passing.{cell-kept, front-legal, while-quiet}
 use Rattle.trail_laws.proofs.Sure.{Used}
 use Rattle.trail_laws.proofs.Quiet.{last-late}
@@ -50,22 +47,9 @@ still-step used rested {setting} {sub} {one} {history} visit low legal legal_mor
         → mark_seen setting sub (history ++ visit ∷ []) (standing setting sub one) ≡ Coming p u
     at_put false e p u comes same = ap mark_in
         (cell-kept used.cells setting sub history visit (Presence (standing setting sub one) sub) refl e) ∙ comes
-    at_put true e p u comes same = absurd ((rested setting sub history low legal at_rest).0.1 u
+    at_put true e p u comes same = absurd ((rested setting sub history low
+        legal (switch-rests used.rests low legal legal_more e (switching sub history visit e quiet))).0.1 u
         (ap (mark_seen setting sub history) still.stands ∙ (comes ∙ ap (λ n. Coming n u) same)))
-      where
-        switch : IsSwitching sub history visit
-        switch = switching sub history visit e quiet
-
-        legal_puts : ArePuts setting sub (puts_to sub history ++ visit ∷ [])
-        legal_puts = subst (ArePuts setting sub)
-            (puts-push_own sub history visit e) legal_more
-
-        done : length (puts_to sub history) ≡ length (visits setting sub (steps_in (puts_to sub history)))
-        done = used.rests setting sub (puts_to sub history) visit switch.step low legal legal_puts switch.begins
-
-        at_rest : drop (length (puts_to sub history)) (visits setting sub (steps_in (puts_to sub history))) ≡ []
-        at_rest = drop_of_length-le (visits setting sub (steps_in (puts_to sub history)))
-            {i = length (puts_to sub history)} (omega (arith, done))
 
 -- the last look of a find is a visit of the history
 last-inside : (setting : Setting) (history : History) (actor : ℕ) (call : FindCall) (earliest : ℕ) (pursuit : Pursuit)

@@ -1,14 +1,14 @@
 -- Where the commits of a subscriber lead, and where each begins.
-use Rattle.trail_laws.proofs.ClosedMarks.{from-inside, IsNext}
+use Rattle.trail_laws.proofs.ClosedMarks.{sound-with}
 use Rattle.std.proofs.Common.{◌⊎◌, true, false, ◌≡◌, inl, inr, ℕ, zero, suc, ◌-◌, ◌<◌, ◌≤◌, List, [], ◌∷◌, ◌++◌, Some, length, map, fold, refl, sym, ap, ◌∙◌, arith}
 use Rattle.std.specs.Prelude.{slice_get, slice_index}
 use Rattle.std.proofs.lemmas.List.{get_or_append_left, length-map, map-append}
 use Rattle.directory.specs.Settings.{Setting}
-use Rattle.directory.specs.Courses.{Course, Move}
+use Rattle.directory.specs.Courses.{Move}
 use Rattle.directory.specs.Standing.{Commit, commit_by}
-use Rattle.trail_laws.proofs.Links.{AreLinked, IsSound, last-inside, linked-push, moves-count}
-use Rattle.trail_laws.proofs.Tells.{stands, stands-moves}
-use Rattle.trail_laws.proofs.ClosedViews.{Shown, View, Phase, clearing, coming, passage, phase_commits}
+use Rattle.trail_laws.proofs.Links.{AreLinked, last-inside, moves-count}
+use Rattle.trail_laws.proofs.Tells.{count-told, stands, stands-moves}
+use Rattle.trail_laws.proofs.ClosedViews.{Shown, View, Phase, IsMoving, clearing, coming, passage}
 use Rattle.trail_laws.proofs.LinkedStops.{stop_at}
 
 -- where a subscriber is after so many of its commits
@@ -18,9 +18,7 @@ stop_after begin commits j = slice_index (begin ∷ map (λ (c : Commit). c.to) 
 -- later commits don't change it
 pub stop-kept : (begin : ℕ) (xs ys : List Commit) (j : ℕ) → j ≤ length xs
     → stop_after begin (xs ++ ys) j ≡ stop_after begin xs j
-stop-kept begin xs ys j few = ap (λ zs. slice_index (begin ∷ zs) j) (map-append (λ (c : Commit). c.to) xs ys)
-    ∙ get_or_append_left (begin ∷ map (λ (c : Commit). c.to) xs) (map (λ (c : Commit). c.to) ys) 0 j
-    (omega (arith, few, length-map xs (λ (c : Commit). c.to)))
+stop-kept begin xs ys j few = grind (arith, map-append, length-map, get_or_append_left)
 
 -- a commit leads to its node
 stop-next : (begin : ℕ) (xs : List Commit) (i : ℕ) (c : Commit) → slice_get xs i ≡ Some c
@@ -31,9 +29,7 @@ stop-next begin (x ∷ xs) (suc i) c h = stop-next x.to xs i c h
 
 pub stop-listed : (begin : ℕ) (xs : List Commit) (p : ℕ) (c : Commit) → 1 ≤ p → slice_get xs (p - 1) ≡ Some c
     → stop_after begin xs p ≡ c.to
-stop-listed begin xs p c some h =
-    let e : suc (p - 1) ≡ p = omega (arith, some) in
-    ap (stop_after begin xs) (sym e) ∙ stop-next begin xs (p - 1) c h
+stop-listed begin xs p c some h = grind (arith, stop_after begin xs, stop-next begin xs (p - 1) c h)
 
 -- after all of them it is where they say that it stands
 pub stop-last : (begin : ℕ) (xs : List Commit) → stop_after begin xs (length xs)
@@ -48,27 +44,17 @@ tos-told (m ∷ moves) = ap (λ ns. m.to ∷ ns) (tos-told moves)
 
 pub stops-told : (begin from : ℕ) (commits : List Commit) (moves : List Move) (j : ℕ) → from ≡ begin
     → commits ≡ map commit_by moves → stop_at from moves j ≡ stop_after begin commits j
-stops-told begin from commits moves j begins commits_are =
-    ap (λ f. stop_at f moves j) begins
-    ∙ ap (λ ns. slice_index (begin ∷ ns) j) (tos-told moves ∙ ap (map (λ (c : Commit). c.to)) (sym commits_are))
+stops-told begin from commits moves j begins commits_are = grind (arith, tos-told moves, stop_at)
 
 -- a commit begins where those before it lead
 left-linked : (setting : Setting) (from number : ℕ) (moves : List Move) → AreLinked setting from number moves
     → (i : ℕ) (c : Commit) → slice_get (map commit_by moves) i ≡ Some c
     → stop_after from (map commit_by moves) i ≡ c.from
-unfolding AreLinked
 left-linked setting from number [] linked i c h = cc
-left-linked setting from number (m ∷ moves) (f0, f1, f2, f3, f4, f5, f6, f7) zero c h =
-    let e : commit_by m ≡ c = cc in sym f1 ∙ ap (λ (d : Commit). d.from) e
-left-linked setting from number (m ∷ moves) (f0, f1, f2, f3, f4, f5, f6, f7) (suc i) c h =
-    left-linked setting m.to (suc number) moves f7 i c h
-
-course-linked : {setting : Setting} {course : Course} {move : Move} → IsSound setting course
-    → IsNext setting course move → AreLinked setting course.start 0 (course.moves ++ move ∷ [])
-course-linked {setting} {course} {move} sound next =
-    linked-push setting course.start 0 course.moves move (omega (arith, next.number)) next.from
-    (from-inside sound next) next.inside next.moving next.renewed
-    next.weight sound.linked
+left-linked setting from number (m ∷ moves) linked zero c h =
+    let e : commit_by m ≡ c = cc in sym linked.0.its_from ∙ ap (λ (d : Commit). d.from) e
+left-linked setting from number (m ∷ moves) linked (suc i) c h =
+    left-linked setting m.to (suc number) moves linked.1 i c h
 
 -- the moves of a view that are committed: all, or all but one
 pub record IsCommitted (setting : Setting) (shown : Shown) : Type 0 where
@@ -79,72 +65,51 @@ pub record IsCommitted (setting : Setting) (shown : Shown) : Type 0 where
   pub count : length shown.commits ≡ length moves
   pub rest : (shown.moves ≡ moves) ⊎ ((length shown.moves ≡ suc (length moves)) × (shown.off ≡ false))
 
+all-committed : {setting : Setting} {shown : Shown} {phase : Phase} (h : IsMoving setting shown phase)
+    → shown.commits ≡ map commit_by (h.course.moves ++ h.move ∷ []) → IsCommitted setting shown
+all-committed h are = record {
+  moves = h.course.moves ++ h.move ∷ [];
+  begins = rw h.begins at h.sound.begins;
+  linked = rw h.begins at (sound-with h.sound h.next).linked;
+  are = are;
+  count = count-told (h.course.moves ++ h.move ∷ []) are;
+  rest = inl h.moves_are;
+}
+
 pub committed : {setting : Setting} {shown : Shown} → View setting shown → IsCommitted setting shown
-committed {setting} (inl h) = record {
+committed (inl h) = record {
   moves = h.course.moves;
   begins = rw h.begins at h.sound.begins;
   linked = rw h.begins at h.sound.linked;
   are = h.commits_are;
-  count = ap length h.commits_are ∙ length-map h.course.moves commit_by;
+  count = count-told h.course.moves h.commits_are;
   rest = inl h.moves_are;
 }
-committed {setting} {shown} (inr h) = at_phase h.phase h.commits_are
-  where
-    begins : shown.from < setting.nodes
-    begins = rw h.begins at h.sound.begins
-
-    all : shown.commits ≡ map commit_by (h.course.moves ++ h.move ∷ []) → IsCommitted setting shown
-    all c = record {
-      moves = h.course.moves ++ h.move ∷ [];
-      begins = begins;
-      linked = rw h.begins at (course-linked h.sound h.next);
-      are = c;
-      count = ap length c ∙ length-map (h.course.moves ++ h.move ∷ []) commit_by;
-      rest = inl h.moves_are;
-    }
-
-    at_phase : (phase : Phase) → shown.commits ≡ phase_commits h.course h.move phase → IsCommitted setting shown
-    at_phase (coming written) c = record {
-      moves = h.course.moves;
-      begins = begins;
-      linked = rw h.begins at h.sound.linked;
-      are = c;
-      count = ap length c ∙ length-map h.course.moves commit_by;
-      rest = inr (ap length h.moves_are ∙ moves-count h.course h.move, h.off_is);
-    }
-    at_phase passage c = all c
-    at_phase (clearing erased purged) c = all c
+committed (inr (coming written, h)) = record {
+  moves = h.course.moves;
+  begins = rw h.begins at h.sound.begins;
+  linked = rw h.begins at h.sound.linked;
+  are = h.commits_are;
+  count = count-told h.course.moves h.commits_are;
+  rest = inr (ap length h.moves_are ∙ moves-count h.course h.move, h.off_is);
+}
+committed (inr (passage, h)) = all-committed h h.commits_are
+committed (inr (clearing erased purged, h)) = all-committed h h.commits_are
 
 -- at most one move is begun that isn't committed, and none when the subscriber is off
 pub view-counts : {setting : Setting} {shown : Shown} → View setting shown
     → (length shown.moves ≡ suc (length shown.commits)) ⊎ (length shown.moves ≡ length shown.commits)
-view-counts {setting} {shown} view =
-    let its = committed view in
-    elim its.rest [
-      | inl all ↦ inr (ap length all ∙ sym its.count)
-      | inr more ↦ inl (more.0 ∙ ap suc (sym its.count))
-    ]
+view-counts {setting} {shown} view = grind (arith, committed view)
 
 pub off-counts : {setting : Setting} {shown : Shown} → View setting shown → shown.off ≡ true
     → length shown.moves ≡ length shown.commits
-off-counts {setting} {shown} view off =
-    let its = committed view in
-    elim its.rest [
-      | inl all ↦ ap length all ∙ sym its.count
-      | inr more ↦ let clash : true ≡ false = sym off ∙ more.1 in cc
-    ]
+off-counts {setting} {shown} view off = grind (arith, committed view)
 
 -- it stands at a node of the network
 pub view-inside : {setting : Setting} {shown : Shown} → View setting shown
     → stands shown.from shown.commits < setting.nodes
-view-inside {setting} {shown} view =
-    let its = committed view in
-    rw (ap (stands shown.from) its.are ∙ stands-moves shown.from its.moves)
-    (last-inside setting shown.from 0 its.moves its.begins its.linked)
+view-inside {setting} {shown} view = grind (arith, committed view, stands shown.from, stands-moves, last-inside)
 
 pub stop-left : {setting : Setting} {shown : Shown} → View setting shown
     → (i : ℕ) (c : Commit) → slice_get shown.commits i ≡ Some c → stop_after shown.from shown.commits i ≡ c.from
-stop-left {setting} {shown} view i c h =
-    let its = committed view in
-    ap (λ cs. stop_after shown.from cs i) its.are
-    ∙ left-linked setting shown.from 0 its.moves its.linked i c (sym (ap (λ cs. slice_get cs i) its.are) ∙ h)
+stop-left {setting} {shown} view i c h = grind (arith, committed view, stop_after, left-linked)

@@ -1,17 +1,15 @@
 -- What makes a find sure of an answer at each pursuit: a look keeps it, and what is no put of a move.
 use Rattle.std.proofs.lemmas.Bool.{cond_both}
 use Rattle.std.proofs.Common.{◌≡◌, ℕ, zero, suc, ◌+◌, ◌*◌, ◌<◌, ◌≤◌, ◌^◌, Bool, true, false, cond, List, [], ◌∷◌, Option, Some, None, length, refl, sym, ap, ◌∙◌, subst, arith}
-use Rattle.entry_word.specs.Marks.{mark_in}
-use Rattle.entry_word.specs.Addresses.{address_in}
 use Rattle.entry_word.specs.declared.address.Address.{Address}
 use Rattle.entry_word.specs.declared.mark.PresenceMark.{PresenceMark}
-use Rattle.entry_word.specs.declared.mark.PresenceMark.TheVariants.{Empty, Here, Gone, Coming, Off}
+use Rattle.entry_word.specs.declared.mark.PresenceMark.TheVariants.{Empty, Gone, Coming}
 use Rattle.entry_word.specs.declared.visit.Key.{Key}
-use Rattle.entry_word.specs.declared.visit.Key.TheVariants.{Presence, Entry}
+use Rattle.entry_word.specs.declared.visit.Key.TheVariants.{Presence}
 use Rattle.directory.specs.Settings.{Setting}
 use Rattle.directory.specs.Histories.{before, cell, History}
 use Rattle.directory.specs.Legal.{IsLegal}
-use Rattle.directory.specs.Finds.{after_entry, after_mark, after_origin, after_word, all_readers, at_origin, Chase, chases, climb, climbs, ended, FindCall, hop, is_known, key_of, known_with, Reader, Pursuit, way_in, found_weight}
+use Rattle.directory.specs.Finds.{after_entry, after_mark, after_origin, after_word, all_readers, at_origin, Chase, chases, climb, climbs, ended, FindCall, hop, is_known, key_of, Reader, Pursuit, way_in, found_weight}
 use Rattle.directory.specs.Looks.{moves_at}
 use Rattle.directory.specs.Parts.{known_after, lead}
 use Rattle.directory.specs.Standing.{number, standing}
@@ -41,9 +39,7 @@ module _ {setting : Setting} {sub : ℕ} {one other : History} (call : FindCall)
   led-on : (known : Option ℕ) (node hops way : ℕ)
       → IsLed setting (mark_seen setting sub one) known node (standing setting sub one) hops way
       → IsLed setting (mark_seen setting sub other) known node (standing setting sub other) hops way
-  led-on known node hops way led =
-      rw alike.stands (led-alike setting (mark_seen setting sub one) (mark_seen setting sub other) alike.marks known
-      node (standing setting sub one) hops way led)
+  led-on known node hops way led = grind (arith, led-alike)
 
   entry-alike : (old new : Option Address) (on other_on : Type 0) (there other_there : Address → Type 0) → new ≡ old
       → (on → other_on) → ((a : Address) → there a → other_there a) → EntryAsks old on there
@@ -122,18 +118,12 @@ module _ (setting : Setting) (seen : History) (call : FindCall) (Within : ℕ �
   origin-sure : (mark : PresenceMark) → Begins setting seen call Within
       → mark_seen setting call.sub seen call.from ≡ mark → MarkTells setting call.sub seen call.from mark
       → IsSureOf (after_origin setting call mark)
-  origin-sure Empty begins same tells = climb-sure None 0 (all_readers setting call.from) tt (begins.climbing
-      (λ p from e. let clash : Empty ≡ Coming p from = sym same ∙ e in cc)
-      (λ p e. let clash : Empty ≡ Here p = sym same ∙ e in cc)
-      (λ p e. let clash : Empty ≡ Off p = sym same ∙ e in cc))
+  origin-sure Empty begins same tells = climb-sure None 0 (all_readers setting call.from) tt
+      (begins.climbing (λ p from e. cc) (λ p e. cc) (λ p e. cc))
   origin-sure (Gone q to) begins same tells = climb-sure (Some q) 0 (all_readers setting call.from)
-      (gone-known setting call.sub seen call.from q to tells) (begins.climbing
-      (λ p from e. let clash : Gone q to ≡ Coming p from = sym same ∙ e in cc)
-      (λ p e. let clash : Gone q to ≡ Here p = sym same ∙ e in cc)
-      (λ p e. let clash : Gone q to ≡ Off p = sym same ∙ e in cc))
-  origin-sure (Coming q from) begins same tells =
-      let there = begins.chasing q from same in
-      (there.0, there.1, omega (arith, there.2), there.3, there.4)
+      (gone-known setting call.sub seen call.from q to tells)
+      (begins.climbing (λ p from e. cc) (λ p e. cc) (λ p e. cc))
+  origin-sure (Coming q from) begins same tells = grind (arith, begins.chasing q from same)
   origin-sure mark begins same tells = (tt, begins.here)
 
   entry-sure : (known : Option ℕ) (weight : ℕ) (reader : Reader) (later : List Reader) (entry : Option Address)
@@ -143,9 +133,7 @@ module _ (setting : Setting) (seen : History) (call : FindCall) (Within : ℕ �
       → IsSureOf (after_entry setting call known weight reader later entry)
   entry-sure known weight reader later None knows some =
       climb-sure known (weight + 2 * way_in setting call reader) later knows some
-  entry-sure known weight reader later (Some address) knows some =
-      let there = some known knows in
-      (there.0, there.1, omega (arith, there.2), there.3, there.4)
+  entry-sure known weight reader later (Some address) knows some = grind arith
 
   -- a hop along what leads
   hop-sure : (known level : Option ℕ) (weight hops_left node to hops way : ℕ) → suc hops ≤ hops_left
@@ -162,13 +150,7 @@ module _ (setting : Setting) (seen : History) (call : FindCall) (Within : ℕ �
       → known_after chase.known (mark_seen setting call.sub seen node) ≡ known
       → IsSureOf (hop setting known chase.level chase.weight chase.hops_left node to)
   unfolding IsLed
-  hop-on chase node to known hops way few led allowed leads knows =
-      let at_to : Some to ≡ Some led.0 = sym leads ∙ led.2 in
-      let is_to : led.0 ≡ to = cc in
-      hop-sure known chase.level chase.weight chase.hops_left node to hops led.1 few (rw is_to at (rw knows at led.4))
-      (rw is_to at (subst Within
-      (let e : chase.weight + way ≡ chase.weight + setting.distance node led.0 + led.1 = omega (arith, led.3) in e)
-      allowed))
+  hop-on chase node to known hops way few led allowed leads knows = grind (arith, setting.distance node led.0, hop-sure)
 
   mark-sure : (chase : Chase) (node : ℕ) (mark : PresenceMark) → mark_seen setting call.sub seen node ≡ mark
       → (hops way : ℕ) → hops ≤ chase.hops_left
@@ -179,14 +161,10 @@ module _ (setting : Setting) (seen : History) (call : FindCall) (Within : ℕ �
       let clash : false ≡ true = sym (ap (answers chase.known) same) ∙ led.1 in cc
   mark-sure chase node (Gone q to) same zero way few led allowed =
       let clash : false ≡ true = sym (ap (answers chase.known) same) ∙ led.1 in cc
-  mark-sure chase node (Coming q from) same zero way few led allowed =
-      rw (sym (ap (answers chase.known) same) ∙ led.1)
-      (tt, subst Within (let e : chase.weight + way ≡ chase.weight = omega (arith, led.2) in e) allowed)
+  mark-sure chase node (Coming q from) same zero way few led allowed = grind arith
   mark-sure chase node mark same zero way few led allowed =
       (tt, subst Within (let e : chase.weight + way ≡ chase.weight = omega (arith, led.2) in e) allowed)
-  mark-sure chase node (Gone q to) same (suc hops) way few led allowed =
-      hop-on chase node to (known_with q chase.known) hops way few led allowed (ap (lead chase.known) same)
-      (ap (known_after chase.known) same)
+  mark-sure chase node (Gone q to) same (suc hops) way few led allowed = grind (arith, hop-on)
   mark-sure chase node (Coming q from) same (suc hops) way few led allowed = cond_both (is_known q chase.known)
       (ended (At node q chase.level chase.weight))
       (hop setting chase.known chase.level chase.weight chase.hops_left node from) IsSureOf
@@ -207,27 +185,16 @@ pub first-sure : Used → {setting : Setting} {seen : History} {call : FindCall}
     → IsSure setting call.sub seen call Within (after_word setting call at_origin (cell setting seen key))
 unfolding Affords
 first-sure used {setting} {seen} {call} {Within} key begins low inside legal wanted =
-    let e : Presence call.from call.sub ≡ key = cc in
-    subst (λ (k : Key). IsSure setting call.sub seen call Within
-    (after_origin setting call (mark_in (cell setting seen k)))) e
-    (origin-sure setting seen call Within (mark_seen setting call.sub seen call.from) begins refl
-    (used.marks setting call.sub seen low legal call.from inside))
+    grind (arith, used.marks setting call.sub seen low legal call.from inside, origin-sure)
 
 pub look-sure : (setting : Setting) (seen : History) (call : FindCall) (Within : ℕ → Type 0) (pursuit : Pursuit)
     (key : Key) → IsSure setting call.sub seen call Within pursuit → key_of call pursuit ≡ Some key
     → IsSure setting call.sub seen call Within (after_word setting call pursuit (cell setting seen key))
 unfolding Affords
 look-sure setting seen call Within at_origin key sure wanted = absurd sure
-look-sure setting seen call Within (climbs known weight reader later) key sure wanted =
-    let e : Entry reader.level reader.cluster call.sub ≡ key = cc in
-    subst (λ (k : Key). IsSure setting call.sub seen call Within
-    (after_entry setting call known weight reader later (address_in (cell setting seen k)))) e
-    (entry-sure setting seen call Within known weight reader later
-    (entry_seen setting call.sub seen reader.level reader.cluster) sure.0 sure.1)
+look-sure setting seen call Within (climbs known weight reader later) key sure wanted = grind (arith, entry-sure)
 look-sure setting seen call Within (chases chase node) key sure wanted =
-    let e : Presence node call.sub ≡ key = cc in
-    subst (λ (k : Key). IsSure setting call.sub seen call Within
-    (after_mark setting chase node (mark_in (cell setting seen k)))) e
-    (mark-sure setting seen call Within chase node (mark_seen setting call.sub seen node) refl sure.0 sure.1
+    let e : key ≡ Presence node call.sub = cc in
+    rw e (mark-sure setting seen call Within chase node (mark_seen setting call.sub seen node) refl sure.0 sure.1
     sure.2 sure.3 sure.4)
 look-sure setting seen call Within (ended found) key sure wanted = cc

@@ -1,29 +1,33 @@
 -- What a legal history leaves, in closed form: its subscriber rests, or is in a phase of a move.
 use Rattle.std.proofs.Math.Seq.{take-nil}
-use Rattle.std.proofs.Common.{◌≡◌, ◌⊎◌, inl, inr, ℕ, zero, suc, ◌<◌, ◌≤◌, ◌^◌, false, List, [], ◌∷◌, ◌++◌, None, length, map, take, fold, refl, sym, ap, ◌∙◌, subst, arith}
+use Rattle.std.proofs.Common.{◌≡◌, ◌⊎◌, inl, inr, ℕ, zero, suc, ◌<◌, ◌≤◌, ◌^◌, Bool, cond, true, false, ◌==◌, List, [], ◌∷◌, ◌++◌, None, length, map, take, fold, refl, sym, ap, ◌∙◌, subst, arith}
 use Rattle.std.specs.Prelude.{filter_map}
-use Rattle.std.proofs.lemmas.Bool.{lt-ltb}
-use Rattle.std.proofs.lemmas.List.{append-nil, length-map, length-take, take-map, take_all}
+use Rattle.std.proofs.lemmas.Bool.{cond_both, eq-eqb, lt-ltb, or_parts}
+use Rattle.std.proofs.Math.Bool.{and-false}
+use Rattle.node_set.specs.Ascending.{has}
+use Rattle.node_set.specs.SetLaws.{has-passing}
+use Rattle.std.proofs.lemmas.List.{append-nil, length-drop, length-map, length-take, take-map, take_all}
 use Rattle.std.proofs.lemmas.List.Sums.{fold-append}
 use Rattle.std.proofs.lemmas.List.Elements.{filter_map-append}
 use Rattle.entry_word.specs.declared.mark.PresenceMark.TheVariants.{Here, Gone, Coming}
 use Rattle.directory.specs.Settings.{Setting, start, subs}
 use Rattle.directory.specs.Legal.{IsLegal, IsScript}
 use Rattle.directory.specs.Histories.{History, puts_to}
-use Rattle.directory.specs.Puts.{course_in}
+use Rattle.directory.specs.Puts.{course_in, steps_in}
+use Rattle.trail_laws.specs.Phases.{IsAtRest}
 use Rattle.directory.specs.Amid.{IsAmid}
 use Rattle.directory.specs.Statements.{CommitsAreTold, EntriesAreLeft, LegalIsAmid, MarksAreLeft, OffIsTold}
-use Rattle.directory.specs.Courses.{Step, move_to, Move, Course, course_at, next_move, after_step, after_steps, MayMove, MayStep, MaySteps}
-use Rattle.directory.specs.Writes.{Write, mark_at, entry_at, new_address, old_home, move_writes, writes}
+use Rattle.directory.specs.Courses.{last_stop, Step, move_to, Move, Course, course_at, next_move, after_step, after_steps, MayMove, MayStep, MaySteps}
+use Rattle.directory.specs.Writes.{Write, mark_at, entry_at, new_address, old_home, move_writes, visit_of, visits, writes}
 use Rattle.directory.specs.Standing.{commits, off}
-use Rattle.directory.specs.States.{entry_after, entry_left, mark_after, mark_left, opening_entry, opening_mark, write_commit, write_off}
+use Rattle.directory.specs.States.{entry_after, entry_left, mark_after, mark_left, opening_entry, opening_mark, write_commit, write_off, writes_made}
 use Rattle.trail_laws.specs.Trail.{entry_seen, mark_seen}
-use Rattle.trail_laws.proofs.Links.{AreLinked, IsSound, sound-steps}
-use Rattle.trail_laws.proofs.Fronts.{IsFrontOf, nothing_made, is_coming, is_passing, is_erasing, fronts}
-use Rattle.trail_laws.proofs.ClosedMarks.{is-next, rest_mark, marked, trail_mark}
+use Rattle.trail_laws.proofs.Links.{IsSound, sound-steps, stop-inside}
+use Rattle.trail_laws.proofs.Fronts.{fronts}
+use Rattle.trail_laws.proofs.ClosedMarks.{there, is-next, rest_mark, marked, trail_mark}
 use Rattle.trail_laws.proofs.ClosedEntries.{rest_entry, entered}
-use Rattle.trail_laws.proofs.ClosedViews.{coming, IsPhase, old_levels, passage, Phase, purged_nodes, renewed_levels, Shown, View, while_clearing, while_coming, while_passing}
-use Rattle.trail_laws.proofs.ClosedWrites.{commits-steps, entries-steps, erasures, leaves, Leaves, marks-steps, off-steps, phase_writes, purges, whole-writes, whole_phase}
+use Rattle.trail_laws.proofs.ClosedViews.{clearing, coming, IsCleared, IsPhase, old_levels, passage, Phase, purge_nodes, purged_nodes, renewed_levels, Shown, View}
+use Rattle.trail_laws.proofs.ClosedWrites.{commits-steps, entries-steps, erasures, leaves, Leaves, marks-steps, off-steps, phase_writes, purges, whole-writes}
 use Rattle.directory.specs.StepLaws.{writes-more, start-kept}
 
 module _ (setting : Setting) (sub : ℕ) where
@@ -36,7 +40,6 @@ module _ (setting : Setting) (sub : ℕ) where
 
   pub sound-opening : (steps : List Step) → IsScript setting sub steps
       → IsSound setting (course_at (start setting sub))
-  unfolding AreLinked
   sound-opening steps script = record { begins = script.begins; linked = tt }
 
   pub sound-script : (steps : List Step) → IsScript setting sub steps → IsSound setting (course_of steps)
@@ -67,15 +70,18 @@ module _ (setting : Setting) (sub : ℕ) where
       ∙ entries-steps steps level cluster (sound-opening steps script) script.allowed
 
   -- the view of a subscriber whose steps are done, and of one that is amid a step
-  pub WritesView : List Write → List Move → Type 0
-  WritesView ws moves = View setting (record {
+  abbrev pub written : List Write → List Move → Shown
+  written ws moves = record {
     from = start setting sub;
     marks = mark_left setting sub ws;
     entries = entry_left setting sub ws;
     commits = filter_map write_commit ws;
     off = fold (λ o write. write_off write) false ws;
     moves = moves;
-  })
+  }
+
+  pub WritesView : List Write → List Move → Type 0
+  WritesView ws moves = View setting (written ws moves)
 
   rests : (steps : List Step) → IsScript setting sub steps → WritesView (writes_of steps) (course_of steps).moves
   unfolding WritesView
@@ -90,6 +96,27 @@ module _ (setting : Setting) (sub : ℕ) where
     moves_are = refl;
   })
 
+-- a subscriber that rests has made all writes of its steps, and its mark stands where its course ends
+module _ (setting : Setting) (sub : ℕ) (history : History) (rest : IsAtRest setting sub history) where
+  pub all-made : writes_made setting sub (puts_to sub history) ≡ writes_of setting sub (steps_in (puts_to sub history))
+  all-made = take_all (length (puts_to sub history)) (writes_of setting sub (steps_in (puts_to sub history))) (omega (
+    arith,
+    length-drop (length (puts_to sub history)) (visits setting sub (steps_in (puts_to sub history))),
+    ap length rest,
+    length-map (writes_of setting sub (steps_in (puts_to sub history))) (visit_of sub),
+  ))
+
+  pub mark-there : MarksAreLeft → setting.nodes ≤ 2 ^ 16 → IsLegal setting sub history
+      → mark_seen setting sub history (last_stop (course_in setting sub (puts_to sub history)))
+      ≡ there (course_in setting sub (puts_to sub history))
+  mark-there marks low legal =
+      let course = course_in setting sub (puts_to sub history) in
+      marks setting sub history low legal (last_stop course)
+      ∙ (ap (λ ws. mark_left setting sub ws (last_stop course)) all-made
+      ∙ (rest-marks_of setting sub (steps_in (puts_to sub history)) (last_stop course) legal.script
+      (stop-inside (sound-script setting sub (steps_in (puts_to sub history)) legal.script))
+      ∙ rw (eq-eqb (last_stop course) (last_stop course) refl)))
+
 -- the steps before one may be made, and then that one
 pub may-before : (setting : Setting) (course : Course) (before : List Step) (step : Step)
     → MaySteps setting course (before ++ step ∷ []) → MaySteps setting course before
@@ -97,12 +124,21 @@ pub may-before : (setting : Setting) (course : Course) (before : List Step) (ste
 unfolding MaySteps
 may-before setting course [] step may = (tt, may.0)
 may-before setting course (first ∷ before) step may =
-    let rest : MaySteps setting (after_step setting course first) before
-    × MayStep setting (after_steps setting (after_step setting course first) before) step = may-before setting
-    (after_step setting course first) before step may.1 in
-    ((may.0, rest.0), rest.1)
+    grind (arith, may-before setting (after_step setting course first) before step may.1)
 
 -- ---- amid a move
+-- what isn't in a list isn't in a front of it
+not-taken : (x p : ℕ) (xs : List ℕ) → has x xs ≡ false → has x (take p xs) ≡ false
+not-taken x zero xs h = refl
+not-taken x (suc p) [] h = refl
+not-taken x (suc p) (y ∷ ys) h =
+    let parts = or_parts (x == y) (has x ys) h in rw parts.0 (not-taken x p ys parts.1)
+
+-- the new node is never purged
+new-stays : (setting : Setting) (course : Course) (move : Move) → move.to < setting.nodes
+    → has move.to (purged_nodes setting course move) ≡ false
+new-stays setting course move inside = grind (arith, purge_nodes, has-passing, eq-eqb, and-false, cond_both)
+
 module _ {setting : Setting} {sub : ℕ} {before : List Step} {node : ℕ} (script : IsScript setting sub before)
     (may : MayMove setting (course_of setting sub before) node) where
   abbrev pub its_course : Course
@@ -118,27 +154,29 @@ module _ {setting : Setting} {sub : ℕ} {before : List Step} {node : ℕ} (scri
   in-phase : (phase : Phase) → IsPhase setting its_course its_move phase
       → Goal (phase_writes setting its_course its_move phase)
   unfolding WritesView
-  in-phase phase is_phase = inr (record {
-    course = its_course;
-    move = its_move;
-    phase = phase;
-    sound = sound-script setting sub before script;
-    next = is-next may;
-    is_phase = is_phase;
-    begins = start-kept setting (course_at (start setting sub)) before;
-    marks_are = λ v low. fold-append (mark_after v) (opening_mark setting sub v) made front
-        ∙ (ap (λ m. marked v m front) (rest-marks_of setting sub before v script low) ∙ left.marks v);
-    entries_are = λ level cluster low.
-        fold-append (entry_after level cluster) (opening_entry setting sub level cluster) made front
-        ∙ (ap (λ e. entered level cluster e front) (rest-entries_of setting sub before level cluster script low)
-        ∙ left.entries level cluster);
-    commits_are = filter_map-append write_commit made front
-        ∙ (ap (λ cs. cs ++ filter_map write_commit front)
-        (commits-steps setting (course_at (start setting sub)) before) ∙ left.commits);
-    off_is = fold-append (λ o write. write_off write) false made front ∙ left.on _;
-    moves_are = ap (λ (c : Course). c.moves)
-        (fold-append (after_step setting) (course_at (start setting sub)) before (move_to node ∷ []));
-  })
+  in-phase phase is_phase = inr (
+    phase,
+    record {
+      course = its_course;
+      move = its_move;
+      sound = sound-script setting sub before script;
+      next = is-next may;
+      is_phase = is_phase;
+      begins = start-kept setting (course_at (start setting sub)) before;
+      marks_are = λ v low. fold-append (mark_after v) (opening_mark setting sub v) made front
+          ∙ (ap (λ m. marked v m front) (rest-marks_of setting sub before v script low) ∙ left.marks v);
+      entries_are = λ level cluster low.
+          fold-append (entry_after level cluster) (opening_entry setting sub level cluster) made front
+          ∙ (ap (λ e. entered level cluster e front) (rest-entries_of setting sub before level cluster script low)
+          ∙ left.entries level cluster);
+      commits_are = filter_map-append write_commit made front
+          ∙ (ap (λ cs. cs ++ filter_map write_commit front)
+          (commits-steps setting (course_at (start setting sub)) before) ∙ left.commits);
+      off_is = fold-append (λ o write. write_off write) false made front ∙ left.on _;
+      moves_are = ap (λ (c : Course). c.moves)
+          (fold-append (after_step setting) (course_at (start setting sub)) before (move_to node ∷ []));
+    },
+  )
     where
       made : List Write
       made = writes_of setting sub before
@@ -149,87 +187,48 @@ module _ {setting : Setting} {sub : ℕ} {before : List Step} {node : ℕ} (scri
       left : Leaves setting its_course its_move phase
       left = leaves setting its_course its_move phase
 
-  erased-order : (e p : ℕ) → (p ≡ 0) ⊎ (take e (erasures setting its_course (old_levels setting its_course its_move))
-      ≡ erasures setting its_course (old_levels setting its_course its_move)) → (p ≡ 0)
-      ⊎ (take e (old_levels setting its_course its_move) ≡ old_levels setting its_course its_move)
-  erased-order e p (inl none) = inl none
-  erased-order e p (inr whole) =
-      inr (take_all e (old_levels setting its_course its_move) (omega (
-        arith,
-        ap length whole,
-        length-take e (erasures setting its_course (old_levels setting its_course its_move)),
-        length-map (old_levels setting its_course its_move)
-            (λ level. entry_at level (old_home setting its_course level) None),
-      )))
+  abbrev pub its_old : List ℕ
+  its_old = old_levels setting its_course its_move
+
+  abbrev pub its_purged : List ℕ
+  its_purged = purged_nodes setting its_course its_move
+
+  cleared : (e p : ℕ) → (p ≡ 0) ⊎ (take e (erasures setting its_course its_old) ≡ erasures setting its_course its_old)
+      → IsCleared setting its_course its_move (take e its_old) (take p its_purged)
+  cleared e p in_order = record {
+    stays = not-taken node p its_purged (new-stays setting its_course its_move may.inside);
+    kept = λ level. not-taken level e its_old;
+    in_order = at_order in_order (its_move.renewed == setting.top) refl;
+  }
+    where
+      at_order : (p ≡ 0) ⊎ (take e (erasures setting its_course its_old) ≡ erasures setting its_course its_old)
+          → (b : Bool) → (its_move.renewed == setting.top) ≡ b → (take p its_purged ≡ [])
+          ⊎ ((take e its_old ≡ its_old) × ((its_move.renewed == setting.top) ≡ true))
+      at_order (inl none) b t = inl (rw none)
+      at_order (inr whole) false t =
+          inl (ap (λ b. take p (cond b (purge_nodes setting its_course its_move) [])) t ∙ take-nil p)
+      at_order (inr whole) true t = inr (
+        take_all e its_old (omega (
+          arith,
+          ap length whole,
+          length-take e (erasures setting its_course its_old),
+          length-map its_old (λ level. entry_at level (old_home setting its_course level) None),
+        )),
+        t,
+      )
 
   amid-move : (made : ℕ) → 1 ≤ made → Goal (take made (move_writes setting its_course its_move))
   unfolding phase_writes
-  amid-move made some = subst Goal (sym (ap (take made) (whole-writes setting its_course its_move)))
-      (at_front (fronts (mark_at its_move.to (Coming its_move.number its_move.from))
-      (mark_at its_move.from (Gone its_move.number its_move.to)) (mark_at its_move.to (Here its_move.number)) addresses
-      (erasures setting its_course (old_levels setting its_course its_move))
-      (purges (purged_nodes setting its_course its_move)) made))
-    where
-      addresses : List Write
-      addresses = map (new_address setting its_move) (renewed_levels its_move)
-
-      whole : List Write
-      whole = phase_writes setting its_course its_move (whole_phase setting its_course its_move)
-
-      made-some : (k : ℕ) → 1 ≤ k → take k whole ≡ [] → ⊥
-      made-some zero h e = omega arith
-      made-some (suc k) h e = cc
-
-      at_front : IsFrontOf (mark_at its_move.to (Coming its_move.number its_move.from))
-          (mark_at its_move.from (Gone its_move.number its_move.to)) (mark_at its_move.to (Here its_move.number))
-          addresses (erasures setting its_course (old_levels setting its_course its_move))
-          (purges (purged_nodes setting its_course its_move)) (take made whole) → Goal (take made whole)
-      at_front (nothing_made same) = absurd (made-some made some same)
-      at_front (is_coming j few same) =
-          subst Goal (sym (same ∙ ap (λ ws. mark_at its_move.to (Coming its_move.number its_move.from) ∷ ws)
-          (take-map (new_address setting its_move) j (renewed_levels its_move))))
-          (in-phase (coming (take j (renewed_levels its_move))) (while_coming j))
-      at_front (is_passing same) = subst Goal (sym same) (in-phase passage while_passing)
-      at_front (is_erasing e p in_order same) = subst Goal (sym (same
-          ∙ ap (λ ws. mark_at its_move.to (Coming its_move.number its_move.from) ∷ (addresses ++
-          (mark_at its_move.from (Gone its_move.number its_move.to)
-          ∷ (mark_at its_move.to (Here its_move.number) ∷ ws))))
-          (shaped (take-map _ e (old_levels setting its_course its_move))
-          (take-map _ p (purged_nodes setting its_course its_move)))))
-          (in-phase _ (while_clearing e p (erased-order e p in_order)))
-        where
-          shaped : {a b c d : List Write} → a ≡ c → b ≡ d → a ++ b ≡ c ++ d
-          shaped g h = cc
-
--- the same told of other functions with the same values
-pub view-along : {setting : Setting} {one : Shown} (other : Shown) → other.from ≡ one.from
-    → ((v : ℕ) → other.marks v ≡ one.marks v)
-    → ((level cluster : ℕ) → other.entries level cluster ≡ one.entries level cluster) → other.commits ≡ one.commits
-    → other.off ≡ one.off → other.moves ≡ one.moves → View setting one → View setting other
-view-along other b f g c o m (inl h) = inl (record {
-  course = h.course;
-  sound = h.sound;
-  begins = h.begins ∙ sym b;
-  marks_are = λ v low. f v ∙ h.marks_are v low;
-  entries_are = λ level cluster low. g level cluster ∙ h.entries_are level cluster low;
-  commits_are = c ∙ h.commits_are;
-  off_is = o ∙ h.off_is;
-  moves_are = m ∙ h.moves_are;
-})
-view-along other b f g c o m (inr h) = inr (record {
-  course = h.course;
-  move = h.move;
-  phase = h.phase;
-  sound = h.sound;
-  next = h.next;
-  is_phase = h.is_phase;
-  begins = h.begins ∙ sym b;
-  marks_are = λ v low. f v ∙ h.marks_are v low;
-  entries_are = λ level cluster low. g level cluster ∙ h.entries_are level cluster low;
-  commits_are = c ∙ h.commits_are;
-  off_is = o ∙ h.off_is;
-  moves_are = m ∙ h.moves_are;
-})
+  amid-move zero some = absurd (omega arith)
+  amid-move (suc made) some = subst Goal (sym (ap (take (suc made)) (whole-writes setting its_course its_move)))
+      (fronts (mark_at its_move.to (Coming its_move.number its_move.from))
+      (mark_at its_move.from (Gone its_move.number its_move.to)) (mark_at its_move.to (Here its_move.number))
+      (map (new_address setting its_move) (renewed_levels its_move)) (erasures setting its_course its_old)
+      (purges its_purged) Goal
+      (λ j. rw (take-map (new_address setting its_move) j (renewed_levels its_move))
+      (in-phase (coming (take j (renewed_levels its_move))) tt)) (in-phase passage tt)
+      (λ e p in_order. rw (take-map _ e its_old, take-map _ p its_purged)
+      (in-phase (clearing (take e its_old) (take p its_purged)) (cleared e p in_order))) made)
 
 -- so it is amid each step
 amid-view : {setting : Setting} {sub : ℕ} (before under : List Step) (made : ℕ)
@@ -238,10 +237,7 @@ amid-view : {setting : Setting} {sub : ℕ} (before under : List Step) (made : �
     → WritesView setting sub (writes_of setting sub before ++ take made
     (writes setting (course_of setting sub before) under)) (course_of setting sub (before ++ under)).moves
 unfolding writes
-amid-view {setting} {sub} before [] made script one some few =
-    rw (append-nil before)
-    (rw (ap (λ ws. writes_of setting sub before ++ ws) (take-nil made) ∙ append-nil (writes_of setting sub before))
-    (rests setting sub before (subst (IsScript setting sub) (append-nil before) script)))
+amid-view {setting} {sub} before [] made script one some few = grind (arith, append-nil, writes_of, take-nil, rests)
 amid-view {setting} {sub} before (move_to node ∷ []) made script one some few =
     let may = may-before setting (course_at (start setting sub)) before (move_to node) script.allowed in
     rw (append-nil (move_writes setting
@@ -273,16 +269,20 @@ pub legal-view : LegalIsAmid → MarksAreLeft → EntriesAreLeft → CommitsAreT
     → {setting : Setting} {sub : ℕ} (history : History) → setting.nodes ≤ 2 ^ 16 → IsLegal setting sub history
     → View setting (shown setting sub history)
 unfolding WritesView
-legal-view amid marks_left entries_left told off_told {setting} {sub} history low legal = at_amid
-    (amid setting sub (puts_to sub history) low legal)
+legal-view amid marks_left entries_left told off_told {setting} {sub} history low legal =
+    subst (View setting) (sym same) (rw (far.writes, far.steps) (amid-view far.before far.under far.made
+    (rw far.steps at legal.script) far.one far.some far.few))
   where
-    at_amid : IsAmid setting sub (puts_to sub history) → View setting (shown setting sub history)
-    at_amid far =
-        view-along (shown setting sub history) refl
-        (λ v. marks_left setting sub history low legal v ∙ ap (λ ws. mark_left setting sub ws v) far.writes)
-        (λ level cluster. entries_left setting sub history low legal level cluster
-        ∙ ap (λ ws. entry_left setting sub ws level cluster) far.writes)
-        (told setting sub history low legal ∙ ap (filter_map write_commit) far.writes)
-        (off_told setting sub history low legal ∙ ap (fold (λ o write. write_off write) false) far.writes)
-        (ap (λ steps. (course_of setting sub steps).moves) far.steps) (amid-view far.before far.under far.made
-        (subst (IsScript setting sub) far.steps legal.script) far.one far.some far.few)
+    far : IsAmid setting sub (puts_to sub history)
+    far = amid setting sub (puts_to sub history) low legal
+
+    same : shown setting sub history ≡ written setting sub (writes_made setting sub (puts_to sub history))
+        (course_in setting sub (puts_to sub history)).moves
+    same i = record {
+      from = start setting sub;
+      marks = λ v. marks_left setting sub history low legal v i;
+      entries = λ level cluster. entries_left setting sub history low legal level cluster i;
+      commits = told setting sub history low legal i;
+      off = off_told setting sub history low legal i;
+      moves = (course_in setting sub (puts_to sub history)).moves;
+    }

@@ -31,6 +31,19 @@ parts-few {plan} node level kept inside low =
       mul-le-mul kept.few kept.metric.few,
     )
 
+-- a number is pushed to a list
+pub record IsPushed (old new : List ℕ) (n : ℕ) : Type 0 where
+  pub size : length new ≡ suc (length old)
+  pub before : (i : ℕ) → i < length old → slice_index new i ≡ slice_index old i
+  pub last : (i : ℕ) → i ≡ length old → slice_index new i ≡ n
+
+pub pushed : {old new : List ℕ} {n : ℕ} → new ≡ old ++ n ∷ [] → IsPushed old new n
+pushed {old} {n = n} is = rw is (record {
+  size = omega (arith, length_push old n);
+  before = λ i low. get_or_append_left old (n ∷ []) 0 i low;
+  last = λ i same. get_or_push old n 0 i (sym same);
+})
+
 -- so many readers of a node at a level stand behind what was there
 pub record IsAdding (plan : PlanData) (old new : RouteData) (node level count : ℕ) : Type 0 where
   pub levels : new.levels ≡ old.levels
@@ -56,39 +69,31 @@ pub adding-more : {plan : PlanData} {old new : RouteData} (next : RouteData) {no
     node (rung_at level count) → sum ≤ suc (length new.places) * 2 ^ 36 → IsAdding plan old next node level (count + 1)
 adding-more {plan} {old} {new} next {node} {level} {count} {place} {sum} adding levels starts told places ways is way
     light =
-    let longer : length next.places ≡ suc (length new.places) =
-    omega (arith, ap length places, length_push new.places place) in
-    let more : length next.ways ≡ suc (length new.ways) = omega (arith, ap length ways, length_push new.ways sum) in
-    let place_before : (i : ℕ) → i < length new.places → slice_index next.places i ≡ slice_index new.places i =
-    λ i low. ap (λ xs. slice_index xs i) places ∙ get_or_append_left new.places (place ∷ []) 0 i low in
-    let way_before : (i : ℕ) → i < length new.ways → slice_index next.ways i ≡ slice_index new.ways i =
-    λ i low. ap (λ xs. slice_index xs i) ways ∙ get_or_append_left new.ways (sum ∷ []) 0 i low in
-    let last_place : slice_index next.places (length old.places + count) ≡ place =
-    ap (λ xs. slice_index xs (length old.places + count)) places
-    ∙ get_or_push new.places place 0 (length old.places + count) (omega (arith, adding.size)) in
+    let row = pushed places in
+    let sums = pushed ways in
     let last_way : slice_index next.ways (length old.places + count + 1) ≡ sum =
-    ap (λ xs. slice_index xs (length old.places + count + 1)) ways
-    ∙ get_or_push new.ways sum 0 (length old.places + count + 1) (omega (arith, adding.size, adding.ways_size)) in
+    sums.last (length old.places + count + 1) (omega (arith, adding.size, adding.ways_size)) in
     record {
       levels = levels ∙ adding.levels;
       starts = starts ∙ adding.starts;
       level_of = told ∙ adding.level_of;
-      size = omega (arith, longer, adding.size);
-      ways_size = omega (arith, longer, more, adding.ways_size);
-      places_before = λ i low. place_before i (omega (arith, low, adding.size)) ∙ adding.places_before i low;
-      ways_before = λ i low. way_before i (omega (arith, low, adding.size, adding.ways_size))
+      size = omega (arith, row.size, adding.size);
+      ways_size = omega (arith, row.size, sums.size, adding.ways_size);
+      places_before = λ i low. row.before i (omega (arith, low, adding.size)) ∙ adding.places_before i low;
+      ways_before = λ i low. sums.before i (omega (arith, low, adding.size, adding.ways_size))
           ∙ adding.ways_before i low;
       places = λ i low. elim (cases_lt i count) [
-        | inl less ↦ place_before (length old.places + i) (omega (arith, less, adding.size)) ∙ adding.places i less
+        | inl less ↦ row.before (length old.places + i) (omega (arith, less, adding.size)) ∙ adding.places i less
         | inr over ↦
-            let same : i ≡ count = omega (arith, low, over) in rw same (last_place ∙ is)
+            let same : i ≡ count = omega (arith, low, over) in
+            rw same (row.last (length old.places + count) (omega (arith, adding.size)) ∙ is)
       ];
       ways = λ i low. elim (cases_lt i count) [
         | inl less ↦
             omega (
               arith,
-              way_before (length old.places + i + 1) (omega (arith, less, adding.size, adding.ways_size)),
-              way_before (length old.places + i) (omega (arith, less, adding.size, adding.ways_size)),
+              sums.before (length old.places + i + 1) (omega (arith, less, adding.size, adding.ways_size)),
+              sums.before (length old.places + i) (omega (arith, less, adding.size, adding.ways_size)),
               adding.ways i less,
             )
         | inr over ↦
@@ -99,12 +104,12 @@ adding-more {plan} {old} {new} next {node} {level} {count} {place} {sum} adding 
               last_way,
               way,
               ap (slice_index new.ways) end,
-              way_before (length old.places + count) (omega (arith, adding.size, adding.ways_size)),
+              sums.before (length old.places + count) (omega (arith, adding.size, adding.ways_size)),
             ))
       ];
       light =
-          let there : length next.places ≡ length old.places + count + 1 = omega (arith, longer, adding.size) in
-          omega (arith, ap (slice_index next.ways) there, last_way, light, longer);
+          let there : length next.places ≡ length old.places + count + 1 = omega (arith, row.size, adding.size) in
+          omega (arith, ap (slice_index next.ways) there, last_way, light, row.size);
     }
 
 -- a list is filled with a level up to a size
@@ -122,15 +127,12 @@ pub adding-done : {plan : PlanData} {old new : RouteData} (next : RouteData) {no
     → HaveParts plan next (node * levels_of plan + level + 1)
 adding-done {plan} {old} {new} next {node} {level} low have adding all some few levels starts places ways told short =
     let parts : ℕ = node * levels_of plan + level in
-    let longer : length next.starts ≡ suc (length old.starts) =
-    omega (arith, ap length starts, length_push new.starts (length new.places), ap length adding.starts) in
+    let start = pushed starts in
     let start_before : (k : ℕ) → k < length old.starts → slice_index next.starts k ≡ slice_index old.starts k =
-    λ k less. ap (λ xs. slice_index xs k) starts
-    ∙ (get_or_append_left new.starts (length new.places ∷ []) 0 k (omega (arith, less, ap length adding.starts))
-    ∙ ap (λ xs. slice_index xs k) adding.starts) in
+    λ k less. start.before k (omega (arith, less, ap length adding.starts))
+    ∙ ap (λ xs. slice_index xs k) adding.starts in
     let last : slice_index next.starts (parts + 1) ≡ length new.places =
-    ap (λ xs. slice_index xs (parts + 1)) starts
-    ∙ get_or_push new.starts (length new.places) 0 (parts + 1) (omega (arith, ap length adding.starts, have.starts)) in
+    start.last (parts + 1) (omega (arith, ap length adding.starts, have.starts)) in
     let here : slice_index next.starts parts ≡ length old.places =
     start_before parts (omega (arith, have.starts)) ∙ have.last in
     let place_at : (i : ℕ) → slice_index next.places i ≡ slice_index new.places i =
@@ -141,7 +143,7 @@ adding-done {plan} {old} {new} next {node} {level} low have adding all some few 
     record {
       levels = levels ∙ (adding.levels ∙ have.levels);
       thin = omega (arith, levels, adding.levels, have.thin);
-      starts = omega (arith, longer, have.starts);
+      starts = omega (arith, start.size, ap length adding.starts, have.starts);
       last = last ∙ sym size;
       level_of = told.filled ∙ sym size;
       ways = omega (arith, ap length ways, size, adding.ways_size);

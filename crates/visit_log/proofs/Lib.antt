@@ -1,8 +1,4 @@
 mod Apart
-mod Holding
 mod Opening
 mod Parts
-mod Going
-mod Reading
 mod Adding
-mod Widening

@@ -1,19 +1,51 @@
--- What plain cells hold at the opening: subscriber by subscriber, a mark and an address at each level.
-use Rattle.std.proofs.Common.{◌≡◌, ℕ, suc, ◌+◌, ◌-◌, ◌<◌, ◌≤◌, Bool, true, false, cond, List, Some, None, length, refl, sym, ap, ◌∙◌, arith, get_or, ◌≢◌, inl, inr}
-use Rattle.std.specs.Prelude.{nat_lt, ◌==◌, ◌&&◌, slice_set}
+-- What plain cells hold after a put, and at the opening: subscriber by subscriber, a mark and an address at each level.
+use Rattle.std.proofs.Common.{◌≡◌, ℕ, ◌<◌, Bool, true, false, cond, List, [], ◌∷◌, ◌++◌, length, refl, sym, subst, suc, ◌+◌, ◌-◌, ◌≤◌, Some, None, ap, ◌∙◌, arith, get_or, ◌≢◌, inl, inr}
+use Rattle.std.specs.Prelude.{get_or, slice_set, nat_lt, ◌==◌, ◌&&◌}
+use Rattle.std.proofs.lemmas.List.{get_or-set_same, get_or-set_other}
+use Rattle.entry_word.specs.declared.visit.Key.{Key}
+use Rattle.entry_word.specs.declared.visit.Act.TheVariants.{Put}
+use Rattle.directory.specs.Keys.{same_key, key_sub, opening}
+use Rattle.directory.specs.Histories.{History}
+use Rattle.region_plan.specs.Plan.{PlanData, home, levels_of}
+use Rattle.region_plan.specs.Settings.{setting_of}
+use Rattle.region_plan.specs.Cells.{IsCell, IsPlace}
+use Rattle.visit_log.specs.Cells.{CellData, GoWith, Hold, slot_of, word_at, open_word}
+use Rattle.visit_log.proofs.Apart.{slot-apart, slot-within}
+use Rattle.directory.specs.Statements.{SameKey, CellAfter}
 use Rattle.entry_word.specs.Marks.{mark_word}
 use Rattle.entry_word.specs.Addresses.{address_word}
 use Rattle.entry_word.specs.declared.mark.PresenceMark.TheVariants.{Here, Empty}
-use Rattle.entry_word.specs.declared.visit.Key.{Key}
 use Rattle.entry_word.specs.declared.visit.Key.TheVariants.{Presence, Entry}
-use Rattle.directory.specs.Keys.{same_key, key_sub, opening}
-use Rattle.region_plan.specs.Plan.{PlanData, home, levels_of}
-use Rattle.region_plan.specs.Settings.{setting_of}
-use Rattle.region_plan.specs.Cells.{IsPlace, IsCell}
-use Rattle.visit_log.specs.Cells.{CellData, GoWith, open_word, slot_of, word_at}
-use Rattle.visit_log.proofs.Holding.{word-after}
-use Rattle.directory.specs.Statements.{SameKey}
 use Rattle.std.proofs.lemmas.Bool.{cases_eq, cases_lt, lt-ltb, le-ltb, eq-eqb, ne_eqb}
+
+pub word-after : SameKey → {plan : PlanData} {cells : CellData} {key other : Key} (word : ℕ) → GoWith plan cells
+    → IsCell plan cells.subs key → IsCell plan cells.subs other
+    → word_at plan (record cells { words = slice_set cells.words (slot_of plan key) word }) other ≡ cond
+    (same_key other key) word (word_at plan cells other)
+word-after law {plan} {cells} {key} {other} word goes mine its = at_test (same_key other key) refl
+  where
+    at_test : (b : Bool) → same_key other key ≡ b → get_or (slice_set cells.words
+        (slot_of plan key) word) (slot_of plan other) 0
+        ≡ cond b word (word_at plan cells other)
+    at_test true test =
+        let same : other ≡ key = (law other key).0 test in
+        let inside : slot_of plan key < length cells.words = slot-within goes mine in
+        rw (same, get_or-set_same cells.words (slot_of plan key) word 0 inside)
+    at_test false test =
+        let apart : slot_of plan other ≡ slot_of plan key → ⊥ =
+        λ e. (let yes : same_key other key ≡ true = (law other key).1 (slot-apart its mine e) in cc) in
+        get_or-set_other cells.words (slot_of plan key) (slot_of plan other) word 0 apart
+
+pub hold-after : SameKey → CellAfter → {plan : PlanData} {starts : List ℕ} {cells : CellData} {history : History}
+    (actor word : ℕ) {key : Key} → GoWith plan cells → IsCell plan cells.subs key → Hold plan starts cells history
+    → Hold plan starts (record cells { words = slice_set cells.words (slot_of plan key) word })
+    (history ++ record { actor = actor; act = Put key word } ∷ [])
+hold-after law after {plan} {starts} {history} actor word {key} goes mine hold = record {
+  subs = hold.subs;
+  words = λ other its.
+      rw (word-after law word goes mine (subst (λ n. IsCell plan n other) (sym hold.subs) its), hold.words other its)
+      (sym (after (setting_of plan starts) history (record { actor = actor; act = Put key word }) other));
+}
 
 -- tests of one number more
 below-more : (t n : ℕ) → t ≢ n → nat_lt t (n + 1) ≡ nat_lt t n

@@ -1,13 +1,15 @@
--- The readers of a node in the row: one after another, level by level.
-use Rattle.std.proofs.Common.{◌≡◌, ℕ, zero, suc, ◌+◌, ◌-◌, ◌*◌, ◌<◌, ◌≤◌, length, take, ap, ◌∙◌, inl, inr, arith}
+-- The readers of a node in the row: one after another, level by level; what the code reads of them; and a climb that
+-- comes to a reader with so many looks more, as places of the row.
+use Rattle.std.proofs.Common.{◌≡◌, ℕ, zero, suc, ◌+◌, ◌-◌, ◌*◌, ◌<◌, ◌≤◌, length, take, ap, ◌∙◌, inl, inr, arith, List, get_or, refl}
 use Rattle.std.specs.List.{sum_by}
 use Rattle.std.specs.Prelude.{slice_index}
 use Rattle.std.proofs.lemmas.Bool.{cases_lt, le-ltb, lt-ltb}
-use Rattle.std.proofs.lemmas.List.{take_all, take_more}
+use Rattle.std.proofs.lemmas.List.{take_all, take_more, get_or_default}
 use Rattle.std.proofs.lemmas.List.Sums.{sum_by_push}
 use Rattle.std.proofs.lemmas.Nat.{mul-add-lt}
 use Rattle.region_plan.specs.Plan.{Level, PlanData, level_at, levels_of, no_level, nodes_of, readers, readers_in}
-use Rattle.visit_log.specs.Routes.{AreRoutes, IsPart, IsRung, RouteData, Rung, entry_place, next_rung, place_in, rung_past, way_at, ways_past}
+use Rattle.visit_log.specs.Routes.{AreRoutes, IsPart, IsRung, RouteData, Rung, entry_place, next_rung, place_in, rung_past, way_at, ways_past, IsAt, rung_at}
+use Rattle.std.proofs.Math.Nat.{mul-le-mul_right}
 
 -- each level of a node has its part
 pub its-part : (plan : PlanData) (routes : RouteData) (node level : ℕ) → AreRoutes plan routes → node < nodes_of plan
@@ -76,33 +78,24 @@ module _ (plan : PlanData) (routes : RouteData) (node : ℕ) (are : AreRoutes pl
         (omega (arith, next-start rung.level is.level, is.index))
   ]
 
-  -- and is one of the node's, where that lies before the end
+  -- and is one of the node's, unless this one is the last
   pub next-is : (rung : Rung) → IsRung plan node rung
-      → suc (place_in routes base rung) < slice_index routes.starts (base + levels_of plan)
+      → (suc rung.level ≡ levels_of plan → length (readers plan rung.level node) ≤ suc rung.index → ⊥)
       → IsRung plan node (next_rung plan node rung)
-  next-is rung is before = elim (cases_lt (suc rung.index) (length (readers plan rung.level node))) [
+  next-is rung is other = elim (cases_lt (suc rung.index) (length (readers plan rung.level node))) [
     | inl more ↦
         rw (lt-ltb (suc rung.index) (length (readers plan rung.level node)) more)
         (record { level = is.level; index = more })
     | inr over ↦
         let up : suc rung.level < levels_of plan = elim (cases_lt (suc rung.level) (levels_of plan)) [
           | inl less ↦ less
-          | inr top ↦
-              let same : suc rung.level ≡ levels_of plan = omega (arith, is.level) in
-              absurd (omega (
-                arith,
-                next-start rung.level is.level,
-                ap (λ n. slice_index routes.starts (base + n)) same,
-                before,
-                over,
-                is.index,
-              ))
+          | inr top ↦ absurd (other (omega (arith, is.level, top)) over)
         ] in
         rw (le-ltb (suc rung.index) (length (readers plan rung.level node)) over)
         (record { level = up; index = omega (arith, (its-part plan routes node (suc rung.level) are inside up).some) })
   ]
 
-  -- so many readers on
+  -- so many readers on, before the end
   pub past-is : (rung : Rung) → IsRung plan node rung → (count : ℕ)
       → place_in routes base rung + count < slice_index routes.starts (base + levels_of plan)
       → IsRung plan node (rung_past plan node rung count)
@@ -110,7 +103,15 @@ module _ (plan : PlanData) (routes : RouteData) (node : ℕ) (are : AreRoutes pl
   past-is rung is zero before = (is, omega arith)
   past-is rung is (suc count) before =
       let here = past-is rung is count (omega (arith, before)) in (
-        next-is (rung_past plan node rung count) here.0 (omega (arith, here.1, before)),
+        next-is (rung_past plan node rung count) here.0 (λ top over. omega (
+          arith,
+          next-start (rung_past plan node rung count).level here.0.level,
+          ap (λ n. slice_index routes.starts (base + n)) top,
+          before,
+          here.1,
+          over,
+          here.0.index,
+        )),
         next-place (rung_past plan node rung count) here.0 ∙ omega (arith, here.1),
       )
 
@@ -159,3 +160,108 @@ module _ (plan : PlanData) (routes : RouteData) (node : ℕ) (are : AreRoutes pl
   pub level-holds : (rung : Rung) → IsRung plan node rung
       → slice_index routes.level_of (place_in routes base rung) ≡ rung.level
   level-holds rung is = (its-part plan routes node rung.level are inside is.level).level_of rung.index is.index
+
+-- a number that is read
+pub reads : {items held : List ℕ} {k at v : ℕ} → v ≡ get_or items k v → items ≡ held → k ≡ at → at < length held
+    → v ≡ slice_index held at
+reads {held} {k} {at} {v} read same there short =
+    read ∙ (ap (λ xs. get_or xs k v) same ∙ (ap (λ i. get_or held i v) there ∙ get_or_default held at v 0 short))
+
+-- the starts of a node's parts are there, and the last one's end
+pub part-within : (plan : PlanData) (routes : RouteData) (node level : ℕ) → AreRoutes plan routes → node < nodes_of plan
+    → level ≤ levels_of plan → node * levels_of plan + level < length routes.starts
+part-within plan routes node level are inside low =
+    omega (arith, are.starts, mul-le-mul_right (levels_of plan) inside, low)
+
+-- a start that is read
+pub start-read : {plan : PlanData} {held routes : RouteData} (node level : ℕ) {v : ℕ} → held ≡ routes
+    → AreRoutes plan routes → node < nodes_of plan → level ≤ levels_of plan
+    → v ≡ get_or held.starts (node * held.levels + level) v
+    → v ≡ slice_index routes.starts (node * levels_of plan + level)
+start-read {plan} {routes = routes} node level view are inside low read =
+    reads (rw view at read) refl (ap (λ w. node * w + level) are.levels)
+    (part-within plan routes node level are inside low)
+
+pub end-read : {plan : PlanData} {held routes : RouteData} (node : ℕ) {v : ℕ} → held ≡ routes → AreRoutes plan routes
+    → node < nodes_of plan → v ≡ get_or held.starts (node * held.levels + held.levels) v
+    → v ≡ slice_index routes.starts (node * levels_of plan + levels_of plan)
+end-read {plan} {routes = routes} node view are inside read =
+    reads (rw view at read) refl (ap (λ w. node * w + w) are.levels)
+    (part-within plan routes node (levels_of plan) are inside (omega arith))
+
+-- the readers of a node end within the row
+pub end-within : (plan : PlanData) (routes : RouteData) (node : ℕ) → AreRoutes plan routes → node < nodes_of plan
+    → 1 ≤ levels_of plan → slice_index routes.starts (node * levels_of plan + levels_of plan) ≤ length routes.places
+end-within plan routes node are inside some =
+    let last : node * levels_of plan + (levels_of plan - 1) + 1 ≡ node * levels_of plan + levels_of plan =
+    omega (arith, some) in
+    rw last at (its-part plan routes node (levels_of plan - 1) are inside (omega (arith, some))).within
+
+-- between the starts that are read lie the readers of a node
+pub readers-between : (plan : PlanData) {held routes : RouteData} (node : ℕ) {first end : ℕ} → held ≡ routes
+    → AreRoutes plan routes → node < nodes_of plan → first ≡ get_or held.starts (node * held.levels) first
+    → end ≡ get_or held.starts (node * held.levels + held.levels) end
+    → end ≡ first + sum_by (λ l. length (readers_in l node)) plan.levels
+readers-between plan {held} {routes} node view are inside reads_first reads_end =
+    let none : node * held.levels ≡ node * held.levels + 0 = omega arith in
+    let same : node * levels_of plan + 0 ≡ node * levels_of plan = omega arith in
+    omega (
+      arith,
+      start-read node 0 view are inside (omega arith) (rw none at reads_first),
+      ap (slice_index routes.starts) same,
+      end-read node view are inside reads_end,
+      readers-summed plan routes node are inside,
+    )
+
+-- levels don't fall
+next-rises : (plan : PlanData) (node : ℕ) (rung : Rung) → rung.level ≤ (next_rung plan node rung).level
+next-rises plan node rung = elim (cases_lt (suc rung.index) (length (readers plan rung.level node))) [
+  | inl more ↦ rw (lt-ltb (suc rung.index) (length (readers plan rung.level node)) more) (omega arith)
+  | inr over ↦ rw (le-ltb (suc rung.index) (length (readers plan rung.level node)) over) (omega arith)
+]
+
+-- where it is then, and what the ways weigh
+pub record Going (plan : PlanData) (routes : RouteData) (node : ℕ) (rung : Rung) (count : ℕ) : Type 0 where
+  pub before : place_in routes (node * levels_of plan) rung + count < length routes.places
+  pub there : place_in routes (node * levels_of plan) (rung_past plan node rung count)
+      ≡ place_in routes (node * levels_of plan) rung + count
+  pub ways : slice_index routes.ways (place_in routes (node * levels_of plan) rung + count)
+      ≡ slice_index routes.ways (place_in routes (node * levels_of plan) rung) + ways_past plan node rung count
+
+module _ (plan : PlanData) (routes : RouteData) (node : ℕ) (rung : Rung) (at : IsAt plan routes node rung) where
+  pub goes-along : (count : ℕ) → (rung_past plan node rung count).level < levels_of plan
+      → IsRung plan node (rung_past plan node rung count)
+      × (place_in routes (node * levels_of plan) (rung_past plan node rung count)
+      ≡ place_in routes (node * levels_of plan) rung + count)
+  goes-along zero low = (at.is, omega arith)
+  goes-along (suc count) low =
+      let here = goes-along count (omega (arith, low, next-rises plan node (rung_past plan node rung count))) in
+      let s = rung_past plan node rung count in (
+        next-is plan routes node at.are at.inside s here.0 (λ top over.
+            let next : next_rung plan node s ≡ rung_at (suc s.level) 0 =
+            rw (le-ltb (suc s.index) (length (readers plan s.level node)) over) refl in
+            omega (arith, low, top, ap (λ (t : Rung). t.level) next)),
+        next-place plan routes node at.are at.inside (rung_past plan node rung count) here.0 ∙ omega (arith, here.1),
+      )
+
+  pub going : (count : ℕ) → IsRung plan node (rung_past plan node rung count)
+      → Going plan routes node rung count
+  going count on =
+      let there = goes-along count on.level in
+      let before : place_in routes (node * levels_of plan) rung + count
+      < slice_index routes.starts (node * levels_of plan + levels_of plan) =
+      omega (
+        arith,
+        there.1,
+        before-end plan routes node at.are at.inside (rung_past plan node rung count) on,
+      )
+      in
+      record {
+        before = omega (
+          arith,
+          before,
+          end-within plan routes node at.are at.inside (omega (arith, at.is.level)),
+        );
+        there = there.1;
+        ways = ways-hold plan routes node at.are at.inside rung at.is count before;
+      }

@@ -18,15 +18,15 @@ pub struct Places {
 }
 
 impl Model for Places {
-    ghost use Rattle.std.specs.Prelude.{◌≡◌, vec_capacity, vec_len};
+    ghost use Rattle.std.specs.Prelude.{◌≡◌, ◌^◌, ◌<◌, vec_capacity, vec_len};
     ghost use Rattle.visit_log.specs.Numbers.{PlaceData};
 
     ghost Value = { PlaceData };
 
     ghost view = { λ p. record { width = p.width; firsts = p.firsts.items } };
 
-    // No room is kept beside what is told.
-    ghost invariant = { λ p. vec_capacity p.firsts ≡ vec_len p.firsts };
+    // Places are counted in 32 bits, and no room is kept beside what is told.
+    ghost invariant = { λ p. (p.width < 2 ^ 32) × (vec_capacity p.firsts ≡ vec_len p.firsts) };
 }
 
 impl Places {
@@ -78,5 +78,6 @@ impl Places {
 pub fn places_are_few(places: &Places)
     ensures { places.now.width < 2 ^ 32 }
 {
-    let _ = places.width();
+    // A look at a field tells the proof what the places keep.
+    let _ = &places.width;
 }

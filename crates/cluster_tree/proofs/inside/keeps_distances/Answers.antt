@@ -5,23 +5,13 @@ use Rattle.cluster_tree.proofs.Rounding.{round_keeps}
 use Rattle.cluster_tree.proofs.inside.keeps_distances.Goals as goal
 
 pub arcs_of-requires : goal.arcs_of-requires
-arcs_of-requires c =
-    omega (
-      arith,
-      below-has c.args.cluster.now.room c.args.leader c.args.cluster.now.members c.requires.sound.below
-          c.requires.leader,
-      c.requires.room,
-    )
+arcs_of-requires c = grind (arith, below-has)
 
 pub is_round-requires-clause-members : goal.is_round-requires-clause-members
-is_round-requires-clause-members c =
-    rw (c.requires.members, c.requires.row.count)
-    (members_below c.args.cluster.now c.requires.sound c.args.graph.now.nodes c.requires.room)
+is_round-requires-clause-members c = grind (arith, members_below)
 
 pub are_joined-requires-clause-members : goal.are_joined-requires-clause-members
-are_joined-requires-clause-members c =
-    rw c.requires.members
-    (members_below c.args.cluster.now c.requires.sound c.args.graph.now.nodes c.requires.room)
+are_joined-requires-clause-members c = grind (arith, members_below)
 
 pub returns-then-is_round : goal.returns-then-is_round
 returns-then-is_round c = λ _.

@@ -1,6 +1,4 @@
-use Rattle.std.proofs.Common.{◌∙◌, ◌≡◌, ◌+◌, ap, arith, length, sym, suc, slice_index, subst}
-use Rattle.std.specs.Prelude.{nat_lt}
-use Rattle.node_set.specs.Ascending.{sift}
+use Rattle.std.proofs.Common.{◌∙◌, ◌+◌, ap, arith, sym}
 use Rattle.cluster_tree.proofs.Rounding.{within_takes, within_skips}
 use Rattle.cluster_tree.proofs.round.count_within.Goals as goal
 use Rattle.cluster_tree.proofs.round.count_within.Goals.{then-distance-far, else-distance-far}
@@ -24,7 +22,4 @@ loop-distance-preserved c = elim c.if-distance-far.branch [
 ]
 
 pub returns : goal.returns
-returns c =
-    subst (λ i. c.loop-distance.count ≡ length (sift (λ v. nat_lt (slice_index c.args.row.now v)
-    (suc c.args.far)) 0 i)) (omega (arith, c.loop-distance-test.false, c.loop-distance.auto))
-    c.loop-distance.invariant.1
+returns c = grind arith

@@ -17,6 +17,4 @@ loop-member-preserved c = elim c.if-far-distance.branch [
 ]
 
 pub returns : goal.returns
-returns c =
-    rw (take_all c.loop-member.member-index c.args.members.now (omega (arith, c.loop-member-test.false)))
-    at c.loop-member.invariant
+returns c = grind (arith, take_all)

@@ -1,6 +1,6 @@
-use Rattle.std.proofs.Common.{◌≡◌, ◌+◌, ◌||◌, ◌∷◌, [], ℕ, List, length, filter, suc, ap, arith, refl, sym, ◌∙◌, add-one}
+use Rattle.std.proofs.Common.{◌≡◌, length, filter, suc, ap, arith, refl, sym, ◌∙◌, add-one}
 use Rattle.std.proofs.lemmas.Bool.{false≢true}
-use Rattle.node_set.specs.Ascending.{has, with_number}
+use Rattle.node_set.specs.Ascending.{with_number}
 use Rattle.node_set.specs.Nodes.{Nodes}
 use Rattle.coarse_cover.specs.Coarsening.{is_enough}
 use Rattle.node_set.specs.LeadLaws.{nodes_from}
@@ -16,16 +16,14 @@ use Rattle.coarse_cover.proofs.growing.grow.Goals.{Then-at_most, After-count-mor
 -- the first growth
 pub loop-step-init : goal.loop-step-init
 loop-step-init c =
-    let first : growth (sets c.args.balls.now) c.args.waiting.now.members c.args.first 0 ≡ c.args.first ∷ [] =
-    growth_first (sets c.args.balls.now) c.args.waiting.now.members c.args.first
-    in
+    let first = growth_first (sets c.args.balls.now) c.args.waiting.now.members c.args.first in
     record {
       taken = ap (λ (s : Nodes). s.members) c.insert.ensures
           ∙ ap (λ (s : Nodes). with_number c.args.first s.members) c.clear.ensures ∙ sym first;
       members = rw (
         c.absorb.ensures,
         c.in_ok-members.ensures.set,
-        growth_first (sets c.args.balls.now) c.args.waiting.now.members c.args.first,
+        first,
         ← union_first (sets c.args.balls.now) c.args.first,
         ball_at c.args.balls.now c.args.first c.index-balls-first.result c.requires.first c.index-balls-first.is,
       ) refl;
@@ -43,10 +41,8 @@ touched_are : (c : After-count-more) → c.touch.new.touched.members
     ≡ filter (touches (sets c.args.balls.now) c.loop-step.members.members) c.args.waiting.now.members
 touched_are c =
     touched_grown c.args.balls.now c.args.rows.now c.loop-step.members c.args.waiting.now c.touch.new.touched.members
-    c.requires.turned
-    (ap (λ (s : Nodes). s.room) c.loop-step.invariant.members) c.requires.waiting c.touch.ensures.sound
-    c.touch.ensures.waits
-    c.touch.ensures.members
+    c.requires.turned (ap (λ (s : Nodes). s.room) c.loop-step.invariant.members) c.requires.waiting
+    c.touch.ensures.sound c.touch.ensures.waits c.touch.ensures.members
 
 pub at_most-requires-clause-z_small : goal.at_most-requires-clause-z_small
 at_most-requires-clause-z_small c =
@@ -73,13 +69,11 @@ growths : (c : Then-at_most)
     → least (is_enough (sets c.args.balls.now) c.args.k c.args.r c.args.waiting.now.members c.args.first) c.args.k
     ≡ c.loop-step._step
 growths c =
+    let so_far = c.loop-step.invariant in
     stops (sets c.args.balls.now) c.args.k c.args.r c.args.first c.args.waiting.now.members c.loop-step._step
-    c.count-more.result
-    c.loop-step.size c.loop-step.members.members c.touch.new.touched.members
-    (ap (λ (s : Nodes). s.members) c.loop-step.invariant.members)
-    (touched_are c.before.before)
-    c.count-more.ensures c.loop-step.invariant.size c.loop-step-test.true c.loop-step.invariant.none
-    (c.at_most.ensures.0 c.if-at_most.true)
+    c.count-more.result c.loop-step.size c.loop-step.members.members c.touch.new.touched.members
+    (ap (λ (s : Nodes). s.members) so_far.members) (touched_are c.before.before) c.count-more.ensures so_far.size
+    c.loop-step-test.true so_far.none (c.at_most.ensures.0 c.if-at_most.true)
 
 pub returns-then-at_most-clause-members : goal.returns-then-at_most-clause-members
 returns-then-at_most-clause-members c =
@@ -101,54 +95,37 @@ returns-then-at_most-clause-touched c =
 
 pub loop-step-preserved : goal.loop-step-preserved
 loop-step-preserved c =
-    let e : c.loop-step._step + 1 ≡ suc c.loop-step._step = add-one c.loop-step._step in
-    let touched = touched_grown c.args.balls.now c.args.rows.now c.loop-step.members c.args.waiting.now
-    c.touch.new.touched.members c.requires.turned (ap (λ (s : Nodes). s.room) c.loop-step.invariant.members)
-    c.requires.waiting c.touch.ensures.sound c.touch.ensures.waits c.touch.ensures.members in
-    let members : c.loop-step.members.members
-    ≡ union_of (sets c.args.balls.now) (growth (sets c.args.balls.now) c.args.waiting.now.members c.args.first
-    c.loop-step._step) =
-    ap (λ (s : Nodes). s.members) c.loop-step.invariant.members
-    in
-    let next : c.touch.new.touched.members
-    ≡ growth (sets c.args.balls.now) c.args.waiting.now.members c.args.first (suc c.loop-step._step) =
-    reached (sets c.args.balls.now) c.args.first c.args.waiting.now.members c.loop-step._step
-    c.loop-step.members.members c.touch.new.touched.members members touched
-    in
-    let union_is : c.absorb_balls.new.nodes.members
-    ≡ union_of (sets c.args.balls.now) (growth (sets c.args.balls.now) c.args.waiting.now.members c.args.first
-    (suc c.loop-step._step)) =
-    next_union (sets c.args.balls.now) c.args.first c.args.waiting.now.members c.requires.leads.0
-    c.requires.leads.1
-    c.requires.ready.centred c.loop-step._step c.absorb_balls.new.nodes.members
+    let balls = sets c.args.balls.now in
+    let waiting = c.args.waiting.now.members in
+    let j = c.loop-step._step in
+    let so_far = c.loop-step.invariant in
+    let marks = c.touch.new.touched.members in
+    let touched = touched_grown c.args.balls.now c.args.rows.now c.loop-step.members c.args.waiting.now marks
+    c.requires.turned (ap (λ (s : Nodes). s.room) so_far.members) c.requires.waiting c.touch.ensures.sound
+    c.touch.ensures.waits c.touch.ensures.members in
+    let members : c.loop-step.members.members ≡ union_of balls (growth balls waiting c.args.first j) =
+    ap (λ (s : Nodes). s.members) so_far.members in
+    let next = reached balls c.args.first waiting j c.loop-step.members.members marks members touched in
+    let union_is = next_union balls c.args.first waiting c.requires.leads.0 c.requires.leads.1
+    c.requires.ready.centred j c.absorb_balls.new.nodes.members
     (c.absorb_balls.ensures.order c.touch.ensures.sound.ascending)
-    (λ x. c.absorb_balls.ensures.members x
-    ∙ ap (λ (vs : List ℕ). has x (union_of (sets c.args.balls.now) vs) || has x c.loop-step.members.members) next
-    ∙ ap (λ (l : List ℕ). has x (union_of (sets c.args.balls.now)
-    (growth (sets c.args.balls.now) c.args.waiting.now.members c.args.first (suc c.loop-step._step))) || has x l)
-    members)
-    in
-    rw e (record {
+    (λ x. rw (c.absorb_balls.ensures.members x, next, members) refl) in
+    rw (add-one j) (record {
       taken = ap (λ (s : Nodes). s.members) c.swap.ensures.x_after ∙ next;
       members = nodes_from c.absorb_balls.new.nodes (length c.args.balls.now)
-          (union_of (sets c.args.balls.now)
-          (growth (sets c.args.balls.now) c.args.waiting.now.members c.args.first (suc c.loop-step._step)))
-          (c.absorb_balls.ensures.room ∙ ap (λ (s : Nodes). s.room) c.loop-step.invariant.members) union_is;
+          (union_of balls (growth balls waiting c.args.first (suc j)))
+          (c.absorb_balls.ensures.room ∙ ap (λ (s : Nodes). s.room) so_far.members) union_is;
       size = c.count-more.ensures ∙ ap length next;
-      none = goes_on (sets c.args.balls.now) c.args.k c.args.r c.args.first c.args.waiting.now.members c.loop-step._step
-          c.count-more.result
-          c.loop-step.size c.loop-step.members.members c.touch.new.touched.members members touched c.count-more.ensures
-          c.loop-step.invariant.size c.loop-step.invariant.none
+      none = goes_on balls c.args.k c.args.r c.args.first waiting j c.count-more.result c.loop-step.size
+          c.loop-step.members.members marks members touched c.count-more.ensures so_far.size so_far.none
           (λ fits. false≢true (sym c.if-at_most.false ∙ c.at_most.ensures.1 fits));
-      taken_room = ap (λ (s : Nodes). s.room) c.swap.ensures.x_after ∙ c.touch.ensures.room
-          ∙ c.loop-step.invariant.touched_room;
-      touched_room = ap (λ (s : Nodes). s.room) c.swap.ensures.y_after ∙ c.loop-step.invariant.taken_room;
-      spare_rooms = c.loop-step.invariant.spare_rooms;
-      spare = c.loop-step.invariant.spare;
+      taken_room = ap (λ (s : Nodes). s.room) c.swap.ensures.x_after ∙ c.touch.ensures.room ∙ so_far.touched_room;
+      touched_room = ap (λ (s : Nodes). s.room) c.swap.ensures.y_after ∙ so_far.taken_room;
+      spare_rooms = so_far.spare_rooms;
+      spare = so_far.spare;
     })
 
 pub unreachable-requires : goal.unreachable-requires
 unreachable-requires c =
     some_enough (sets c.args.balls.now) c.args.k c.args.r c.args.first c.args.waiting.now.members c.requires.leads.0
-    c.requires.leads.1
-    c.requires.ready.some c.requires.ready.fits (λ i h. c.loop-step.invariant.none i (omega arith))
+    c.requires.leads.1 c.requires.ready.some c.requires.ready.fits (λ i h. c.loop-step.invariant.none i (omega arith))

@@ -1,21 +1,19 @@
-use Rattle.std.proofs.Common.{◌≡◌, inl, inr, ◌<◌, ◌≤◌, ℕ, List, [], ◌∷◌, false, length, ap, arith, refl, sym, ◌∙◌, subst, add-one, ◌+◌, ◌-◌, length-append}
+use Rattle.std.proofs.Common.{◌≡◌, inl, inr, ℕ, length, ap, arith, refl, sym, ◌∙◌, subst, add-one, ◌+◌, ◌-◌, length-append}
 use Rattle.coarse_cover.specs.Coarsening.{cluster_of}
 use Rattle.coarse_cover.specs.HalfMade.{IsAdded}
 use Rattle.node_set.specs.Workspaces.{SpareTaken}
 use Rattle.node_set.specs.WorkspaceLaws.{left_on, none_taken, taken_on}
 use Rattle.node_set.specs.LeadLaws.{lead, nothing_at, members_few, none_waits}
-use Rattle.node_set.specs.Ascending.{has}
 use Rattle.node_set.specs.Nodes.{Nodes}
 use Rattle.std.proofs.lemmas.Bool.{cases_lt}
-use Rattle.coarse_cover.proofs.Steps.{in_phase_start, in_phase_next, in_phase_end, in_phase_numbers, in_phase_number, none_next}
+use Rattle.coarse_cover.proofs.Steps.{in_phase_start, in_phase_next, in_phase_end, in_phase_bounds, none_next}
 use Rattle.coarse_cover.proofs.phasing.make_phase.Goals as goal
 use Rattle.node_set.specs.Balls.{GrownCluster, sets}
 use Rattle.node_set.specs.BallLaws.{length-sets}
 
 pub first-init : goal.first-init
 first-init c =
-    let copied : c.assign.new.self.members
-    ≡ c.args.work.now.left.members = ap (λ (s : Nodes). s.members) c.assign.ensures in
+    let copied = ap (λ (s : Nodes). s.members) c.assign.ensures in
     record {
       in_phase = in_phase_start c.requires.between c.requires.some copied c.count-r.ensures;
       none_before = λ v h. absurd (omega arith);
@@ -41,10 +39,8 @@ first-init c =
 
 pub add_cluster-requires-clause-numbers : goal.add_cluster-requires-clause-numbers
 add_cluster-requires-clause-numbers c =
-    let few : length c.first.cover.clusters.items ≤ length (sets c.args.balls.now) =
-    in_phase_numbers c.requires.low c.requires.centred c.first.invariant.in_phase
-    in
-    omega (arith, length-sets c.args.balls.now)
+    let bounds = in_phase_bounds c.requires.low c.requires.centred c.first.invariant.in_phase in
+    omega (arith, bounds.0, length-sets c.args.balls.now)
 
 pub add_cluster-requires-clause-leads : goal.add_cluster-requires-clause-leads
 add_cluster-requires-clause-leads c =
@@ -55,18 +51,13 @@ add_cluster-requires-clause-leads c =
 
 pub first-preserved : goal.first-preserved
 first-preserved c =
-    let before : (v : ℕ) → v < c.in-Some.first → has v c.first.work.waiting.members ≡ false =
-    none_waits c.first.work.waiting.members c.first.from c.in-Some.first c.first.invariant.none_before
-    c.in-Some.ensures.some
-    in
-    let leads : (rest : List ℕ) × (c.first.work.waiting.members ≡ c.in-Some.first ∷ rest) =
-    lead c.first.work.waiting.members c.in-Some.first c.first.invariant.in_phase.ready.ascending
-    c.in-Some.ensures.some.member before
-    in
+    let waiting = c.first.work.waiting.members in
+    let before = none_waits waiting c.first.from c.in-Some.first c.first.invariant.none_before c.in-Some.ensures.some in
+    let leads = lead waiting c.in-Some.first c.first.invariant.in_phase.ready.ascending c.in-Some.ensures.some.member
+    before in
     let cluster : GrownCluster = cluster_of (sets c.args.balls.now) c.args.k c.count-r.result
     c.first.work.waiting.members c.in-Some.first in
-    let added : IsAdded (length c.args.balls.now) (sets c.args.balls.now) cluster c.first.work
-    c.add_cluster.new.work c.first.cover c.add_cluster.new.cover = c.in_ok-add_cluster.ensures.added in
+    let added = c.in_ok-add_cluster.ensures.added in
     let one_more : length c.add_cluster.new.cover.clusters.items ≡ length c.first.cover.clusters.items + 1 =
     ap length added.clusters ∙ length-append c.first.cover.clusters.items _ in
     record {
@@ -89,19 +80,15 @@ first-preserved c =
 
 pub overflow_add-cover : goal.overflow_add-cover
 overflow_add-cover c =
-    let few : c.first.cover.phases < length (sets c.args.balls.now) =
-    in_phase_number c.requires.low c.requires.centred c.first.invariant.in_phase
-    in
-    omega (arith, length-sets c.args.balls.now)
+    let bounds = in_phase_bounds c.requires.low c.requires.centred c.first.invariant.in_phase in
+    omega (arith, bounds.1, length-sets c.args.balls.now)
 
 pub returns-clause-between : goal.returns-clause-between
 returns-clause-between c =
-    let none : c.first.work.waiting.members ≡ [] =
-    nothing_at c.first.work.waiting.members (λ v. elim (cases_lt v c.first.from) [
+    let none = nothing_at c.first.work.waiting.members (λ v. elim (cases_lt v c.first.from) [
       | inl below ↦ c.first.invariant.none_before v below
       | inr past ↦ c.in_default.ensures.none v past
-    ])
-    in
+    ]) in
     rw (add-one c.first.cover.phases)
     (in_phase_end c.first.invariant.in_phase none)
 

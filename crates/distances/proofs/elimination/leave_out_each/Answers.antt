@@ -1,4 +1,4 @@
-use Rattle.std.proofs.Common.{refl, ◌∙◌}
+use Rattle.std.proofs.Common.{◌∙◌}
 use Rattle.distances.proofs.LeavingOut.{fewer_left, none_left_in, leaving_begins, leaving_ends, leaving_next, row_ends}
 use Rattle.distances.proofs.elimination.leave_out_each.Goals as goal
 
@@ -10,7 +10,7 @@ loop-node-init c =
 pub loop-node-preserved : goal.loop-node-preserved
 loop-node-preserved c =
     leaving_next c.requires.wide
-    (record { node = c.in-Some.node; near = c.in_ok-near.near }) c.loop-node.invariant c.in-Some.ensures refl
+    (record { node = c.in-Some.node; near = c.in_ok-near.near }) c.loop-node.invariant c.in-Some.ensures
     c.in_ok-near.ensures c.deref.ensures.value c.lower_pairs.ensures c.in_ok-push.ensures.items
 
 pub returns-clause-left_out : goal.returns-clause-left_out

@@ -23,12 +23,7 @@ loop-limit-init c = record {
 }
 
 pub returns-then-threshold-gathered-clause-highest : goal.returns-then-threshold-gathered-clause-highest
-returns-then-threshold-gathered-clause-highest c =
-    let reached : threshold c.args.plan.now (c.loop-limit.limit - 1) ≤ get_or c.args.gathered.now
-    (c.loop-limit.limit - 1) 0 + c.args.weight = omega arith in
-    highest-here (reaches c.args.plan.now c.args.gathered.now c.args.weight) c.loop-limit.limit
-    c.loop-limit-test.true (le-passes _ _ reached)
-    ∙ c.loop-limit.invariant.same
+returns-then-threshold-gathered-clause-highest c = grind (arith, reaches, le-passes, highest-here)
 
 pub loop-limit-preserved : goal.loop-limit-preserved
 loop-limit-preserved c =
@@ -42,7 +37,4 @@ loop-limit-preserved c =
     }
 
 pub returns-clause-highest : goal.returns-clause-highest
-returns-clause-highest c =
-    highest-none (reaches c.args.plan.now c.args.gathered.now c.args.weight) c.loop-limit.limit
-    c.loop-limit-test.false
-    ∙ c.loop-limit.invariant.same
+returns-clause-highest c = grind (arith, reaches, highest-none)

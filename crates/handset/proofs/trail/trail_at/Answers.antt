@@ -1,5 +1,4 @@
-use Rattle.std.proofs.Common.{[], arith, ap, length, true, ◌∙◌}
-use Rattle.std.specs.Prelude.{slice_set}
+use Rattle.std.proofs.Common.{[], arith, ap, length}
 use Rattle.handset.specs.Trails.{flags}
 use Rattle.handset.proofs.Trails.{flag-count, flags-none}
 use Rattle.handset.proofs.trail.trail_at.Goals as goal
@@ -10,6 +9,4 @@ mark-requires c =
     omega (arith, c.requires.node, ap length (ap flags c.in_ok-trail.ensures), count)
 
 pub returns : goal.returns
-returns c =
-    c.mark.ensures
-    ∙ ap (λ trail. slice_set trail c.args.home true) (ap flags c.in_ok-trail.ensures ∙ flags-none c.args.nodes)
+returns c = grind (arith, flags-none)

@@ -11,8 +11,7 @@ use Rattle.region_plan.specs.Plan.{PlanData, home, levels_of, nodes_of}
 use Rattle.region_plan.specs.Settings.{setting_of}
 use Rattle.visit_log.specs.Homes.{home_place}
 use Rattle.machine.specs.Owed.{IsAhead}
-use Rattle.machine.proofs.MovedEntries.{at-stage, entry-ahead, first-found, first-passed}
-use Rattle.machine.proofs.Owing.{ahead-more, ahead-none}
+use Rattle.machine.proofs.Owing.{at-stage, entry-ahead, first-found, first-passed, ahead-more, ahead-none}
 use Rattle.machine.proofs.ahead.push_erasures.Goals as goal
 use Rattle.machine.proofs.ahead.push_erasures.Goals.{then-old-new, else-old-new}
 
@@ -29,16 +28,10 @@ node-inside {plan} above goes same low =
     subst (λ (xs : List ℕ). slice_index xs above < nodes_of plan) (sym same) (goes.inside above low)
 
 pub bounds-of-above : goal.bounds-of-above
-bounds-of-above c =
-    let low = low-above c.loop-above.above c.requires.goes c.requires.they c.loop-above-test.true in
-    rw (c.of-in-loop-above.ensures.count c.args.plan.now c.requires.homes
-    (node-inside c.loop-above.above c.requires.goes c.addresses-addresses.ensures low)) low
+bounds-of-above c = grind (arith, low-above, node-inside)
 
 pub bounds-new-above : goal.bounds-new-above
-bounds-new-above c =
-    rw (c.of-new.ensures.count c.args.plan.now c.requires.homes
-    (rw (ap (λ (e : Erasures). e.node) c.requires.they) c.requires.goes.to))
-    (low-above c.loop-above.above c.requires.goes c.requires.they c.loop-above-test.true)
+bounds-new-above c = grind (arith, low-above)
 
 pub loop-above-init : goal.loop-above-init
 loop-above-init c =

@@ -11,8 +11,7 @@ use Rattle.region_plan.specs.Settings.{setting_of}
 use Rattle.std.proofs.lemmas.List.{length_push}
 use Rattle.visit_log.specs.Homes.{home_place}
 use Rattle.machine.specs.Owed.{IsAhead}
-use Rattle.machine.proofs.MovedEntries.{at-stage, entry-ahead, renewal-at}
-use Rattle.machine.proofs.Owing.{ahead-more, ahead-none}
+use Rattle.machine.proofs.Owing.{at-stage, entry-ahead, renewal-at, ahead-more, ahead-none}
 use Rattle.machine.proofs.ahead.push_renewals.Goals as goal
 
 -- a level that is renewed is one of the plan's
@@ -20,16 +19,7 @@ level-low : {plan : PlanData} {handset : HandsetData} {renewals : Renewals} (at 
     → GoesWith plan handset → renewals ≡ renewals_from handset renewals.level
     → most ≡ min room (renewals.end - renewals.level) → renewals.level ≤ at → at < renewals.level + most
     → (at < handset.last.renewed) × (at < levels_of plan)
-level-low {handset} {renewals} at room goes they few from to =
-    let below : at < handset.last.renewed = omega (
-      arith,
-      to,
-      from,
-      few,
-      min-le_right room (renewals.end - renewals.level),
-      ap (λ (r : Renewals). r.end) they,
-    ) in
-    (below, omega (arith, below, goes.renewed))
+level-low {handset} {renewals} at room goes they few from to = grind (arith, min-le_right)
 
 pub loop-level-init : goal.loop-level-init
 loop-level-init c =
@@ -53,11 +43,7 @@ loop-level-init c =
     }
 
 pub bounds-places-level : goal.bounds-places-level
-bounds-places-level c =
-    rw (c.of-places.ensures.count c.args.plan.now c.requires.homes
-    (rw (ap (λ (r : Renewals). r.node) c.requires.they) c.requires.goes.to)) (level-low c.loop-level.level
-    (c.capacity.result - c.len.result) c.requires.goes c.requires.they c.min.ensures c.loop-level.auto.level
-    c.loop-level-test.true).1
+bounds-places-level c = grind (arith, level-low)
 
 pub loop-level-preserved : goal.loop-level-preserved
 loop-level-preserved c =

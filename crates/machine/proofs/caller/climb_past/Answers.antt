@@ -5,8 +5,7 @@ use Rattle.visit_log.specs.declared.routes.Height.{Height}
 use Rattle.walk.specs.declared.progress.Climb.{Climb}
 use Rattle.walk.specs.Climbs.{IsClimbOver, climb_past}
 use Rattle.machine.specs.Climbs.{rung_of}
-use Rattle.machine.proofs.Climbing.{climb-is, passes, past-over}
-use Rattle.machine.proofs.ClimbCells.{climb-at}
+use Rattle.machine.proofs.Passing.{climb-is, passes, past-over, climb-at}
 use Rattle.machine.proofs.caller.climb_past.Goals as goal
 
 pub returns-clause-exact : goal.returns-clause-exact
@@ -27,10 +26,7 @@ returns-clause-over c =
     c.plan_is_sound.ensures.matched c.plan_is_sound.ensures.reached c.requires.over c.args.count c.requires.rungs)
 
 pub returns-clause-each : goal.returns-clause-each
-returns-clause-each c = λ i low.
-    passes c.climbs_go_on.ensures c.args.plan.now c.args.climb c.plan_is_sound.ensures.sound
-    c.plan_is_sound.ensures.matched c.plan_is_sound.ensures.reached c.requires.over i
-    (λ k less. c.requires.rungs k (omega (arith, low, less)))
+returns-clause-each c = grind (arith, passes)
 
 pub overflow_add-result : goal.overflow_add-result
 overflow_add-result c =

@@ -3,17 +3,13 @@ use Rattle.std.specs.Prelude.{slice_index, slice_index_or}
 use Rattle.std.proofs.Math.Nat.{min-le_left}
 use Rattle.std.proofs.lemmas.List.{get_or-take, get_or_default, length-take-le}
 use Rattle.visit_log.specs.Cells.{word_beside}
-use Rattle.machine.proofs.ClimbCells.{climb-at, place-below}
+use Rattle.machine.proofs.Passing.{climb-at, place-below}
 use Rattle.machine.proofs.caller.count_ahead.Goals as goal
 
 -- one of the first of some places
 first-of : (xs : List ℕ) (n k d : ℕ) → n ≤ length xs → k < length (take n xs)
     → (k < length xs) × (slice_index_or (take n xs) k d ≡ slice_index xs k)
-first-of xs n k d few low =
-    let short : k < n = omega (arith, low, length-take-le n xs few) in (
-      omega (arith, short, few),
-      get_or-take n xs k d short ∙ get_or_default xs k d 0 (omega (arith, short, few)),
-    )
+first-of xs n k d few low = grind (arith, length-take-le, get_or-take, get_or_default)
 
 pub count_empty-requires-clause-inside : goal.count_empty-requires-clause-inside
 count_empty-requires-clause-inside g c = λ k d low.

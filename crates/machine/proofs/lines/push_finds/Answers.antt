@@ -1,8 +1,8 @@
-use Rattle.std.proofs.Common.{◌++◌, ◌∙◌, ap, length, arith}
-use Rattle.std.specs.Prelude.{flat_map, vec_capacity}
+use Rattle.std.proofs.Common.{length, arith}
+use Rattle.std.specs.Prelude.{vec_capacity}
 use Rattle.std.proofs.lemmas.List.{take_all}
 use Rattle.machine.specs.declared.caller.Caller.{Caller}
-use Rattle.machine.proofs.Appended.{one-more, part-fits, rest-fits}
+use Rattle.machine.proofs.Ending.{part-fits, part-more}
 use Rattle.machine.proofs.lines.push_finds.Goals as goal
 
 pub push_lines-requires : goal.push_lines-requires
@@ -13,21 +13,16 @@ push_lines-requires c = record {
 }
 
 pub callers-preserved : goal.callers-preserved
-callers-preserved c = record {
-  items = one-more (λ (one : Caller). one.lines.items) c.args.callers.now c.callers.caller-index c.caller-item.result
-      c.deref.result.now c.callers-test.true c.caller-item.is c.deref.ensures.value
-      c.args.calls.now.items c.callers.calls.items c.push_lines.new.calls.items c.callers.invariant.items
-      c.push_lines.ensures.items;
-  room = rest-fits (λ (one : Caller). one.lines.items) c.args.callers.now c.callers.caller-index c.caller-item.result
-      c.deref.result.now c.callers-test.true c.caller-item.is c.deref.ensures.value
-      c.callers.calls.items c.push_lines.new.calls.items (vec_capacity c.callers.calls)
-      (vec_capacity c.push_lines.new.calls) c.callers.invariant.room c.push_lines.ensures.capacity
-      c.push_lines.ensures.items;
-  capacity = omega (arith, c.callers.invariant.capacity, c.push_lines.ensures.capacity);
-}
+callers-preserved c =
+    let more = part-more (λ (one : Caller). one.lines.items) c.args.callers.now c.callers.caller-index
+    c.caller-item.result c.deref.result.now c.callers-test.true c.caller-item.is c.deref.ensures.value
+    c.args.calls.now.items (vec_capacity c.callers.calls) (vec_capacity c.push_lines.new.calls)
+    c.callers.invariant.items c.push_lines.ensures.items c.callers.invariant.room c.push_lines.ensures.capacity in
+    record {
+      items = more.0;
+      room = more.1;
+      capacity = omega (arith, c.callers.invariant.capacity, c.push_lines.ensures.capacity);
+    }
 
 pub returns-clause-items : goal.returns-clause-items
-returns-clause-items c =
-    c.callers.invariant.items
-    ∙ ap (λ ys. c.args.calls.now.items ++ flat_map (λ (one : Caller). one.lines.items) ys)
-    (take_all c.callers.caller-index c.args.callers.now c.callers-test.false)
+returns-clause-items c = grind (arith, take_all)

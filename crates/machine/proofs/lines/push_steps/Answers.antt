@@ -1,8 +1,8 @@
-use Rattle.std.proofs.Common.{◌++◌, ◌∙◌, ap, length, arith}
-use Rattle.std.specs.Prelude.{flat_map, vec_capacity}
+use Rattle.std.proofs.Common.{length, arith}
+use Rattle.std.specs.Prelude.{vec_capacity}
 use Rattle.std.proofs.lemmas.List.{take_all}
 use Rattle.machine.specs.declared.subscriber.Subscriber.{Subscriber}
-use Rattle.machine.proofs.Appended.{one-more, part-fits, rest-fits}
+use Rattle.machine.proofs.Ending.{part-fits, part-more}
 use Rattle.machine.proofs.lines.push_steps.Goals as goal
 
 pub push_lines-requires : goal.push_lines-requires
@@ -14,23 +14,16 @@ push_lines-requires c = record {
 }
 
 pub subscribers-preserved : goal.subscribers-preserved
-subscribers-preserved c = record {
-  items = one-more (λ (one : Subscriber). one.lines.items) c.args.subscribers.now c.subscribers.subscriber-index
-      c.subscriber-item.result
-      c.deref.result.now c.subscribers-test.true c.subscriber-item.is c.deref.ensures.value
-      c.args.calls.now.items c.subscribers.calls.items c.push_lines.new.calls.items c.subscribers.invariant.items
-      c.push_lines.ensures.items;
-  room = rest-fits (λ (one : Subscriber). one.lines.items) c.args.subscribers.now c.subscribers.subscriber-index
-      c.subscriber-item.result
-      c.deref.result.now c.subscribers-test.true c.subscriber-item.is c.deref.ensures.value
-      c.subscribers.calls.items c.push_lines.new.calls.items (vec_capacity c.subscribers.calls)
-      (vec_capacity c.push_lines.new.calls) c.subscribers.invariant.room c.push_lines.ensures.capacity
-      c.push_lines.ensures.items;
-  capacity = omega (arith, c.subscribers.invariant.capacity, c.push_lines.ensures.capacity);
-}
+subscribers-preserved c =
+    let more = part-more (λ (one : Subscriber). one.lines.items) c.args.subscribers.now c.subscribers.subscriber-index
+    c.subscriber-item.result c.deref.result.now c.subscribers-test.true c.subscriber-item.is c.deref.ensures.value
+    c.args.calls.now.items (vec_capacity c.subscribers.calls) (vec_capacity c.push_lines.new.calls)
+    c.subscribers.invariant.items c.push_lines.ensures.items c.subscribers.invariant.room
+    c.push_lines.ensures.capacity in record {
+      items = more.0;
+      room = more.1;
+      capacity = omega (arith, c.subscribers.invariant.capacity, c.push_lines.ensures.capacity);
+    }
 
 pub returns-clause-items : goal.returns-clause-items
-returns-clause-items c =
-    c.subscribers.invariant.items
-    ∙ ap (λ ys. c.args.calls.now.items ++ flat_map (λ (one : Subscriber). one.lines.items) ys)
-    (take_all c.subscribers.subscriber-index c.args.subscribers.now c.subscribers-test.false)
+returns-clause-items c = grind (arith, take_all)

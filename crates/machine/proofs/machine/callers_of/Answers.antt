@@ -4,7 +4,7 @@ use Rattle.net_reader.specs.Seen.{seen_input}
 use Rattle.machine.specs.declared.caller.Caller.{Caller}
 use Rattle.machine.specs.Callers.{IsCaller}
 use Rattle.machine.specs.Stands.{calls_of}
-use Rattle.machine.proofs.Opening.{caller-opens, each-more}
+use Rattle.machine.proofs.Turning.{caller-opens, each-more}
 use Rattle.machine.proofs.machine.callers_of.Goals as goal
 use Rattle.machine.specs.ScriptVisits.{script-searches, script-is}
 

@@ -2,8 +2,8 @@ use Rattle.std.proofs.Common.{◌≡◌, ◌<◌, [], sym, ap, ◌∙◌, arith,
 use Rattle.net_reader.specs.Seen.{seen_input}
 use Rattle.machine.specs.Stands.{calls_of}
 use Rattle.machine.specs.Subscribers.{HasRoomFor, IsSubscriber}
-use Rattle.machine.proofs.Beginning.{script-of}
-use Rattle.machine.proofs.Opening.{each-more, sub-opens}
+use Rattle.machine.proofs.Rests.{script-of}
+use Rattle.machine.proofs.Turning.{each-more, sub-opens}
 use Rattle.std.proofs.lemmas.List.{get_or_default}
 use Rattle.machine.proofs.machine.subscribers_of.Goals as goal
 

@@ -1,5 +1,5 @@
 use Rattle.std.proofs.Common.{arith}
-use Rattle.machine.proofs.Playing.{run-first, run-more}
+use Rattle.machine.proofs.Finishing.{run-first, run-more}
 use Rattle.machine.proofs.order.run_end.Goals as goal
 
 pub loop-end-init : goal.loop-end-init

@@ -1,9 +1,11 @@
+use Rattle.std.proofs.Common.{arith}
 use Rattle.std.proofs.Common.{◌+◌, length, drop, get_or}
 use Rattle.std.proofs.lemmas.List.{take_all}
 use Rattle.net_graph.specs.declared.edge.Edge.{Edge}
-use Rattle.net_graph.specs.Notes.{notes_of}
+use Rattle.net_graph.specs.Notes.{notes_of, row_of}
+use Rattle.net_graph.specs.RowLaws.{rows_filled}
 use Rattle.net_graph.proofs.LayingOut.{rows_made}
-use Rattle.net_graph.proofs.Placing.{ArePlaced, edge_placed, edge_splits, none_more, place_back, place_there, rows_filled, two_more}
+use Rattle.net_graph.proofs.Placing.{ArePlaced, edge_placed, edge_splits, none_more, place_back, place_there, two_more}
 use Rattle.net_graph.proofs.counting.fill_arcs.Goals as goal
 use Rattle.net_graph.proofs.counting.fill_arcs.Goals.{then-edge, else-edge}
 
@@ -39,9 +41,7 @@ loop-edge-preserved c =
           (edge_splits edges i no_edge c.loop-edge-test.true w.if-edge.true) c.loop-edge.invariant
           w.put_arc.ensures.taken w.put_arc.ensures.arcs w.put_arc-then-edge.ensures.taken
           w.put_arc-then-edge.ensures.arcs)
-      | else-edge w ↦
-          rw (w.taken-is, w.arcs-is, none_more edges i no_edge c.loop-edge-test.true w.if-edge.false)
-          c.loop-edge.invariant
+      | else-edge w ↦ grind (arith, none_more edges i no_edge c.loop-edge-test.true w.if-edge.false)
     ]
 
 pub returns : goal.returns
@@ -51,7 +51,6 @@ returns c =
     let starts = c.args.starts.now in
     let placed : ArePlaced n edges starts (notes_of edges) c.loop-edge.taken c.loop-edge.arcs =
     rw (take_all c.loop-edge.edge-index edges c.loop-edge-test.false) at c.loop-edge.invariant in
-    rows_made n edges starts c.loop-edge.arcs c.requires.room placed.sized
-    (rows_filled n (notes_of edges) starts c.requires.room c.loop-edge.taken c.loop-edge.arcs placed.long
-    placed.counts placed.sized placed.filled)
+    rows_made n edges starts c.loop-edge.arcs
+    (rows_filled (λ v. row_of v (notes_of edges)) c.requires.room placed.long placed.sized placed.filled placed.counts)
     placed.limits

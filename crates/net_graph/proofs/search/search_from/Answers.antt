@@ -1,3 +1,4 @@
+use Rattle.std.proofs.lemmas.Bool.Decides.{nat_tests}
 use Rattle.std.proofs.Common.{◌≡◌, ◌∙◌, ℕ, List, None, ◌∷◌, ap, subst, arith, rules, length, drop, replicate}
 use Rattle.std.specs.Prelude.{IsPermutation}
 use Rattle.std.specs.BinaryHeap.{heap_items}
@@ -24,9 +25,7 @@ pub next_unsettled-requires : goal.next_unsettled-requires
 next_unsettled-requires c = rw c.deref.ensures.value c.loop-lightest.invariant.queue.below
 
 pub relax-requires-clause-weight : goal.relax-requires-clause-weight
-relax-requires-clause-weight c =
-    light_enough c.loop-lightest.invariant.found (next_is_lightest c.loop-lightest.invariant.queue
-    (rw c.deref.ensures.value at c.in-Some.ensures.next)) c.nodes.ensures.limits.few
+relax-requires-clause-weight c = grind (arith, nat_tests, next_is_lightest, light_enough)
 
 pub loop-lightest-preserved : goal.loop-lightest-preserved
 loop-lightest-preserved c =

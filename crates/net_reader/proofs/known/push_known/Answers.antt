@@ -1,7 +1,6 @@
-use Rattle.std.proofs.Common.{◌++◌, List, ℕ, not, sym, ap, ◌∙◌}
+use Rattle.std.proofs.Common.{arith}
+use Rattle.std.proofs.Common.{not, sym, ap}
 use Rattle.std.proofs.lemmas.List.{take_all}
-use Rattle.std.specs.List.{list_any}
-use Rattle.std.specs.Prelude.{nat_le}
 use Rattle.net_reader.proofs.OrderLine.{known-more, taken-more, unknown-at}
 use Rattle.net_reader.proofs.known.push_known.Goals as goal
 
@@ -22,13 +21,7 @@ returns-then-number-limit-clause-known c =
     c.if-number-limit.true))
 
 pub returns-clause-known : goal.returns-clause-known
-returns-clause-known c =
-    sym (ap not (ap (list_any (λ number. nat_le c.args.limit number))
-    (sym (take_all c.loop-number.number-index c.args.numbers.now c.loop-number-test.false))
-    ∙ c.loop-number.invariant.known))
+returns-clause-known c = grind (arith, take_all)
 
 pub returns-clause-taken : goal.returns-clause-taken
-returns-clause-taken c = λ known.
-    c.loop-number.invariant.taken
-    ∙ ap (λ (numbers : List ℕ). c.args.order.now.items ++ numbers)
-    (take_all c.loop-number.number-index c.args.numbers.now c.loop-number-test.false)
+returns-clause-taken c = grind (arith, take_all)

@@ -4,16 +4,10 @@ use Rattle.net_reader.proofs.LineEnd.{marks, quiet-all, quiet-few, quiet-front}
 use Rattle.net_reader.proofs.line_end.quiet_lanes.Goals as goal
 
 pub returns-then-marks-eq0-clause-inside : goal.returns-then-marks-eq0-clause-inside
-returns-then-marks-eq0-clause-inside c =
-    let piece = c.args.piece.now in
-    quiet-all piece c.args.at c.requires (marks piece c.args.at c.requires)
-    (grind (arith, nat_tests, c.if-marks-eq0.true))
+returns-then-marks-eq0-clause-inside c = grind (arith, marks, quiet-all)
 
 pub returns-else-marks-eq0-clause-few : goal.returns-else-marks-eq0-clause-few
-returns-else-marks-eq0-clause-few c =
-    let piece = c.args.piece.now in
-    quiet-few piece c.args.at c.requires (marks piece c.args.at c.requires)
-    (grind (arith, nat_tests, c.if-marks-eq0.false))
+returns-else-marks-eq0-clause-few c = grind (arith, marks, quiet-few)
 
 pub returns-else-marks-eq0-clause-inside : goal.returns-else-marks-eq0-clause-inside
 returns-else-marks-eq0-clause-inside c =

@@ -1,5 +1,4 @@
 use Rattle.std.proofs.Common.{◌≡◌, ◌-◌, get_or, true, ap, subst, ◌∙◌, arith}
-use Rattle.std.proofs.lemmas.Bool.Decides.{nat_tests}
 use Rattle.std.specs.Char.{is_ascii_digit}
 use Rattle.net_reader.proofs.Digits.{below-most, wrapped}
 use Rattle.net_reader.proofs.WholeLine.{digit-behind}
@@ -10,9 +9,7 @@ overflow_mul-result c =
     let small = below-most c.args.value c.args.taken c.requires.read.small c.requires.few in omega (arith, small)
 
 pub overflow_add-result : goal.overflow_add-result
-overflow_add-result c =
-    let small = below-most c.args.value c.args.taken c.requires.read.small c.requires.few in
-    grind (arith, nat_tests, small)
+overflow_add-result c = grind (arith, below-most c.args.value c.args.taken c.requires.read.small c.requires.few)
 
 pub returns : goal.returns
 returns c =

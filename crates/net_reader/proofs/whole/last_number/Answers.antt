@@ -1,10 +1,6 @@
-use Rattle.std.proofs.Common.{sym, subst}
-use Rattle.net_reader.specs.Whole.{IsNumberTo}
+use Rattle.std.proofs.Common.{arith}
 use Rattle.net_reader.proofs.WholeLine.{last-read}
 use Rattle.net_reader.proofs.whole.last_number.Goals as goal
 
 pub returns-in-Some-past_end : goal.returns-in-Some-past_end
-returns-in-Some-past_end c =
-    let found = c.in-Some in
-    last-read (subst (IsNumberTo found.end found.value c.args.piece.now) (sym c.split_at.ensures.back)
-    found.ensures.number) c.in-Some-past_end.ensures
+returns-in-Some-past_end c = grind (arith, last-read)

@@ -1,6 +1,5 @@
-use Rattle.std.proofs.Common.{◌≡◌, sym, subst₂, arith, length-drop, ap, length}
+use Rattle.std.proofs.Common.{◌≡◌, arith, length-drop, ap, length}
 use Rattle.std.proofs.lemmas.Bool.Decides.{nat_tests}
-use Rattle.net_reader.specs.Whole.{IsNumberTo}
 use Rattle.net_reader.proofs.whole.long_number.Goals as goal
 
 pub returns-then-end-eq32 : goal.returns-then-end-eq32
@@ -9,7 +8,6 @@ returns-then-end-eq32 c =
     let piece = c.args.piece.now in
     let ends : found.end ≡ 32 = grind (arith, nat_tests, c.if-end-eq32.true) in
     record {
-      number = subst₂ (λ b xs. IsNumberTo b found.value piece xs) ends (sym c.split_at.ensures.back)
-          found.ensures.number;
+      number = rw (← ends, c.split_at.ensures.back) found.ensures.number;
       near = omega (arith, found.ensures.few, ap length c.split_at.ensures.back, length-drop found.taken piece);
     }

@@ -1,7 +1,6 @@
-use Rattle.std.proofs.Common.{◌≡◌, ◌∙◌, ℕ, ◌+◌, [], ◌∷◌, ◌++◌, List, length, ap, arith, subst, sym}
-use Rattle.std.specs.Prelude.{All}
+use Rattle.std.proofs.Common.{◌≡◌, ◌∙◌, ℕ, ◌+◌, [], ◌∷◌, ◌++◌, List, length, ap, arith, sym}
 use Rattle.std.proofs.lemmas.List.{length_push}
-use Rattle.std.proofs.lemmas.List.Elements.{All-append, All-cons, All-nil}
+use Rattle.std.proofs.lemmas.List.Elements.{All-push}
 use Rattle.node_set.specs.Ascending.{has, sift}
 use Rattle.node_set.specs.Balls.{ball, sets}
 use Rattle.node_set.specs.Nodes.{Nodes}
@@ -18,9 +17,8 @@ loop-v-preserved c =
     let count : length rows ≡ c.loop-v.v = c.loop-v.invariant.count in
     let grown : c.push.new.self.items ≡ rows ++ row ∷ [] = c.in_ok-push.ensures.items in record {
       count = ap (length {A = Nodes}) grown ∙ length_push rows row ∙ ap (λ n. n + 1) count;
-      rooms = subst (λ (l : List Nodes). All fits l) (sym grown)
-          (All-append fits rows (row ∷ []) c.loop-v.invariant.rooms
-          (All-cons fits row [] (ap (λ (b : Nodes). b.room) c.in_ok-row_of.ensures) (All-nil fits)));
+      rooms = rw grown
+          (All-push fits rows row c.loop-v.invariant.rooms (ap (λ (b : Nodes). b.room) c.in_ok-row_of.ensures));
       each = λ v below. ap (λ (l : List Nodes). ball (sets l) v) grown
           ∙ row_more rows row wanted (λ u before. c.loop-v.invariant.each u (omega (arith, before, count)))
           (ap (λ (b : Nodes). b.members) c.in_ok-row_of.ensures ∙ ap wanted (sym count)) v

@@ -1,42 +1,19 @@
 use Rattle.std.proofs.Common.{◌∙◌, ◌<◌, ℕ, get_or, length, arith}
 use Rattle.std.proofs.lemmas.List.{take_all}
 use Rattle.region_plan.proofs.Rows.{length-containing}
-use Rattle.region_plan.proofs.Filling.{its_weight, next_free, next_within, one_filled}
+use Rattle.region_plan.proofs.Filling.{its_weight, next_free, next_within, reader_written}
 use Rattle.region_plan.proofs.Gathering.{cluster_counted, one_counted, one_skipped}
 use Rattle.region_plan.proofs.readers.fill_cluster.Goals as goal
 use Rattle.region_plan.proofs.readers.fill_cluster.Goals.{then-v-taken, else-v-taken}
 
 pub bounds-readers-next : goal.bounds-readers-next
-bounds-readers-next c = omega (
-  arith,
-  next_within c.args.clusters.now c.args.number c.loop-place.place c.nodes-members.ensures.members
-      c.nodes-members.ensures.ascending c.requires.number c.loop-place-test.true
-      (omega (arith, c.if-v-taken.true, c.loop-place.auto.taken)) c.requires.counts c.loop-place.invariant.counted
-      c.args.starts.now c.requires.room,
-  c.loop-place.auto.readers,
-  c.requires.readers,
-)
+bounds-readers-next c = grind (arith, next_within)
 
 pub bounds-weights-next : goal.bounds-weights-next
-bounds-weights-next c = omega (
-  arith,
-  next_within c.args.clusters.now c.args.number c.loop-place.place c.nodes-members.ensures.members
-      c.nodes-members.ensures.ascending c.requires.number c.loop-place-test.true
-      (omega (arith, c.if-v-taken.true, c.loop-place.auto.taken)) c.requires.counts c.loop-place.invariant.counted
-      c.args.starts.now c.requires.room,
-  c.loop-place.auto.weights,
-  c.requires.weights,
-)
+bounds-weights-next c = grind (arith, next_within)
 
 pub overflow_add-taken : goal.overflow_add-taken
-overflow_add-taken c =
-    let m : ℕ = get_or c.nodes-members.result.now c.loop-place.place 0 in
-    omega (
-      arith,
-      c.loop-place.invariant.filled.within m c.if-v-taken.true,
-      length-containing c.args.clusters.now m,
-      c.requires.few,
-    )
+overflow_add-taken c = grind (arith, length-containing)
 
 pub loop-place-preserved : goal.loop-place-preserved
 loop-place-preserved c = elim c.if-v-taken.branch [
@@ -50,7 +27,7 @@ loop-place-preserved c = elim c.if-v-taken.branch [
         counted = one_counted c.nodes-members.result.now c.args.taken.now c.loop-place.taken c.loop-place.place
             c.loop-place-test.true c.loop-place.invariant.counted
             (rw c.nodes-members.ensures.members c.nodes-members.ensures.ascending) node;
-        filled = one_filled c.requires.room c.loop-place.auto.taken c.loop-place.invariant.filled
+        filled = reader_written c.requires.room c.loop-place.auto.taken c.loop-place.invariant.filled
             (c.loop-place.auto.readers ∙ c.requires.readers) (c.loop-place.auto.weights ∙ c.requires.weights) m node
             free.0 c.args.number (get_or c.weights-inside.result.now c.loop-place.place 0) free.1
             (its_weight c.args.clusters.now c.args.number c.loop-place.place c.nodes-members.ensures.members

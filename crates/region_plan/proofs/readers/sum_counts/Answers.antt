@@ -12,13 +12,7 @@ loop-count-init c = record {
 }
 
 pub overflow_add-sum : goal.overflow_add-sum
-overflow_add-sum c = omega (
-  arith,
-  c.loop-count.invariant.few,
-  c.requires.few,
-  c.loop-count-test.true,
-  count_few c.args.counts.now c.loop-count.count-index c.loop-count-test.true c.requires.small,
-)
+overflow_add-sum c = grind (arith, count_few)
 
 pub loop-count-preserved : goal.loop-count-preserved
 loop-count-preserved c = record {

@@ -25,10 +25,7 @@ write_exponents-requires-clause-small c =
     c.row.ensures
 
 pub write_exponents-requires-clause-room : goal.write_exponents-requires-clause-room
-write_exponents-requires-clause-room c =
-    row_short c.deref_mut.result.now (omega (arith, c.loop-u-test.true, c.nodes-nodes.ensures.count))
-    (ap (λ n. c.loop-u.u * n) c.nodes-nodes.ensures.count) c.row.ensures
-    (ap (length {A = ℕ}) c.deref_mut.ensures.value ∙ c.loop-u.invariant.count)
+write_exponents-requires-clause-room c = grind (arith, row_short)
 
 pub loop-u-preserved : goal.loop-u-preserved
 loop-u-preserved c =

@@ -1,7 +1,5 @@
-use Rattle.std.proofs.Common.{◌≡◌, ◌+◌, ◌*◌, [], rules, arith, ap, ◌∙◌, length}
+use Rattle.std.proofs.Common.{[], rules, arith}
 use Rattle.entry_word.specs.declared.visit.Key.TheVariants.{Entry}
-use Rattle.region_plan.specs.Plan.{clusters_of, nodes_of}
-use Rattle.visit_log.specs.Numbers.{clusters_below}
 use Rattle.station.specs.Opening.{setup_of}
 use Rattle.station.specs.Setup.{IsCellOf}
 use Rattle.station.proofs.Laying.{laid_cell}
@@ -25,16 +23,7 @@ pub loop-sub-init : goal.loop-sub-init
 loop-sub-init c = (c.loop-cluster.invariant.0, omega (arith, c.loop-cluster.invariant.1))
 
 pub loop-cluster-preserved : goal.loop-cluster-preserved
-loop-cluster-preserved c =
-    let below = c.loop-sub.auto.sub-end in (
-      c.loop-sub.invariant.0,
-      omega (arith, c.loop-sub.invariant.1, below, c.loop-sub-test.false),
-    )
+loop-cluster-preserved c = grind arith
 
 pub returns-clause-at : goal.returns-clause-at
-returns-clause-at c =
-    let below = c.loop-cluster.auto.cluster-end in
-    let end : c.loop-cluster.cluster ≡ clusters_of c.args.plan.now c.args.level =
-    omega (arith, below, c.loop-cluster-test.false, c.clusters-cluster-end.ensures) in
-    c.loop-cluster.invariant.1 ∙ ap (λ count. 1 + 2 * nodes_of c.args.plan.now + (nodes_of c.args.plan.now
-    + (clusters_below c.args.plan.now c.args.level + count)) * length c.args.homes.now) end
+returns-clause-at c = grind arith

@@ -1,6 +1,5 @@
-use Rattle.std.proofs.Common.{◌≡◌, ◌+◌, ◌*◌, [], rules, arith, ap, ◌∙◌, length}
+use Rattle.std.proofs.Common.{[], rules, arith}
 use Rattle.entry_word.specs.declared.visit.Key.TheVariants.{Presence}
-use Rattle.region_plan.specs.Plan.{nodes_of}
 use Rattle.station.specs.Opening.{setup_of}
 use Rattle.station.specs.Setup.{IsCellOf}
 use Rattle.station.proofs.Laying.{laid_cell}
@@ -24,15 +23,7 @@ pub loop-sub-init : goal.loop-sub-init
 loop-sub-init c = (c.loop-node.invariant.0, omega (arith, c.loop-node.invariant.1))
 
 pub loop-node-preserved : goal.loop-node-preserved
-loop-node-preserved c =
-    let below = c.loop-sub.auto.sub-end in (
-      c.loop-sub.invariant.0,
-      omega (arith, c.loop-sub.invariant.1, below, c.loop-sub-test.false),
-    )
+loop-node-preserved c = grind arith
 
 pub returns-clause-at : goal.returns-clause-at
-returns-clause-at c =
-    let below = c.loop-node.auto.node-end in
-    let end : c.loop-node.node ≡ nodes_of c.args.plan.now =
-    omega (arith, below, c.loop-node-test.false, c.nodes-node-end.ensures.count) in
-    c.loop-node.invariant.1 ∙ ap (λ count. 1 + 2 * nodes_of c.args.plan.now + count * length c.args.homes.now) end
+returns-clause-at c = grind arith

@@ -1,5 +1,6 @@
 use Rattle.std.proofs.Common.{rules, arith, ◌≡◌, ◌≢◌, ◌+◌, ◌<◌, ◌==◌, cond, ℕ, List, [], refl, sym, ap, ◌∙◌, subst, eq-eqb, ne_eqb, length}
 use Rattle.std.specs.Prelude.{slice_index}
+use Rattle.std.proofs.lemmas.Bool.Decides.{nat_tests}
 use Rattle.node_set.specs.Ascending.{sift}
 use Rattle.entry_word.specs.Marks.{mark_in, says_here}
 use Rattle.entry_word.specs.declared.visit.Key.TheVariants.{Presence}
@@ -9,19 +10,12 @@ use Rattle.station.proofs.Laying.{count-more}
 use Rattle.station.proofs.opening.starting_at.Goals as goal
 use Rattle.station.proofs.opening.starting_at.Goals.{then-node-homes, else-node-homes}
 
-hit : (count : ℕ) {new node home : ℕ} → new ≡ count + 1 → node ≡ home → new ≡ count + cond (node == home) 1 0
-hit count {node} {home} is same = is ∙ ap {B = ℕ} (λ b. count + cond b 1 0) (sym (eq-eqb node home same))
-
-miss : {count new : ℕ} (node home : ℕ) → new ≡ count → node ≢ home → new ≡ count + cond (node == home) 1 0
-miss node home is other = let e : cond (node == home) 1 0 ≡ 0 = ap {B = ℕ} (λ b. cond b 1 0)
-    (ne_eqb node home other) in omega (arith, is, e)
-
 pub loop-sub-preserved : goal.loop-sub-preserved
 loop-sub-preserved c =
     let home = slice_index c.args.homes.now c.loop-sub.sub in
     let e : c.if-node-homes.count ≡ c.loop-sub.count + cond (c.args.node == home) 1 0 = elim c.if-node-homes.branch [
-      | then-node-homes w ↦ hit _ w.count-is w.if-node-homes.true
-      | else-node-homes w ↦ miss _ home w.count-is w.if-node-homes.false
+      | then-node-homes w ↦ grind (arith, nat_tests, w.count-is, w.if-node-homes.true)
+      | else-node-homes w ↦ grind (arith, nat_tests, w.count-is, w.if-node-homes.false)
     ] in (
       (λ plan. e ∙ count-more (setting_of plan c.args.homes.now) c.args.node c.loop-sub.sub c.loop-sub-test.true
           (c.loop-sub.invariant.0 plan)),
@@ -30,8 +24,7 @@ loop-sub-preserved c =
   where
     bound : (b : Rattle.std.proofs.Common.Bool) → (count sub new : ℕ) → new ≡ count + cond b 1 0
         → Rattle.std.proofs.Common.◌≤◌ count sub → Rattle.std.proofs.Common.◌≤◌ new (sub + 1)
-    bound Rattle.std.proofs.Common.true count sub new e h = omega arith
-    bound Rattle.std.proofs.Common.false count sub new e h = omega arith
+    bound b count sub new e h = grind arith
 
 pub returns : goal.returns
 returns c =

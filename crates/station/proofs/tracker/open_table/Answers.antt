@@ -1,8 +1,7 @@
-use Rattle.std.proofs.Common.{rules, ◌≡◌, ◌∙◌, ◌<◌, ◌^◌, sym, ap, subst, ℕ, List, [], length}
+use Rattle.std.proofs.Common.{arith}
+use Rattle.std.proofs.Common.{rules, ◌≡◌, ◌∙◌, ◌<◌, ◌^◌, ap, subst, ℕ, [], length}
 use Rattle.std.proofs.lemmas.Result.{IfOk-weaker}
-use Rattle.atomic_table.specs.Table.{opening}
 use Rattle.station.specs.Setup.{Setup}
-use Rattle.station.specs.Rule.{KeepsRule}
 use Rattle.station.specs.Opening.{setup_of}
 use Rattle.station.specs.Plays.{first_view}
 use Rattle.station.proofs.Forking.{opens}
@@ -10,16 +9,7 @@ use Rattle.station.proofs.Fresh.{matched_lies, start_inside}
 use Rattle.station.proofs.tracker.open_table.Goals as goal
 
 pub of_words-requires : goal.of_words-requires
-of_words-requires c =
-    let plan = c.args.plan.now in let homes = c.args.homes.now in let actors = c.args.actors in
-    let e : setup_of plan homes actors ≡ c.new-about.result = search rules in
-    let words : c.in_ok-words.words.items ≡ c.deref-2.result.now = sym c.deref-2.ensures.value in
-    subst (λ (s : Setup). KeepsRule s (opening c.deref-2.result.now [] (first_view s))) e
-    (subst (λ (ws : List ℕ). KeepsRule (setup_of plan homes actors) (opening ws [] (first_view
-    (setup_of plan homes actors)))) words
-    (opens c.cell_numbers.ensures.below (matched_lies homes actors c.plan_is_sound.ensures.matched)
-    c.requires.few_actors (λ sub known. start_inside plan homes actors sub c.requires.inside known)
-    (c.in_ok-words.ensures.opening actors)))
+of_words-requires c = grind (arith, matched_lies, start_inside, opens)
 
 pub returns : goal.returns
 returns c =

@@ -1,5 +1,5 @@
 use Rattle.std.proofs.Common.{[]}
-use Rattle.track.proofs.Playing.{play-began, play-over}
+use Rattle.track.proofs.Replaying.{play-began, play-over}
 use Rattle.track.proofs.answer.play.Goals as goal
 
 pub returns-clause-stands : goal.returns-clause-stands

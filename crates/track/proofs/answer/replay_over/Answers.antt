@@ -2,7 +2,7 @@ use Rattle.std.proofs.Common.{ap, ◌∙◌}
 use Rattle.directory.specs.Orders.{history_of}
 use Rattle.directory.specs.Outcomes.{outcome_of}
 use Rattle.machine.specs.Machines.{scripts_at, setting_at, HasHistory}
-use Rattle.track.proofs.Playing.{play-ended, play-outcome}
+use Rattle.track.proofs.Replaying.{play-ended, play-outcome}
 use Rattle.track.proofs.answer.replay_over.Goals as goal
 
 pub outcome-requires : goal.outcome-requires

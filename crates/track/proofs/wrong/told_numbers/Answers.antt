@@ -4,25 +4,19 @@ use Rattle.track.specs.declared.status.Status.{Status}
 use Rattle.track.specs.declared.status.Status.TheVariants.{Done, BadWords}
 use Rattle.track.proofs.wrong.told_numbers.Goals as goal
 
-pub returns-clause-numbers : goal.returns-clause-numbers
-returns-clause-numbers c = refl
-
 two-only : {number : ℕ} {status : Status} → number ≡ status_number status → status ≡ BadWords → number ≡ 2
 two-only is bad = is ∙ ap status_number bad
-
-pub returns-clause-bad_words : goal.returns-clause-bad_words
-returns-clause-bad_words c = λ threads before now number tells. two-only tells.is tells.ends.0
-
-pub returns-clause-no_form : goal.returns-clause-no_form
-returns-clause-no_form c = λ before now tells.
-    let e : ◌≡◌ {A = ℕ} 0 2 = two-only tells.is tells.ends.0 in omega (arith, e)
-
-pub returns-clause-spoke : goal.returns-clause-spoke
-returns-clause-spoke c = λ tells. cc (ap (λ (s : Streams). s.written) tells.ends.1)
 
 seven-no : (status : Status) → 7 ≡ status_number status → ⊥
 seven-no Done e = omega (arith, e)
 seven-no status e = omega (arith, e)
 
-pub returns-clause-seven : goal.returns-clause-seven
-returns-clause-seven c = λ threads command before now tells. seven-no tells.status tells.is
+pub returns : goal.returns
+returns c = record {
+  numbers = refl;
+  bad_words = λ threads before now number tells. two-only tells.is tells.ends.0;
+  no_form = λ before now tells.
+      let e : ◌≡◌ {A = ℕ} 0 2 = two-only tells.is tells.ends.0 in omega (arith, e);
+  spoke = λ tells. cc (ap (λ (s : Streams). s.written) tells.ends.1);
+  seven = λ threads command before now tells. seven-no tells.status tells.is;
+}

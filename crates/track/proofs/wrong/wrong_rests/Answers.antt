@@ -16,14 +16,10 @@ more-end : (front : List ℕ) → ◌≡◌ {A = List ℕ} [] (front ++ 1 ∷ []
 more-end [] e = cc
 more-end (x ∷ front) e = cc
 
-pub returns-clause-other : goal.returns-clause-other
-returns-clause-other c = λ is. other-end is.front (cc is.parts)
-
-pub returns-clause-more : goal.returns-clause-more
-returns-clause-more c = λ is. more-end is.front (cc is.parts)
-
-pub returns-clause-front : goal.returns-clause-front
-returns-clause-front c = λ is. front-end is.front (cc is.parts)
-
-pub returns-clause-unknown : goal.returns-clause-unknown
-returns-clause-unknown c = λ is. cc is.parts
+pub returns : goal.returns
+returns c = record {
+  other = λ is. other-end is.front (cc is.parts);
+  more = λ is. more-end is.front (cc is.parts);
+  front = λ is. front-end is.front (cc is.parts);
+  unknown = λ is. cc is.parts;
+}

@@ -1,24 +1,13 @@
-use Rattle.std.proofs.Common.{◌∙◌}
+use Rattle.std.proofs.Common.{arith}
 use Rattle.node_set.specs.SetLaws.{below-has}
-use Rattle.cluster_tree.specs.Faults.{IsTreeFault}
 use Rattle.cluster_tree.proofs.Growing.{err_passed, is_fault, is_tree, is_kept}
 use Rattle.cluster_tree.proofs.tree.ClusterTree.new.Goals as goal
 
 pub weights_from-requires-clause-root : goal.weights_from-requires-clause-root
-weights_from-requires-clause-root c =
-    let sound = c.flags_of.ensures.sound in
-    rw c.deref.ensures.value
-    (c.in_ok-flags.ensures.flags.each c.args.leader
-    (below-has c.args.members.now.room c.args.leader c.args.members.now.members sound.below c.requires.leader)
-    ∙ c.requires.leader)
+weights_from-requires-clause-root c = grind (arith, below-has)
 
 pub returns-in_err-weighed-clause-fault : goal.returns-in_err-weighed-clause-fault
-returns-in_err-weighed-clause-fault c =
-    err_passed c.from_residual-in_err-weighed.result c.in_err-weighed.field-0.0
-    (IsTreeFault c.args.graph.now c.args.members.now.members c.args.leader) c.from_residual-in_err-weighed.ensures.1
-    (is_fault c.weights_from.ensures.sound c.flags_of.ensures.sound c.requires.room c.requires.leader
-    c.in_ok-flags.ensures.flags (rw c.deref.ensures.value at c.in_ok-weights.ensures.weights)
-    c.in_err-weighed.field-0.0 (rw c.deref-2.ensures.value at c.in_err-weighed.ensures.missing))
+returns-in_err-weighed-clause-fault c = grind (arith, is_fault, err_passed)
 
 pub invariant_of-result : goal.invariant_of-result
 invariant_of-result c =

@@ -36,7 +36,3 @@ pub returns-in-Finished-clause-taken : goal.returns-in-Finished-clause-taken
 returns-in-Finished-clause-taken g c = λ history sees place its.
     looks-ended c.args.most place (turns-behind c.looks.invariant.passed c.pass-made.ensures.passed history sees place
     its) c.in-Finished.ensures
-
-pub returns-clause-taken : goal.returns-clause-taken
-returns-clause-taken g c = λ history sees place its.
-    (c.looks.invariant.passed history sees place its, λ fewer. absurd (omega (arith, fewer, c.looks-test.false)))

@@ -4,16 +4,7 @@ use Rattle.machine.proofs.Making.{may-follow}
 use Rattle.machine.proofs.caller.Caller.look_alone.Goals as goal
 
 pub returns-then-most-eq0-clause-taken : goal.returns-then-most-eq0-clause-taken
-returns-then-most-eq0-clause-taken c = λ history sees place its. (
-  passed-none sees its,
-  λ fewer. absurd (omega (arith, fewer, c.if-most-eq0.true)),
-)
-
-pub returns-then-made-eq1-clause-taken : goal.returns-then-made-eq1-clause-taken
-returns-then-made-eq1-clause-taken c = λ history sees place its. (
-  rw c.if-made-eq1.true at (c.pass-made.ensures.passed history sees place its),
-  λ fewer. absurd (omega (arith, fewer, c.requires.alone)),
-)
+returns-then-most-eq0-clause-taken c = grind (arith, passed-none)
 
 pub look_one-requires-clause-stands : goal.look_one-requires-clause-stands
 look_one-requires-clause-stands c =

@@ -3,13 +3,12 @@ use Rattle.std.specs.Prelude.{Some, if◌then◌else◌}
 use Rattle.std.proofs.lemmas.List.{length_push}
 use Rattle.scripts.specs.Scripts.{find_of}
 use Rattle.machine.specs.Stands.{setting_over, IsWalking}
-use Rattle.machine.proofs.Beginning.{on-err}
-use Rattle.machine.proofs.Looking.{ok-of, room-left, wanted, scripts-low, place-low, call-at}
+use Rattle.machine.proofs.Rests.{on-err}
+use Rattle.machine.proofs.Looked.{ok-of, room-left, wanted, scripts-low, place-low, call-at, looks, looked-on, looked-up}
 use Rattle.net_reader.specs.Seen.{seen_input}
 use Rattle.region_plan.specs.Plan.{nodes_of}
 use Rattle.walk.specs.Walks.{IsWordBelow}
 use Rattle.directory.specs.Finds.{at_origin}
-use Rattle.machine.proofs.Looked.{looks, looked-on, looked-up}
 use Rattle.scripts.specs.ScriptLaws.{calls-few, finds-are}
 use Rattle.machine.proofs.caller.Caller.look_one.Goals as goal
 use Rattle.machine.proofs.caller.Caller.look_one.Goals.{After-len}
@@ -48,14 +47,12 @@ script-here c = script-is c.args.input.now.scripts.items c.args.actor
 
 low-here : (c : After-len) → c.len.result < length c.as_slice-script.result.now
 low-here c =
-    let few = place-low c.requires.high (scripts-low c.args.input.now.scripts.items c.args.actor c.requires.low)
-    c.requires.stands.3 c.in-Some.is in
+    let few = place-low c.requires.stands.3 c.in-Some.is c.requires.high
+    (scripts-low c.args.input.now.scripts.items c.args.actor c.requires.low) in
     omega (arith, few, ap length (script-here c), c.len.ensures)
 
 pub offset_bounds-script-len : goal.offset_bounds-script-len
-offset_bounds-script-len c =
-    let few = calls-few (seen_input c.args.input.now) c.args.actor c.requires.together.valid in
-    omega (arith, low-here c, few, ap length (script-here c))
+offset_bounds-script-len c = grind (arith, calls-few, low-here, script-here)
 
 pub bounds-script-len : goal.bounds-script-len
 bounds-script-len c = low-here c
@@ -91,7 +88,7 @@ returns c = λ history sees place its.
     (λ call later left. rw (
       c.line_of-line.ensures,
       call-at (seen_input c.args.input.now) c.args.plan.now c.args.actor c.len.result _ c.requires.high low script
-          (omega (arith, c.len.ensures, ap length script, place-low c.requires.high low its c.in-Some.is))
+          (omega (arith, c.len.ensures, ap length script, place-low its c.in-Some.is c.requires.high low))
           (rw count at left),
       c.unwrap_or-first.ensures,
     )) lines

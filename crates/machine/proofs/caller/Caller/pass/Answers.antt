@@ -2,10 +2,8 @@ use Rattle.std.proofs.Common.{◌≡◌, ◌<◌, ◌∙◌, arith, subst}
 use Rattle.net_reader.specs.Seen.{seen_input}
 use Rattle.walk.specs.Climbs.{IsClimbOf}
 use Rattle.machine.specs.Callers.{HasPassed}
-use Rattle.machine.proofs.ClimbCells.{ahead-cell, ahead-word}
-use Rattle.machine.proofs.Climbing.{past-from}
-use Rattle.machine.proofs.Looking.{scripts-low, sub-known, walks-over}
-use Rattle.machine.proofs.Passing.{LooksAhead, behind-none, behind-some, passed-ahead, passed-none}
+use Rattle.machine.proofs.Passing.{ahead-cell, ahead-word, past-from, LooksAhead, behind-none, behind-some, passed-ahead, passed-none}
+use Rattle.machine.proofs.Looked.{scripts-low, sub-known, walks-over}
 use Rattle.machine.proofs.caller.Caller.pass.Goals as goal
 
 pub returns-in_default-climb-clause-passed : goal.returns-in_default-climb-clause-passed
@@ -14,9 +12,9 @@ returns-in_default-climb-clause-passed g c = λ history sees place its.
 
 pub count_ahead-count-requires-clause-known : goal.count_ahead-count-requires-clause-known
 count_ahead-count-requires-clause-known g c =
-    let known = sub-known c.scripts_are_valid.ensures c.requires.together c.requires.high
-    (scripts-low c.args.input.now.scripts.items c.args.actor c.requires.low) c.requires.stands.3 c.in-Some.is in
-    omega (arith, c.sub.ensures, known.1, c.requires.stands.1.hold.subs)
+    let known = sub-known c.requires.stands.3 c.in-Some.is c.scripts_are_valid.ensures c.requires.together
+    c.requires.high (scripts-low c.args.input.now.scripts.items c.args.actor c.requires.low) in
+    omega (arith, c.sub.ensures, known, c.requires.stands.1.hold.subs)
 
 pub count_ahead-count-requires-clause-over : goal.count_ahead-count-requires-clause-over
 count_ahead-count-requires-clause-over g c =
@@ -32,10 +30,10 @@ returns-then-count-gt0-clause-passed g c = λ history sees place its.
     let walk = c.in-Some.walk in
     let climb = c.in-Some-climb.climb in
     let count = c.count_ahead-count.result in
-    let known = sub-known c.scripts_are_valid.ensures c.requires.together c.requires.high
-    (scripts-low c.args.input.now.scripts.items c.args.actor c.requires.low) its c.in-Some.is in
+    let known = sub-known its c.in-Some.is c.scripts_are_valid.ensures c.requires.together c.requires.high
+    (scripts-low c.args.input.now.scripts.items c.args.actor c.requires.low) in
     let at : IsClimbOf walk climb = c.in-Some-climb.ensures.is in
-    let low : walk.sub < c.args.cells.now.subs = omega (arith, known.1, sees.hold.subs) in
+    let low : walk.sub < c.args.cells.now.subs = omega (arith, known, sees.hold.subs) in
     let ahead : LooksAhead (seen_input c.args.input.now) plan c.args.cells.now c.args.actor walk climb count = record {
       high = c.requires.high;
       each = λ i short.

@@ -1,68 +1,42 @@
-use Rattle.std.proofs.Common.{◌≡◌, ◌+◌, ◌-◌, ap, arith, length, refl, subst, sym, ◌∙◌}
-use Rattle.std.proofs.lemmas.List.{append-nil}
-use Rattle.directory.specs.Orders.{next}
-use Rattle.machine.specs.Machines.{HasHistory, input_at, scripts_at, setting_at}
-use Rattle.machine.proofs.Looking.{scripts-low}
-use Rattle.machine.proofs.Making.{made-count, no-visits}
-use Rattle.machine.proofs.Turning.{at-caller, caller-turned, none-left, rooms-left, ticket-is}
+use Rattle.std.proofs.Common.{◌≡◌, ◌+◌, ◌-◌, arith, length, refl}
+use Rattle.machine.specs.Machines.{input_at}
+use Rattle.machine.proofs.Looked.{scripts-low}
+use Rattle.machine.proofs.Turning.{caller-may, caller-turned, rooms-left, stridden}
 use Rattle.machine.proofs.machine.Machine.look.Goals as goal
 
 pub look-count-requires-clause-stands : goal.look-count-requires-clause-stands
 look-count-requires-clause-stands g c =
-    let history = c.requires.stands.0 in
-    let stands = c.requires.stands.1 in
-    let low = scripts-low c.args.self.now.input.now.scripts.items c.args.actor c.requires.known in
-    let at : c.args.actor ≡ length (input_at c.args.self.now).homes + (c.args.actor - c.len.result) =
-    omega (arith, c.requires.high, c.len.ensures, stands.subscribers_count) in (
-      history,
-      stands.sees,
-      ticket-is c.len-ticket.result stands (omega (arith, c.len-ticket.ensures)),
-      at-caller (c.args.actor - c.len.result) stands at low c.index_mut.ensures.value,
-    )
-
-pub look-count-requires-clause-routes : goal.look-count-requires-clause-routes
-look-count-requires-clause-routes g c = c.requires.stands.1.routes
+    caller-may (c.args.actor - c.len.result) c.requires.stands.1
+    (omega (arith, c.requires.high, c.len.ensures, c.requires.stands.1.subscribers_count))
+    (scripts-low c.args.self.now.input.now.scripts.items c.args.actor c.requires.known)
+    (omega (arith, c.len-ticket.ensures)) c.index_mut.ensures.value
 
 pub log_run-requires : goal.log_run-requires
 log_run-requires g c =
-    let history = c.requires.stands.0 in
-    let stands = c.requires.stands.1 in
-    let low = scripts-low c.args.self.now.input.now.scripts.items c.args.actor c.requires.known in
-    let at : c.args.actor ≡ length (input_at c.args.self.now).homes + (c.args.actor - c.len.result) =
-    omega (arith, c.requires.high, c.len.ensures, stands.subscribers_count) in
-    let tick = ticket-is c.len-ticket.result stands (omega (arith, c.len-ticket.ensures)) in
-    let done = (c.look-count.ensures.taken history stands.sees tick
-    (at-caller (c.args.actor - c.len.result) stands at low c.index_mut.ensures.value)).0 in
+    let may = caller-may (c.args.actor - c.len.result) c.requires.stands.1
+    (omega (arith, c.requires.high, c.len.ensures, c.requires.stands.1.subscribers_count))
+    (scripts-low c.args.self.now.input.now.scripts.items c.args.actor c.requires.known)
+    (omega (arith, c.len-ticket.ensures)) c.index_mut.ensures.value in
+    let made = (c.look-count.ensures.taken may.0 may.1 may.2 may.3).0 in
     record {
       room = omega (
         arith,
-        rooms-left c.visits_are_few.ensures c.args.actor c.look-count.result done.visits stands done.actors done.sees,
-        tick,
+        rooms-left c.requires.stands.1 made c.visits_are_few.ensures,
+        may.2,
         c.len-ticket.ensures,
       );
     }
 
 pub returns-clause-stands : goal.returns-clause-stands
 returns-clause-stands g c = λ history stands.
-    let low = scripts-low c.args.self.now.input.now.scripts.items c.args.actor c.requires.known in
     let at : c.args.actor ≡ length (input_at c.args.self.now).homes + (c.args.actor - c.len.result) =
     omega (arith, c.requires.high, c.len.ensures, stands.subscribers_count) in
-    let tick = ticket-is c.len-ticket.result stands (omega (arith, c.len-ticket.ensures)) in
-    let taken = c.look-count.ensures.taken history stands.sees tick
-    (at-caller (c.args.actor - c.len.result) stands at low c.index_mut.ensures.value) in
-    let done = taken.0 in (
-      record {
-        stands = subst (HasHistory _) (sym done.turns)
-            (caller-turned c.own_after.ensures.visits c.own_after.ensures.tickets c.lines_grow.ensures.kept
-            (c.args.actor - c.len.result) c.look-count.result done.visits _ _ stands at low done.actors done.sees
-            done.its refl c.log_run.ensures.items c.log_run.ensures.capacity);
-        made = ap length done.turns ∙ made-count done;
-      },
-      λ none. (
-        none-left c.visits_are_few.ensures c.each_visit_is_next.ensures.more c.args.actor c.room_for-reach.result
-            (next (setting_at c.args.self.now) (scripts_at c.args.self.now) history c.args.actor) stands
-            (λ empty. omega (arith, c.room_for-reach.ensures.full empty c.requires.some, tick, c.len-ticket.ensures))
-            refl (λ some. rw (no-visits done none, append-nil) at (taken.1 (omega (arith, some, none)))),
-        (refl, c.log_run.ensures.still none),
-      ),
-    )
+    let may = caller-may (c.args.actor - c.len.result) stands at
+    (scripts-low c.args.self.now.input.now.scripts.items c.args.actor c.requires.known)
+    (omega (arith, c.len-ticket.ensures)) c.index_mut.ensures.value in
+    let taken = c.look-count.ensures.taken history may.1 may.2 may.3 in
+    stridden stands taken.0 c.visits_are_few.ensures c.each_visit_is_next.ensures.more c.room_for-reach.result
+    (caller-turned stands taken.0 c.own_after.ensures.visits c.own_after.ensures.tickets c.lines_grow.ensures.kept
+    (c.args.actor - c.len.result) _ _ at taken.0.its refl c.log_run.ensures.items c.log_run.ensures.capacity)
+    (λ empty. omega (arith, c.room_for-reach.ensures.full empty c.requires.some, may.2, c.len-ticket.ensures)) taken.1
+    (λ none. (refl, c.log_run.ensures.still none))

@@ -1,20 +1,8 @@
-use Rattle.std.proofs.Common.{List, length, ap, arith, length-append}
-use Rattle.std.specs.Prelude.{flat_map}
-use Rattle.directory.specs.declared.answers.Done.{Done}
+use Rattle.std.proofs.Common.{length, ap, arith, length-append}
 use Rattle.directory.specs.Outcomes.{Outcome}
 use Rattle.machine.specs.Machines.{scripts_at, setting_at}
-use Rattle.machine.specs.declared.caller.Caller.{Caller}
-use Rattle.machine.specs.declared.subscriber.Subscriber.{Subscriber}
-use Rattle.machine.proofs.RightOutcome.{right-outcome, rising-outcome}
-use Rattle.machine.proofs.Ending.{lines-all, room-for_both}
+use Rattle.machine.proofs.Ending.{of_finds, of_steps, right-outcome, rising-outcome, lines-all, room-for_both}
 use Rattle.machine.proofs.machine.Machine.outcome.Goals as goal
-
--- the lines of some subscribers, and of some callers
-abbrev of_steps : List Subscriber → List Done
-of_steps some = flat_map (λ (one : Subscriber). one.lines.items) some
-
-abbrev of_finds : List Caller → List Done
-of_finds some = flat_map (λ (one : Caller). one.lines.items) some
 
 pub push_steps-requires : goal.push_steps-requires
 push_steps-requires c =

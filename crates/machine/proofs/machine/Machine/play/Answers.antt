@@ -1,14 +1,6 @@
-use Rattle.std.proofs.Common.{arith, refl}
-use Rattle.machine.proofs.Finishing.{same-through}
-use Rattle.machine.proofs.Playing.{played-run, played-whole}
+use Rattle.std.proofs.Common.{arith}
+use Rattle.machine.proofs.Finishing.{same-through, played-run, played-whole}
 use Rattle.machine.proofs.machine.Machine.play.Goals as goal
-
-pub runs-init : goal.runs-init
-runs-init c = record {
-  same = (refl, refl, refl);
-  within = omega arith;
-  stands = λ history is. (history, is, refl);
-}
 
 pub runs-preserved : goal.runs-preserved
 runs-preserved c = record {

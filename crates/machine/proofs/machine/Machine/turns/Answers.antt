@@ -1,17 +1,15 @@
 use Rattle.std.proofs.Common.{◌≡◌, ◌+◌, ◌-◌, arith, refl, subst}
 use Rattle.machine.specs.Machines.{HasMade}
-use Rattle.machine.proofs.Finishing.{counted-once, made-idle, made-joined, made-none, same-through, turned-once}
+use Rattle.machine.proofs.Finishing.{made-idle, made-joined, made-none, same-through, turned-once}
 use Rattle.machine.proofs.machine.Machine.turns.Goals as goal
 
 pub returns-then-count-eq1-clause-stands : goal.returns-then-count-eq1-clause-stands
 returns-then-count-eq1-clause-stands c = λ history is.
     rw c.if-count-eq1.true
-    (turned-once c.stride.result c.stride.ensures.few (c.stride.ensures.stands history is)).0
+    (turned-once c.stride.result c.stride.ensures.few (c.stride.ensures.stands history is)).stands
 
 pub returns-then-count-eq1-clause-made : goal.returns-then-count-eq1-clause-made
-returns-then-count-eq1-clause-made c = λ history is.
-    rw c.if-count-eq1.true
-    (counted-once c.stride.result c.stride.ensures.few (c.stride.ensures.stands history is))
+returns-then-count-eq1-clause-made c = grind (arith, turned-once)
 
 pub turns-init : goal.turns-init
 turns-init c = record {
@@ -48,6 +46,4 @@ turns-preserved c = record {
 }
 
 pub returns-clause-stands : goal.returns-clause-stands
-returns-clause-stands c = λ history is.
-    let all : c.args.count - c.turns.left ≡ c.args.count = omega (arith, c.turns-test.false) in
-    rw all at (c.turns.invariant.stands history is).stands
+returns-clause-stands c = grind arith

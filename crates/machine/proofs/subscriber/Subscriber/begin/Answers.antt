@@ -2,15 +2,13 @@ use Rattle.std.proofs.Common.{◌≡◌, ◌++◌, ◌∷◌, [], sym, ap, ◌�
 use Rattle.std.specs.Prelude.{if◌then◌else◌}
 use Rattle.net_reader.specs.declared.said.Call.TheVariants as calls
 use Rattle.machine.specs.Owed.{Owes}
-use Rattle.machine.proofs.Looking.{ok-of}
-use Rattle.machine.proofs.Rests.{all-written}
-use Rattle.machine.proofs.Beginning.{first-ahead, on-err, ready, script-of}
-use Rattle.machine.proofs.Putting.{first-cell, first-put, shown-now}
+use Rattle.machine.proofs.Looked.{ok-of}
+use Rattle.machine.proofs.Rests.{all-written, first-cell, first-put, shown-now, first-ahead, on-err, ready, script-of}
 use Rattle.machine.proofs.subscriber.Subscriber.begin.Goals as goal
 
 pub returns-then-place-script : goal.returns-then-place-script
 returns-then-place-script c = λ history sees place its. (
-  all-written c.requires.together.valid c.requires.low (shown-now c.requires.none its) c.requires.rests (omega (
+  all-written c.requires.low (shown-now c.requires.none its) c.requires.together.valid c.requires.rests (omega (
     arith,
     c.if-place-script.true,
     c.len-place.ensures,

@@ -1,12 +1,10 @@
 use Rattle.std.proofs.Common.{◌≡◌, [], arith, refl, subst, sym}
 use Rattle.machine.specs.Owed.{HasNone, Owes}
-use Rattle.machine.proofs.Putting.{none-there, refilled}
+use Rattle.machine.proofs.Rests.{none-there, refilled}
 use Rattle.machine.proofs.subscriber.Subscriber.has_ahead.Goals as goal
 
 pub returns-clause-stands : goal.returns-clause-stands
-returns-clause-stands c = λ input history sub known its.
-    refilled known (omega (arith, c.if-self-len.false, c.len.ensures, c.args.self.now.ahead.ok.0)) c.clear.ensures.items
-    c.clear.ensures.capacity c.fill.ensures.ahead its
+returns-clause-stands c = grind (arith, refilled)
 
 pub returns-clause-none : goal.returns-clause-none
 returns-clause-none c = λ quiet.

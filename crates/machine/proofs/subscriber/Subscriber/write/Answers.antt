@@ -1,6 +1,6 @@
-use Rattle.std.proofs.Common.{◌+◌, ◌++◌, ap, arith, refl, ◌∙◌}
-use Rattle.machine.proofs.Making.{made-count, made-none, turns-behind, may-follow}
-use Rattle.machine.proofs.Written.{ended, written-more}
+use Rattle.std.proofs.Common.{arith, refl}
+use Rattle.machine.proofs.Making.{made-count, made-next, made-none, may-follow, turns-behind}
+use Rattle.machine.proofs.Written.{ended}
 use Rattle.machine.proofs.subscriber.Subscriber.write.Goals as goal
 
 pub writes-init : goal.writes-init
@@ -8,7 +8,7 @@ writes-init g c = record {
   few = omega arith;
   still = λ none. refl;
   written = λ history sees place its.
-      made-none c.args.sub _ sees its;
+      made-none _ sees its;
 }
 
 pub write_plain-made-requires-clause-stands : goal.write_plain-made-requires-clause-stands
@@ -25,18 +25,14 @@ returns-then-made-most-clause-taken g c = λ history sees place its. (
   λ fewer. absurd (omega (arith, fewer, c.if-made-most.true)),
 )
 
-pub returns-then-made-most-clause-still : goal.returns-then-made-most-clause-still
-returns-then-made-most-clause-still g c = λ none.
-    c.write_plain-made.ensures.still (omega (arith, none)) ∙ c.writes.invariant.still (omega (arith, none))
-
 pub writes-preserved : goal.writes-preserved
 writes-preserved g c = record {
   few = omega (arith, c.writes-test.true, c.write_plain-made.ensures.few, c.if-made-most.false);
   still = λ none. absurd (omega (arith, none));
   written = λ history sees place its.
-      written-more c.each_visit_is_next.ensures.more c.next_is_own.ensures _ place
-      (turns-behind c.writes.invariant.written c.write_plain-made.ensures.made history sees place its)
-      c.in-Visited.ensures;
+      turns-behind (turns-behind c.writes.invariant.written c.write_plain-made.ensures.made)
+      (λ later sight at is. made-next c.each_visit_is_next.ensures.more c.next_is_own.ensures _ sight
+      (c.in-Visited.ensures later sight at is)) history sees place its;
 }
 
 pub returns-in-Finished-clause-taken : goal.returns-in-Finished-clause-taken
@@ -45,15 +41,4 @@ returns-in-Finished-clause-taken g c = λ history sees place its.
     its) c.in-Finished.ensures
 
 pub returns-in-Finished-clause-still : goal.returns-in-Finished-clause-still
-returns-in-Finished-clause-still g c = λ none.
-    let stands = c.requires.stands in
-    let made = turns-behind c.writes.invariant.written c.write_plain-made.ensures.made stands.0 stands.1 stands.2
-    stands.3 in
-    (c.in-Finished.ensures (stands.0 ++ made.visits) made.sees
-    (made-count made
-    ∙ ap (λ n. n + (c.writes.made + c.write_plain-made.result)) stands.2) made.its).2
-    ∙ c.write_plain-made.ensures.still (omega (arith, none)) ∙ c.writes.invariant.still (omega (arith, none))
-
-pub returns-clause-taken : goal.returns-clause-taken
-returns-clause-taken g c = λ history sees place its.
-    (c.writes.invariant.written history sees place its, λ fewer. absurd (omega (arith, fewer, c.writes-test.false)))
+returns-in-Finished-clause-still g c = grind (arith, turns-behind, made-count)

@@ -21,9 +21,4 @@ returns-in-Some-clause-fault c =
     (rw c.deref-2.ensures.value at c.in-Some.ensures.first)
 
 pub returns-in-None-clause-graph : goal.returns-in-None-clause-graph
-returns-in-None-clause-graph c =
-    let all : c.in_ok-allowed.allowed.items ≡ replicate c.args.n true = search rules in
-    made c.args.edges.now c.in_ok-neighbours.ensures.nodes c.in_ok-neighbours.ensures.limits
-    c.in_ok-neighbours.ensures.same all
-    (rw c.deref.ensures.value at c.in_ok-weights.ensures) c.in_ok-neighbours.ensures.joins
-    (rw c.deref-2.ensures.value at c.in-None.ensures.none)
+returns-in-None-clause-graph c = grind (arith, made)

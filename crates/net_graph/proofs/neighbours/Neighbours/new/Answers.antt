@@ -33,19 +33,11 @@ module _ (c : goal.After-arcs-3-1) where
   -- the rows of the network's nodes
   made : AreRows c.args.n (JoinsOther c.args.edges.now) c.in_ok-starts.starts.items
       (take c.in_ok-arcs.arcs.len (c.fill_arcs.new.arcs ++ drop (length c.fill_arcs.new.arcs) c.in_ok-arcs.arcs.items))
-  made =
-      let n_is : length c.deref_mut-2.result.now ≡ c.args.n = omega (
-        arith,
-        ap (length {A = ℕ}) c.deref_mut-2.ensures.value,
-        c.in_ok-taken.ensures.len,
-        c.in_ok-taken.taken.ok.0,
-      ) in
-      let arcs_are : take c.in_ok-arcs.arcs.len
-      (c.fill_arcs.new.arcs ++ drop (length c.fill_arcs.new.arcs) c.in_ok-arcs.arcs.items) ≡ c.fill_arcs.new.arcs =
-      take_at c.fill_arcs.new.arcs (drop (length c.fill_arcs.new.arcs) c.in_ok-arcs.arcs.items)
-      c.in_ok-arcs.arcs.len (c.fill_arcs.auto.arcs ∙ ap (length {A = Arc}) c.deref_mut-3.ensures.value
-      ∙ sym c.in_ok-arcs.arcs.ok.0) in
-      rw (arcs_are, ← c.deref-2.ensures.value, ← n_is) c.fill_arcs.ensures
+  made = grind (
+    arith,
+    take_at c.fill_arcs.new.arcs (drop (length c.fill_arcs.new.arcs) c.in_ok-arcs.arcs.items) c.in_ok-arcs.arcs.len
+        (c.fill_arcs.auto.arcs ∙ ap (length {A = Arc}) c.deref_mut-3.ensures.value ∙ sym c.in_ok-arcs.arcs.ok.0),
+  )
 
 pub invariant_of-result : goal.invariant_of-result
 invariant_of-result c =

@@ -20,9 +20,7 @@ returns-then-unsettled-node-clause-next c =
     c.if-unsettled-node.true (c.in-Some.ensures.heap_order c.loop-weight.self.ordered).1
 
 pub loop-weight-preserved : goal.loop-weight-preserved
-loop-weight-preserved c =
-    settled_goes (heap_items c.pop.new.self) c.loop-weight.invariant c.in-Some.field-0.0.0 c.in-Some.field-0.0.1
-    c.in-Some.ensures.permutation c.if-unsettled-node.false
+loop-weight-preserved c = grind (arith, settled_goes)
 
 pub returns-clause-none : goal.returns-clause-none
 returns-clause-none c =

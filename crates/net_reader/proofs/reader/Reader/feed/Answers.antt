@@ -12,12 +12,7 @@ read-read-requires-clause-room c =
     omega (arith, lines, fits)
 
 pub invariant_of-self : goal.invariant_of-self
-invariant_of-self c =
-    let scan = c.self.inside.scan in
-    fed_sound c.read-read.result scan c.read-read.new.self c.args.piece.now c.is_err-self-inside.ensures.value
-    (going scan c.self.invariant c.if-self.false) c.read-read.ensures.read c.read-read.ensures.well
+invariant_of-self c = grind (arith, going, fed_sound)
 
 pub returns-clause-fed : goal.returns-clause-fed
-returns-clause-fed c =
-    fed_stands c.args.self.now c.read-read.result c.self.inside.scan c.read-read.new.self c.args.piece.now
-    c.is_err-self-inside.ensures.value (ap (λ (r : ReaderValue). r.state) c.self.view_is) c.read-read.ensures.read
+returns-clause-fed c = grind (arith, fed_stands)

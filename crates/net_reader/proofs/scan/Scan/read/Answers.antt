@@ -1,7 +1,6 @@
-use Rattle.std.proofs.Common.{◌≡◌, ◌<◌, ◌-◌, length, get_or, take, drop, refl, sym, ◌∙◌, ap, arith, length-take, length-drop}
-use Rattle.std.proofs.lemmas.Bool.Decides.{nat_tests}
+use Rattle.std.proofs.Common.{◌≡◌, ◌<◌, ◌-◌, length, get_or, take, drop, ◌∙◌, ap, arith, length-take, length-drop}
 use Rattle.net_reader.specs.Steps.{ReaderState, after_bytes, next}
-use Rattle.net_reader.specs.Seen.{seen_known, seen_scan}
+use Rattle.net_reader.specs.Seen.{seen_scan}
 use Rattle.net_reader.proofs.Feeding.{fed-faulty, fed-first, fed-none, lines-step}
 use Rattle.net_reader.proofs.scan.Scan.read.Goals as goal
 
@@ -31,12 +30,7 @@ bytes-preserved c =
     }
 
 pub returns-else-is_none-clause-read : goal.returns-else-is_none-clause-read
-returns-else-is_none-clause-read c =
-    let self = c.bytes.self in
-    sym (fed-faulty self.fault (seen_known self.known) (seen_scan self) c.bytes.rest.now c.if-is_none.ensures refl)
-    ∙ c.bytes.invariant.rest
+returns-else-is_none-clause-read c = grind (arith, fed-faulty)
 
 pub returns-after-bytes-clause-read : goal.returns-after-bytes-clause-read
-returns-after-bytes-clause-read c =
-    let none : length c.bytes.rest.now ≡ 0 = grind (arith, nat_tests, c.bytes-test.ensures) in
-    sym (fed-none (seen_scan c.bytes.self) c.bytes.rest.now none) ∙ c.bytes.invariant.rest
+returns-after-bytes-clause-read c = grind (arith, fed-none)

@@ -1,4 +1,4 @@
-use Rattle.std.proofs.Common.{◌∙◌, arith}
+use Rattle.std.proofs.Common.{arith}
 use Rattle.region_plan.specs.declared.clusters.ClusterLists.{ClusterLists}
 use Rattle.region_plan.proofs.Laying.{made_laid, made_pushed}
 use Rattle.region_plan.proofs.Making.{range_behind}
@@ -9,10 +9,7 @@ abbrev new : (c : In_ok-push) → ClusterLists
 new c = record { heads = c.push.new.self; nodes = c.push_members.new.list; weights = c.weigh_members.new.weights }
 
 pub weigh_members-requires-clause-nodes : goal.weigh_members-requires-clause-nodes
-weigh_members-requires-clause-nodes c =
-    range_behind c.args.self.now.nodes.items c.args.cluster.now.members.members
-    (omega (arith, c.len-start.ensures, c.args.self.now.nodes.ok.0))
-    (c.deref.ensures.value ∙ c.in_ok-push_members.ensures.pushed)
+weigh_members-requires-clause-nodes c = grind (arith, range_behind)
 
 pub returns-clause-laid : goal.returns-clause-laid
 returns-clause-laid c =

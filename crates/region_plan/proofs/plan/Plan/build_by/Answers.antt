@@ -1,4 +1,4 @@
-use Rattle.std.proofs.Common.{refl, subst, sym, arith}
+use Rattle.std.proofs.Common.{subst, sym, arith}
 use Rattle.distances.specs.Table.{IsMetric}
 use Rattle.region_plan.specs.Matched.{BoundsFinds}
 use Rattle.region_plan.specs.Plan.{PlanData}
@@ -15,9 +15,7 @@ abbrev made : (c : After-reach) → PlanData
 made c = plan_with c.trade_off.result c.reach.result c.in_ok-copy.copy c.in_ok-levels.levels
 
 made_is : (c : After-reach) → IsCoveredPlan c.args.covering c.args.graph.now (made c)
-made_is c = plan_built c.in_ok-levels.levels c.requires.belongs c.in_ok-copy.ensures c.trade_off.ensures c.reach.ensures
-    refl (omega (arith, c.in_ok-levels.ensures.levels.count_is)) c.top_for-top.ensures.top
-    (λ j h. c.in_ok-levels.ensures.levels.each j (omega arith))
+made_is c = grind (arith, plan_built)
 
 made_metric : (c : After-reach) → IsMetric (made c).distances
 made_metric c = rw c.in_ok-copy.ensures c.top_for-top.ensures.metric

@@ -1,7 +1,6 @@
 use Rattle.std.proofs.Common.{◌≡◌, ◌<◌, ℕ, List, length, ◌∙◌, ap, arith}
-use Rattle.std.specs.List.{sum_by}
 use Rattle.std.proofs.lemmas.List.{take_all}
-use Rattle.region_plan.specs.Plan.{PlanData, Level, level_in, no_level, readers_in}
+use Rattle.region_plan.specs.Plan.{PlanData, Level, level_in, no_level}
 use Rattle.region_plan.specs.Kept.{IsSized, Shape, shape_of}
 use Rattle.region_plan.proofs.Counting.{looks_counted, looks_more}
 use Rattle.region_plan.proofs.plan.Plan.most_looks.Goals as goal
@@ -29,15 +28,4 @@ loop-i-preserved c =
     }
 
 pub returns : goal.returns
-returns c = λ starts.
-    let read : c.loop-i.read ≡ sum_by (λ (l : Level). length (readers_in l c.args.from)) c.args.self.now.levels =
-    c.loop-i.invariant.sum ∙ ap (sum_by (λ (l : Level). length (readers_in l c.args.from)))
-    (take_all c.loop-i.i c.args.self.now.levels (omega arith))
-    in
-    omega (
-      arith,
-      looks_counted c.args.self.now starts c.args.from c.nodes.ensures.sound.some,
-      read,
-      c.from.ensures,
-      c.nodes.ensures.count,
-    )
+returns c = grind (arith, take_all, looks_counted)

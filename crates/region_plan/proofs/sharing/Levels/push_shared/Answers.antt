@@ -5,13 +5,7 @@ use Rattle.region_plan.proofs.Shapes.{heads_count, last_within, level_shared}
 use Rattle.region_plan.proofs.sharing.Levels.push_shared.Goals as goal
 
 pub overflow_sub-len : goal.overflow_sub-len
-overflow_sub-len c = omega (
-  arith,
-  heads_count c.self.inside.tables.items c.self.inside.heads.items c.self.view_is,
-  c.len.ensures,
-  c.self.inside.heads.ok.0,
-  c.requires,
-)
+overflow_sub-len c = grind (arith, heads_count)
 
 pub invariant_of-self-2 : goal.invariant_of-self-2
 invariant_of-self-2 c =
@@ -23,7 +17,4 @@ invariant_of-self-2 c =
     (omega (arith, c.len.ensures, c.self.inside.heads.ok.0)) c.index.ensures c.self.invariant))
 
 pub returns : goal.returns
-returns c =
-    level_shared c.self.inside.tables.items c.self.inside.heads.items c.self.view_is c.requires
-    (omega (arith, c.len.ensures, c.self.inside.heads.ok.0)) c.index.ensures c.args.exponent c.args.threshold
-    c.in_ok-push.ensures.items
+returns c = grind (arith, level_shared)

@@ -1,4 +1,4 @@
-use Rattle.std.proofs.Common.{rules, arith, ◌≡◌, ◌∙◌, ◌+◌, ◌-◌, ℕ, [], ◌∷◌, sym, ap, add-one, length, length-append}
+use Rattle.std.proofs.Common.{arith, ◌≡◌, ◌∙◌, ◌+◌, ◌-◌, ℕ, [], ◌∷◌, sym, ap, add-one, length, length-append}
 use Rattle.atomic_table.specs.Table.{Me}
 use Rattle.entry_word.specs.declared.visit.Act.{Act}
 use Rattle.station.specs.Plays.{view_of_rest}
@@ -8,30 +8,13 @@ use Rattle.station.proofs.Fresh.{dealt_fresh, fresh_own, fresh_push, last_fresh,
 use Rattle.station.proofs.tracker.Tracker.deal.Goals as goal
 
 pub split_seat-next-requires : goal.split_seat-next-requires
-split_seat-next-requires c =
-    let v : View = c.loop-actor.seat.me.0 in
-    let setup = c.self.inside.table.shared.key in
-    let same = c.loop-actor.invariant.view in
-    let told = c.self.view_is in
-    let low : v.low ≡ c.loop-actor.actor = ap (λ m. m.0.low) same in
-    let high : v.high ≡ setup.actors = ap (λ m. m.0.high) same ∙ sym (ap (λ t. t.setup.actors) told) in
-    let near = c.loop-actor-test.true in (
-      search rules,
-      omega (arith, c.self.invariant.words),
-      deals setup c.loop-actor.seat.id v (omega (arith, low, high, near, c.self.invariant.actors_are)) (ap
-          (λ m. m.0.inside) same) (ap (λ m. m.0.unwritten) same),
-    )
+split_seat-next-requires c = grind (arith, deals)
 
 pub of-requires : goal.of-requires
-of-requires c =
-    fresh_own c.args.self.now.setup c.loop-actor.actor (dealt_fresh _ _ c.loop-actor.invariant.view
-    c.split_seat-next.ensures.4)
+of-requires c = grind (arith, dealt_fresh, fresh_own)
 
 pub push_reserved-requires : goal.push_reserved-requires
-push_reserved-requires c =
-    let d = c.loop-actor.invariant in
-    let actors = ap (λ t. t.setup.actors) c.self.view_is in
-    omega (arith, c.loop-actor.passes.ok, d.count, d.room, actors, c.self.invariant.actors_are, c.loop-actor-test.true)
+push_reserved-requires c = grind arith
 
 pub loop-actor-preserved : goal.loop-actor-preserved
 loop-actor-preserved c =
@@ -50,28 +33,10 @@ loop-actor-preserved c =
     }
 
 pub of-requires-2 : goal.of-requires-2
-of-requires-2 c =
-    let actors = ap (λ t. t.setup.actors) c.self.view_is in
-    let end = c.loop-actor.auto.actor-end in
-    fresh_own c.args.self.now.setup (c.self.inside.actors - 1)
-    (last_fresh _ c.loop-actor.invariant.view (omega (arith, end, c.loop-actor-test.false))
-    (omega (arith, actors, c.self.invariant.actors_are, c.self.invariant.some_actors)))
+of-requires-2 c = grind (arith, last_fresh, fresh_own)
 
 pub push_reserved-requires-2 : goal.push_reserved-requires-2
-push_reserved-requires-2 c =
-    let d = c.loop-actor.invariant in
-    let actors = ap (λ t. t.setup.actors) c.self.view_is in
-    let end = c.loop-actor.auto.actor-end in
-    omega (
-      arith,
-      c.loop-actor.passes.ok,
-      d.count,
-      d.room,
-      actors,
-      c.self.invariant.actors_are,
-      c.self.invariant.some_actors,
-      end,
-    )
+push_reserved-requires-2 c = grind arith
 
 pub returns-clause-fresh : goal.returns-clause-fresh
 returns-clause-fresh c =
@@ -84,17 +49,4 @@ returns-clause-fresh c =
     c.of-2.ensures c.push_reserved-2.ensures.items
 
 pub returns-clause-count : goal.returns-clause-count
-returns-clause-count c =
-    let actors = ap (λ t. t.setup.actors) c.self.view_is in
-    let end = c.loop-actor.auto.actor-end in
-    let items = c.push_reserved-2.ensures.items in
-    ap length items ∙ omega (
-      arith,
-      length-append c.loop-actor.passes.items (c.of-2.result ∷ []),
-      c.loop-actor.invariant.count,
-      end,
-      c.loop-actor-test.false,
-      actors,
-      c.self.invariant.actors_are,
-      c.self.invariant.some_actors,
-    )
+returns-clause-count c = grind (arith, length-append)

@@ -1,7 +1,7 @@
 use Rattle.std.proofs.Common.{rules, arith, subst, sym, ap, ◌∙◌, ◌≡◌}
 use Rattle.atomic_table.specs.Table.{Me}
 use Rattle.entry_word.specs.declared.visit.Act.{Act}
-use Rattle.station.specs.Plays.{Draws, view_inside}
+use Rattle.station.specs.Plays.{Draws}
 use Rattle.station.specs.declared.view.View.{View}
 use Rattle.station.specs.Visits.{MayDraw}
 use Rattle.station.proofs.Drawing.{draws}
@@ -32,12 +32,7 @@ pub returns-clause-slots : goal.returns-clause-slots
 returns-clause-slots c = (drawn c).1 ∙ ap (λ (x : Me Act View). x.1) c.in_ok-turn.ensures.turn
 
 pub returns-clause-drawn : goal.returns-clause-drawn
-returns-clause-drawn c =
-    let old : View = c.args.seat.now.me.0 in
-    let d = (drawn c).0 in
-    subst (λ (v : View). Draws v c.args.node c.args.act.now c.fetch_add.result c.fetch_add.new.seat.me.0)
-    (ap (λ (x : Me Act View). x.0) c.in_ok-turn.ensures.turn
-    ∙ ap (λ log. view_inside old c.args.node c.args.act.now log) (sym (ap (λ (v : View). v.turns) d.view))) d
+returns-clause-drawn c = grind (arith, drawn c, drawn)
 
 pub returns-clause-logs : goal.returns-clause-logs
 returns-clause-logs c =

@@ -41,14 +41,9 @@ returns-clause-gathered c =
     let first : PassData = c.index_mut.result.now in
     let back = ap (set all 0) (c.note-longest.ensures.same ∙ c.index_mut.ensures.value) ∙ set-get_or all 0 first in
     let count : length c.loop-k.passes.items ≡ length all = ap length (d.same ∙ back) in
+    let actors = ap (λ t. t.setup.actors) c.self.view_is in
     let some : 0 < length all = dite (dec_le 1 (length all)) (λ h. h)
-    (λ none. absurd (c.requires.present 0 (omega (
-      arith,
-      c.self.invariant.some_actors,
-      c.self.invariant.actors_are,
-      ap
-          (λ t. t.setup.actors) c.self.view_is,
-    ))
+    (λ none. absurd (c.requires.present 0 (omega (arith, c.self.invariant, actors))
     (λ j q e. absurd (omega (arith, slice_get_within all j q e, none))))) in
     let done : length all ≤ c.loop-k.k = omega
     (arith, c.loop-k-test.false, c.len-k-end.ensures, c.args.passes.now.ok) in

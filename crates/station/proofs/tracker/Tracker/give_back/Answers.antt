@@ -1,5 +1,5 @@
 use Rattle.std.proofs.Common.{rules}
-use Rattle.station.proofs.Turning.{leaves_at}
+use Rattle.station.proofs.Turning.{leaves}
 use Rattle.station.proofs.tracker.Tracker.give_back.Goals as goal
 
 pub store-requires : goal.store-requires
@@ -8,6 +8,6 @@ store-requires c =
     let setup = c.self.inside.table.shared.key in (
       search rules,
       search rules,
-      leaves_at c.cell_numbers.ensures.apart setup _ _ m c.requires.inside c.requires.unwritten c.requires.clear
-          c.lock_place-place.ensures.place,
+      rw c.lock_place-place.ensures.place
+          (leaves c.cell_numbers.ensures.apart setup _ _ m c.requires.inside c.requires.unwritten c.requires.clear),
     )

@@ -4,16 +4,7 @@ use Rattle.station.proofs.Joining.{hears, learns, longer_long}
 use Rattle.station.proofs.tracker.Tracker.learn.Goals as goal
 
 pub join_seat-requires : goal.join_seat-requires
-join_seat-requires c =
-    let two = c.self.view_is in (
-      search rules,
-      search rules,
-      c.requires.slots,
-      omega
-          (arith, c.self.invariant.words),
-      hears _ _ _ c.args.seat.now.me.0 c.args.other.me.0 c.requires.low c.requires.high
-          c.requires.outside,
-    )
+join_seat-requires c = grind (arith, hears)
 
 pub load-requires : goal.load-requires
 load-requires c =

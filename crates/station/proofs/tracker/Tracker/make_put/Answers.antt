@@ -1,11 +1,7 @@
 use Rattle.std.proofs.Common.{refl, subst, sym, ap, ◌∙◌}
-use Rattle.atomic_table.specs.Table.{Me}
-use Rattle.entry_word.specs.declared.visit.Act.{Act}
 use Rattle.station.specs.Setup.{Setup}
 use Rattle.station.specs.Handsets.{Moves}
 use Rattle.station.specs.Plays.{view_outside}
-use Rattle.station.specs.Turns.{Logs}
-use Rattle.station.specs.declared.view.TurnEvent.TheVariants.{GivenBack}
 use Rattle.station.specs.declared.view.View.{View}
 use Rattle.station.proofs.Ticketing.{left_by}
 use Rattle.station.proofs.Putting.{moves}
@@ -33,6 +29,5 @@ returns-clause-made c =
       draws = c.in_ok-ticket.ensures.drawn;
       left = left_by there (ap (λ m. m.0) c.give_back.ensures.left ∙ ap (λ m. view_outside m.0 new.turns) put) refl
           refl;
-      given_back = subst (λ (m : Me Act View). Logs m.0.turns (GivenBack m.0.low c.args.node) new.turns) put
-          c.give_back.ensures.logs;
+      given_back = rw put at c.give_back.ensures.logs;
     }

@@ -1,8 +1,6 @@
-use Rattle.std.proofs.Common.{rules, arith}
+use Rattle.std.proofs.Common.{arith}
 use Rattle.station.proofs.Forking.{notes}
 use Rattle.station.proofs.tracker.Tracker.note.Goals as goal
 
 pub split_seat-seat-requires : goal.split_seat-seat-requires
-split_seat-seat-requires c =
-    let one = c.pass.view_is in let two = c.self.view_is in
-    (search rules, omega (arith, c.self.invariant.words), notes _ _ c.pass.inside.seat.me.0)
+split_seat-seat-requires c = grind (arith, notes)

@@ -1,33 +1,9 @@
-use Rattle.std.proofs.Common.{arith, [], ◌∙◌, sym, ap, refl}
-use Rattle.atomic_table.specs.Table.{Me}
-use Rattle.entry_word.specs.declared.visit.Act.{Act}
-use Rattle.region_plan.specs.Kept.{IsKept}
-use Rattle.station.specs.Setup.{Setup}
-use Rattle.station.specs.Plays.{first_view}
-use Rattle.station.specs.declared.view.View.{View}
+use Rattle.std.proofs.Common.{arith}
 use Rattle.station.proofs.Fresh.{matched_lies}
 use Rattle.station.proofs.tracker.Tracker.set_up.Goals as goal
 
 pub invariant_of-tracker : goal.invariant_of-tracker
-invariant_of-tracker c =
-    let plan = c.args.plan.now in let homes = c.args.homes.now in let actors = c.args.actors in
-    let o = c.in_ok-table.ensures.opened in
-    let sound : IsKept plan = c.plan_is_sound.ensures.sound in
-    rw o.3 record {
-      words = o.0;
-      slots = o.2;
-      nodes_are = c.nodes.ensures.count;
-      subs_are = refl;
-      actors_are = refl;
-      few_nodes = omega (arith, c.nodes.ensures.count, sound.metric.few);
-      few_words = o.1;
-      few_subs = c.requires.few;
-      some_actors = c.requires.actors;
-      few_actors = c.requires.few_actors;
-      lies = matched_lies homes actors c.plan_is_sound.ensures.matched;
-      homes = c.plan_is_sound.ensures.matched.homes;
-      places_are = c.in_ok-places.ensures;
-    }
+invariant_of-tracker c = grind (arith, matched_lies)
 
 pub overflow_cast-tracker : goal.overflow_cast-tracker
 overflow_cast-tracker c = omega (arith, c.requires.few)
@@ -39,6 +15,4 @@ pub returns-clause-table : goal.returns-clause-table
 returns-clause-table c = c.in_ok-table.ensures.opened.4
 
 pub returns-clause-first : goal.returns-clause-first
-returns-clause-first c =
-    let o = c.in_ok-table.ensures.opened in
-    o.5 ∙ ap {B = Me Act View} (λ (s : Setup). (first_view s, [])) (sym o.3)
+returns-clause-first c = grind arith

@@ -32,10 +32,7 @@ stamp-requires c =
     record { room = omega (arith, seen, d.size, c.requires.room) }
 
 pub loop-pass-smaller : goal.loop-pass-smaller
-loop-pass-smaller c =
-    let t = taken c.args.passes.items c.pop.new.self.items c.pop.result c.pop.ensures.items c.in-Some.is
-    c.loop-pass.invariant.left in
-    omega (arith, t.2)
+loop-pass-smaller c = grind (arith, taken)
 
 pub loop-pass-preserved : goal.loop-pass-preserved
 loop-pass-preserved c =

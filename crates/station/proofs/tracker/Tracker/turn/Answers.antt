@@ -1,5 +1,4 @@
-use Rattle.std.proofs.Common.{rules, arith, sym, ap, ◌∙◌, ◌≡◌, ◌≢◌, suc, ℕ, ◌-◌, ◌<◌, refl}
-use Rattle.station.specs.Plays.{view_held}
+use Rattle.std.proofs.Common.{rules, arith, ◌≡◌, ◌≢◌, suc, ℕ, ◌-◌, ◌<◌, refl}
 use Rattle.station.specs.Setup.{nodes_in}
 use Rattle.station.proofs.Turning.{turns_at}
 use Rattle.station.proofs.tracker.Tracker.turn.Goals as goal
@@ -39,20 +38,11 @@ overflow_cast-result c = omega (
 )
 
 pub returns-clause-turn : goal.returns-clause-turn
-returns-clause-turn c =
-    let found = c.compare_exchange_with-found.result in
-    let t = (c.compare_exchange_with-found.ensures.2 c.args.node c.args.act.now
-    c.lock_place-place.ensures.place refl).1 c.if-found-eq0.false in
-    let some : found ≡ suc (found - 1) = up found c.if-found-eq0.false in (
-      refl,
-      (λ e. t.1 (some ∙ ap suc (e ∙ sym c.requires.low))),
-      t.0
-          ∙ ap (λ (k : ℕ). (
-            view_held c.args.seat.now.me.0 c.args.node k
-                c.compare_exchange_with-found.new.seat.me.0.turns,
-            c.args.seat.now.me.1,
-          )) some,
-    )
+returns-clause-turn c = grind (
+  arith,
+  c.compare_exchange_with-found.ensures.2 c.args.node c.args.act.now c.lock_place-place.ensures.place refl,
+  up,
+)
 
 pub returns-clause-logs : goal.returns-clause-logs
 returns-clause-logs c =

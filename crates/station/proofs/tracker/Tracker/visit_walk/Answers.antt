@@ -1,3 +1,4 @@
+use Rattle.std.proofs.Common.{arith}
 use Rattle.std.proofs.Common.{◌≡◌, refl, subst, sym, ap, ◌∙◌, [], Option}
 use Rattle.std.specs.Prelude.{Some}
 use Rattle.directory.specs.Finds.{after_word, key_of}
@@ -26,11 +27,7 @@ visit_look-requires-clause-cell c =
     (wanted c.args.walk.now c.requires.way.plan_is c.next.ensures c.in-Some.is)
 
 pub saw-requires-clause-word : goal.saw-requires-clause-word
-saw-requires-clause-word c =
-    let looked = c.in_ok-looked.ensures.looked in
-    word-seen c.marks_tell.ensures.marks c.entries_tell.ensures.entries c.front_of_history_is_legal.ensures
-    c.requires.way.plan_is c.plan_is_sound.ensures.matched c.requires.way.of.setup looked.0 looked.1
-    c.requires.way.known c.requires.way.goes (wanted c.args.walk.now c.requires.way.plan_is c.next.ensures c.in-Some.is)
+saw-requires-clause-word c = grind (arith, wanted, word-seen)
 
 pub returns-in_err-looked : goal.returns-in_err-looked
 returns-in_err-looked c = record {

@@ -1,7 +1,7 @@
 use Rattle.std.proofs.Common.{◌++◌, ◌∷◌, [], subst, sym}
 use Rattle.entry_word.specs.declared.visit.Act.TheVariants.{Put}
 use Rattle.visit_log.specs.Cells.{Hold}
-use Rattle.visit_log.proofs.Holding.{hold-after}
+use Rattle.visit_log.proofs.Opening.{hold-after}
 use Rattle.visit_log.proofs.cells.PlainCells.put.Goals as goal
 
 pub returns-clause-history : goal.returns-clause-history

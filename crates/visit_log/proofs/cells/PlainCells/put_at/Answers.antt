@@ -1,7 +1,7 @@
 use Rattle.std.proofs.Common.{◌≡◌, ◌∙◌, ap}
 use Rattle.visit_log.specs.Cells.{CellData}
 use Rattle.visit_log.proofs.Apart.{slot-within, slot-at}
-use Rattle.visit_log.proofs.Holding.{hold-after}
+use Rattle.visit_log.proofs.Opening.{hold-after}
 use Rattle.visit_log.proofs.cells.PlainCells.put_at.Goals as goal
 
 pub replace-requires : goal.replace-requires

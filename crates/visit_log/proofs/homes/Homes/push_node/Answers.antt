@@ -1,9 +1,9 @@
-use Rattle.std.proofs.Common.{◌≡◌, ℕ, suc, ◌+◌, ◌*◌, ◌<◌, [], ◌∷◌, ◌++◌, length, refl, ap, ◌∙◌, inl, inr, arith}
+use Rattle.std.proofs.Common.{◌≡◌, ℕ, ◌+◌, ◌*◌, ◌<◌, [], ◌∷◌, ◌++◌, refl, ◌∙◌, inl, inr, arith}
 use Rattle.std.proofs.lemmas.Bool.{cases_lt}
-use Rattle.std.proofs.lemmas.List.{get_or_append_left, get_or_push, length_push}
 use Rattle.region_plan.specs.Plan.{PlanData, home, levels_of}
 use Rattle.visit_log.specs.Homes.{HaveHomes, HomeData, home_place}
 use Rattle.entry_word.specs.declared.visit.Key.TheVariants.{Entry}
+use Rattle.visit_log.proofs.Adding.{pushed}
 use Rattle.visit_log.proofs.Apart.{place-below, same-part}
 use Rattle.visit_log.proofs.homes.Homes.push_node.Goals as goal
 
@@ -14,22 +14,17 @@ home-more : {plan : PlanData} {old : HomeData} (new : HomeData) (node level : �
     → HaveHomes plan new (node * levels_of plan + (level + 1))
 home-more {plan} {old} new node level {place} low have levels places is =
     let count : ℕ = node * levels_of plan + level in
-    let more : length new.places ≡ suc count =
-    omega (arith, ap length places, length_push old.places place, have.count_is)
-    in
+    let row = pushed places in
     record {
       levels = levels ∙ have.levels;
-      count_is = omega (arith, more);
+      count_is = omega (arith, row.size, have.count_is);
       places = λ other above high before. elim (cases_lt (other * levels_of plan + above) count) [
         | inl less ↦
-            rw (
-              places,
-              get_or_append_left old.places (place ∷ []) 0 (other * levels_of plan + above)
-                  (omega (arith, less, have.count_is)),
-            ) (have.places other above high less)
+            row.before (other * levels_of plan + above) (omega (arith, less, have.count_is))
+            ∙ have.places other above high less
         | inr over ↦
             let both = same-part (levels_of plan) node level other above low high (omega (arith, before, over)) in
-            rw (both.0, both.1, places, get_or_push old.places place 0 count (omega (arith, have.count_is))) is
+            rw (both.0, both.1) (row.last count (omega (arith, have.count_is)) ∙ is)
       ];
     }
 

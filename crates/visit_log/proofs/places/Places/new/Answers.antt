@@ -1,12 +1,13 @@
 use Rattle.std.proofs.Common.{◌≡◌, ℕ, ◌+◌, ◌*◌, ◌<◌, ◌≤◌, List, [], ◌∷◌, ◌++◌, length, get_or, ap, sym, ◌∙◌, inl, inr, arith}
 use Rattle.std.proofs.Math.Nat.{le_antisymm}
 use Rattle.std.proofs.lemmas.Bool.{cases_lt}
-use Rattle.std.proofs.lemmas.List.{get_or_append_left, get_or_push, length_push, take_all}
+use Rattle.std.proofs.lemmas.List.{take_all}
 use Rattle.std.proofs.lemmas.List.Sums.{sum_by_more}
 use Rattle.std.specs.Prelude.{sum_by}
 use Rattle.region_plan.specs.Kept.{IsKept}
 use Rattle.region_plan.specs.Plan.{PlanData, clusters_of, levels_of, no_level, nodes_of}
 use Rattle.visit_log.specs.Numbers.{clusters_below}
+use Rattle.visit_log.proofs.Adding.{pushed}
 use Rattle.visit_log.proofs.Apart.{size}
 use Rattle.visit_log.proofs.places.Places.new.Goals as goal
 
@@ -20,14 +21,13 @@ record HaveFirsts (plan : PlanData) (firsts : List ℕ) (level first : ℕ) : Ty
 more-firsts : {plan : PlanData} {old new : List ℕ} {level first : ℕ} → IsKept plan → level < levels_of plan
     → HaveFirsts plan old level first → new ≡ old ++ first ∷ []
     → HaveFirsts plan new (level + 1) (first + clusters_of plan level)
-more-firsts {plan} {old} {new} {level} {first} kept low have items = record {
-  count = omega (arith, have.count, ap length items, length_push old first);
+more-firsts {plan} {level = level} kept low have items = record {
+  count = omega (arith, have.count, (pushed items).size);
   each = λ k below. elim (cases_lt k level) [
-    | inl less ↦
-        rw (items, get_or_append_left old (first ∷ []) 0 k (omega (arith, less, have.count))) (have.each k less)
+    | inl less ↦ (pushed items).before k (omega (arith, less, have.count)) ∙ have.each k less
     | inr over ↦
         let at : k ≡ level = omega (arith, below, over) in
-        rw (at, items, get_or_push old first 0 level (omega (arith, have.count))) have.next
+        rw at ((pushed items).last level (omega (arith, have.count)) ∙ have.next)
   ];
   next = omega (arith, have.next, sum_by_more size plan.levels level no_level low);
   few = omega (arith, have.few, (kept.levels level no_level low).clusters, kept.metric.few);

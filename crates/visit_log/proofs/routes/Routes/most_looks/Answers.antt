@@ -1,5 +1,5 @@
 use Rattle.std.proofs.Common.{arith}
-use Rattle.visit_log.proofs.Reading.{readers-between}
+use Rattle.visit_log.proofs.Parts.{readers-between}
 use Rattle.visit_log.proofs.routes.Routes.most_looks.Goals as goal
 
 pub overflow_sub-readers : goal.overflow_sub-readers

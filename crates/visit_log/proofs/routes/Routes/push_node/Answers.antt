@@ -1,13 +1,7 @@
-use Rattle.std.proofs.Common.{◌≡◌, ℕ, ◌+◌, ◌*◌, ◌∙◌, add_assoc, arith, subst}
+use Rattle.std.proofs.Common.{◌≡◌, ℕ, ◌+◌, ◌*◌, ◌∙◌, arith, subst}
 use Rattle.std.proofs.Math.Nat.{le_antisymm}
-use Rattle.region_plan.specs.Plan.{levels_of}
 use Rattle.visit_log.specs.Routes.{HaveParts}
 use Rattle.visit_log.proofs.routes.Routes.push_node.Goals as goal
-
-pub loop-level-preserved : goal.loop-level-preserved
-loop-level-preserved c =
-    subst (HaveParts c.args.plan.now c.push_part.new.self)
-    (add_assoc (c.args.node * levels_of c.args.plan.now) c.loop-level.level 1) c.in_ok-push_part.ensures
 
 all-levels : (node : ℕ) {level levels : ℕ} → level ≡ levels → node * levels + level ≡ (node + 1) * levels
 all-levels node all = omega (arith, all)

@@ -1,10 +1,9 @@
-use Rattle.std.proofs.Common.{◌≡◌, ℕ, ◌+◌, ◌*◌, ◌^◌, ◌<◌, ◌≤◌, [], ◌∷◌, ◌++◌, length, get_or, refl, sym, ap, ◌∙◌, arith}
+use Rattle.std.proofs.Common.{◌≡◌, ℕ, ◌^◌, ◌<◌, ◌≤◌, [], ◌∷◌, ◌++◌, length, get_or, refl, sym, ap, ◌∙◌, arith}
 use Rattle.std.specs.Prelude.{slice_index}
-use Rattle.std.proofs.lemmas.List.{get_or_push, length_push}
 use Rattle.entry_word.specs.declared.visit.Key.TheVariants.{Entry}
-use Rattle.region_plan.specs.Plan.{inside, readers}
+use Rattle.region_plan.specs.Plan.{readers}
 use Rattle.visit_log.specs.Routes.{RouteData}
-use Rattle.visit_log.proofs.Adding.{adding-done, adding-more, parts-few, row_of}
+use Rattle.visit_log.proofs.Adding.{adding-done, adding-more, parts-few, pushed, row_of}
 use Rattle.visit_log.proofs.Apart.{place-below}
 use Rattle.region_plan.specs.ReaderLaws.{reader-held, readers-few, readers-some, way-light}
 use Rattle.visit_log.proofs.routes.Routes.push_part.Goals as goal
@@ -87,12 +86,8 @@ loop-index-preserved c =
     let held = reader-held plan level node index c.plan_is_sound.ensures.matched c.requires.level c.requires.node short
     in
     let its = c.loop-index.self-inside in
-    let now : RouteData = row_of its.levels its.starts its.places its.level_of its.ways in
     let next : RouteData =
     row_of its.levels its.starts c.push_reserved.new.self its.level_of c.push_reserved-in-loop-index.new.self in
-    let sum : ℕ = c.loop-index.sum + 2 * c.reader_weight.result in
-    let way : c.reader_weight.result ≡ inside plan level (slice_index (readers plan level node) index) node =
-    c.reader_weight.ensures in
     record {
       adding = adding-more next c.loop-index.invariant.adding refl refl refl c.push_reserved.ensures.items
           c.push_reserved-in-loop-index.ensures.items (omega (
@@ -100,34 +95,20 @@ loop-index-preserved c =
             c.first-first.ensures,
             c.requires.places.firsts level c.requires.level,
             ap (λ rs. slice_index rs index) c.readers-readers.ensures,
-          )) (omega (arith, c.loop-index.invariant.sum, way)) (omega (
+          )) (omega (arith, c.loop-index.invariant.sum, c.reader_weight.ensures)) (omega (
             arith,
             c.loop-index.invariant.sum,
-            way,
+            c.reader_weight.ensures,
             c.loop-index.invariant.adding.light,
             way-light plan level (slice_index (readers plan level node) index) node c.plan_is_sound.ensures.sound
                 c.plan_is_sound.ensures.reached c.requires.level held.1 held.0,
           ));
       sum =
-          let size : length c.push_reserved.new.self.items ≡ length c.loop-index.self-inside.ways.items =
-          omega (
-            arith,
-            ap length c.push_reserved.ensures.items,
-            length_push c.loop-index.self-inside.places.items
-                (c.first-first.result + slice_index c.readers-readers.result.now index),
-            c.loop-index.invariant.adding.ways_size,
-          )
-          in
-          sym (ap (λ xs. slice_index xs (length c.push_reserved.new.self.items))
-          c.push_reserved-in-loop-index.ensures.items
-          ∙ get_or_push c.loop-index.self-inside.ways.items sum 0 (length c.push_reserved.new.self.items)
-          (sym size));
+          let row = pushed c.push_reserved.ensures.items in
+          sym ((pushed c.push_reserved-in-loop-index.ensures.items).last (length c.push_reserved.new.self.items)
+          (omega (arith, row.size, c.loop-index.invariant.adding.ways_size)));
       room = omega (arith, c.push_reserved.ensures.capacity, c.loop-index.invariant.room);
-      ways_room = omega (
-        arith,
-        c.push_reserved-in-loop-index.ensures.capacity,
-        c.loop-index.invariant.ways_room,
-      );
+      ways_room = omega (arith, c.push_reserved-in-loop-index.ensures.capacity, c.loop-index.invariant.ways_room);
     }
 
 pub overflow_cast-len : goal.overflow_cast-len
@@ -149,7 +130,6 @@ pub returns : goal.returns
 returns c =
     let plan = c.args.plan.now in
     let its = c.loop-index.self-inside in
-    let now : RouteData = row_of its.levels its.starts its.places its.level_of its.ways in
     let next : RouteData = row_of its.levels c.push.new.self its.places c.resize.new.self its.ways in
     let all : c.loop-index.index ≡ length (readers plan c.args.level c.args.node) =
     omega (
