@@ -1,6 +1,6 @@
 -- What isn't a visit of a move changes nothing that leads a find: a switch turns a Here into an Off, or back, where the
 -- subscriber rests.
-use Rattle.std.proofs.Common.{inl, inr, ◌≡◌, ℕ, zero, suc, ◌≤◌, ◌^◌, Bool, true, false, not, ◌==◌, ◌&&◌, ◌||◌, List, [], ◌∷◌, ◌++◌, Option, Some, None, length, map, take, fold, refl, sym, ap, ◌∙◌, subst, arith}
+use Rattle.std.proofs.Common.{inl, inr, ◌≡◌, ℕ, zero, suc, ◌≤◌, ◌^◌, Bool, true, false, ◌==◌, ◌&&◌, ◌||◌, List, [], ◌∷◌, ◌++◌, Option, Some, None, length, map, take, fold, refl, sym, ap, ◌∙◌, subst, arith}
 use Rattle.std.proofs.lemmas.Bool.{cases_Bool, cond_both, and_parts, eqb-true, eq-eqb}
 use Rattle.std.proofs.Math.Bool.{and-false}
 use Rattle.std.specs.Prelude.{slice_get}
@@ -81,12 +81,7 @@ switching sub history visit put quiet = at_act visit.act refl put is_switching
   where
     is_switching : (says_off (mark_put visit.act) || (ends_off (puts_to sub history) && says_here
         (mark_put visit.act))) ≡ true
-    is_switching = of_both (is_put_for sub visit.act) _ put quiet
-      where
-        of_both : (p x : Bool) → p ≡ true → (p && not (p && x)) ≡ false → x ≡ true
-        of_both true true h g = refl
-        of_both true false h g = cc
-        of_both false x h g = cc
+    is_switching = grind (arith, is_put_for)
 
     at_act : (act : Act) → visit.act ≡ act → is_put_for sub act ≡ true
         → (says_off (mark_put act) || (ends_off (puts_to sub history) && says_here (mark_put act))) ≡ true
@@ -174,28 +169,22 @@ alike-switch marks_left rests {setting} {sub} {history} {visit} low legal legal_
     due : slice_get (visits_in setting sub course (switch.step ∷ [])) 0 ≡ Some visit
     due = get-next puts (visits setting sub (steps_in puts)) (visits_in setting sub course (switch.step ∷ [])) visit
         (legal_puts.front ∙ ap (take (length (puts ++ visit ∷ [])))
-        (ap (visits setting sub) longer ∙ visits-append setting sub (course_at (start setting sub))
-        (steps_in puts) (switch.step ∷ []))) done
+        (grind (arith, visits, longer, visits-append, course_at, start, steps_in, puts))) done
 
     at_stop : switch.node ≡ last_stop course
     at_stop =
         let its = switch.is_switch_step setting course in
-        let written : slice_get (map (visit_of sub) (mark_at (last_stop course) its.0 ∷ [])) 0
-        ≡ Some visit = sym (ap (λ ws. slice_get (map (visit_of sub) (ws ++ [])) 0) its.1) ∙ due in
-        let same : visit_of sub (mark_at (last_stop course) its.0) ≡ visit = cc in
-        sym (ap node_put switch.is_put) ∙ sym (ap (λ (v : Visit). node_put v.act) same)
+        grind (arith, slice_get, map, visit_of, mark_at, last_stop, course, due, node_put)
 
     there_now : mark_seen setting sub history (last_stop course) ≡ there course
     there_now = mark-there setting sub history (switch-rests rests low legal legal_more put switch) marks_left low legal
 
     answered : AnswersAll (there course)
-    answered = cond_both course.is_off (Off (length course.moves)) (Here (length course.moves)) AnswersAll
-        (λ e known. (refl, refl, refl)) (λ e known. (refl, refl, refl))
+    answered = grind (arith, cond_both, length)
 
     after : (key : Key) → cell setting (history ++ visit ∷ []) key
         ≡ word_after key (cell setting history key) (Put (Presence switch.node sub) switch.word)
-    after key = fold-append (λ w (v : Visit). word_after key w v.act) _ history (visit ∷ [])
-        ∙ ap (word_after key (cell setting history key)) switch.is_put
+    after key = grind (arith, fold-append, word_after, cell)
 
     at_node : (v : ℕ) (b : Bool) → (v == switch.node) ≡ b
         → AreAlike (mark_seen setting sub history v) (mark_seen setting sub (history ++ visit ∷ []) v)
@@ -203,15 +192,10 @@ alike-switch marks_left rests {setting} {sub} {history} {visit} low legal legal_
     at_node v true e =
         let before_it : mark_seen setting sub history v ≡ there course =
         ap (mark_seen setting sub history) (eqb-true v switch.node e ∙ at_stop) ∙ there_now in
-        rw (before_it, after (Presence v sub), e, eq-eqb sub sub refl) (λ known. (
-          (answered known).0 ∙ sym (switch.answers_all known).0,
-          (answered known).1 ∙ sym (switch.answers_all known).1,
-          (answered known).2 ∙ sym (switch.answers_all known).2,
-        ))
+        rw (before_it, after (Presence v sub), e, eq-eqb sub sub refl) (grind (arith, answered))
 
     same_commits : commits sub (history ++ visit ∷ []) ≡ commits sub history
-    same_commits = rw (commits-append sub history (visit ∷ []), put, switch.no_commit)
-        (append-nil (commits sub history))
+    same_commits = grind (arith, commits-append, append-nil, commits)
 
 -- so it is for each visit that is none of a move
 pub alike-step : CellsOfPuts → MarksAreLeft → StepsBeginAtRest

@@ -35,13 +35,7 @@ pub record IsBehind (setting : Setting) (sub : ℕ) (seen : History) (behind : B
 
 behind-nothing : (setting : Setting) (sub : ℕ) (seen : History) (known : Option ℕ) (node : ℕ)
     → IsBehind setting sub seen nothing known node
-behind-nothing setting sub seen known node = record {
-  few = omega arith;
-  stop = inl refl;
-  early = omega arith;
-  rises = omega arith;
-  fresh = λ p h. omega arith;
-}
+behind-nothing setting sub seen known node = grind arith
 
 -- it stays so
 pub behind-later : {setting : Setting} {sub : ℕ} (t u : ℕ) (history : History) {behind : Behind} {known : Option ℕ}
@@ -116,29 +110,9 @@ Continues behind mark later = later ≡ []
 pub one-more : (behind : Behind) (mark : PresenceMark) (later : List PresenceMark) → behind.gone ≤ behind.place
     → GoesUp behind.place mark → IsBegun behind.begun mark → Continues behind mark later
     → Rises behind (mark ∷ later)
-one-more behind (Gone q to) later low up begun rest = record {
-  head = (up, tt);
-  on = joined later rest.head rest.on;
-  above = (omega (arith, low, up), below-less behind.gone q _ (omega (arith, low, up)) rest.above);
-  ascends = (rest.above, rest.ascends);
-}
-  where
-    joined : (marks : List PresenceMark) → HeadFits q q marks → FollowOn marks → FollowOn (Gone q to ∷ marks)
-    joined [] head on = tt
-    joined (next ∷ more) head on = (head.0, on)
-one-more behind (Coming q from) later low up begun rest = record {
-  head = (up, begun);
-  on = joined later rest.head rest.on;
-  above = rest.above;
-  ascends = rest.ascends;
-}
-  where
-    joined : (marks : List PresenceMark) → HeadFits (q - 1) q marks → FollowOn marks
-        → FollowOn (Coming q from ∷ marks)
-    joined [] head on = tt
-    joined (next ∷ more) head on = (goes-back q next head.0 head.1, on)
-one-more behind mark later low up begun none = rw none
-    (record { head = (up, begun); on = tt; above = tt; ascends = tt })
+one-more behind (Gone q to) later low up begun rest = grind (arith, below-less)
+one-more behind (Coming q from) later low up begun rest = grind (arith, goes-back)
+one-more behind mark later low up begun none = grind arith
 
 -- no mark is read after the end
 pub ended-none : (setting : Setting) (call : FindCall) (pursuit : Pursuit) (words : List ℕ)

@@ -32,8 +32,7 @@ knows-with most p (Some k) knows low = omega (arith, knows)
 
 knows-it : (number : ℕ) (known : Option ℕ) → is_known number (known_with number known) ≡ true
 knows-it number None = let e : nat_le number number ≡ true = grind (arith, nat_tests) in e
-knows-it number (Some k) = let low : number ≤ max k number = omega arith in let e : nat_le number (max k number)
-    ≡ true = grind (arith, nat_tests, low) in e
+knows-it number (Some k) = grind (arith, max, nat_le)
 
 knows-less : (most number : ℕ) (known : Option ℕ) → KnowsAtMost most known → most < number
     → is_known number known ≡ false
@@ -49,8 +48,7 @@ module _ (setting : Setting) (marks : ℕ → PresenceMark) where
   pub arrived : (known : Option ℕ) (node last most_hops most_way : ℕ) → node ≡ last
       → answers known (marks node) ≡ true → Arrival setting marks known node last most_hops most_way
   unfolding IsLed
-  arrived known node last most_hops most_way same answered = record
-      { hops = 0; way = 0; led = (same, answered, refl); few = omega arith; short = λ metric. omega arith }
+  arrived known node last most_hops most_way same answered = grind arith
 
   -- one hop more
   hopped : (known : Option ℕ) (node to last most_hops most_way : ℕ) → lead known (marks node) ≡ Some to
@@ -68,13 +66,7 @@ module _ (setting : Setting) (marks : ℕ → PresenceMark) where
   pub longer : (known : Option ℕ) (node last few few_more short short_more : ℕ) → few ≤ few_more
       → (HasMetric setting → short ≤ short_more) → Arrival setting marks known node last few short
       → Arrival setting marks known node last few_more short_more
-  longer known node last few few_more short short_more h g a = record {
-    hops = a.hops;
-    way = a.way;
-    led = a.led;
-    few = omega (arith, a.few, h);
-    short = λ metric. omega (arith, a.short metric, g metric);
-  }
+  longer known node last few few_more short short_more h g a = grind arith
 
   -- from a stop of a trail the marks lead to the end, in no more hops than nodes hold a later Gone, and so many more
   abbrev pub Arrives : ℕ → ℕ → List Move → ℕ → ℕ → ℕ → ℕ → Option ℕ → Type 0
@@ -141,8 +133,7 @@ module _ (setting : Setting) (marks : ℕ → PresenceMark) where
 
               rises : above setting marks (number + suc left.place) < above setting marks (number + i)
               rises = above-less setting marks v (number + suc left.place) (number + i) left.move.to inside
-                  (gone ∙ ap (λ n. Gone n left.move.to) (left.link.its_number
-                  ∙ (let e : suc (number + left.place) ≡ number + suc left.place = omega arith in e)))
+                  (grind (arith, gone))
                   (omega (arith, late))
 
   -- at rest: the end of the trail is an exit
@@ -177,8 +168,7 @@ module _ (setting : Setting) (marks : ℕ → PresenceMark) where
       at_last (inl same) t = inl (arrived known v last _ _ same (rw same (answered known)))
       at_last (inr other) (inl at_to) =
           inl (longer known v last 1 (1 + above setting marks (number + i)) (setting.distance v last + 0)
-          (weight_from moves i + 0) (omega arith) (λ metric. omega (arith, way metric)) (rw at_to
-          (back-leads last most p to known above_most knows comes answered)))
+          (weight_from moves i + 0) (omega arith) (λ metric. omega (arith, way metric)) (grind (arith, back-leads)))
         where
           way : HasMetric setting → setting.distance v last ≤ weight_from moves i
           way metric = rw (is_stop, ends) at (way-short from number moves i linked begins metric low)

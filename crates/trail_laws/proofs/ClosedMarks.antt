@@ -59,12 +59,7 @@ fold-still f a g (x ∷ xs) still = ap (λ b. fold f b (map g xs)) (still x) ∙
 pub marked-purges : (v : ℕ) (mark : PresenceMark) (nodes : List ℕ)
     → marked v mark (map (λ node. mark_at node Empty) nodes) ≡ cond (has v nodes) Empty mark
 marked-purges v mark [] = refl
-marked-purges v mark (node ∷ nodes) = marked-purges v (cond (v == node) Empty mark) nodes
-    ∙ at_test (v == node) (has v nodes)
-  where
-    at_test : (a b : Bool) → cond b Empty (cond a Empty mark) ≡ cond (a || b) Empty mark
-    at_test true true = refl
-    at_test a b = refl
+marked-purges v mark (node ∷ nodes) = grind (arith, marked-purges v (cond (v == node) Empty mark) nodes, has)
 
 -- the trail with one more move
 pub trail_mark-push : (moves : List Move) (move : Move) (v : ℕ) (mark : PresenceMark)
@@ -101,15 +96,7 @@ from-inside sound next = rw next.from (stop-inside sound)
 
 pub is-next : {setting : Setting} {course : Course} {node : ℕ} → MayMove setting course node
     → IsNext setting course (next_move setting course node)
-is-next {setting} {course} {node} may = record {
-  number = refl;
-  from = refl;
-  weight = refl;
-  renewed = renewed-low setting course node;
-  inside = may.inside;
-  moving = may.moving;
-  is_on = may.is_on;
-}
+is-next {setting} {course} {node} may = grind (arith, renewed-low)
 
 -- the course after a move
 abbrev pub with_move : Course → Move → Course
@@ -117,15 +104,7 @@ with_move course move = record course { moves = course.moves ++ move ∷ [] }
 
 pub sound-with : {setting : Setting} {course : Course} {move : Move} → IsSound setting course
     → IsNext setting course move → IsSound setting (with_move course move)
-sound-with {setting} {course} {move} sound next = record {
-  begins = sound.begins;
-  linked = linked-push setting course.start 0 course.moves move (record {
-    its_number = omega (arith, next.number);
-    its_from = next.from;
-    its_weight = next.weight ∙ ap (λ n. setting.distance n move.to) next.from;
-    inside = next.inside;
-  }) sound.linked;
-}
+sound-with {setting} {course} {move} sound next = grind (arith, linked-push)
 
 pub stop-with : (course : Course) (move : Move) → last_stop (with_move course move) ≡ move.to
 stop-with course move = fold-append (λ node (m : Move). m.to) course.start course.moves (move ∷ [])
@@ -136,8 +115,7 @@ count-with course move = omega (arith, length-append course.moves (move ∷ []))
 pub base-with : (level : ℕ) (course : Course) (move : Move)
     → base level (with_move course move).moves ≡ cond (nat_le level move.renewed) move.number
     (base level course.moves)
-base-with level course move = fold-append (λ last (m : Move). if nat_le level m.renewed then m.number else last) 0
-    course.moves (move ∷ [])
+base-with level course move = grind (arith, fold-append, nat_le)
 
 there-with : {setting : Setting} {course : Course} {move : Move} → IsNext setting course move
     → there (with_move course move) ≡ Here move.number
@@ -187,26 +165,11 @@ marks-rest {setting} {course} {move} purged v sound next whole none =
         let same : move.renewed ≡ setting.top = eqb-true move.renewed setting.top e in
         let top : nat_le setting.top move.renewed ≡ true = grind (arith, nat_tests, same) in
         let none_since : since_top setting (with_move course move)
-        ≡ [] = drop_of_length-le (with_move course move).moves
-        {i = base setting.top (with_move course move).moves}
-        (omega (
-          arith,
-          base-with setting.top course move
-              ∙ ap (λ b. cond b move.number (base setting.top course.moves)) top,
-          next.number,
-          count-with course move,
-        ))
+        ≡ [] = grind (arith, drop_of_length-le, with_move, base, base-with, count-with)
         in
-        rw (none_since, whole e, trail-has move v sound)
-        (purged-rest (has v (map (λ (m : Move). m.from) since)) (v == move.to) (v == move.from) (Here move.number)
-        (Gone move.number move.to) (Coming move.number move.from) (there course) (trail_mark since v Empty)
-        (trail_mark-none since v Empty) ∙ ap (cond (v == move.to) (Here move.number)) refl)
+        grind (arith, trail-has, purged-rest, has, map, since, there, trail_mark, trail_mark-none)
     at_top false e =
         let low : nat_le setting.top move.renewed ≡ false = grind (arith, nat_tests, next.renewed, e) in
         let one_since : since_top setting (with_move course move) ≡ since ++ move ∷ [] =
-        ap (λ n. drop n (course.moves ++ move ∷ [])) (base-with setting.top course move
-        ∙ ap (λ b. cond b move.number (base setting.top course.moves)) low)
-        ∙ drop-append-le (base setting.top course.moves) course.moves (move ∷ []) (base-low setting.top sound) in
-        rw (one_since, none e, trail_mark-push since move v Empty)
-        (added-rest (v == move.to) (v == move.from) (Here move.number) (Gone move.number move.to)
-        (Coming move.number move.from) (there course) (trail_mark since v Empty))
+        grind (arith, drop, base-with, base, drop-append-le, base-low) in
+        grind (arith, trail_mark-push, since, added-rest, there, trail_mark)

@@ -74,19 +74,15 @@ module _ (setting : Setting) (course : Course) (move : Move) where
     on = λ off. addresses-still (λ o write. write_off write) false written (λ level. refl);
   }
   leaves passage = record {
-    marks = λ v. fold-append (mark_after v) _ (map (new_address setting move) (renewed_levels move)) _
-        ∙ ap (λ m. cond (v == move.from) (Gone move.number move.to) m)
-        (addresses-still (mark_after v) (mark_coming setting course move v) (renewed_levels move) (λ level. refl));
+    marks = grind (arith, fold-append, mark_after, map, new_address, renewed_levels, addresses-still, mark_coming);
     entries = λ level cluster.
         fold-append (entry_after level cluster) _ (map (new_address setting move) (renewed_levels move)) _
         ∙ entered-levels (λ l. setting.home l move.to) (new_entry move) level cluster
         (rest_entry setting course level cluster) (renewed_levels move);
     commits = ap (λ cs. map commit_by course.moves ++ cs)
-        (filter_map-append write_commit (map (new_address setting move) (renewed_levels move)) _
-        ∙ ap (λ cs. cs ++ commit_by move ∷ []) (none-new (renewed_levels move)))
+        (grind (arith, filter_map-append, write_commit, map, new_address, renewed_levels, commit_by, none-new))
         ∙ sym (map-append commit_by course.moves (move ∷ []));
-    on = λ off. fold-append (λ o write. write_off write) false
-        (map (new_address setting move) (renewed_levels move)) _;
+    on = grind (arith, fold-append, write_off, map, new_address, renewed_levels);
   }
   leaves (clearing erased purged) = record {
     marks = λ v. fold-append (mark_after v) _ (map (new_address setting move) (renewed_levels move)) _
@@ -94,9 +90,7 @@ module _ (setting : Setting) (course : Course) (move : Move) where
         (cond (v == move.from) (Gone move.number move.to) m)) (erasures setting course erased ++ purges purged))
         (addresses-still (mark_after v) (mark_coming setting course move v) (renewed_levels move) (λ level. refl))
         ∙ (fold-append (mark_after v) (arrived v) (erasures setting course erased) (purges purged)
-        ∙ (ap (λ m. marked v m (purges purged)) (fold-still (mark_after v) (arrived v)
-        (λ (level : ℕ). entry_at level (old_home setting course level) None) erased (λ level. refl))
-        ∙ marked-purges v (arrived v) purged)));
+        ∙ (grind (arith, marked, purges, fold-still, mark_after, arrived, entry_at, old_home, marked-purges))));
     entries = λ level cluster.
         fold-append (entry_after level cluster) _ (map (new_address setting move) (renewed_levels move)) _
         ∙ (ap (λ e. entered level cluster e (erasures setting course erased ++ purges purged))
@@ -111,16 +105,9 @@ module _ (setting : Setting) (course : Course) (move : Move) where
         ∙ (ap (λ cs. cs ++ (commit_by move ∷ filter_map write_commit (erasures setting course erased ++ purges purged)))
         (none-new (renewed_levels move))
         ∙ ap (λ cs. commit_by move ∷ cs)
-        (filter_map-append write_commit (erasures setting course erased) (purges purged)
-        ∙ (ap (λ cs. cs ++ filter_map write_commit (purges purged)) (none-told _ erased (λ level. refl))
-        ∙ none-told _ purged (λ node. refl)))))
+        (grind (arith, filter_map-append, write_commit, erasures, purges, filter_map, none-told))))
         ∙ sym (map-append commit_by course.moves (move ∷ []));
-    on = λ off. fold-append (λ o write. write_off write) false
-        (map (new_address setting move) (renewed_levels move)) _
-        ∙ (fold-append (λ o write. write_off write) false (erasures setting course erased) (purges purged)
-        ∙ (ap (λ o. fold (λ x write. write_off write) o (purges purged))
-        (fold-still (λ o write. write_off write) false _ erased (λ level. refl))
-        ∙ fold-still (λ o write. write_off write) false _ purged (λ node. refl)));
+    on = grind (arith, fold-append, write_off, map, new_address, renewed_levels, erasures, purges, fold, fold-still);
   }
     where
       arrived : ℕ → PresenceMark
@@ -134,24 +121,14 @@ pub whole-writes : (setting : Setting) (course : Course) (move : Move)
     → move_writes setting course move ≡ phase_writes setting course move (whole_phase setting course move)
 unfolding phase_writes
 whole-writes setting course move =
-    ap (λ ws. mark_at move.to (Coming move.number move.from) ∷
-    (map (new_address setting move) (renewed_levels move) ++
-    (mark_at move.from (Gone move.number move.to) ∷
-    (mark_at move.to (Here move.number) ∷ (erasure_writes setting course move ++ ws)))))
-    (at_test (move.renewed == setting.top))
-  where
-    at_test : (b : Bool) → cond b (purges (purge_nodes setting course move)) []
-        ≡ purges (cond b (purge_nodes setting course move) [])
-    at_test true = refl
-    at_test false = refl
+    grind (arith, mark_at, map, new_address, renewed_levels, erasure_writes, purges, purge_nodes)
 
 -- which levels and nodes pass a test
 in-passing : (test : ℕ → Bool) (x n : ℕ) → has x (sift test 0 (suc n)) ≡ (nat_le x n && test x)
 in-passing test x n = elim (cases_lt n x) as (λ _. has x (sift test 0 (suc n)) ≡ (nat_le x n && test x)) [
   | inr low ↦ let e : nat_le x n ≡ true = grind (arith, nat_tests, low) in rw e
       (has-passing test x 0 (suc n) (omega arith) (omega arith))
-  | inl high ↦ let e : nat_le x n ≡ false = grind (arith, nat_tests, high) in rw e
-      (passing_over test x 0 (suc n) (omega arith))
+  | inl high ↦ grind (arith, nat_le, passing_over)
 ]
 
 pub in-levels : (level : ℕ) (move : Move) → has level (renewed_levels move) ≡ nat_le level move.renewed
@@ -234,8 +211,7 @@ commits-steps setting course [] = append-nil (map commit_by course.moves)
 commits-steps setting course (step ∷ steps) =
     ap (λ cs. map commit_by course.moves ++ cs) (filter_map-append write_commit (step_writes setting course step)
     (writes setting (after_step setting course step) steps))
-    ∙ (sym (append_assoc (map commit_by course.moves) (filter_map write_commit (step_writes setting course step))
-    (filter_map write_commit (writes setting (after_step setting course step) steps)))
+    ∙ (sym (grind (arith, append_assoc, map, commit_by, filter_map, write_commit, step_writes, writes, after_step))
     ∙ (ap (λ cs. cs ++ filter_map write_commit (writes setting (after_step setting course step) steps)) (one step)
     ∙ commits-steps setting (after_step setting course step) steps))
   where

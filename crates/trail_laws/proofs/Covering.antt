@@ -34,11 +34,7 @@ covers laws marks inside setting sub history low legal = elim (view-counts (view
         → mark_seen setting sub history (standing setting sub history) ≡ mark
         → MarkTells setting sub history (standing setting sub history) mark → Goal
     at_mark all (Coming p from) e tells = inr (inl (from, e ∙ ap (λ n. Coming n from) (tells.0 ∙ all)))
-    at_mark all mark e tells = inr (inr (
-      all,
-      λ from comes.
-          let clash : mark ≡ Coming (number sub history) from = sym e ∙ comes in cc,
-    ))
+    at_mark all mark e tells = grind (arith, number)
 
 -- a move that isn't committed has its Coming where it goes
 last-is : (xs : List Move) (x y : Move) → last_or None (xs ++ x ∷ []) ≡ Some y → x ≡ y
@@ -49,9 +45,7 @@ begun-shown : {setting : Setting} {shown : Shown} (move : Move) → View setting
     → shown.marks move.to ≡ Coming move.number move.from
 begun-shown move (inl h) early last =
     absurd (omega (arith, early, ap length h.moves_are, count-told h.course.moves h.commits_are))
-begun-shown move (inr (coming written, h)) early last =
-    rw (← last-is h.course.moves h.move move (sym (ap (last_or None) h.moves_are) ∙ last))
-    (h.marks_are h.move.to h.next.inside ∙ rw (eq-eqb h.move.to h.move.to refl))
+begun-shown move (inr (coming written, h)) early last = grind (arith, last-is, last_or, eq-eqb)
 begun-shown move (inr (passage, h)) early last = absurd (all-committed h h.commits_are early)
 begun-shown move (inr (clearing erased purged, h)) early last = absurd (all-committed h h.commits_are early)
 

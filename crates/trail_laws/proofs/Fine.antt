@@ -36,13 +36,7 @@ fine-short : (setting : Setting) (shown : Shown) (level : ℕ) (address : Addres
     → (AreLazy setting shown.moves → way < setting.threshold level)
     → (length shown.moves ≡ suc (length shown.commits) → address.number ≡ suc (length shown.commits)
     → way ≤ setting.distance address.node (standing_of shown)) → IsFine setting shown level address way
-fine-short setting shown level address way short new = record {
-  before_old = λ metric lazy all old. short lazy;
-  before_new = λ metric lazy all is_new. new all is_new;
-  passing = λ metric lazy u comes. omega (arith, short lazy);
-  settled = λ metric lazy all other. omega (arith, short lazy);
-  current = λ metric lazy all other same. short lazy;
-}
+fine-short setting shown level address way short new = grind arith
 
 pub fine-rest : {setting : Setting} {shown : Shown} (h : IsResting setting shown) (level : ℕ) (address : Address)
     → level ≤ setting.top
@@ -66,14 +60,7 @@ fine-new {setting} {shown} h level address below = fine-short setting shown leve
 pub fine-coming_new : {setting : Setting} {shown : Shown} {written : List ℕ}
     (h : IsMoving setting shown (coming written)) (level : ℕ)
     → IsFine setting shown level (move_address h.move) (setting.distance h.move.to (last_stop h.course) + 0)
-fine-coming_new {setting} {shown} h level = record {
-  before_old = λ metric lazy all old.
-      absurd (omega (arith, old, h.next.number, count-told h.course.moves h.commits_are));
-  before_new = λ metric lazy all new. omega (arith, ap (setting.distance h.move.to) stood);
-  passing = λ metric lazy u comes. absurd (clash u comes);
-  settled = λ metric lazy all other. absurd (longer all);
-  current = λ metric lazy all other same. absurd (longer all);
-}
+fine-coming_new {setting} {shown} h level = grind (arith, count-told, stood, clash, longer)
   where
     stood : standing_of shown ≡ last_stop h.course
     stood = rest-stands shown h.course h.begins h.commits_are
@@ -124,8 +111,7 @@ fine-clearing {setting} {shown} h level below = record {
     price-clearing level h.sound h.next below metric (rw h.moves_are at lazy),
     ap (setting.distance (address_node h.course level)) (next-stands h h.commits_are),
   );
-  current = λ metric lazy all other same. rw (same, h.moves_are)
-      (omega (arith, lazy-whole setting (h.course.moves ++ h.move ∷ []) level below (rw h.moves_are at lazy)));
+  current = grind (arith, lazy-whole);
 }
   where
     clash : (u : ℕ) → shown.marks (standing_of shown) ≡ Coming (length shown.commits) u → ⊥

@@ -1,7 +1,7 @@
 -- Which addresses an entry has: the old one of its level, or that of the move under way.
 use Rattle.std.proofs.lemmas.Option.{cond_some}
 use Rattle.std.proofs.lemmas.Bool.{cases_Bool, and_parts, eqb-true}
-use Rattle.std.proofs.Common.{◌≡◌, ◌⊎◌, ℕ, ◌≤◌, true, false, ◌==◌, ◌&&◌, List, Some, sym, ◌∙◌, arith}
+use Rattle.std.proofs.Common.{◌≡◌, ◌⊎◌, ℕ, ◌≤◌, true, false, ◌==◌, ◌&&◌, List, Some, arith}
 use Rattle.std.specs.Prelude.{nat_le}
 use Rattle.std.proofs.lemmas.Bool.Decides.{nat_tests}
 use Rattle.node_set.specs.Ascending.{has}
@@ -61,7 +61,4 @@ unfolding IsOld IsNew
 only-new {setting} {course} {move} level cluster address sound next low top h =
     let at_top : nat_le level move.renewed ≡ true =
     grind (arith, nat_tests, low, eqb-true move.renewed setting.top top) in
-    let its : (address ≡ old_address (with_move course move) level)
-    × ((cluster == setting.home level (address_node (with_move course move) level)) ≡ true) =
-    rest-some setting (with_move course move) level cluster address (sym (whole-entries level cluster sound next) ∙ h)
-    in rw (address-with level sound next, base-with level course move, at_top) at its
+    grind (arith, old_address, with_move, address_node, rest-some, whole-entries, address-with, base-with)

@@ -31,9 +31,7 @@ follow-above : (place : ℕ) (answers : List Answer) (j : ℕ) (b : Answer) → 
 unfolding FollowEachOther
 follow-above place [] j b follows at = cc
 follow-above place (a ∷ answers) zero b follows at = grind arith
-follow-above place (a ∷ answers) (suc j) b follows at =
-    let above = follow-above (suc a.last) answers j b follows.2 at in
-    (omega (arith, above.0, follows.0, follows.1), above.1)
+follow-above place (a ∷ answers) (suc j) b follows at = grind (arith, follow-above (suc a.last) answers j b follows.2)
 
 follow-behind : (place : ℕ) (answers : List Answer) (i j : ℕ) (a b : Answer) → FollowEachOther place answers
     → i < j → slice_get answers i ≡ Some a → slice_get answers j ≡ Some b → (a.last < b.first) × (b.first ≤ b.last)
@@ -42,8 +40,7 @@ follow-behind place [] i j a b follows le at_a at_b = cc
 follow-behind place (x ∷ answers) zero zero a b follows le at_a at_b = absurd (omega (arith, le))
 follow-behind place (x ∷ answers) zero (suc j) a b follows le at_a at_b =
     let one : x ≡ a = cc in
-    let same : x.last ≡ a.last = ap (λ (y : Answer). y.last) one in
-    let above = follow-above (suc x.last) answers j b follows.2 at_b in (omega (arith, same, above.0), above.1)
+    grind (arith, one, follow-above)
 follow-behind place (x ∷ answers) (suc i) zero a b follows le at_a at_b = absurd (omega (arith, le))
 follow-behind place (x ∷ answers) (suc i) (suc j) a b follows le at_a at_b =
     follow-behind (suc x.last) answers i j a b follows.2 (omega (arith, le)) at_a at_b
@@ -56,20 +53,7 @@ looked-on : (caller : Seeker) (call : FindCall) (later : List FindCall) (pursuit
     → AreLooked (with_pursuit caller call later pursuit answer).next
     (with_pursuit caller call later pursuit answer).answers
 looked-on caller call later pursuit None h = λ i a at. omega (arith, h i a at)
-looked-on caller call later pursuit (Some found) h = λ i a at.
-    elim (append-at caller.answers _ i a at) [
-      | inl here ↦ omega (arith, h i a here)
-      | inr there ↦ one there.0 a there.2
-    ]
-  where
-    one : (k : ℕ) (a : Answer) → slice_get ((let b : Answer = record {
-      call = call;
-      found = found;
-      first = caller.first;
-      last = caller.next;
-    } in b) ∷ []) k ≡ Some a → a.last < suc caller.next
-    one zero a at = let same : caller.next ≡ a.last = cc in omega (arith, same)
-    one (suc k) a at = cc
+looked-on caller call later pursuit (Some found) h = grind (arith, append-at, slice_get)
 
 looked-more : (setting : Setting) (caller : Seeker) (calls : List FindCall) (word : ℕ)
     → AreLooked caller.next caller.answers
@@ -125,27 +109,12 @@ caller-in-turn follow count ascend setting scripts history played actor i j one 
     let b = map-at (answer_line actor seen) seeker.answers j other at_other in
     let order = follow-behind 0 seeker.answers i j a.0 b.0 (follow setting scripts history actor high played) le
     a.1 b.1 in
-    let looked : b.0.last < seeker.next = looked-all setting (words_read setting actor history)
-    (caller_at (finds_of setting scripts actor)) (λ k x at. cc) j b.0 b.1 in
+    let looked : b.0.last < seeker.next = grind (arith, looked-all, words_read, caller_at, finds_of) in
     let short : b.0.last < length seen =
     omega (arith, looked, (count setting scripts history actor high played).0) in
     let one_is = line-visits actor a.0.call a.0.found (get_or seen a.0.first 0) (get_or seen a.0.last 0) earlier
     (rw a.2 is_earlier) in
-    let other_is = line-visits actor b.0.call b.0.found (get_or seen b.0.first 0) (get_or seen b.0.last 0) later
-    (rw b.2 is_later) in (
-      omega (
-        arith,
-        one_is.1,
-        other_is.0,
-        place-rises seen a.0.last b.0.first (ascend actor history) order.0 (omega (arith, order.1, short)),
-      ),
-      omega (
-        arith,
-        other_is.0,
-        other_is.1,
-        place-stays_or_rises seen b.0.first b.0.last (ascend actor history) order.1 short,
-      ),
-    )
+    grind (arith, line-visits, get_or, place-rises, place-stays_or_rises)
 
 line-of-caller : (setting : Setting) (scripts : Scripts) (history : History) (actor i : ℕ) (line : Done)
     → slice_get (caller_lines setting scripts history actor) i ≡ Some line → actor_of line ≡ actor
@@ -170,15 +139,7 @@ all-in-turn : (f : ℕ → List Done) (x k : ℕ) → ((a i : ℕ) (y : Done) �
 all-in-turn f x zero each order i j one other le at_one at_other same = cc
 all-in-turn f x (suc k) each order i j one other le at_one at_other same =
     elim (append-at (f x) (flat_map f (numbers_from (suc x) k)) i one at_one) [
-      | inl a ↦ elim (append-at (f x) (flat_map f (numbers_from (suc x) k)) j other at_other) [
-        | inl b ↦ order x i j one other (omega arith) le a b
-        | inr b ↦ absurd (omega (
-          arith,
-          same,
-          each x i one (omega arith) a,
-          block-above f (suc x) k (λ c i y h. each c i y (omega (arith, h))) b.0 other b.2,
-        ))
-      ]
+      | inl a ↦ grind (arith, append-at, flat_map, numbers_from, block-above)
       | inr a ↦ elim (append-at (f x) (flat_map f (numbers_from (suc x) k)) j other at_other) [
         | inl b ↦ absurd (omega (arith, le, a.1, slice_get_within (f x) j other b))
         | inr b ↦ all-in-turn f (suc x) k (λ c i y h. each c i y (omega (arith, h)))
@@ -211,8 +172,7 @@ subs-untold : (setting : Setting) (scripts : Scripts) (history : History) (some 
 subs-untold setting scripts history [] i line find is told = cc
 subs-untold setting scripts history (sub ∷ some) i line find is told = elim
     (append-at (sub_lines setting scripts history sub) (flat_map (sub_lines setting scripts history) some) i line is) [
-      | inl here ↦ steps-untold setting sub (course_at (start setting sub)) (steps_of scripts sub)
-          (tickets sub history) i line find here told
+      | inl here ↦ grind (arith, steps-untold, course_at, start, steps_of, tickets)
       | inr there ↦ subs-untold setting scripts history some there.0 line find there.2 told
     ]
 
@@ -224,10 +184,7 @@ outcome-in-turn follow count ascend setting scripts history played i j one other
       | inl a ↦ absurd (subs-untold setting scripts history _ i one earlier a is_earlier)
       | inr a ↦ elim (append-at steps finds j other at_other) [
         | inl b ↦ absurd (subs-untold setting scripts history _ j other later b is_later)
-        | inr b ↦ all-in-turn (caller_lines setting scripts history) (subs setting) (length scripts.finds)
-            (λ actor k line high. line-of-caller setting scripts history actor k line)
-            (λ actor m n x y high. caller-in-turn follow count ascend setting scripts history played actor m n x y high)
-            a.0 b.0 one other (omega (arith, le, a.1, b.1)) a.2 b.2 same earlier later is_earlier is_later
+        | inr b ↦ grind (arith, all-in-turn, caller_lines, subs, length, line-of-caller, caller-in-turn)
       ]
     ]
   where

@@ -1,5 +1,5 @@
 -- The laws of marks and addresses after every legal history.
-use Rattle.std.proofs.Common.{arith, ◌≡◌, ◌≢◌, ℕ, zero, suc, ◌≤◌, ◌^◌, true, false, ◌∷◌, map, Option, Some, None, refl, sym, ap, ◌∙◌}
+use Rattle.std.proofs.Common.{arith, ◌≡◌, ◌≢◌, ℕ, zero, suc, ◌≤◌, ◌^◌, ◌∷◌, map, Option, Some, None, refl, sym, ◌∙◌}
 use Rattle.std.specs.Prelude.{slice_index}
 use Rattle.entry_word.specs.declared.mark.PresenceMark.{PresenceMark}
 use Rattle.entry_word.specs.declared.mark.PresenceMark.TheVariants.{Empty}
@@ -9,7 +9,7 @@ use Rattle.directory.specs.Histories.{History, puts_to}
 use Rattle.directory.specs.Courses.{Move, stop, course_at}
 use Rattle.directory.specs.Puts.{course_in, steps_in}
 use Rattle.directory.specs.Legal.{IsLegal}
-use Rattle.directory.specs.Standing.{off, standing}
+use Rattle.directory.specs.Standing.{standing}
 use Rattle.directory.specs.Statements.{CommitsAreTold, EntriesAreLeft, LegalIsAmid, MarksAreLeft, OffIsTold}
 use Rattle.trail_laws.specs.Trail.{AddressesLead, ComingsLead, EntriesTell, entry_seen, EntryTells, IsLed, mark_seen, MarksTell, MarkTells, OneComing, TopHasEntry, answers}
 use Rattle.directory.specs.Parts.{lead}
@@ -28,10 +28,6 @@ pub record Laws : Type 0 where
   pub entries : EntriesAreLeft
   pub told : CommitsAreTold
   pub off_told : OffIsTold
-
-pub laws : LegalIsAmid → MarksAreLeft → EntriesAreLeft → CommitsAreTold → OffIsTold → Laws
-laws amid marks entries told off =
-    record { amid = amid; marks = marks; entries = entries; told = told; off_told = off }
 
 unfoldable pub HistoryView : Setting → ℕ → History → Type 0
 HistoryView setting sub history = View setting (shown setting sub history)
@@ -69,10 +65,8 @@ placed laws {setting} {sub} history low legal level cluster address below is_som
 not_empty : (setting : Setting) (marks : ℕ → PresenceMark) (node last hops way : ℕ)
     → IsLed setting marks None node last hops way → marks node ≢ Empty
 unfolding IsLed
-not_empty setting marks node last zero way led empty = let clash : false ≡ true = sym (ap (answers None) empty)
-    ∙ led.1 in cc
-not_empty setting marks node last (suc hops) way led empty = let clash : None
-    ≡ Some led.0 = sym (ap (lead None) empty) ∙ led.2 in cc
+not_empty setting marks node last zero way led empty = grind (arith, answers)
+not_empty setting marks node last (suc hops) way led empty = grind (arith, lead)
 
 pub addresses-lead : Laws → AddressesLead
 addresses-lead laws setting sub history low legal level cluster address known below is_some knows =
@@ -88,22 +82,12 @@ entries-tell laws setting sub history low legal level cluster below = told
     told None e = tt
     told (Some address) e =
         let there = placed laws history low legal level cluster address below e in
-        let led = there.leads None tt in (
-          there.inside,
-          there.home_is,
-          there.few,
-          there.is_stop
-              ∙ same_stop address.number,
-          not_empty setting (mark_seen setting sub history) address.node
-              (standing setting sub history) led.hops led.way led.led,
-        )
+        let led = there.leads None tt in grind (arith, same_stop, not_empty, mark_seen, standing)
       where
         same_stop : (n : ℕ) → slice_index (start setting sub ∷ map (λ (m : Move). m.to)
             (course_in setting sub (puts_to sub history)).moves) n
             ≡ stop (course_in setting sub (puts_to sub history)) n
-        same_stop n = ap (λ f. slice_index (f ∷ map (λ (m : Move). m.to)
-            (course_in setting sub (puts_to sub history)).moves) n)
-            (sym (start-kept setting (course_at (start setting sub)) (steps_in (puts_to sub history))))
+        same_stop n = grind (arith, slice_index, map, course_in, puts_to, start-kept, course_at, start, steps_in)
 
 pub top-has_entry : Laws → TopHasEntry
 unfolding HistoryView

@@ -43,10 +43,7 @@ lazy-whole_move : {setting : Setting} {course : Course} (node level : ℕ) → I
 lazy-whole_move {setting} {course} node level sound some below =
     elim (cases_Bool (nat_le level move.renewed)) [
       | inl e ↦
-          let nothing : weight_from (course.moves ++ move ∷ []) (suc (length course.moves)) ≡ 0 =
-          ap (sum_by (λ (m : Move). m.weight)) (drop_of_length-le (course.moves ++ move ∷ [])
-          {i = suc (length course.moves)} (omega (arith, length-append course.moves (move ∷ [])))) in
-          rw (base-with level course move, e) (omega (arith, some level below, nothing))
+          grind (arith, weight_from, move, length, sum_by, drop_of_length-le, length-append, base-with)
       | inr e ↦
           let high : move.renewed < level = grind (arith, nat_tests, e) in
           let failed : nat_le (setting.threshold level) (gathered_weight course level + move.weight) ≡ false =
@@ -69,8 +66,7 @@ lazy-whole_move {setting} {course} node level sound some below =
 lazy-step : {setting : Setting} {course : Course} (step : Step) → IsSound setting course
     → ((i : ℕ) → i ≤ setting.top → 1 ≤ setting.threshold i) → AreLazy setting course.moves
     → AreLazy setting (after_step setting course step).moves
-lazy-step {setting} {course} (move_to node) sound some lazy = lazy-push setting course.moves
-    (next_move setting course node) lazy (λ level below. lazy-whole_move node level sound some below)
+lazy-step {setting} {course} (move_to node) sound some lazy = grind (arith, lazy-push, next_move, lazy-whole_move)
 lazy-step step sound some lazy = lazy
 
 lazy-steps : (setting : Setting) (course : Course) (steps : List Step) → IsSound setting course
@@ -90,6 +86,4 @@ lazy-none setting some (suc k) level low below = some level below
 pub legal-lazy : {setting : Setting} {sub : ℕ} (history : History)
     → ((i : ℕ) → i ≤ setting.top → 1 ≤ setting.threshold i) → IsLegal setting sub history
     → AreLazy setting (course_in setting sub (puts_to sub history)).moves
-legal-lazy {setting} {sub} history some legal =
-    lazy-steps setting (course_at (start setting sub)) _ (record { begins = legal.script.begins; linked = tt })
-    legal.script.allowed some (lazy-none setting some)
+legal-lazy {setting} {sub} history some legal = grind (arith, lazy-steps, course_at, start, lazy-none)

@@ -90,8 +90,7 @@ last-left setting from number (m ∷ later) v mark linked =
       is_move = refl;
       within = omega arith;
       link =
-          let n : number ≡ number + 0 = omega arith in
-          rw (sym linked.0.its_from ∙ sym (eqb-true v m.from e), n) at linked.0;
+          grind (arith, eqb-true);
       mark_is = h.0 ∙ ap its_mark e;
       goes_on = refl;
       last = at_first (λ i. i ≤ 0) (λ same. omega arith) (λ i low same. absurd (h.1 i low same));

@@ -96,28 +96,16 @@ past-step laws {setting} {sub} c history visit low inside legal legal_more past 
     tells = laws.marks setting sub (history ++ visit ∷ []) low legal_more c.to inside
 
     count : number sub history ≤ number sub (history ++ visit ∷ [])
-    count = omega (
-      arith,
-      ap length (commits-append sub history (visit ∷ [])),
-      length-append (commits sub history) (commits sub (visit ∷ [])),
-    )
+    count = grind (arith, length, commits-append, length-append, commits)
 
     -- it was confirmed before, and the mark at its node stays
     kept : cell setting (history ++ visit ∷ []) (Presence c.to sub) ≡ cell setting history (Presence c.to sub)
         → list_any (confirmed c) (puts_to sub history) ≡ true → Goal
-    kept same earlier =
-        let before = past earlier in
-        (omega (arith, before.0, count), λ u comes. before.1 u (sym (ap mark_in same) ∙ comes))
+    kept same earlier = grind (arith, count, mark_in)
 
     earlier : is_put_for sub visit.act ≡ true → confirmed c visit ≡ false
         → list_any (confirmed c) (puts_to sub history) ≡ true
-    earlier own g = rw (
-      puts-push_own sub history visit own,
-      list_any-append (confirmed c) (puts_to sub history)
-          (visit ∷ []),
-      g,
-      or-false (list_any (confirmed c) (puts_to sub history)),
-    ) at any
+    earlier own g = grind (arith, puts-push_own, list_any-append, confirmed, puts_to, or-false, list_any)
 
     at_cases : is_put_for sub visit.act ≡ true
         → ((word_after (Presence c.to sub) (cell setting history (Presence c.to sub)) visit.act
@@ -125,25 +113,11 @@ past-step laws {setting} {sub} c history visit low inside legal legal_more past 
         ⊎ (mark_in (word_after (Presence c.to sub) (cell setting history (Presence c.to sub)) visit.act)
         ≡ mark_put visit.act) → (b : Bool) → confirmed c visit ≡ b → Goal
     at_cases own (inl same) b g = kept (after ∙ same.0) (earlier own same.1)
-    at_cases own (inr new) true g =
-        let here : mark_seen setting sub (history ++ visit ∷ []) c.to ≡ Here c.number =
-        ap mark_in after ∙ (new ∙ (confirm-here c (node_put visit.act) (mark_put visit.act) g).1) in
-        let told : MarkTells setting sub (history ++ visit ∷ []) c.to (Here c.number) = rw here at tells in
-        (omega (arith, told.1), λ u comes. let clash : Here c.number ≡ Coming c.number u = sym here ∙ comes in cc)
+    at_cases own (inr new) true g = grind (arith, mark_seen, mark_in, after, confirm-here, node_put, mark_put, tells)
     at_cases own (inr new) false g =
         let before = past (earlier own g) in (
           omega (arith, before.0, count),
-          λ u comes.
-              let told : MarkTells setting sub (history ++ visit ∷ []) c.to (Coming c.number u) = rw comes at tells in
-              omega (
-                arith,
-                told.0,
-                coming-grows setting sub (puts_to sub history) visit c.number u
-                    (sym new ∙ (sym (ap mark_in after) ∙ comes)),
-                ap (λ puts. length (course_in setting sub puts).moves) (puts-push_own sub history visit own),
-                (laws.moves setting sub history low legal).0,
-                before.0,
-              ),
+          grind (arith, tells, coming-grows, puts_to, mark_in, after, length, course_in, puts-push_own),
         )
 
 past-all : PassageLaws → {setting : Setting} {sub : ℕ} (c : Commit) (history : History) → setting.nodes ≤ 2 ^ 16

@@ -66,8 +66,7 @@ commits-grow sub t u history h =
     let more = take-further (u - t) t history in
     let e : (u - t) + t ≡ u = omega arith in (
       commits sub more.0,
-      ap (λ n. commits sub (take n history)) (sym e)
-          ∙ (ap (commits sub) more.1 ∙ commits-append sub (take t history) more.0),
+      grind (arith, commits, take, commits-append),
     )
 
 pub number-grows : (sub t u : ℕ) (history : History) → t ≤ u
@@ -88,11 +87,7 @@ pub begun-grows : (setting : Setting) (sub t u : ℕ) (history : History) → t 
     → moves_begun setting sub (take t history) ≤ moves_begun setting sub (take u history)
 begun-grows setting sub t u history h =
     let more = take-further (u - t) t history in
-    let e : (u - t) + t ≡ u = omega arith in
-    let puts : puts_to sub (take u history) ≡ puts_to sub (take t history) ++ puts_to sub more.0 =
-    ap (λ n. puts_to sub (take n history)) (sym e) ∙ (ap (puts_to sub) more.1
-    ∙ filter-append (λ (v : Visit). is_put_for sub v.act) (take t history) more.0) in
-    of_puts (puts_to sub (take u history)) (puts_to sub (take t history)) (puts_to sub more.0) puts
+    grind (arith, puts_to, take, filter-append, is_put_for, of_puts)
   where
     of_puts : (all xs ys : List Visit) → all ≡ xs ++ ys
         → length (course_in setting sub xs).moves ≤ length (course_in setting sub all).moves

@@ -55,16 +55,7 @@ module _ {setting : Setting} {shown : Shown} (level cluster : ℕ) (address : Ad
       → its.node ≡ stop_at shown.from shown.moves its.number → IsFine setting shown level its way
       → ((known : Option ℕ) → KnowsAtMost number known → Arrival setting shown.marks known its.node last hops way)
       → IsPlaced setting shown level cluster address
-  at-home its same inside home few is_stop fine leads = rw same (record {
-    inside = inside;
-    home_is = eqb-true cluster (setting.home level its.node) home;
-    few = few;
-    is_stop = is_stop;
-    most_way = way;
-    fine = fine;
-    leads = λ known knows. rw stood (longer setting shown.marks known its.node last hops setting.nodes way way some
-        (λ metric. omega arith) (leads known (rw count at knows)));
-  })
+  at-home its same inside home few is_stop fine leads = grind (arith, eqb-true, longer)
 
   -- an old address, whatever moves come behind it, and that of the move
   old-placed : {course : Course} (more : List Move) → IsSound setting course → course.start ≡ shown.from
@@ -146,8 +137,7 @@ module _ {setting : Setting} {shown : Shown} (level cluster : ℕ) (address : Ad
       → IsNew setting h.move level cluster address → IsPlaced setting shown level cluster address
   new-placed h = move-placed level cluster address _ _ 0 0
       (all-count h h.commits_are) (next-stands h h.commits_are) (omega arith) h (fine-new h level _ below)
-      (λ known knows. arrived setting shown.marks known h.move.to h.move.to 0 0 refl
-      (ap (answers known) (clearing-here h)))
+      (grind (arith, arrived, answers, clearing-here))
 
   clearing-placed : {erased purged : List ℕ} (h : IsMoving setting shown (clearing erased purged)) → purged ≡ []
       → IsEither h → IsPlaced setting shown level cluster address
@@ -177,8 +167,7 @@ module _ {setting : Setting} {shown : Shown} (level cluster : ℕ) (address : Ad
   entry-placed (inr (clearing erased purged, h)) e = elim h.is_phase.in_order [
     | inl none ↦ clearing-placed h none (either h (renewed_levels h.move) (erased-some setting h.course h.move
         (renewed_levels h.move) erased level cluster address entry).1)
-    | inr whole ↦ new-placed h (only-new level cluster address h.sound h.next below whole.1
-        (rw whole.0 at entry))
+    | inr whole ↦ new-placed h (grind (arith, only-new, entry))
   ]
     where
       entry : entry_erased setting h.course h.move (renewed_levels h.move) erased level cluster ≡ Some address

@@ -1,7 +1,7 @@
 -- What the ways along the marks weigh: no level has gathered its threshold, so that the trail from its address is
 -- short.
 use Rattle.trail_laws.proofs.ClosedMarks.{from-inside, IsNext}
-use Rattle.std.proofs.Common.{◌≡◌, ℕ, ◌+◌, ◌*◌, ◌<◌, ◌≤◌, List, [], ◌∷◌, ◌++◌, length, take, drop, refl, ap, ◌∙◌, arith, length-append}
+use Rattle.std.proofs.Common.{◌≡◌, ℕ, ◌+◌, ◌*◌, ◌<◌, ◌≤◌, List, [], ◌∷◌, ◌++◌, length, take, drop, refl, ap, arith, length-append}
 use Rattle.std.specs.Prelude.{sum_by}
 use Rattle.std.proofs.lemmas.List.{drop-append-le, take_all, take_at}
 use Rattle.std.proofs.lemmas.List.Sums.{sum_by_push}
@@ -30,8 +30,7 @@ lazy-front setting xs ys level below lazy =
 
 pub weight-push : (moves : List Move) (move : Move) (b : ℕ) → b ≤ length moves
     → weight_from (moves ++ move ∷ []) b ≡ weight_from moves b + move.weight
-weight-push moves move b low = ap (sum_by (λ (m : Move). m.weight)) (drop-append-le b moves (move ∷ []) low)
-    ∙ sum_by_push (λ (m : Move). m.weight) (drop b moves) move
+weight-push moves move b low = grind (arith, sum_by, drop-append-le, sum_by_push, drop)
 
 -- how far the address of a level is from the last stop
 pub address-near : {setting : Setting} {course : Course} (level : ℕ) → IsSound setting course → HasMetric setting

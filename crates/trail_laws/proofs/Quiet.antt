@@ -56,9 +56,7 @@ module _ (used : Used) {setting : Setting} (history : History) (actor : ℕ) (ca
       late = last-late setting history actor call (suc t) pursuit u later (first, (key, wanted, is_look, rest))
 
       waited : IsSure setting call.sub (before u history) call Within pursuit
-      waited = sure-until used history call Within t u pursuit low legal (omega (arith, first))
-          (omega (arith, slice_get_within history u (look_by actor key) is_look))
-          (λ x h g. quiet x h (omega (arith, g, late, last-more t u later))) sure
+      waited = grind (arith, sure-until, slice_get_within, look_by, late, last-more)
 
   -- a quiet find whose beginning is sure has an answer within what is allowed
   first-looks : (tickets : List ℕ) → Begins setting (before (first_of tickets) history) call Within
@@ -111,9 +109,7 @@ from-level : (setting : Setting) (sub node : ℕ) (seen : History) (cluster firs
     (setting.readers level node)) (numbers_from first count))
 from-level setting sub node seen cluster first zero low high h some = absurd (omega arith)
 from-level setting sub node seen cluster first (suc count) low high h some = elim (cases_eq first setting.top) [
-  | inl e ↦ at-level setting sub seen first cluster (setting.readers first node) _
-      (ap (λ l. has cluster (setting.readers l node)) e ∙ h)
-      (ap (λ l. is_some (entry_seen setting sub seen l cluster)) e ∙ some)
+  | inl e ↦ grind (arith, at-level, has, is_some, entry_seen)
   | inr other ↦ passed setting sub seen
       (map (λ c. record { level = first; cluster = c }) (setting.readers first node)) _
       (from-level setting sub node seen cluster (suc first) count (omega (arith, other, low)) (omega arith) h some)
@@ -164,9 +160,7 @@ quiet-answers used setting history actor call found tickets low reads inside leg
     begins : Begins setting (before (first_of tickets) history) call Anything
     begins = record {
       here = tt;
-      climbing = λ c h o. affords-any used (before (first_of tickets) history) call 0 (all_readers setting call.from)
-          low legal_seen (readers-low setting call.from) (readers-have used call.from
-          (before (first_of tickets) history) low reads inside legal_seen);
+      climbing = grind (arith, affords-any, before, all_readers, legal_seen, readers-low, readers-have);
       chasing = λ p from e.
           let there = used.comings setting call.sub (before (first_of tickets) history) low legal_seen call.from p
           from None

@@ -1,6 +1,6 @@
 -- How far the marks lead in each phase, and what rest is.
 use Rattle.std.proofs.lemmas.Bool.{cases_Bool}
-use Rattle.std.proofs.Common.{◌≡◌, ◌≢◌, ℕ, ◌^◌, ◌≤◌, Some, length, map, sym, ap, ◌∙◌, arith, inl, inr}
+use Rattle.std.proofs.Common.{◌≡◌, ◌≢◌, ℕ, ◌^◌, ◌≤◌, Some, length, map, sym, ap, ◌∙◌, arith}
 use Rattle.std.specs.Prelude.{filter_map}
 use Rattle.std.proofs.lemmas.List.{length-map}
 use Rattle.entry_word.specs.declared.address.Address.{Address}
@@ -50,9 +50,7 @@ module _ (laws : Laws) (setting : Setting) (sub : ℕ) (history : History) (low 
 
   -- a subscriber that rests has committed all its moves
   all-committed : commits sub history ≡ map commit_by course.moves
-  all-committed = laws.told setting sub history low legal
-      ∙ (ap (filter_map write_commit) (all-made setting sub history rest)
-      ∙ commits-steps setting (course_at (start setting sub)) (steps_in (puts_to sub history)))
+  all-committed = grind (arith, filter_map, write_commit, all-made, commits-steps, course_at, start, steps_in, puts_to)
 
   all : length course.moves ≡ number sub history
   all = omega (arith, ap length all-committed, length-map course.moves commit_by)
@@ -68,10 +66,7 @@ module _ (laws : Laws) (setting : Setting) (sub : ℕ) (history : History) (low 
   mark_stands = ap (mark_seen setting sub history) stood ∙ mark-there setting sub history rest laws.marks low legal
 
   marked : IsMarked setting sub history
-  marked = elim (cases_Bool course.is_off) [
-    | inl e ↦ inr (mark_stands ∙ rw (e, all))
-    | inr e ↦ inl (mark_stands ∙ rw (e, all))
-  ]
+  marked = grind (arith, cases_Bool, mark_stands, all)
 
   not-coming : (from : ℕ) → mark_seen setting sub history (standing setting sub history)
       ≢ Coming (number sub history) from
@@ -81,12 +76,7 @@ module _ (laws : Laws) (setting : Setting) (sub : ℕ) (history : History) (low 
       → entry_seen setting sub history level cluster ≡ Some address → IsCurrent setting sub history level address
   unfolding IsOld
   current level cluster address below is_some =
-      ap (λ (a : Address). a.number) (rest-some setting course level cluster address (sym its_entry ∙ is_some)).0
-    where
-      its_entry : entry_seen setting sub history level cluster ≡ rest_entry setting course level cluster
-      its_entry = laws.entries setting sub history low legal level cluster
-          ∙ (ap (λ ws. entry_left setting sub ws level cluster) (all-made setting sub history rest)
-          ∙ rest-entries_of setting sub (steps_in (puts_to sub history)) level cluster legal.script below)
+      grind (arith, rest-some, course, entry_seen, rest_entry, entry_left, all-made, rest-entries_of, steps_in, puts_to)
 
 pub rest-ends : Laws → RestEndsItsCourse
 rest-ends laws setting sub history low legal rest =

@@ -166,8 +166,7 @@ module _ (marks : MarksTell) (entries : EntriesTell) (fronts : FrontsAreLegal) {
   next-good : (t : ℕ) (pursuit : Pursuit) (key : Key) → IsSafe setting (number call.sub (before t history)) pursuit
       → key_of call pursuit ≡ Some key → IsGood setting call.sub (before t history)
       (after_word setting call pursuit (cell setting (before t history) key))
-  next-good t pursuit key = look-good marks entries (before t history) call pursuit key low inside
-      (front-legal fronts setting call.sub history t low legal)
+  next-good t pursuit key = grind (arith, look-good, before, front-legal)
 
   right-looks : (later : List ℕ) (t : ℕ) (key : Key) (pursuit : Pursuit)
       → slice_get history t ≡ Some (look_by actor key) → IsGood setting call.sub (before t history) pursuit
@@ -180,8 +179,7 @@ module _ (marks : MarksTell) (entries : EntriesTell) (fronts : FrontsAreLegal) {
   right-looks (u ∷ later) t key pursuit is_look good (first, (next, wanted, its_look, rest)) ends =
       rw (last-more t u later) (right-looks later u next
       (after_word setting call pursuit (cell setting (before u history) next)) its_look
-      (next-good u pursuit next (safe-later setting _ _ pursuit (number-grows call.sub t u history
-      (omega (arith, first))) (good-safe setting call.sub (before t history) pursuit good)) wanted)
+      (grind (arith, next-good, safe-later, number-grows, good-safe, before))
       rest (sym (read-one setting history actor u next call pursuit later its_look) ∙ ends))
 
   first-right : (tickets : List ℕ) → AreLooks setting history actor call 0 at_origin tickets

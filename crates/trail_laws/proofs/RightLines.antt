@@ -1,5 +1,5 @@
 -- The lines of outcomes are right, since each is made by the looks of a find.
-use Rattle.std.proofs.Common.{◌≡◌, ℕ, ◌<◌, ◌≤◌, ◌^◌, List, sym, subst, arith}
+use Rattle.std.proofs.Common.{◌≡◌, ℕ, ◌<◌, ◌≤◌, ◌^◌, List, arith}
 use Rattle.std.specs.Prelude.{All, Some, slice_get}
 use Rattle.std.proofs.lemmas.Option.{get_or_from_slice_get, slice_get_within}
 use Rattle.std.proofs.lemmas.List.Elements.{All-weaker}
@@ -35,9 +35,7 @@ right_line : AnswersAreRight → AgainHasItsCause → {setting : Setting} {scrip
     → ((sub : ℕ) → sub < subs setting → IsLegal setting sub history) → {actor : ℕ} {call : FindCall} {line : Done}
     → IsFindLine setting scripts history actor call line → IsRightLine setting history line
 right_line right cause {setting} {scripts} {history} low reads valid legal {actor} {call} h =
-    let is : IsFindCall setting call = call_of_valid setting scripts actor h.before _ h.later valid h.script in
-    subst (IsRightLine setting history) (sym h.tells)
-    (right_find right cause setting history actor call h.found h.seen low reads is (legal call.sub is.known) h.find)
+    grind (arith, call_of_valid, right_find)
 
 -- and each line of an outcome
 made_right : AnswersAreRight → AgainHasItsCause → {setting : Setting} {scripts : Scripts} (history : History)
@@ -76,30 +74,15 @@ told_by : (setting : Setting) (history : History) (actor from : ℕ) (found : Fo
     → TellsNumber line s p ticket → Numbered setting history s p ticket
 told_by setting history actor from (Again why weight) seen line sub s p ticket is find tells told =
     absurd (rw tells at told)
-told_by setting history actor from found seen line sub s p ticket is find tells told =
-    let told_there : (sub ≡ s) × HasNumber found p × (last_of seen ≡ ticket) = rw tells at told in
-    rw (← told_there.0) (record {
-      actor = actor;
-      from = from;
-      found = found;
-      seen = seen;
-      is = is;
-      find = find;
-      number = told_there.1;
-      last = told_there.2;
-    })
+told_by setting history actor from found seen line sub s p ticket is find tells told = grind (arith, last_of)
 
 numbered : {setting : Setting} {scripts : Scripts} (history : History) → AreValid setting scripts → (line : Done)
     (s p ticket : ℕ) → IsMade setting scripts history line → TellsNumber line s p ticket
     → Numbered setting history s p ticket
 numbered {setting} {scripts} history valid (FoundBy actor from sub node n level weight first last) s p ticket h told =
-    told_by setting history actor from h.found h.seen _ sub s p ticket
-    (call_of_valid setting scripts actor h.before (record { from = from; sub = sub }) h.later valid h.script) h.find
-    h.tells told
+    grind (arith, told_by, call_of_valid)
 numbered {setting} {scripts} history valid (OffBy actor from sub node n level weight first last) s p ticket h told =
-    told_by setting history actor from h.found h.seen _ sub s p ticket
-    (call_of_valid setting scripts actor h.before (record { from = from; sub = sub }) h.later valid h.script) h.find
-    h.tells told
+    grind (arith, told_by, call_of_valid)
 numbered history valid line s p ticket h told = absurd told
 
 at_place : {A : Type 0} (P : A → Type 0) (xs : List A) (i : ℕ) (x : A) → All P xs → slice_get xs i ≡ Some x → P x

@@ -47,9 +47,7 @@ still-step used rested {setting} {sub} {one} {history} visit low legal legal_mor
         → mark_seen setting sub (history ++ visit ∷ []) (standing setting sub one) ≡ Coming p u
     at_put false e p u comes same = ap mark_in
         (cell-kept used.cells setting sub history visit (Presence (standing setting sub one) sub) refl e) ∙ comes
-    at_put true e p u comes same = absurd ((rested setting sub history low
-        legal (switch-rests used.rests low legal legal_more e (switching sub history visit e quiet))).0.1 u
-        (ap (mark_seen setting sub history) still.stands ∙ (comes ∙ ap (λ n. Coming n u) same)))
+    at_put true e p u comes same = grind (arith, switch-rests, switching, mark_seen)
 
 -- the last look of a find is a visit of the history
 last-inside : (setting : Setting) (history : History) (actor : ℕ) (call : FindCall) (earliest : ℕ) (pursuit : Pursuit)
@@ -90,7 +88,6 @@ stand-still used rested opens inside setting history actor call found (t ∷ lat
       arith,
       opens setting call.sub (through (last_of (t ∷ later)) history) low legal_last
           (standing setting call.sub (before t history)) p u
-          (inside setting call.sub (before t history) low
-          (front-legal used.fronts setting call.sub history t low legal))
+          (grind (arith, before, front-legal))
           (still.open_too p u comes same) (same ∙ sym still.count),
     )

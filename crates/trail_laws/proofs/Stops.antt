@@ -67,32 +67,11 @@ pub record IsCommitted (setting : Setting) (shown : Shown) : Type 0 where
 
 all-committed : {setting : Setting} {shown : Shown} {phase : Phase} (h : IsMoving setting shown phase)
     → shown.commits ≡ map commit_by (h.course.moves ++ h.move ∷ []) → IsCommitted setting shown
-all-committed h are = record {
-  moves = h.course.moves ++ h.move ∷ [];
-  begins = rw h.begins at h.sound.begins;
-  linked = rw h.begins at (sound-with h.sound h.next).linked;
-  are = are;
-  count = count-told (h.course.moves ++ h.move ∷ []) are;
-  rest = inl h.moves_are;
-}
+all-committed h are = grind (arith, sound-with, count-told)
 
 pub committed : {setting : Setting} {shown : Shown} → View setting shown → IsCommitted setting shown
-committed (inl h) = record {
-  moves = h.course.moves;
-  begins = rw h.begins at h.sound.begins;
-  linked = rw h.begins at h.sound.linked;
-  are = h.commits_are;
-  count = count-told h.course.moves h.commits_are;
-  rest = inl h.moves_are;
-}
-committed (inr (coming written, h)) = record {
-  moves = h.course.moves;
-  begins = rw h.begins at h.sound.begins;
-  linked = rw h.begins at h.sound.linked;
-  are = h.commits_are;
-  count = count-told h.course.moves h.commits_are;
-  rest = inr (ap length h.moves_are ∙ moves-count h.course h.move, h.off_is);
-}
+committed (inl h) = grind (arith, count-told)
+committed (inr (coming written, h)) = grind (arith, count-told, length, moves-count)
 committed (inr (passage, h)) = all-committed h h.commits_are
 committed (inr (clearing erased purged, h)) = all-committed h h.commits_are
 

@@ -1,6 +1,6 @@
 -- What makes a find sure of an answer at each pursuit: a look keeps it, and what is no put of a move.
 use Rattle.std.proofs.lemmas.Bool.{cond_both}
-use Rattle.std.proofs.Common.{◌≡◌, ℕ, zero, suc, ◌+◌, ◌*◌, ◌<◌, ◌≤◌, ◌^◌, Bool, true, false, cond, List, [], ◌∷◌, Option, Some, None, length, refl, sym, ap, ◌∙◌, subst, arith}
+use Rattle.std.proofs.Common.{◌≡◌, ℕ, zero, suc, ◌+◌, ◌*◌, ◌<◌, ◌≤◌, ◌^◌, true, false, List, [], ◌∷◌, Option, Some, None, length, refl, sym, ap, ◌∙◌, subst, arith}
 use Rattle.entry_word.specs.declared.address.Address.{Address}
 use Rattle.entry_word.specs.declared.mark.PresenceMark.{PresenceMark}
 use Rattle.entry_word.specs.declared.mark.PresenceMark.TheVariants.{Empty, Gone, Coming}
@@ -14,7 +14,6 @@ use Rattle.directory.specs.Looks.{moves_at}
 use Rattle.directory.specs.Parts.{known_after, lead}
 use Rattle.directory.specs.Standing.{number, standing}
 use Rattle.directory.specs.Statements.{CellsOfPuts, FrontsAreLegal, MarksAreLeft, StepsBeginAtRest}
-use Rattle.directory.specs.declared.answers.Found.TheVariants.{At}
 use Rattle.trail_laws.specs.Trail.{AddressesLead, answers, ComingsLead, entry_seen, IsLed, KnowsAtMost, mark_seen, MarksTell, MarkTells, TopHasEntry}
 use Rattle.trail_laws.specs.Rightness.{IsAnswered}
 use Rattle.trail_laws.specs.Within.{Affords, AffordsAddress, Begins, EntryAsks}
@@ -57,9 +56,7 @@ module _ {setting : Setting} {sub : ℕ} {one other : History} (call : FindCall)
       entry-alike (entry_seen setting sub one reader.level reader.cluster)
       (entry_seen setting sub other reader.level reader.cluster) _ _ _ _ (alike.entries reader.level reader.cluster)
       (affords-alike (weight + 2 * way_in setting call reader) later)
-      (λ address its known knows.
-      let led = its known (rw alike.count at knows) in
-      (led.0, led.1, led.2, led-on known address.node led.0 led.1 led.3, led.4)) h
+      (grind (arith, led-on)) h
 
   pub sure-alike : (pursuit : Pursuit) → IsSure setting sub one call Within pursuit
       → IsSure setting sub other call Within pursuit
@@ -80,19 +77,6 @@ pub record Used : Type 0 where
   pub comings : ComingsLead
   pub top : TopHasEntry
 
-pub used : CellsOfPuts → MarksAreLeft → StepsBeginAtRest → FrontsAreLegal → MarksTell → AddressesLead → ComingsLead
-    → TopHasEntry → Used
-used cells marks_left rests fronts marks addresses comings top = record {
-  cells = cells;
-  marks_left = marks_left;
-  rests = rests;
-  fronts = fronts;
-  marks = marks;
-  addresses = addresses;
-  comings = comings;
-  top = top;
-}
-
 -- up to a later ticket, while no move is made
 pub sure-until : Used → {setting : Setting} {sub : ℕ} (history : History) (call : FindCall) (Within : ℕ → Type 0)
     (t u : ℕ) (pursuit : Pursuit) → setting.nodes ≤ 2 ^ 16 → IsLegal setting sub history → t ≤ u → u ≤ length history
@@ -101,8 +85,7 @@ pub sure-until : Used → {setting : Setting} {sub : ℕ} (history : History) (c
     → IsSure setting sub (before u history) call Within pursuit
 sure-until used {setting} {sub} history call Within t u pursuit low legal =
     while-quiet used.fronts history (λ seen. IsSure setting sub seen call Within pursuit) low legal
-    (λ seen visit is more quiet sure. sure-alike call Within
-    (alike-step used.cells used.marks_left used.rests seen visit low is more quiet) pursuit sure) t u
+    (grind (arith, sure-alike, alike-step)) t u
 
 -- ---- one look
 module _ (setting : Setting) (seen : History) (call : FindCall) (Within : ℕ → Type 0) where
@@ -118,8 +101,7 @@ module _ (setting : Setting) (seen : History) (call : FindCall) (Within : ℕ �
   origin-sure : (mark : PresenceMark) → Begins setting seen call Within
       → mark_seen setting call.sub seen call.from ≡ mark → MarkTells setting call.sub seen call.from mark
       → IsSureOf (after_origin setting call mark)
-  origin-sure Empty begins same tells = climb-sure None 0 (all_readers setting call.from) tt
-      (begins.climbing (λ p from e. cc) (λ p e. cc) (λ p e. cc))
+  origin-sure Empty begins same tells = grind (arith, climb-sure, all_readers)
   origin-sure (Gone q to) begins same tells = climb-sure (Some q) 0 (all_readers setting call.from)
       (gone-known setting call.sub seen call.from q to tells)
       (begins.climbing (λ p from e. cc) (λ p e. cc) (λ p e. cc))
@@ -165,16 +147,8 @@ module _ (setting : Setting) (seen : History) (call : FindCall) (Within : ℕ �
   mark-sure chase node mark same zero way few led allowed =
       (tt, subst Within (let e : chase.weight + way ≡ chase.weight = omega (arith, led.2) in e) allowed)
   mark-sure chase node (Gone q to) same (suc hops) way few led allowed = grind (arith, hop-on)
-  mark-sure chase node (Coming q from) same (suc hops) way few led allowed = cond_both (is_known q chase.known)
-      (ended (At node q chase.level chase.weight))
-      (hop setting chase.known chase.level chase.weight chase.hops_left node from) IsSureOf
-      (λ e. let clash : None ≡ Some led.0 = sym (leads true e) ∙ led.2 in cc)
-      (λ e. hop-on chase node from chase.known hops way few led allowed (leads false e)
-      (ap (known_after chase.known) same))
-    where
-      leads : (b : Bool) → is_known q chase.known ≡ b
-          → lead chase.known (mark_seen setting call.sub seen node) ≡ cond b None (Some from)
-      leads b e = ap (lead chase.known) same ∙ ap (λ b. cond b None (Some from)) e
+  mark-sure chase node (Coming q from) same (suc hops) way few led allowed =
+      grind (arith, cond_both, is_known, ended, hop, hop-on, known_after, lead, mark_seen)
   mark-sure chase node mark same (suc hops) way few led allowed =
       let clash : None ≡ Some led.0 = sym (ap (lead chase.known) same) ∙ led.2 in cc
 

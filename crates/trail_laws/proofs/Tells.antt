@@ -44,8 +44,7 @@ MarkIs nodes shown node (Coming p u) =
 slice_get-drop : (moves : List Move) (b i : ℕ) → slice_get (drop b moves) i ≡ slice_get moves (b + i)
 slice_get-drop moves zero i = let e : 0 + i ≡ i = omega arith in rw e refl
 slice_get-drop [] (suc b) i = refl
-slice_get-drop (m ∷ moves) (suc b) i = let e : suc b + i
-    ≡ suc (b + i) = omega arith in rw e (slice_get-drop moves b i)
+slice_get-drop (m ∷ moves) (suc b) i = grind (arith, slice_get-drop moves b i)
 
 pub linked-drop : (setting : Setting) (from number : ℕ) (moves : List Move) (b : ℕ)
     → AreLinked setting from number moves → b ≤ length moves
@@ -53,15 +52,13 @@ pub linked-drop : (setting : Setting) (from number : ℕ) (moves : List Move) (b
 linked-drop setting from number moves zero linked low = let e : number + 0 ≡ number = omega arith in rw e linked
 linked-drop setting from number [] (suc b) linked low = absurd (omega arith)
 linked-drop setting from number (m ∷ later) (suc b) linked low =
-    let e : number + suc b ≡ suc number + b = omega arith in
-    rw e (linked-drop setting m.to (suc number) later b linked.1 (omega arith))
+    grind (arith, linked-drop setting m.to (suc number) later b linked.1 (omega arith))
 
 pub stop-drop : (from : ℕ) (moves : List Move) (b i : ℕ) → b ≤ length moves
     → stop_at (stop_at from moves b) (drop b moves) i ≡ stop_at from moves (b + i)
 stop-drop from moves zero i low = let e : 0 + i ≡ i = omega arith in rw e refl
 stop-drop from [] (suc b) i low = absurd (omega arith)
-stop-drop from (m ∷ later) (suc b) i low = let e : suc b + i
-    ≡ suc (b + i) = omega arith in rw e (stop-drop m.to later b i (omega arith))
+stop-drop from (m ∷ later) (suc b) i low = grind (arith, stop-drop m.to later b i (omega arith))
 
 -- the Gone of a move at the node that it left
 gone-is : {setting : Setting} (shown : Shown) {course : Course} (node : ℕ) (more : List Commit)
@@ -84,8 +81,7 @@ gone-is {setting} shown {course} node more sound are =
         listed =
             let placed : left.move.number - 1 ≡ low + left.place = omega (arith, left.link.its_number) in
             rw (are, placed) (slice_get-left (map commit_by course.moves) more (low + left.place)
-            (commit_by left.move) (slice_get-map commit_by course.moves (low + left.place)
-            ∙ ap (option_map commit_by) (sym (slice_get-drop course.moves low left.place) ∙ left.is_move))
+            (commit_by left.move) (grind (arith, slice_get-map, commit_by, low, option_map, slice_get-drop))
             ∙ ap (λ f. Some (record { number = left.move.number; from = f; to = left.move.to })) left.link.its_from)
 
 -- where all moves are committed there are as many of one as of the other
@@ -104,12 +100,7 @@ rest-is : {setting : Setting} (shown : Shown) {course : Course} (node : ℕ) →
 rest-is {setting} shown {course} node sound begins are off =
     cond_both (node == last_stop course) (there course) (trail_mark (since_top setting course) node Empty)
     (MarkIs setting.nodes shown node)
-    (λ e.
-    let same : node ≡ standing_of shown =
-    eqb-true node (last_stop course) e ∙ sym (rest-stands shown course begins are) in
-    cond_both course.is_off (Off (length course.moves)) (Here (length course.moves)) (MarkIs setting.nodes shown node)
-    (λ is_off. (same, sym (count-told course.moves are), off ∙ is_off))
-    (λ is_on. (same, sym (count-told course.moves are), off ∙ is_on)))
+    (grind (arith, standing_of, eqb-true, last_stop, rest-stands, cond_both, length, count-told))
     (λ e. gone-is shown node [] sound (are ∙ sym (append-nil (map commit_by course.moves))))
 
 -- the Gone of the move itself
@@ -132,8 +123,7 @@ module _ {setting : Setting} {shown : Shown} {phase : Phase} (h : IsMoving setti
   next-count are = begun-count ∙ (ap length h.moves_are ∙ sym (count-told (h.course.moves ++ h.move ∷ []) are))
 
   pub next-stands : shown.commits ≡ map commit_by (h.course.moves ++ h.move ∷ []) → standing_of shown ≡ h.move.to
-  next-stands are = rw are (stands-moves shown.from (h.course.moves ++ h.move ∷ [])
-      ∙ fold-append (λ n (m : Move). m.to) shown.from h.course.moves (h.move ∷ []))
+  next-stands are = grind (arith, stands-moves, fold-append)
 
   -- then all moves are committed
   pub all-committed : shown.commits ≡ map commit_by (h.course.moves ++ h.move ∷ [])
@@ -149,13 +139,7 @@ module _ {setting : Setting} {shown : Shown} {phase : Phase} (h : IsMoving setti
       (gone-is shown node (commit_by h.move ∷ []) h.sound (are ∙ map-append commit_by h.course.moves (h.move ∷ [])))
 
   left-is : (node == h.move.from) ≡ true → MarkIs setting.nodes shown node (Gone h.move.number h.move.to)
-  left-is e = (
-    omega (arith, h.next.number),
-    ap (λ cs. slice_get cs (h.move.number - 1)) are ∙ (own-gone h.next
-        ∙ ap (λ f. Some (record { number = h.move.number; from = f; to = h.move.to }))
-        (sym (eqb-true node h.move.from e))),
-    h.next.inside,
-  )
+  left-is e = grind (arith, slice_get, own-gone, eqb-true)
 
   passing-is : shown.marks h.move.from ≡ Gone h.move.number h.move.to
       → MarkIs setting.nodes shown node (mark_passing setting h.course h.move node)
@@ -200,10 +184,7 @@ mark-is {setting} {shown} node low (inr (coming written, h)) = rw (h.marks_are n
       begun-count h,
       from-inside h.sound h.next,
       h.off_is,
-      inl (
-        h.next.number ∙ sym (ap suc (count-told h.course.moves h.commits_are)),
-        h.next.from ∙ sym (rest-stands shown h.course h.begins h.commits_are),
-      ),
+      grind (arith, count-told, rest-stands),
     ))
     (λ e. rest-is shown node h.sound h.begins h.commits_are (h.off_is ∙ sym h.next.is_on)))
 mark-is node low (inr (passage, h)) = rw (h.marks_are node low) (passing-is h h.commits_are node

@@ -1,6 +1,6 @@
 -- What a legal history leaves, in closed form: its subscriber rests, or is in a phase of a move.
 use Rattle.std.proofs.Math.Seq.{take-nil}
-use Rattle.std.proofs.Common.{◌≡◌, ◌⊎◌, inl, inr, ℕ, zero, suc, ◌<◌, ◌≤◌, ◌^◌, Bool, cond, true, false, ◌==◌, List, [], ◌∷◌, ◌++◌, None, length, map, take, fold, refl, sym, ap, ◌∙◌, subst, arith}
+use Rattle.std.proofs.Common.{◌≡◌, ◌⊎◌, inl, inr, ℕ, zero, suc, ◌<◌, ◌≤◌, ◌^◌, Bool, cond, true, false, ◌==◌, List, [], ◌∷◌, ◌++◌, length, map, take, fold, refl, sym, ap, ◌∙◌, subst, arith}
 use Rattle.std.specs.Prelude.{filter_map}
 use Rattle.std.proofs.lemmas.Bool.{cond_both, eq-eqb, lt-ltb, or_parts}
 use Rattle.std.proofs.Math.Bool.{and-false}
@@ -15,7 +15,6 @@ use Rattle.directory.specs.Legal.{IsLegal, IsScript}
 use Rattle.directory.specs.Histories.{History, puts_to}
 use Rattle.directory.specs.Puts.{course_in, steps_in}
 use Rattle.trail_laws.specs.Phases.{IsAtRest}
-use Rattle.directory.specs.Amid.{IsAmid}
 use Rattle.directory.specs.Statements.{CommitsAreTold, EntriesAreLeft, LegalIsAmid, MarksAreLeft, OffIsTold}
 use Rattle.directory.specs.Courses.{last_stop, Step, move_to, Move, Course, course_at, next_move, after_step, after_steps, MayMove, MayStep, MaySteps}
 use Rattle.directory.specs.Writes.{Write, mark_at, entry_at, new_address, old_home, move_writes, visit_of, visits, writes}
@@ -43,8 +42,7 @@ module _ (setting : Setting) (sub : ℕ) where
   sound-opening steps script = record { begins = script.begins; linked = tt }
 
   pub sound-script : (steps : List Step) → IsScript setting sub steps → IsSound setting (course_of steps)
-  sound-script steps script = sound-steps setting (course_at (start setting sub)) steps (sound-opening steps script)
-      script.allowed
+  sound-script steps script = grind (arith, sound-steps, course_at, start, sound-opening)
 
   opens-marks : (v : ℕ) → sub < subs setting
       → opening_mark setting sub v ≡ rest_mark setting (course_at (start setting sub)) v
@@ -173,8 +171,7 @@ module _ {setting : Setting} {sub : ℕ} {before : List Step} {node : ℕ} (scri
           ∙ (ap (λ cs. cs ++ filter_map write_commit front)
           (commits-steps setting (course_at (start setting sub)) before) ∙ left.commits);
       off_is = fold-append (λ o write. write_off write) false made front ∙ left.on _;
-      moves_are = ap (λ (c : Course). c.moves)
-          (fold-append (after_step setting) (course_at (start setting sub)) before (move_to node ∷ []));
+      moves_are = grind (arith, fold-append, after_step, course_at, start, move_to);
     },
   )
     where
@@ -207,15 +204,8 @@ module _ {setting : Setting} {sub : ℕ} {before : List Step} {node : ℕ} (scri
       at_order (inl none) b t = inl (rw none)
       at_order (inr whole) false t =
           inl (ap (λ b. take p (cond b (purge_nodes setting its_course its_move) [])) t ∙ take-nil p)
-      at_order (inr whole) true t = inr (
-        take_all e its_old (omega (
-          arith,
-          ap length whole,
-          length-take e (erasures setting its_course its_old),
-          length-map its_old (λ level. entry_at level (old_home setting its_course level) None),
-        )),
-        t,
-      )
+      at_order (inr whole) true t =
+          grind (arith, take_all, its_old, length, length-take, erasures, its_course, length-map, entry_at, old_home)
 
   amid-move : (made : ℕ) → 1 ≤ made → Goal (take made (move_writes setting its_course its_move))
   unfolding phase_writes
@@ -240,13 +230,7 @@ unfolding writes
 amid-view {setting} {sub} before [] made script one some few = grind (arith, append-nil, writes_of, take-nil, rests)
 amid-view {setting} {sub} before (move_to node ∷ []) made script one some few =
     let may = may-before setting (course_at (start setting sub)) before (move_to node) script.allowed in
-    rw (append-nil (move_writes setting
-    (course_of setting sub before) (next_move setting (course_of setting sub before) node))) (amid-move (record {
-      known =
-          script.known;
-      begins = script.begins;
-      allowed = may.0;
-    }) may.1 made some)
+    grind (arith, append-nil, move_writes, course_of, next_move, amid-move)
 amid-view {setting} {sub} before (step ∷ []) made script one some few =
     let e : made ≡ 1 = omega (arith, some, few) in
     rw e (rw (writes-more setting (course_at (start setting sub)) before step) at
@@ -270,19 +254,4 @@ pub legal-view : LegalIsAmid → MarksAreLeft → EntriesAreLeft → CommitsAreT
     → View setting (shown setting sub history)
 unfolding WritesView
 legal-view amid marks_left entries_left told off_told {setting} {sub} history low legal =
-    subst (View setting) (sym same) (rw (far.writes, far.steps) (amid-view far.before far.under far.made
-    (rw far.steps at legal.script) far.one far.some far.few))
-  where
-    far : IsAmid setting sub (puts_to sub history)
-    far = amid setting sub (puts_to sub history) low legal
-
-    same : shown setting sub history ≡ written setting sub (writes_made setting sub (puts_to sub history))
-        (course_in setting sub (puts_to sub history)).moves
-    same i = record {
-      from = start setting sub;
-      marks = λ v. marks_left setting sub history low legal v i;
-      entries = λ level cluster. entries_left setting sub history low legal level cluster i;
-      commits = told setting sub history low legal i;
-      off = off_told setting sub history low legal i;
-      moves = (course_in setting sub (puts_to sub history)).moves;
-    }
+    grind (arith, amid-view, puts_to, shown, written, writes_made, course_in, start, commits, off)
