@@ -4,7 +4,7 @@ use Rattle.std.proofs.Common.{◌≡◌, ◌⊎◌, inl, inr, ℕ, ◌-◌, ◌�
 use Rattle.std.specs.Prelude.{filter_map}
 use Rattle.node_set.specs.Ascending.{IsAscending, IsBelowAll}
 use Rattle.entry_word.specs.declared.mark.PresenceMark.{PresenceMark}
-use Rattle.entry_word.specs.declared.mark.PresenceMark.TheVariants.{Here, Gone, Coming, Off}
+use Rattle.entry_word.specs.declared.mark.PresenceMark.TheVariants.{Gone, Coming, Off}
 use Rattle.directory.specs.Settings.{Setting, start}
 use Rattle.directory.specs.Histories.{before, History}
 use Rattle.directory.specs.Finds.{after_word, chases, ended, FindCall, is_known, Pursuit}
@@ -62,9 +62,7 @@ IsTracked setting sub seen behind pursuit = behind ≡ nothing
 
 pub tracked-nothing : (setting : Setting) (sub : ℕ) (seen : History) (pursuit : Pursuit)
     → IsTracked setting sub seen nothing pursuit
-tracked-nothing setting sub seen (chases chase node) = behind-nothing setting sub seen chase.known node
-tracked-nothing setting sub seen (ended found) = tt
-tracked-nothing setting sub seen pursuit = refl
+tracked-nothing setting sub seen pursuit = grind (arith, behind-nothing)
 
 -- a mark fits what is behind it
 abbrev pub IsBegun : ℕ → PresenceMark → Type 0
@@ -91,9 +89,7 @@ below-less a b [] h all = tt
 below-less a b (x ∷ xs) h all = (omega (arith, h, all.0), below-less a b xs h all.1)
 
 goes-back : (p : ℕ) (mark : PresenceMark) → GoesUp (p - 1) mark → IsBegun p mark → GoesBack p mark
-goes-back p (Here q) up begun = omega (arith, up)
-goes-back p (Gone q to) up begun = omega (arith, up)
-goes-back p mark up begun = begun
+goes-back p mark up begun = grind arith
 
 -- what a mark leaves for the next one
 abbrev pub after_gone : ℕ → Behind
@@ -110,9 +106,7 @@ Continues behind mark later = later ≡ []
 pub one-more : (behind : Behind) (mark : PresenceMark) (later : List PresenceMark) → behind.gone ≤ behind.place
     → GoesUp behind.place mark → IsBegun behind.begun mark → Continues behind mark later
     → Rises behind (mark ∷ later)
-one-more behind (Gone q to) later low up begun rest = grind (arith, below-less)
-one-more behind (Coming q from) later low up begun rest = grind (arith, goes-back)
-one-more behind mark later low up begun none = grind arith
+one-more behind mark later low up begun rest = grind (arith, below-less, goes-back)
 
 -- no mark is read after the end
 pub ended-none : (setting : Setting) (call : FindCall) (pursuit : Pursuit) (words : List ℕ)

@@ -1,6 +1,6 @@
 -- Where the marks of a trail lead: the numbers rise from hop to hop, so that no node is met twice.
 use Rattle.std.proofs.lemmas.Bool.{cases_Bool, cases_eq}
-use Rattle.std.proofs.Common.{◌≡◌, ◌≢◌, ◌⊎◌, inl, inr, ℕ, zero, suc, ◌+◌, ◌*◌, ◌<◌, ◌≤◌, max, true, false, List, Option, Some, None, length, refl, ap, ◌∙◌, arith}
+use Rattle.std.proofs.Common.{◌≡◌, ◌≢◌, ◌⊎◌, inl, inr, ℕ, zero, suc, ◌+◌, ◌*◌, ◌<◌, ◌≤◌, max, true, false, List, Option, Some, length, refl, ap, ◌∙◌, arith}
 use Rattle.std.specs.Prelude.{nat_le}
 use Rattle.std.proofs.lemmas.Bool.Decides.{nat_tests}
 use Rattle.entry_word.specs.declared.mark.PresenceMark.{PresenceMark}
@@ -27,17 +27,14 @@ pub record Arrival (setting : Setting) (marks : ℕ → PresenceMark) (known : O
 -- what is known stays within the most
 pub knows-with : (most p : ℕ) (known : Option ℕ) → KnowsAtMost most known → p ≤ most
     → KnowsAtMost most (known_with p known)
-knows-with most p None knows low = low
-knows-with most p (Some k) knows low = omega (arith, knows)
+knows-with most p known knows low = grind arith
 
 knows-it : (number : ℕ) (known : Option ℕ) → is_known number (known_with number known) ≡ true
-knows-it number None = let e : nat_le number number ≡ true = grind (arith, nat_tests) in e
-knows-it number (Some k) = grind (arith, max, nat_le)
+knows-it number known = grind (arith, nat_le, max)
 
 knows-less : (most number : ℕ) (known : Option ℕ) → KnowsAtMost most known → most < number
     → is_known number known ≡ false
-knows-less most number None h low = refl
-knows-less most number (Some k) h low = grind (arith, nat_tests)
+knows-less most number known h low = grind arith
 
 -- a stop that isn't the last is left by a move
 before-end : (from end : ℕ) (moves : List Move) (i v : ℕ) → stop_at from moves (length moves) ≡ end
@@ -207,10 +204,7 @@ module _ (setting : Setting) (marks : ℕ → PresenceMark) where
       at_last : (v ≡ to) ⊎ (v ≢ to) → (v ≡ left) ⊎ (v ≢ left)
           → Arrives number to moves 1 (2 * setting.distance left to) i v known
           ⊎ ((marks v ≡ trail_mark moves v Empty) × (i < length moves))
-      at_last (inl at_to) l = inl (at_exit to 2 _ at_to (omega (arith, counted))
-          (λ metric. omega (arith, metric.both_ways to left to_inside left_inside))
-          (passing-leads left p to known gone comes))
-      at_last (inr off_to) (inl at_left) = inl (at_exit left 1 _ at_left (omega arith) (λ metric. omega arith)
-          (left-leads left p to known gone comes))
+      at_last (inl at_to) l = grind (arith, at_exit, counted, passing-leads left p to known gone comes)
+      at_last (inr off_to) (inl at_left) = grind (arith, at_exit, left-leads left p to known gone comes)
       at_last (inr off_to) (inr off_left) =
           inr (others v inside off_left off_to, before-end from left moves i v ends low is_stop off_left)

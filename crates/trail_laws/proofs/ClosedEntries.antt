@@ -46,8 +46,7 @@ entered-levels at new level cluster entry (l ∷ levels) =
     ∙ at_test (level == l) refl
   where
     twice : (h k : Bool) → cond (h && k) new (cond k new entry) ≡ cond k new entry
-    twice true true = refl
-    twice h k = refl
+    twice h k = grind arith
 
     at_test : (b : Bool) → (level == l) ≡ b → cond (has level levels && cluster == at level) new
         (cond (b && cluster == at l) new entry) ≡ cond ((b || has level levels) && cluster == at level) new entry

@@ -19,7 +19,7 @@ use Rattle.trail_laws.proofs.Links.{IsSound, sound-step}
 use Rattle.trail_laws.proofs.ClosedMarks.{IsNext, is-next, rest_mark, mark_coming, mark_passing, mark_erasing, fold-still, marked, marked-purges, with_move, marks-rest, there}
 use Rattle.trail_laws.proofs.ClosedEntries.{rest_entry, entry_written, entry_erased, new_entry, entered, entered-levels, entries-rest}
 use Rattle.trail_laws.proofs.ClosedViews.{clearing, coming, old_levels, passage, Phase, phase_commits, phase_entry, phase_mark, purge_nodes, purged_nodes, renewed_levels}
-use Rattle.std.proofs.lemmas.Bool.{cases_lt}
+use Rattle.std.proofs.lemmas.Bool.{cases_Bool, cases_lt}
 use Rattle.std.proofs.Math.Bool.{and-true}
 
 -- ---- the writes of a move in each phase, by lists of levels and nodes
@@ -165,8 +165,7 @@ fold-steps f setting its one course (step ∷ steps) sound may =
     ∙ fold-steps f setting its one (after_step setting course step) steps (sound-step step sound may.0) may.1)
 
 over-again : (b : Bool) (new old mark : PresenceMark) → cond b new (cond b old mark) ≡ cond b new mark
-over-again true new old mark = refl
-over-again false new old mark = refl
+over-again b new old mark = grind (arith, nat_tests, cases_Bool)
 
 pub marks-steps : {setting : Setting} {course : Course} (steps : List Step) (v : ℕ) → v < setting.nodes
     → IsSound setting course → MaySteps setting course steps

@@ -1,5 +1,5 @@
 -- The phases of a move cover all that a legal history leaves; in the first one its Coming stands where it goes.
-use Rattle.std.proofs.Common.{◌≡◌, ◌⊎◌, inl, inr, ℕ, suc, List, [], ◌∷◌, ◌++◌, Some, None, length, refl, sym, ap, ◌∙◌, arith, eq-eqb}
+use Rattle.std.proofs.Common.{◌≡◌, ◌⊎◌, inl, inr, ℕ, suc, List, [], ◌∷◌, ◌++◌, Some, None, length, refl, sym, ◌∙◌, arith, eq-eqb}
 use Rattle.std.specs.List.{last_or}
 use Rattle.entry_word.specs.declared.mark.PresenceMark.{PresenceMark}
 use Rattle.entry_word.specs.declared.mark.PresenceMark.TheVariants.{Coming}
@@ -11,7 +11,7 @@ use Rattle.directory.specs.Standing.{number, standing}
 use Rattle.trail_laws.specs.Trail.{mark_seen, MarksTell, MarkTells}
 use Rattle.trail_laws.specs.Phases.{ComingStands, IsBeforeCommit, IsPassingFrom, IsSettled, PhasesCover}
 use Rattle.trail_laws.specs.Ways.{StandsInside}
-use Rattle.trail_laws.proofs.ClosedViews.{clearing, coming, passage, Shown, View}
+use Rattle.trail_laws.proofs.ClosedViews.{Shown, View}
 use Rattle.trail_laws.proofs.Tells.{all-committed, count-told}
 use Rattle.trail_laws.proofs.Stops.{view-counts}
 use Rattle.trail_laws.proofs.Laws.{HistoryView, Laws, view}
@@ -33,7 +33,6 @@ covers laws marks inside setting sub history low legal = elim (view-counts (view
     at_mark : length (course_in setting sub (puts_to sub history)).moves ≡ number sub history → (mark : PresenceMark)
         → mark_seen setting sub history (standing setting sub history) ≡ mark
         → MarkTells setting sub history (standing setting sub history) mark → Goal
-    at_mark all (Coming p from) e tells = inr (inl (from, e ∙ ap (λ n. Coming n from) (tells.0 ∙ all)))
     at_mark all mark e tells = grind (arith, number)
 
 -- a move that isn't committed has its Coming where it goes
@@ -43,11 +42,7 @@ last-is xs x y h = same_Some x y (sym (last_or-push None xs x) ∙ h)
 begun-shown : {setting : Setting} {shown : Shown} (move : Move) → View setting shown
     → length shown.moves ≡ suc (length shown.commits) → last_or None shown.moves ≡ Some move
     → shown.marks move.to ≡ Coming move.number move.from
-begun-shown move (inl h) early last =
-    absurd (omega (arith, early, ap length h.moves_are, count-told h.course.moves h.commits_are))
-begun-shown move (inr (coming written, h)) early last = grind (arith, last-is, last_or, eq-eqb)
-begun-shown move (inr (passage, h)) early last = absurd (all-committed h h.commits_are early)
-begun-shown move (inr (clearing erased purged, h)) early last = absurd (all-committed h h.commits_are early)
+begun-shown move view early last = grind (arith, length, count-told, last-is, last_or, eq-eqb, all-committed)
 
 pub coming-stands : Laws → ComingStands
 unfolding HistoryView

@@ -1,5 +1,5 @@
 -- Where the scripts lead, and that the censuses at the end of an order say so.
-use Rattle.std.proofs.Common.{◌≡◌, ◌<◌, ◌≤◌, ◌^◌, ℕ, Bool, true, false, refl, sym, ap, ◌∙◌, arith, eqb-true, eq-eqb}
+use Rattle.std.proofs.Common.{◌≡◌, ◌<◌, ◌≤◌, ◌^◌, ℕ, Bool, true, false, sym, ap, ◌∙◌, arith, eqb-true, eq-eqb}
 use Rattle.entry_word.specs.Marks.{mark_in, says_here}
 use Rattle.entry_word.specs.declared.visit.Key.TheVariants.{Presence}
 use Rattle.std.specs.Prelude.{◌==◌, ◌&&◌, not, slice_index}
@@ -19,8 +19,7 @@ use Rattle.std.specs.Cmp.{both_ways}
 
 on-there : (node stands : ℕ) (is_off : Bool) → is_on_at node (record { node = stands; is_off = is_off }) ≡ true
     → (node ≡ stands) × (is_off ≡ false)
-on-there node stands true h = let clash : false ≡ true = h in cc
-on-there node stands false h = (sym (eqb-true stands node h), refl)
+on-there node stands is_off h = grind (arith, eqb-true)
 
 there-on : (node stands : ℕ) (is_off : Bool) → node ≡ stands → is_off ≡ false
     → is_on_at node (record { node = stands; is_off = is_off }) ≡ true

@@ -12,10 +12,7 @@ use Rattle.node_set.specs.SetLaws.{length-passing_all}
 -- one number more on the left is one more on the right
 cond-fewer : (a b : Bool) (v d : ℕ) (xs ys : List ℕ) → (a ≡ true → b ≡ true) → d + length xs ≤ length ys
     → d + length (cond a (v ∷ xs) xs) ≤ length (cond b (v ∷ ys) ys)
-cond-fewer true true v d xs ys e more = omega (arith, more)
-cond-fewer true false v d xs ys e more = let clash : false ≡ true = e refl in cc
-cond-fewer false true v d xs ys e more = omega (arith, more)
-cond-fewer false false v d xs ys e more = more
+cond-fewer a b v d xs ys e more = grind arith
 
 pub passing-fewer : (f g : ℕ → Bool) (v k : ℕ) → ((x : ℕ) → f x ≡ true → g x ≡ true)
     → length (sift f v k) ≤ length (sift g v k)
@@ -55,8 +52,7 @@ abbrev pub above : Setting → (ℕ → PresenceMark) → ℕ → ℕ
 above setting marks number = length (sift (λ v. gone_above number (marks v)) 0 setting.nodes)
 
 gone_above-less : (p q : ℕ) (mark : PresenceMark) → q ≤ p → gone_above p mark ≡ true → gone_above q mark ≡ true
-gone_above-less p q (Gone r to) h e = grind (arith, nat_tests)
-gone_above-less p q mark h e = cc
+gone_above-less p q mark h e = grind arith
 
 -- a node with a Gone counts for less than its number
 pub above-less : (setting : Setting) (marks : ℕ → PresenceMark) (v p q to : ℕ) → v < setting.nodes

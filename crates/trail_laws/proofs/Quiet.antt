@@ -1,81 +1,57 @@
 -- A quiet find has its answer: what it stands on stays while no visit of a move is made.
 use Rattle.std.proofs.lemmas.Bool.{cases_Bool, cases_eq, or_cases, eqb-true, cases_lt}
-use Rattle.std.proofs.Common.{◌≡◌, ◌⊎◌, inl, inr, ℕ, zero, suc, ◌+◌, ◌-◌, ◌*◌, ◌<◌, ◌≤◌, ◌^◌, true, false, ◌==◌, List, [], ◌∷◌, ◌++◌, Option, Some, None, map, fold, refl, sym, ap, ◌∙◌, arith}
-use Rattle.std.specs.Prelude.{All, flat_map, is_some}
+use Rattle.std.proofs.Common.{◌≡◌, ◌⊎◌, inl, inr, ℕ, zero, suc, ◌+◌, ◌-◌, ◌*◌, ◌<◌, ◌≤◌, ◌^◌, true, false, ◌==◌, List, [], ◌∷◌, ◌++◌, Option, Some, None, map, refl, sym, ap, ◌∙◌, arith}
+use Rattle.std.specs.Prelude.{All, flat_map, is_some, slice_get}
 use Rattle.std.proofs.lemmas.List.Elements.{All-head, All-tail}
 use Rattle.std.proofs.lemmas.Option.{slice_get_within}
 use Rattle.node_set.specs.Ascending.{has}
 use Rattle.entry_word.specs.declared.address.Address.{Address}
+use Rattle.entry_word.specs.declared.visit.Key.{Key}
 use Rattle.directory.specs.Settings.{levels, Setting}
-use Rattle.directory.specs.Histories.{before, cell, History, words_at}
+use Rattle.directory.specs.Histories.{before, cell, History}
 use Rattle.directory.specs.Writes.{numbers_from}
 use Rattle.directory.specs.Legal.{IsLegal}
-use Rattle.directory.specs.Finds.{after_word, all_readers, at_origin, ended, find, FindCall, Reader, Pursuit, way_in, found_weight}
-use Rattle.directory.specs.Looks.{AreLooks, first_of, IsFind, IsQuiet, last_of, look_by, moves_at}
+use Rattle.directory.specs.Finds.{key_of, after_word, all_readers, find, FindCall, Reader, Pursuit, way_in, found_weight}
+use Rattle.directory.specs.Looks.{first_of, IsFind, IsQuiet, last_of, look_by, moves_at}
 use Rattle.directory.specs.declared.answers.Found.{Found}
 use Rattle.directory.specs.declared.answers.Found.TheVariants.{Again}
 use Rattle.trail_laws.specs.Trail.{entry_seen}
 use Rattle.trail_laws.specs.Rightness.{AgainHasItsCause, IsAnswered, QuietFindsAnswer, ReadsTop}
 use Rattle.trail_laws.specs.Within.{Affords, AffordsAddress, Begins, EntryAsks, QuietFindsStayWithin}
 use Rattle.trail_laws.proofs.Passing.{front-legal}
-use Rattle.trail_laws.proofs.Right.{last-more, Low, read-one, readers-low}
+use Rattle.trail_laws.proofs.Right.{at-last, Low, readers-low}
 use Rattle.trail_laws.proofs.Sure.{first-sure, IsSure, Used, look-sure, sure-until}
 
--- ---- all looks
--- the last look comes no earlier than the first
-pub last-late : (setting : Setting) (history : History) (actor : ℕ) (call : FindCall) (earliest : ℕ) (pursuit : Pursuit)
-    (t : ℕ)
-    (later : List ℕ) → AreLooks setting history actor call earliest pursuit (t ∷ later) → t ≤ last_of (t ∷ later)
-unfolding AreLooks
-last-late setting history actor call earliest pursuit t [] looks = omega arith
-last-late setting history actor call earliest pursuit t (u ∷ later) (first, (key, wanted, is_look, rest)) = grind (
-  arith,
-  last-late setting history actor call (suc t)
-      (after_word setting call pursuit (cell setting (before t history) key)) u later rest,
-  last-more,
-)
-
-module _ (used : Used) {setting : Setting} (history : History) (actor : ℕ) (call : FindCall) (Within : ℕ → Type 0)
-    (found : Found) (low : setting.nodes ≤ 2 ^ 16) (inside : call.from < setting.nodes)
-    (legal : IsLegal setting call.sub history) where
-  sure-looks : (later : List ℕ) (t : ℕ) (pursuit : Pursuit)
-      → IsSure setting call.sub (before t history) call Within pursuit
-      → AreLooks setting history actor call (suc t) pursuit later
-      → ((u : ℕ) → t ≤ u → u ≤ last_of (t ∷ later) → moves_at call.sub history u ≡ false)
-      → fold (after_word setting call) pursuit (flat_map (words_at setting history) later) ≡ ended found
-      → IsAnswered found × Within (found_weight found)
-  unfolding AreLooks
-  sure-looks [] t pursuit sure looks quiet ends = rw ends at sure
-  sure-looks (u ∷ later) t pursuit sure (first, (key, wanted, is_look, rest)) quiet ends =
-      sure-looks later u (after_word setting call pursuit (cell setting (before u history) key))
-      (look-sure setting (before u history) call Within pursuit key waited wanted) rest
-      (λ x h g. quiet x (omega (arith, first, h)) (omega (arith, g, last-more t u later)))
-      (sym (read-one setting history actor u key call pursuit later is_look) ∙ ends)
-    where
-      late : u ≤ last_of (u ∷ later)
-      late = last-late setting history actor call (suc t) pursuit u later (first, (key, wanted, is_look, rest))
-
-      waited : IsSure setting call.sub (before u history) call Within pursuit
-      waited = grind (arith, sure-until, slice_get_within, look_by, late, last-more)
-
-  -- a quiet find whose beginning is sure has an answer within what is allowed
-  first-looks : (tickets : List ℕ) → Begins setting (before (first_of tickets) history) call Within
-      → IsQuiet history call.sub (first_of tickets) (last_of tickets)
-      → AreLooks setting history actor call 0 at_origin tickets
-      → find setting call (flat_map (words_at setting history) tickets) ≡ ended found
-      → IsAnswered found × Within (found_weight found)
-  unfolding AreLooks
-  first-looks [] begins quiet looks ends = let clash : at_origin ≡ ended found = ends in cc
-  first-looks (t ∷ later) begins quiet (first, (key, wanted, is_look, rest)) ends =
-      grind (arith, front-legal, first-sure, read-one, sure-looks)
-
+-- a quiet find whose beginning is sure has an answer within what is allowed
 pub quiet-within : Used → {setting : Setting} {history : History} {actor : ℕ} {call : FindCall} {Within : ℕ → Type 0}
     {found : Found} {tickets : List ℕ} → setting.nodes ≤ 2 ^ 16 → call.from < setting.nodes
     → IsLegal setting call.sub history → Begins setting (before (first_of tickets) history) call Within
     → IsFind setting history actor call found tickets
     → IsQuiet history call.sub (first_of tickets) (last_of tickets) → IsAnswered found × Within (found_weight found)
 quiet-within used {setting} {history} {actor} {call} {Within} {found} {tickets} low inside legal begins find quiet =
-    first-looks used history actor call Within found low inside legal tickets begins quiet find.looks find.answer
+    (at-last setting history actor call SureTo next tickets find (λ t key same is_look wanted. (
+      omega (arith, same),
+      λ calm.
+          first-sure used {seen = before t history} {Within = Within} key (rw same begins) low inside (front-legal used.fronts setting call.sub history t low legal)
+          wanted,
+    ))).1 quiet
+  where
+    -- while no visit of a move is made it is sure
+    SureTo : ℕ → Pursuit → Type 0
+    SureTo t pursuit = (first_of tickets ≤ t) × (IsQuiet history call.sub (first_of tickets) t
+        → IsSure setting call.sub (before t history) call Within pursuit)
+
+    next : (t u : ℕ) (pursuit : Pursuit) (key : Key) → t < u → slice_get history u ≡ Some (look_by actor key)
+        → key_of call pursuit ≡ Some key → SureTo t pursuit
+        → SureTo u (after_word setting call pursuit (cell setting (before u history) key))
+    next t u pursuit key later is_look wanted sure = (
+      omega (arith, later, sure.0),
+      λ calm.
+          look-sure setting (before u history) call Within pursuit key (sure-until used history call Within t u pursuit low
+          legal (omega (arith, later)) (omega (arith, slice_get_within history u (look_by actor key) is_look))
+          (λ x h g. calm x (omega (arith, h, sure.0)) (omega (arith, g)))
+          (sure.1 (λ x h g. calm x h (omega (arith, g, later))))) wanted,
+    )
 
 -- ---- without a bound: the home at the top level has an address that the origin reads
 abbrev pub HasReader : Setting → ℕ → History → List Reader → Type 0

@@ -1,7 +1,7 @@
 -- The answers of finds are right: what is known grows with the commits, and the mark that answers says where the
 -- subscriber stands.
 use Rattle.std.proofs.lemmas.Bool.{cond_both}
-use Rattle.std.proofs.Common.{◌≡◌, ℕ, zero, suc, ◌+◌, ◌*◌, ◌<◌, ◌≤◌, ◌^◌, true, false, List, [], ◌∷◌, Option, Some, None, map, fold, sym, ◌∙◌, arith}
+use Rattle.std.proofs.Common.{◌≡◌, ℕ, zero, suc, ◌+◌, ◌*◌, ◌<◌, ◌≤◌, ◌^◌, true, false, List, [], ◌∷◌, Option, Some, None, map, fold, refl, sym, ◌∙◌, arith}
 use Rattle.std.specs.Prelude.{All, flat_map, slice_get}
 use Rattle.std.proofs.lemmas.Bool.Decides.{nat_tests}
 use Rattle.std.proofs.lemmas.List.Elements.{All-append, All-map, All-head, All-nil, All-tail}
@@ -15,7 +15,7 @@ use Rattle.directory.specs.Histories.{before, cell, History, through, words_at}
 use Rattle.directory.specs.Writes.{numbers_from}
 use Rattle.directory.specs.Legal.{IsLegal}
 use Rattle.directory.specs.Finds.{after_entry, after_mark, after_origin, after_word, all_readers, at_origin, Chase, chases, climb, climbs, ended, find, FindCall, hop, is_known, key_of, known_with, Reader, Pursuit, way_in}
-use Rattle.directory.specs.Looks.{AreLooks, last_of, look_by}
+use Rattle.directory.specs.Looks.{AreLooks, first_of, IsFind, last_of, look_by}
 use Rattle.directory.specs.Standing.{number, off, standing}
 use Rattle.directory.specs.Statements.{FrontsAreLegal}
 use Rattle.directory.specs.declared.answers.Found.{Found}
@@ -149,52 +149,66 @@ right-through : (setting : Setting) (history : History) (sub actor t : ℕ) (key
 right-through setting history sub actor t key (Again why weight) h right = tt
 right-through setting history sub actor t key found h right = rw (through-puts sub actor key t history h) right
 
-pub last-more : (t u : ℕ) (later : List ℕ) → last_of (t ∷ u ∷ later) ≡ last_of (u ∷ later)
+-- ---- all looks of a find
+last-more : (t u : ℕ) (later : List ℕ) → last_of (t ∷ u ∷ later) ≡ last_of (u ∷ later)
 last-more t u later = grind arith
 
-pub read-one : (setting : Setting) (history : History) (actor t : ℕ) (key : Key) (call : FindCall) (pursuit : Pursuit)
+read-one : (setting : Setting) (history : History) (actor t : ℕ) (key : Key) (call : FindCall) (pursuit : Pursuit)
     (later : List ℕ) → slice_get history t ≡ Some (look_by actor key)
     → fold (after_word setting call) pursuit (flat_map (words_at setting history) (t ∷ later))
     ≡ fold (after_word setting call) (after_word setting call pursuit (cell setting (before t history) key))
     (flat_map (words_at setting history) later)
 read-one setting history actor t key call pursuit later h = grind arith
 
--- the looks of a find end with a right answer
-module _ (marks : MarksTell) (entries : EntriesTell) (fronts : FrontsAreLegal) {setting : Setting} (history : History)
-    (actor : ℕ) (call : FindCall) (found : Found) (low : setting.nodes ≤ 2 ^ 16) (inside : call.from < setting.nodes)
-    (legal : IsLegal setting call.sub history) where
-  next-good : (t : ℕ) (pursuit : Pursuit) (key : Key) → IsSafe setting (number call.sub (before t history)) pursuit
-      → key_of call pursuit ≡ Some key → IsGood setting call.sub (before t history)
-      (after_word setting call pursuit (cell setting (before t history) key))
-  next-good t pursuit key = grind (arith, look-good, before, front-legal)
-
-  right-looks : (later : List ℕ) (t : ℕ) (key : Key) (pursuit : Pursuit)
-      → slice_get history t ≡ Some (look_by actor key) → IsGood setting call.sub (before t history) pursuit
+-- what holds after the first look, and is kept by each that comes next, holds after the last one
+module _ (setting : Setting) (history : History) (actor : ℕ) (call : FindCall) (P : ℕ → Pursuit → Type 0)
+    (one : (t u : ℕ) (pursuit : Pursuit) (key : Key) → t < u → slice_get history u ≡ Some (look_by actor key)
+    → key_of call pursuit ≡ Some key → P t pursuit
+    → P u (after_word setting call pursuit (cell setting (before u history) key))) where
+  looked : (later : List ℕ) (t : ℕ) (pursuit : Pursuit) → P t pursuit
       → AreLooks setting history actor call (suc t) pursuit later
-      → fold (after_word setting call) pursuit (flat_map (words_at setting history) later) ≡ ended found
-      → IsRight setting history call.sub found (last_of (t ∷ later))
+      → P (last_of (t ∷ later)) (fold (after_word setting call) pursuit (flat_map (words_at setting history) later))
   unfolding AreLooks
-  right-looks [] t key pursuit is_look good looks ends =
-      right-through setting history call.sub actor t key found is_look (rw ends at good)
-  right-looks (u ∷ later) t key pursuit is_look good (first, (next, wanted, its_look, rest)) ends =
-      rw (last-more t u later) (right-looks later u next
-      (after_word setting call pursuit (cell setting (before u history) next)) its_look
-      (grind (arith, next-good, safe-later, number-grows, good-safe, before))
-      rest (sym (read-one setting history actor u next call pursuit later its_look) ∙ ends))
+  looked [] t pursuit now looks = now
+  looked (u ∷ later) t pursuit now (first, (key, wanted, is_look, rest)) =
+      rw (last-more t u later, read-one setting history actor u key call pursuit later is_look)
+      (looked later u (after_word setting call pursuit (cell setting (before u history) key))
+      (one t u pursuit key (omega (arith, first)) is_look wanted now) rest)
 
-  first-right : (tickets : List ℕ) → AreLooks setting history actor call 0 at_origin tickets
-      → find setting call (flat_map (words_at setting history) tickets) ≡ ended found
-      → IsRight setting history call.sub found (last_of tickets)
+  pub at-last : {found : Found} (tickets : List ℕ) → IsFind setting history actor call found tickets
+      → ((t : ℕ) (key : Key) → t ≡ first_of tickets → slice_get history t ≡ Some (look_by actor key)
+      → key_of call at_origin ≡ Some key
+      → P t (after_word setting call at_origin (cell setting (before t history) key))) → P (last_of tickets) (ended found)
   unfolding AreLooks
-  first-right [] looks ends = let clash : at_origin ≡ ended found = ends in cc
-  first-right (t ∷ later) (first, (key, wanted, is_look, rest)) ends =
-      right-looks later t key (after_word setting call at_origin (cell setting (before t history) key)) is_look
-      (next-good t at_origin key tt wanted) rest
-      (sym (read-one setting history actor t key call at_origin later is_look) ∙ ends)
+  at-last {found} [] find start = let clash : at_origin ≡ ended found = find.answer in cc
+  at-last (t ∷ later) find start =
+      let look = find.looks.1 in
+      rw (sym (read-one setting history actor t look.0 call at_origin later look.2) ∙ find.answer) at
+      (looked later t (after_word setting call at_origin (cell setting (before t history) look.0))
+      (start t look.0 refl look.2 look.1) look.3)
 
+-- so a find ends with a right answer
 pub answers-right : MarksTell → EntriesTell → FrontsAreLegal → AnswersAreRight
 answers-right marks entries fronts setting history actor call found tickets low inside legal find =
-    first-right marks entries fronts history actor call found low inside legal tickets find.looks find.answer
+    let its = at-last setting history actor call Good (λ t u pursuit key later is_look wanted good. (
+      key,
+      is_look,
+      good-at u pursuit key (safe-later setting _ _ pursuit (number-grows call.sub t u history (omega (arith, later)))
+          (good-safe setting call.sub (before t history) pursuit good.2)) wanted,
+    ))
+    tickets find (λ t key first is_look wanted. (key, is_look, good-at t at_origin key tt wanted)) in
+    right-through setting history call.sub actor (last_of tickets) its.0 found its.1 its.2
+  where
+    Good : ℕ → Pursuit → Type 0
+    Good t pursuit = (key : Key) × (slice_get history t ≡ Some (look_by actor key))
+        × IsGood setting call.sub (before t history) pursuit
+
+    good-at : (t : ℕ) (pursuit : Pursuit) (key : Key) → IsSafe setting (number call.sub (before t history)) pursuit
+        → key_of call pursuit ≡ Some key
+        → IsGood setting call.sub (before t history)
+        (after_word setting call pursuit (cell setting (before t history) key))
+    good-at t pursuit key = look-good marks entries (before t history) call pursuit key low inside
+        (front-legal fronts setting call.sub history t low legal)
 
 -- so numbers never fall
 number-of : (setting : Setting) (history : History) (sub : ℕ) (found : Found) (last p : ℕ)
