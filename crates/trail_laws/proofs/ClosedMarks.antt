@@ -130,16 +130,12 @@ trail-has {setting} {course} move v sound = grind (arith, base-low, drop-append-
 purged-rest : (f a b : Bool) (here gone coming its mark : PresenceMark) → (f ≡ false → mark ≡ Empty)
     → cond ((f || (b || false)) && not a) Empty (cond a here (cond b gone (cond a coming (cond b its mark))))
     ≡ cond a here Empty
-purged-rest false false false here gone coming its mark h = h refl
-purged-rest false true true here gone coming its mark h = refl
-purged-rest true true b here gone coming its mark h = refl
-purged-rest f a b here gone coming its mark h = refl
+purged-rest f a b here gone coming its mark h = grind arith
 
 -- another move adds the node that it left to the trail
 added-rest : (a b : Bool) (here gone coming its mark : PresenceMark)
     → cond a here (cond b gone (cond a coming (cond b its mark))) ≡ cond a here (cond b gone mark)
-added-rest false true here gone coming its mark = refl
-added-rest a b here gone coming its mark = refl
+added-rest a b here gone coming its mark = grind arith
 
 -- when a move has made all its writes its subscriber rests again
 pub marks-rest : {setting : Setting} {course : Course} {move : Move} (purged : List ℕ) (v : ℕ)

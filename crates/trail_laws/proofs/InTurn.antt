@@ -38,9 +38,7 @@ follow-behind : (place : ℕ) (answers : List Answer) (i j : ℕ) (a b : Answer)
 unfolding FollowEachOther
 follow-behind place [] i j a b follows le at_a at_b = cc
 follow-behind place (x ∷ answers) zero zero a b follows le at_a at_b = absurd (omega (arith, le))
-follow-behind place (x ∷ answers) zero (suc j) a b follows le at_a at_b =
-    let one : x ≡ a = cc in
-    grind (arith, one, follow-above)
+follow-behind place (x ∷ answers) zero (suc j) a b follows le at_a at_b = grind (arith, follow-above)
 follow-behind place (x ∷ answers) (suc i) zero a b follows le at_a at_b = absurd (omega (arith, le))
 follow-behind place (x ∷ answers) (suc i) (suc j) a b follows le at_a at_b =
     follow-behind (suc x.last) answers i j a b follows.2 (omega (arith, le)) at_a at_b
@@ -52,14 +50,12 @@ looked-on : (caller : Seeker) (call : FindCall) (later : List FindCall) (pursuit
     → AreLooked caller.next caller.answers
     → AreLooked (with_pursuit caller call later pursuit answer).next
     (with_pursuit caller call later pursuit answer).answers
-looked-on caller call later pursuit None h = λ i a at. omega (arith, h i a at)
-looked-on caller call later pursuit (Some found) h = grind (arith, append-at, slice_get)
+looked-on caller call later pursuit answer h = grind (arith, append-at, slice_get)
 
 looked-more : (setting : Setting) (caller : Seeker) (calls : List FindCall) (word : ℕ)
     → AreLooked caller.next caller.answers
     → AreLooked (read_by setting caller calls word).next (read_by setting caller calls word).answers
-looked-more setting caller [] word h = h
-looked-more setting caller (call ∷ later) word h = grind (arith, looked-on)
+looked-more setting caller calls word h = grind (arith, looked-on)
 
 looked-all : (setting : Setting) (words : List ℕ) (caller : Seeker) → AreLooked caller.next caller.answers
     → AreLooked (fold (after_read setting) caller words).next (fold (after_read setting) caller words).answers
@@ -85,13 +81,11 @@ last-of (Some find) = find.last
 line-visits : (caller : ℕ) (call : FindCall) (found : Found) (first last : ℕ) (find : FindLine)
     → find_of (found_line caller call found first last) ≡ Some find → (first ≡ find.first) × (last ≡ find.last)
 unfolding first-of last-of
-line-visits caller call (At node number level weight) first last find is = (ap first-of is, ap last-of is)
-line-visits caller call found first last find is = (ap first-of is, ap last-of is)
+line-visits caller call found first last find is = grind (arith, first-of, last-of)
 
 actor-found : (caller : ℕ) (call : FindCall) (found : Found) (first last : ℕ)
     → actor_of (found_line caller call found first last) ≡ caller
-actor-found caller call (At node number level weight) first last = refl
-actor-found caller call found first last = refl
+actor-found caller call found first last = grind arith
 
 abbrev AreInTurn : Done → Done → Type 0
 AreInTurn one other = (earlier later : FindLine) → find_of one ≡ Some earlier → find_of other ≡ Some later
@@ -151,8 +145,7 @@ all-in-turn f x (suc k) each order i j one other le at_one at_other same =
 -- the lines of subscribers tell of no find
 step-untold : (setting : Setting) (sub : ℕ) (course : Course) (step : Step) (seen : List ℕ) (find : FindLine)
     → find_of (step_line setting sub course step seen) ≡ Some find → ⊥
-step-untold setting sub course (move_to node) seen find told = cc
-step-untold setting sub course step seen find told = cc
+step-untold setting sub course step seen find told = grind arith
 
 abbrev AreUntold : List Done → Type 0
 AreUntold lines = (i : ℕ) (line : Done) (find : FindLine) → slice_get lines i ≡ Some line

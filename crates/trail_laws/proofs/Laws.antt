@@ -65,13 +65,11 @@ placed laws {setting} {sub} history low legal level cluster address below is_som
 not_empty : (setting : Setting) (marks : ℕ → PresenceMark) (node last hops way : ℕ)
     → IsLed setting marks None node last hops way → marks node ≢ Empty
 unfolding IsLed
-not_empty setting marks node last zero way led empty = grind (arith, answers)
-not_empty setting marks node last (suc hops) way led empty = grind (arith, lead)
+not_empty setting marks node last hops way led empty = grind (arith, answers, lead)
 
 pub addresses-lead : Laws → AddressesLead
 addresses-lead laws setting sub history low legal level cluster address known below is_some knows =
-    let there = (placed laws history low legal level cluster address below is_some).leads known knows
-    in (there.hops, there.way, there.few, there.led)
+    grind (arith, placed laws history low legal level cluster address below is_some)
 
 pub entries-tell : Laws → EntriesTell
 entries-tell laws setting sub history low legal level cluster below = told

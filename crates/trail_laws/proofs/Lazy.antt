@@ -79,8 +79,7 @@ lazy-steps setting course (step ∷ steps) sound may some lazy =
     (lazy-step step sound some lazy)
 
 lazy-none : (setting : Setting) → ((i : ℕ) → i ≤ setting.top → 1 ≤ setting.threshold i) → AreLazy setting []
-lazy-none setting some zero level low below = some level below
-lazy-none setting some (suc k) level low below = some level below
+lazy-none setting some k level low below = grind arith
 
 -- so it is after the puts of a legal history
 pub legal-lazy : {setting : Setting} {sub : ℕ} (history : History)

@@ -66,8 +66,7 @@ last-left setting from number (m ∷ later) v mark linked =
     at_first : (P : ℕ → Type 0) → (from ≡ v → P 0)
         → ((i : ℕ) → i < length later → stop_at m.to later i ≡ v → P (suc i))
         → (i : ℕ) → i < length (m ∷ later) → stop_at from (m ∷ later) i ≡ v → P i
-    at_first P first more zero low same = first same
-    at_first P first more (suc i) low same = more i (omega arith) same
+    at_first P first more i low same = grind arith
 
     at_test : (b : Bool) → (v == m.from) ≡ b
         → LeavesMark setting m.to (suc number) later v (its_mark (v == m.from))

@@ -15,8 +15,7 @@ use Rattle.trail_laws.specs.Trail.{MarksTell, MarkTells}
 
 here-tells : (setting : Setting) (sub : ℕ) (history : History) (node : ℕ) (mark : PresenceMark)
     → says_here mark ≡ true → MarkTells setting sub history node mark → IsOnAt setting sub history node
-here-tells setting sub history node (Here p) h tells = (tells.0, tells.2)
-here-tells setting sub history node mark h tells = let clash : false ≡ true = h in cc
+here-tells setting sub history node mark h tells = grind arith
 
 pub listed-stand : CensusIsMark → MarksTell → ListedStandThere
 listed-stand says tells setting sub history node low below legal h = grind (arith, here-tells)

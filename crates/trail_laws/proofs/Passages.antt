@@ -28,21 +28,16 @@ use Rattle.directory.specs.HistoryLaws.{commits-append}
 -- a confirm is a Here with its number at its node
 confirm-here : (c : Commit) (node : ℕ) (mark : PresenceMark) → confirms c node mark ≡ true
     → (node ≡ c.to) × (mark ≡ Here c.number)
-confirm-here c node (Here p) h = grind (arith, and_parts, eqb-true)
-confirm-here c node mark h = cc
+confirm-here c node mark h = grind (arith, and_parts, eqb-true)
 
 confirm-other : (c : Commit) (node : ℕ) (mark : PresenceMark) → (node == c.to) ≡ false → confirms c node mark ≡ false
-confirm-other c node (Here p) h = ap (λ b. b && p == c.number) h
-confirm-other c node mark h = refl
+confirm-other c node mark h = grind arith
 
 -- a put for a subscriber leaves the mark at a commit's node alone, and doesn't confirm it, or is that mark
 put-cases : (c : Commit) (sub word : ℕ) (act : Act) → is_put_for sub act ≡ true
     → ((word_after (Presence c.to sub) word act ≡ word) × (confirms c (node_put act) (mark_put act) ≡ false))
     ⊎ (mark_in (word_after (Presence c.to sub) word act) ≡ mark_put act)
-put-cases c sub word (Put (Entry level cluster s) new) put = inl (refl, refl)
-put-cases c sub word (Put (Presence node s) new) put =
-    grind (arith, cases_Bool, eqb-true, eq-eqb, eqb-false, ne_eqb, confirm-other)
-put-cases c sub word act put = cc
+put-cases c sub word act put = grind (arith, cases_Bool, eqb-true, eq-eqb, eqb-false, ne_eqb, confirm-other)
 
 put-course : (setting : Setting) (sub : ℕ) (puts : List Visit) (visit : Visit) → (off : Bool)
     × (course_in setting sub (puts ++ visit ∷ []) ≡ after_steps setting (course_in setting sub puts)
@@ -155,5 +150,4 @@ coming-opens laws {setting} {sub} history node p u low inside legal comes reache
     c = record { number = p; from = u; to = node }
 
     not_yet : (b : Bool) → list_any (confirmed c) (puts_to sub history) ≡ b → b ≡ false
-    not_yet false e = refl
-    not_yet true e = absurd ((past-all laws c history low inside legal e).1 u comes)
+    not_yet b e = grind (arith, past-all, c)

@@ -47,16 +47,14 @@ pub price-clearing : {setting : Setting} {course : Course} {move : Move} (level 
     → AreLazy setting (course.moves ++ move ∷ [])
     → weight_from (course.moves ++ move ∷ []) (base level course.moves) + 2
     ≤ 2 * setting.threshold level + setting.distance (address_node course level) move.to
-price-clearing {setting} {course} {move} level sound next below metric lazy = omega (
+price-clearing {setting} {course} {move} level sound next below metric lazy = grind (
   arith,
   lazy-front setting course.moves (move ∷ []) level below lazy,
   weight-push course.moves move (base level course.moves) (base-low level sound),
-  next.weight,
-  metric.detour move.from (address_node course level) move.to (from-inside sound next) old_inside next.inside,
-  metric.both_ways move.from (address_node course level) (from-inside sound next) old_inside,
-  ap (setting.distance (address_node course level)) next.from,
+  base level course.moves,
+  base-low level sound,
+  address_node course level,
+  from-inside sound next,
   address-near level sound metric,
+  old-inside level sound,
 )
-  where
-    old_inside : address_node course level < setting.nodes
-    old_inside = old-inside level sound

@@ -36,14 +36,11 @@ IsSafe setting most (chases chase node) = KnowsAtMost most chase.known × (node 
 IsSafe setting most (ended found) = Unit {0}
 
 pub knows-more : (most more : ℕ) (known : Option ℕ) → most ≤ more → KnowsAtMost most known → KnowsAtMost more known
-knows-more most more None h k = tt
-knows-more most more (Some n) h k = omega (arith, k)
+knows-more most more known h k = grind arith
 
 pub safe-later : (setting : Setting) (most more : ℕ) (pursuit : Pursuit) → most ≤ more → IsSafe setting most pursuit
     → IsSafe setting more pursuit
-safe-later setting most more (climbs known weight reader later) h safe = (knows-more most more known h safe.0, safe.1)
-safe-later setting most more (chases chase node) h safe = (knows-more most more chase.known h safe.0, safe.1)
-safe-later setting most more other h safe = tt
+safe-later setting most more other h safe = grind (arith, knows-more)
 
 -- what holds of an answer told at a history
 abbrev pub RightAt : Setting → ℕ → History → Found → Type 0
@@ -63,8 +60,7 @@ IsGood setting sub seen (ended found) = RightAt setting sub seen found
 
 pub good-safe : (setting : Setting) (sub : ℕ) (seen : History) (pursuit : Pursuit) → IsGood setting sub seen pursuit
     → IsSafe setting (number sub seen) pursuit
-good-safe setting sub seen (ended found) good = tt
-good-safe setting sub seen other good = good
+good-safe setting sub seen other good = grind arith
 
 low-readers : (setting : Setting) (node first count : ℕ) → first + count ≤ levels setting
     → All (Low setting) (flat_map (λ level. map (λ cluster. record { level = level; cluster = cluster })
@@ -111,12 +107,10 @@ entry-good setting seen call known weight reader later (Some address) knows all 
 hop-good : (setting : Setting) (sub : ℕ) (seen : History) (known level : Option ℕ) (weight hops_left node to : ℕ)
     → KnowsAtMost (number sub seen) known → to < setting.nodes
     → IsGood setting sub seen (hop setting known level weight hops_left node to)
-hop-good setting sub seen known level weight zero node to knows inside = tt
-hop-good setting sub seen known level weight (suc more) node to knows inside = (knows, inside)
+hop-good setting sub seen known level weight hops_left node to knows inside = grind arith
 
 known-low : (most p : ℕ) (known : Option ℕ) → KnowsAtMost most known → is_known p known ≡ true → p ≤ most
-known-low most p None knows h = cc
-known-low most p (Some k) knows h = let low : p ≤ k = grind (arith, nat_tests, h) in omega (arith, knows, low)
+known-low most p known knows h = grind arith
 
 mark-good : (setting : Setting) (sub : ℕ) (seen : History) (chase : Chase) (node : ℕ) (mark : PresenceMark)
     → KnowsAtMost (number sub seen) chase.known → MarkTells setting sub seen node mark
@@ -146,8 +140,7 @@ look-good marks entries seen call (ended found) key low inside legal safe wanted
 right-through : (setting : Setting) (history : History) (sub actor t : ℕ) (key : Key) (found : Found)
     → slice_get history t ≡ Some (look_by actor key) → RightAt setting sub (before t history) found
     → IsRight setting history sub found t
-right-through setting history sub actor t key (Again why weight) h right = tt
-right-through setting history sub actor t key found h right = rw (through-puts sub actor key t history h) right
+right-through setting history sub actor t key found h right = grind (arith, through-puts)
 
 -- ---- all looks of a find
 last-more : (t u : ℕ) (later : List ℕ) → last_of (t ∷ u ∷ later) ≡ last_of (u ∷ later)
@@ -213,8 +206,7 @@ answers-right marks entries fronts setting history actor call found tickets low 
 -- so numbers never fall
 number-of : (setting : Setting) (history : History) (sub : ℕ) (found : Found) (last p : ℕ)
     → IsRight setting history sub found last → HasNumber found p → p ≡ number sub (through last history)
-number-of setting history sub (Again why weight) last p right has = absurd has
-number-of setting history sub found last p right has = sym has ∙ right.1
+number-of setting history sub found last p right has = grind arith
 
 pub never-fall : MarksTell → EntriesTell → FrontsAreLegal → NumbersNeverFall
 never-fall marks entries fronts setting history actor other sub from other_from p q found other_found tickets

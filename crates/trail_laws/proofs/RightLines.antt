@@ -42,9 +42,7 @@ made_right : AnswersAreRight → AgainHasItsCause → {setting : Setting} {scrip
     → setting.nodes ≤ 2 ^ 16 → ReadsTop setting → AreValid setting scripts
     → ((sub : ℕ) → sub < subs setting → IsLegal setting sub history) → (line : Done)
     → IsMade setting scripts history line → IsRightLine setting history line
-made_right right cause history low reads valid legal (Moved actor n from to weight first commit last) h = tt
-made_right right cause history low reads valid legal (Switched actor is_off node n ticket) h = tt
-made_right right cause history low reads valid legal line h = right_line right cause low reads valid legal h
+made_right right cause history low reads valid legal line h = grind (arith, right_line)
 
 pub outcomes-right : AnswersAreRight → AgainHasItsCause → OrdersArePlayed → OrdersAreDone → PlayedIsLegal
     → LinesAreMade → OutcomesAreRight
@@ -72,8 +70,6 @@ told_by : (setting : Setting) (history : History) (actor from : ℕ) (found : Fo
     → IsFind setting history actor (record { from = from; sub = sub }) found seen
     → line ≡ found_line actor (record { from = from; sub = sub }) found (first_of seen) (last_of seen)
     → TellsNumber line s p ticket → Numbered setting history s p ticket
-told_by setting history actor from (Again why weight) seen line sub s p ticket is find tells told =
-    absurd (rw tells at told)
 told_by setting history actor from found seen line sub s p ticket is find tells told = grind (arith, last_of)
 
 numbered : {setting : Setting} {scripts : Scripts} (history : History) → AreValid setting scripts → (line : Done)

@@ -43,10 +43,7 @@ module _ {setting : Setting} {sub : ℕ} {one other : History} (call : FindCall)
   entry-alike : (old new : Option Address) (on other_on : Type 0) (there other_there : Address → Type 0) → new ≡ old
       → (on → other_on) → ((a : Address) → there a → other_there a) → EntryAsks old on there
       → EntryAsks new other_on other_there
-  entry-alike None None on other_on there other_there same f g h = f h
-  entry-alike (Some a) (Some b) on other_on there other_there same f g h =
-      let is_one : a ≡ b = cc in rw is_one at (g a h)
-  entry-alike old new on other_on there other_there same f g h = cc
+  entry-alike old new on other_on there other_there same f g h = grind arith
 
   affords-alike : (weight : ℕ) (readers : List Reader)
       → Affords setting sub one call Within weight readers → Affords setting sub other call Within weight readers
@@ -60,11 +57,7 @@ module _ {setting : Setting} {sub : ℕ} {one other : History} (call : FindCall)
 
   pub sure-alike : (pursuit : Pursuit) → IsSure setting sub one call Within pursuit
       → IsSure setting sub other call Within pursuit
-  sure-alike (climbs known weight reader later) sure =
-      (rw alike.count sure.0, affords-alike weight (reader ∷ later) sure.1)
-  sure-alike (chases chase node) sure =
-      (sure.0, sure.1, sure.2, led-on chase.known node sure.0 sure.1 sure.3, sure.4)
-  sure-alike other_pursuit sure = sure
+  sure-alike other_pursuit sure = grind (arith, affords-alike, led-on)
 
 -- what is used of the laws
 pub record Used : Type 0 where
@@ -95,16 +88,14 @@ module _ (setting : Setting) (seen : History) (call : FindCall) (Within : ℕ �
   climb-sure : (known : Option ℕ) (weight : ℕ) (readers : List Reader) → KnowsAtMost (number call.sub seen) known
       → Affords setting call.sub seen call Within weight readers → IsSureOf (climb known weight readers)
   unfolding Affords
-  climb-sure known weight [] knows some = absurd some
-  climb-sure known weight (reader ∷ later) knows some = (knows, some)
+  climb-sure known weight readers knows some = grind arith
 
   origin-sure : (mark : PresenceMark) → Begins setting seen call Within
       → mark_seen setting call.sub seen call.from ≡ mark → MarkTells setting call.sub seen call.from mark
       → IsSureOf (after_origin setting call mark)
   origin-sure Empty begins same tells = grind (arith, climb-sure, all_readers)
-  origin-sure (Gone q to) begins same tells = climb-sure (Some q) 0 (all_readers setting call.from)
-      (gone-known setting call.sub seen call.from q to tells)
-      (begins.climbing (λ p from e. cc) (λ p e. cc) (λ p e. cc))
+  origin-sure (Gone q to) begins same tells =
+      grind (arith, climb-sure, all_readers setting call.from, gone-known setting call.sub seen call.from q to tells)
   origin-sure (Coming q from) begins same tells = grind (arith, begins.chasing q from same)
   origin-sure mark begins same tells = (tt, begins.here)
 
@@ -113,18 +104,14 @@ module _ (setting : Setting) (seen : History) (call : FindCall) (Within : ℕ �
       → EntryAsks entry (Affords setting call.sub seen call Within (weight + 2 * way_in setting call reader) later)
       (λ address. AffordsAddress setting call.sub seen call Within weight reader address)
       → IsSureOf (after_entry setting call known weight reader later entry)
-  entry-sure known weight reader later None knows some =
-      climb-sure known (weight + 2 * way_in setting call reader) later knows some
-  entry-sure known weight reader later (Some address) knows some = grind arith
+  entry-sure known weight reader later entry knows some = grind (arith, climb-sure, way_in)
 
   -- a hop along what leads
   hop-sure : (known level : Option ℕ) (weight hops_left node to hops way : ℕ) → suc hops ≤ hops_left
       → IsLed setting (mark_seen setting call.sub seen) known to (standing setting call.sub seen) hops way
       → Within (weight + setting.distance node to + way)
       → IsSureOf (hop setting known level weight hops_left node to)
-  hop-sure known level weight zero node to hops way few led allowed = absurd (omega arith)
-  hop-sure known level weight (suc more) node to hops way few led allowed =
-      (hops, way, omega arith, led, allowed)
+  hop-sure known level weight hops_left node to hops way few led allowed = grind arith
 
   hop-on : (chase : Chase) (node to : ℕ) (known : Option ℕ) (hops way : ℕ) → suc hops ≤ chase.hops_left
       → IsLed setting (mark_seen setting call.sub seen) chase.known node (standing setting call.sub seen) (suc hops) way

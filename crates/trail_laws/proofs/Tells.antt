@@ -153,11 +153,7 @@ module _ {setting : Setting} {shown : Shown} {phase : Phase} (h : IsMoving setti
         begun-count h,
         from-inside h.sound h.next,
         h.off_is,
-        inr (
-          next-count h are,
-          eqb-true node h.move.to at ∙ sym (next-stands h are),
-          gone ∙ ap (λ n. Gone h.move.number n) (sym (eqb-true node h.move.to at)),
-        ),
+        grind (arith, next-count h are, eqb-true node h.move.to, next-stands h are),
       )
       at_from false false e at = trail-is e
 
@@ -180,12 +176,7 @@ mark-is {setting} {shown} node low (inl h) =
     rw (h.marks_are node low) (rest-is shown node h.sound h.begins h.commits_are h.off_is)
 mark-is {setting} {shown} node low (inr (coming written, h)) = rw (h.marks_are node low)
     (cond_both (node == h.move.to) _ _ (MarkIs setting.nodes shown node)
-    (λ e. (
-      begun-count h,
-      from-inside h.sound h.next,
-      h.off_is,
-      grind (arith, count-told, rest-stands),
-    ))
+    (grind (arith, begun-count h, from-inside h.sound h.next, count-told, rest-stands))
     (λ e. rest-is shown node h.sound h.begins h.commits_are (h.off_is ∙ sym h.next.is_on)))
 mark-is node low (inr (passage, h)) = rw (h.marks_are node low) (passing-is h h.commits_are node
     (h.marks_are h.move.from (from-inside h.sound h.next) ∙ rw (eq-eqb h.move.from h.move.from refl)))
