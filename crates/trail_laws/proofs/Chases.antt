@@ -1,7 +1,6 @@
 -- Where the marks of a trail lead: the numbers rise from hop to hop, so that no node is met twice.
 use Rattle.std.proofs.lemmas.Bool.{cases_Bool, cases_eq}
-use Rattle.std.proofs.Common.{◌≡◌, ◌≢◌, ◌⊎◌, inl, inr, ℕ, zero, suc, ◌+◌, ◌*◌, ◌<◌, ◌≤◌, max, true, false, List, Option, Some, length, refl, ap, ◌∙◌, arith}
-use Rattle.std.specs.Prelude.{nat_le}
+use Rattle.std.proofs.Common.{◌≡◌, ◌≢◌, ◌⊎◌, inl, inr, ℕ, zero, suc, ◌+◌, ◌*◌, ◌<◌, ◌≤◌, true, false, List, Option, Some, length, refl, ap, ◌∙◌, arith}
 use Rattle.std.proofs.lemmas.Bool.Decides.{nat_tests}
 use Rattle.entry_word.specs.declared.mark.PresenceMark.{PresenceMark}
 use Rattle.entry_word.specs.declared.mark.PresenceMark.TheVariants.{Empty, Gone, Coming}
@@ -30,7 +29,7 @@ pub knows-with : (most p : ℕ) (known : Option ℕ) → KnowsAtMost most known 
 knows-with most p known knows low = grind arith
 
 knows-it : (number : ℕ) (known : Option ℕ) → is_known number (known_with number known) ≡ true
-knows-it number known = grind (arith, nat_le, max)
+knows-it number known = grind arith
 
 knows-less : (most number : ℕ) (known : Option ℕ) → KnowsAtMost most known → most < number
     → is_known number known ≡ false

@@ -50,7 +50,7 @@ entered-levels at new level cluster entry (l ∷ levels) =
 
     at_test : (b : Bool) → (level == l) ≡ b → cond (has level levels && cluster == at level) new
         (cond (b && cluster == at l) new entry) ≡ cond ((b || has level levels) && cluster == at level) new entry
-    at_test true e = grind (arith, eqb-true, has, twice)
+    at_test true e = grind (arith, eqb-true, twice)
     at_test false e = refl
 
 -- the stop where the address of a level was made, whatever moves come behind, and that of a move
@@ -68,8 +68,7 @@ pub address-with : {setting : Setting} {course : Course} {move : Move} (level : 
     → IsNext setting course move
     → address_node (with_move course move) level ≡ cond (nat_le level move.renewed) move.to
     (address_node course level)
-address-with {course} {move} level sound next =
-    grind (arith, stop, with_move, base-with, nat_le, base, address_node, new-stop, old-stop)
+address-with {course} {move} level sound next = grind (arith, base-with, new-stop, old-stop)
 
 -- when a move has made all its writes its subscriber rests again
 pub entries-rest : {setting : Setting} {course : Course} {move : Move} (written erased : List ℕ) (level cluster : ℕ)
@@ -79,4 +78,4 @@ pub entries-rest : {setting : Setting} {course : Course} {move : Move} (written 
     → entry_erased setting course move written erased level cluster
     ≡ rest_entry setting (with_move course move) level cluster
 entries-rest {setting} {course} {move} written erased level cluster sound next all gone =
-    grind (arith, address-with, base-with, nat_le, old_home, base, address_node, new_entry, eqb-true, eq-eqb)
+    grind (arith, address-with, base-with, eqb-true, eq-eqb)

@@ -59,7 +59,7 @@ fold-still f a g (x ∷ xs) still = ap (λ b. fold f b (map g xs)) (still x) ∙
 pub marked-purges : (v : ℕ) (mark : PresenceMark) (nodes : List ℕ)
     → marked v mark (map (λ node. mark_at node Empty) nodes) ≡ cond (has v nodes) Empty mark
 marked-purges v mark [] = refl
-marked-purges v mark (node ∷ nodes) = grind (arith, marked-purges v (cond (v == node) Empty mark) nodes, has)
+marked-purges v mark (node ∷ nodes) = grind (arith, marked-purges v (cond (v == node) Empty mark) nodes)
 
 -- the trail with one more move
 pub trail_mark-push : (moves : List Move) (move : Move) (v : ℕ) (mark : PresenceMark)
@@ -115,7 +115,7 @@ count-with course move = omega (arith, length-append course.moves (move ∷ []))
 pub base-with : (level : ℕ) (course : Course) (move : Move)
     → base level (with_move course move).moves ≡ cond (nat_le level move.renewed) move.number
     (base level course.moves)
-base-with level course move = grind (arith, fold-append, nat_le)
+base-with level course move = grind (arith, fold-append)
 
 there-with : {setting : Setting} {course : Course} {move : Move} → IsNext setting course move
     → there (with_move course move) ≡ Here move.number
@@ -161,11 +161,11 @@ marks-rest {setting} {course} {move} purged v sound next whole none =
         let same : move.renewed ≡ setting.top = eqb-true move.renewed setting.top e in
         let top : nat_le setting.top move.renewed ≡ true = grind (arith, nat_tests, same) in
         let none_since : since_top setting (with_move course move)
-        ≡ [] = grind (arith, drop_of_length-le, with_move, base, base-with, count-with)
+        ≡ [] = grind (arith, drop_of_length-le, base-with, count-with)
         in
-        grind (arith, trail-has, purged-rest, has, map, since, there, trail_mark, trail_mark-none)
+        grind (arith, trail-has, purged-rest, since, trail_mark-none)
     at_top false e =
         let low : nat_le setting.top move.renewed ≡ false = grind (arith, nat_tests, next.renewed, e) in
         let one_since : since_top setting (with_move course move) ≡ since ++ move ∷ [] =
-        grind (arith, drop, base-with, base, drop-append-le, base-low) in
-        grind (arith, trail_mark-push, since, added-rest, there, trail_mark)
+        grind (arith, base-with, drop-append-le, base-low) in
+        grind (arith, trail_mark-push, since, added-rest)

@@ -12,7 +12,7 @@ use Rattle.entry_word.specs.declared.mark.PresenceMark.{PresenceMark}
 use Rattle.entry_word.specs.declared.mark.PresenceMark.TheVariants.{Empty, Here, Gone, Coming, Off}
 use Rattle.directory.specs.Settings.{Setting}
 use Rattle.directory.specs.Courses.{Step, move_to, switch_off, switch_on, Move, Course, last_stop, next_move, after_step, after_steps, MayStep, MaySteps}
-use Rattle.directory.specs.Writes.{Write, mark_at, entry_at, new_address, old_home, erasure_writes, move_writes, step_writes, writes}
+use Rattle.directory.specs.Writes.{Write, mark_at, entry_at, new_address, old_home, move_writes, step_writes, writes}
 use Rattle.directory.specs.Standing.{commit_by}
 use Rattle.directory.specs.States.{entry_after, mark_after, write_commit, write_off}
 use Rattle.trail_laws.proofs.Links.{IsSound, sound-step}
@@ -74,15 +74,15 @@ module _ (setting : Setting) (course : Course) (move : Move) where
     on = λ off. addresses-still (λ o write. write_off write) false written (λ level. refl);
   }
   leaves passage = record {
-    marks = grind (arith, fold-append, mark_after, map, new_address, renewed_levels, addresses-still, mark_coming);
+    marks = grind (arith, fold-append, addresses-still);
     entries = λ level cluster.
         fold-append (entry_after level cluster) _ (map (new_address setting move) (renewed_levels move)) _
         ∙ entered-levels (λ l. setting.home l move.to) (new_entry move) level cluster
         (rest_entry setting course level cluster) (renewed_levels move);
     commits = ap (λ cs. map commit_by course.moves ++ cs)
-        (grind (arith, filter_map-append, write_commit, map, new_address, renewed_levels, commit_by, none-new))
+        (grind (arith, filter_map-append, none-new))
         ∙ sym (map-append commit_by course.moves (move ∷ []));
-    on = grind (arith, fold-append, write_off, map, new_address, renewed_levels);
+    on = grind (arith, fold-append);
   }
   leaves (clearing erased purged) = record {
     marks = λ v. fold-append (mark_after v) _ (map (new_address setting move) (renewed_levels move)) _
@@ -90,7 +90,7 @@ module _ (setting : Setting) (course : Course) (move : Move) where
         (cond (v == move.from) (Gone move.number move.to) m)) (erasures setting course erased ++ purges purged))
         (addresses-still (mark_after v) (mark_coming setting course move v) (renewed_levels move) (λ level. refl))
         ∙ (fold-append (mark_after v) (arrived v) (erasures setting course erased) (purges purged)
-        ∙ (grind (arith, marked, purges, fold-still, mark_after, arrived, entry_at, old_home, marked-purges))));
+        ∙ (grind (arith, fold-still, arrived, marked-purges))));
     entries = λ level cluster.
         fold-append (entry_after level cluster) _ (map (new_address setting move) (renewed_levels move)) _
         ∙ (ap (λ e. entered level cluster e (erasures setting course erased ++ purges purged))
@@ -105,9 +105,9 @@ module _ (setting : Setting) (course : Course) (move : Move) where
         ∙ (ap (λ cs. cs ++ (commit_by move ∷ filter_map write_commit (erasures setting course erased ++ purges purged)))
         (none-new (renewed_levels move))
         ∙ ap (λ cs. commit_by move ∷ cs)
-        (grind (arith, filter_map-append, write_commit, erasures, purges, filter_map, none-told))))
+        (grind (arith, filter_map-append, none-told))))
         ∙ sym (map-append commit_by course.moves (move ∷ []));
-    on = grind (arith, fold-append, write_off, map, new_address, renewed_levels, erasures, purges, fold, fold-still);
+    on = grind (arith, fold-append, fold-still);
   }
     where
       arrived : ℕ → PresenceMark
@@ -120,15 +120,14 @@ whole_phase setting course move = clearing (old_levels setting course move) (pur
 pub whole-writes : (setting : Setting) (course : Course) (move : Move)
     → move_writes setting course move ≡ phase_writes setting course move (whole_phase setting course move)
 unfolding phase_writes
-whole-writes setting course move =
-    grind (arith, mark_at, map, new_address, renewed_levels, erasure_writes, purges, purge_nodes)
+whole-writes setting course move = grind arith
 
 -- which levels and nodes pass a test
 in-passing : (test : ℕ → Bool) (x n : ℕ) → has x (sift test 0 (suc n)) ≡ (nat_le x n && test x)
 in-passing test x n = elim (cases_lt n x) as (λ _. has x (sift test 0 (suc n)) ≡ (nat_le x n && test x)) [
   | inr low ↦ let e : nat_le x n ≡ true = grind (arith, nat_tests, low) in rw e
       (has-passing test x 0 (suc n) (omega arith) (omega arith))
-  | inl high ↦ grind (arith, nat_le, passing_over)
+  | inl high ↦ grind (arith, passing_over)
 ]
 
 pub in-levels : (level : ℕ) (move : Move) → has level (renewed_levels move) ≡ nat_le level move.renewed
@@ -210,7 +209,7 @@ commits-steps setting course [] = append-nil (map commit_by course.moves)
 commits-steps setting course (step ∷ steps) =
     ap (λ cs. map commit_by course.moves ++ cs) (filter_map-append write_commit (step_writes setting course step)
     (writes setting (after_step setting course step) steps))
-    ∙ (sym (grind (arith, append_assoc, map, commit_by, filter_map, write_commit, step_writes, writes, after_step))
+    ∙ (sym (grind (arith, append_assoc))
     ∙ (ap (λ cs. cs ++ filter_map write_commit (writes setting (after_step setting course step) steps)) (one step)
     ∙ commits-steps setting (after_step setting course step) steps))
   where

@@ -33,7 +33,7 @@ covers laws marks inside setting sub history low legal = elim (view-counts (view
     at_mark : length (course_in setting sub (puts_to sub history)).moves ≡ number sub history → (mark : PresenceMark)
         → mark_seen setting sub history (standing setting sub history) ≡ mark
         → MarkTells setting sub history (standing setting sub history) mark → Goal
-    at_mark all mark e tells = grind (arith, number)
+    at_mark all mark e tells = grind arith
 
 -- a move that isn't committed has its Coming where it goes
 last-is : (xs : List Move) (x y : Move) → last_or None (xs ++ x ∷ []) ≡ Some y → x ≡ y
@@ -42,7 +42,7 @@ last-is xs x y h = same_Some x y (sym (last_or-push None xs x) ∙ h)
 begun-shown : {setting : Setting} {shown : Shown} (move : Move) → View setting shown
     → length shown.moves ≡ suc (length shown.commits) → last_or None shown.moves ≡ Some move
     → shown.marks move.to ≡ Coming move.number move.from
-begun-shown move view early last = grind (arith, length, count-told, last-is, last_or, eq-eqb, all-committed)
+begun-shown move view early last = grind (arith, count-told, last-is, eq-eqb, all-committed)
 
 pub coming-stands : Laws → ComingStands
 unfolding HistoryView

@@ -5,17 +5,14 @@ use Rattle.entry_word.specs.declared.visit.Key.TheVariants.{Presence}
 use Rattle.std.specs.Prelude.{◌==◌, ◌&&◌, not, slice_index}
 use Rattle.node_set.specs.SetLaws.{has-passing, passing_same}
 use Rattle.directory.specs.Settings.{Setting, start, subs}
-use Rattle.directory.specs.Courses.{after_steps, course_at, last_stop}
-use Rattle.directory.specs.Histories.{History, cell, puts_to}
+use Rattle.directory.specs.Histories.{History, cell}
 use Rattle.directory.specs.Orders.{AreValid, IsDone, IsPlayed, Scripts, history_of, steps_of}
-use Rattle.directory.specs.Puts.{course_in}
 use Rattle.directory.specs.Standing.{off, standing}
 use Rattle.directory.specs.Statements.{DoneIsRest, DoneShowsScript, OrdersAreDone, OrdersArePlayed, PlayedIsLegal}
 use Rattle.directory.specs.Places.{place_at_end}
 use Rattle.directory.specs.StepLaws.{place-after_steps}
 use Rattle.trail_laws.specs.Censuses.{CensusesEndByScripts, CensusesEndRight, IsCounted, is_on_at}
 use Rattle.trail_laws.specs.Phases.{RestEndsItsCourse}
-use Rattle.std.specs.Cmp.{both_ways}
 
 on-there : (node stands : ℕ) (is_off : Bool) → is_on_at node (record { node = stands; is_off = is_off }) ≡ true
     → (node ≡ stands) × (is_off ≡ false)
@@ -35,7 +32,7 @@ end-there : RestEndsItsCourse → DoneIsRest → DoneShowsScript → PlayedIsLeg
     (history : History) (sub : ℕ) → setting.nodes ≤ 2 ^ 16 → AreValid setting scripts → sub < subs setting
     → IsPlayed setting scripts history → IsDone setting scripts history sub → AtEnd setting scripts history sub
 end-there ends rests shows legal {setting} {scripts} history sub low valid known played done =
-    grind (arith, course_in, puts_to, after_steps, course_at, start, steps_of, place-after_steps, last_stop)
+    grind (arith, place-after_steps)
 
 pub end-by_scripts : CensusesEndRight → RestEndsItsCourse → DoneIsRest → DoneShowsScript → OrdersArePlayed
     → OrdersAreDone → PlayedIsLegal → CensusesEndByScripts
@@ -53,4 +50,4 @@ end-by_scripts right ends rests shows played done legal setting scripts order no
         (omega (arith, known)) in
         let end = end-there ends rests shows legal (history_of setting scripts order) sub low valid known
         (played setting scripts order) (done setting scripts order sub) in
-        grind (arith, place_at_end, start, steps_of, both_ways, there-on, on-there)
+        grind (arith, there-on, on-there)

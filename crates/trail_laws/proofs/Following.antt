@@ -208,7 +208,7 @@ looks-rise laws {setting} history actor call low inside legal (t ∷ later) earl
 
     safe_next : IsSafe setting (number call.sub (before (suc t) history)) next
     safe_next = safe-later setting _ _ next (number-grows call.sub t (suc t) history (omega arith))
-        (grind (arith, good-safe, before, next, look-good, legal_now, safe_now))
+        (grind (arith, good-safe, next, look-good, legal_now, safe_now))
 
 pub chases-rise : ChaseLaws → ChasesRise
 chases-rise laws setting history actor call tickets low inside legal looks =

@@ -33,7 +33,7 @@ passing-less f g x v (suc k) low high h out within = at_place (cases v x)
         → length (cond (f v) (v ∷ sift f (suc v) k) (sift f (suc v) k)) < length
         (cond (g v) (v ∷ sift g (suc v) k) (sift g (suc v) k))
     at_place (inl e) more = rw (ap f e ∙ out, ap g e ∙ within) (omega (arith, passing-fewer f g (suc v) k h))
-    at_place (inr e) more = grind (arith, cond-fewer, sift)
+    at_place (inr e) more = grind (arith, cond-fewer)
 
 pub some-out : (test : ℕ → Bool) (x n : ℕ) → x < n → test x ≡ false → suc (length (sift test 0 n)) ≤ n
 some-out test x n low out = omega (

@@ -12,7 +12,7 @@ use Rattle.directory.specs.Writes.{old_home}
 use Rattle.trail_laws.proofs.ClosedEntries.{address-with, entry_erased, entry_written, new_entry, rest_entry}
 use Rattle.trail_laws.proofs.ClosedViews.{old_levels, renewed_levels}
 use Rattle.trail_laws.proofs.ClosedWrites.{whole-entries}
-use Rattle.trail_laws.proofs.ClosedMarks.{base-with, IsNext, with_move}
+use Rattle.trail_laws.proofs.ClosedMarks.{base-with, IsNext}
 use Rattle.trail_laws.proofs.Links.{IsSound}
 
 -- the address that a level had before the move, and the one that the move writes
@@ -61,4 +61,4 @@ unfolding IsOld IsNew
 only-new {setting} {course} {move} level cluster address sound next low top h =
     let at_top : nat_le level move.renewed ≡ true =
     grind (arith, nat_tests, low, eqb-true move.renewed setting.top top) in
-    grind (arith, old_address, with_move, address_node, rest-some, whole-entries, address-with, base-with)
+    grind (arith, rest-some, whole-entries, address-with, base-with)

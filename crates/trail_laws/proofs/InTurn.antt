@@ -1,20 +1,19 @@
 -- Each line of an actor's finds begins behind the last visit of those before it.
-use Rattle.std.proofs.Common.{◌≡◌, ◌⊎◌, inl, inr, ℕ, zero, suc, ◌+◌, ◌<◌, ◌≤◌, List, [], ◌∷◌, ◌++◌, length, map, drop, fold, get_or, refl, ap, arith, Option}
+use Rattle.std.proofs.Common.{◌≡◌, ◌⊎◌, inl, inr, ℕ, zero, suc, ◌+◌, ◌<◌, ◌≤◌, List, [], ◌∷◌, ◌++◌, length, map, drop, fold, get_or, refl, arith, Option}
 use Rattle.std.specs.Prelude.{Some, None, flat_map, slice_get}
 use Rattle.std.proofs.lemmas.Option.{slice_get_within}
-use Rattle.directory.specs.Settings.{Setting, start, subs}
+use Rattle.directory.specs.Settings.{Setting, subs}
 use Rattle.directory.specs.Statements.{CallersCount, FindsFollow, TicketsAscend}
-use Rattle.directory.specs.Courses.{Course, Step, after_step, course_at, move_to}
+use Rattle.directory.specs.Courses.{Course, Step, after_step}
 use Rattle.directory.specs.Finds.{FindCall, Pursuit}
-use Rattle.directory.specs.Histories.{History, tickets, words_read}
-use Rattle.directory.specs.Orders.{Answer, Caller as Seeker, IsPlayed, Scripts, after_read, caller_at, caller_in, finds_of, read_by, steps_of, with_pursuit}
+use Rattle.directory.specs.Histories.{History, tickets}
+use Rattle.directory.specs.Orders.{Answer, Caller as Seeker, IsPlayed, Scripts, after_read, caller_in, read_by, with_pursuit}
 use Rattle.directory.specs.Outcomes.{FollowEachOther, answer_line, caller_lines, found_line, step_line, step_lines, sub_lines}
 use Rattle.directory.specs.Writes.{numbers_from, step_writes}
 use Rattle.directory.specs.CallLines.{actor_of, find_of}
 use Rattle.directory.specs.declared.answers.FindLine.{FindLine}
 use Rattle.directory.specs.declared.answers.Done.{Done}
 use Rattle.directory.specs.declared.answers.Found.{Found}
-use Rattle.directory.specs.declared.answers.Found.TheVariants.{At}
 use Rattle.trail_laws.specs.RightOutcomes.{LinesAreInTurn}
 use Rattle.node_set.specs.SetLaws.{place-rises, place-stays_or_rises}
 
@@ -50,7 +49,7 @@ looked-on : (caller : Seeker) (call : FindCall) (later : List FindCall) (pursuit
     → AreLooked caller.next caller.answers
     → AreLooked (with_pursuit caller call later pursuit answer).next
     (with_pursuit caller call later pursuit answer).answers
-looked-on caller call later pursuit answer h = grind (arith, append-at, slice_get)
+looked-on caller call later pursuit answer h = grind (arith, append-at)
 
 looked-more : (setting : Setting) (caller : Seeker) (calls : List FindCall) (word : ℕ)
     → AreLooked caller.next caller.answers
@@ -103,12 +102,12 @@ caller-in-turn follow count ascend setting scripts history played actor i j one 
     let b = map-at (answer_line actor seen) seeker.answers j other at_other in
     let order = follow-behind 0 seeker.answers i j a.0 b.0 (follow setting scripts history actor high played) le
     a.1 b.1 in
-    let looked : b.0.last < seeker.next = grind (arith, looked-all, words_read, caller_at, finds_of) in
+    let looked : b.0.last < seeker.next = grind (arith, looked-all) in
     let short : b.0.last < length seen =
     omega (arith, looked, (count setting scripts history actor high played).0) in
     let one_is = line-visits actor a.0.call a.0.found (get_or seen a.0.first 0) (get_or seen a.0.last 0) earlier
     (rw a.2 is_earlier) in
-    grind (arith, line-visits, get_or, place-rises, place-stays_or_rises)
+    grind (arith, line-visits, place-rises, place-stays_or_rises)
 
 line-of-caller : (setting : Setting) (scripts : Scripts) (history : History) (actor i : ℕ) (line : Done)
     → slice_get (caller_lines setting scripts history actor) i ≡ Some line → actor_of line ≡ actor
@@ -133,7 +132,7 @@ all-in-turn : (f : ℕ → List Done) (x k : ℕ) → ((a i : ℕ) (y : Done) �
 all-in-turn f x zero each order i j one other le at_one at_other same = cc
 all-in-turn f x (suc k) each order i j one other le at_one at_other same =
     elim (append-at (f x) (flat_map f (numbers_from (suc x) k)) i one at_one) [
-      | inl a ↦ grind (arith, append-at, flat_map, numbers_from, block-above)
+      | inl a ↦ grind (arith, append-at, block-above)
       | inr a ↦ elim (append-at (f x) (flat_map f (numbers_from (suc x) k)) j other at_other) [
         | inl b ↦ absurd (omega (arith, le, a.1, slice_get_within (f x) j other b))
         | inr b ↦ all-in-turn f (suc x) k (λ c i y h. each c i y (omega (arith, h)))
@@ -165,7 +164,7 @@ subs-untold : (setting : Setting) (scripts : Scripts) (history : History) (some 
 subs-untold setting scripts history [] i line find is told = cc
 subs-untold setting scripts history (sub ∷ some) i line find is told = elim
     (append-at (sub_lines setting scripts history sub) (flat_map (sub_lines setting scripts history) some) i line is) [
-      | inl here ↦ grind (arith, steps-untold, course_at, start, steps_of, tickets)
+      | inl here ↦ grind (arith, steps-untold)
       | inr there ↦ subs-untold setting scripts history some there.0 line find there.2 told
     ]
 
@@ -177,7 +176,7 @@ outcome-in-turn follow count ascend setting scripts history played i j one other
       | inl a ↦ absurd (subs-untold setting scripts history _ i one earlier a is_earlier)
       | inr a ↦ elim (append-at steps finds j other at_other) [
         | inl b ↦ absurd (subs-untold setting scripts history _ j other later b is_later)
-        | inr b ↦ grind (arith, all-in-turn, caller_lines, subs, length, line-of-caller, caller-in-turn)
+        | inr b ↦ grind (arith, all-in-turn, line-of-caller, caller-in-turn)
       ]
     ]
   where

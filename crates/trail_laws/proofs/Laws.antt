@@ -1,18 +1,16 @@
 -- The laws of marks and addresses after every legal history.
-use Rattle.std.proofs.Common.{arith, ◌≡◌, ◌≢◌, ℕ, zero, suc, ◌≤◌, ◌^◌, ◌∷◌, map, Option, Some, None, refl, sym, ◌∙◌}
+use Rattle.std.proofs.Common.{arith, ◌≡◌, ◌≢◌, ℕ, ◌≤◌, ◌^◌, ◌∷◌, map, Option, Some, None, refl, sym, ◌∙◌}
 use Rattle.std.specs.Prelude.{slice_index}
 use Rattle.entry_word.specs.declared.mark.PresenceMark.{PresenceMark}
 use Rattle.entry_word.specs.declared.mark.PresenceMark.TheVariants.{Empty}
 use Rattle.entry_word.specs.declared.address.Address.{Address}
 use Rattle.directory.specs.Settings.{Setting, start}
 use Rattle.directory.specs.Histories.{History, puts_to}
-use Rattle.directory.specs.Courses.{Move, stop, course_at}
-use Rattle.directory.specs.Puts.{course_in, steps_in}
+use Rattle.directory.specs.Courses.{Move, stop}
+use Rattle.directory.specs.Puts.{course_in}
 use Rattle.directory.specs.Legal.{IsLegal}
-use Rattle.directory.specs.Standing.{standing}
 use Rattle.directory.specs.Statements.{CommitsAreTold, EntriesAreLeft, LegalIsAmid, MarksAreLeft, OffIsTold}
-use Rattle.trail_laws.specs.Trail.{AddressesLead, ComingsLead, EntriesTell, entry_seen, EntryTells, IsLed, mark_seen, MarksTell, MarkTells, OneComing, TopHasEntry, answers}
-use Rattle.directory.specs.Parts.{lead}
+use Rattle.trail_laws.specs.Trail.{AddressesLead, ComingsLead, EntriesTell, entry_seen, EntryTells, IsLed, mark_seen, MarksTell, MarkTells, OneComing, TopHasEntry}
 use Rattle.trail_laws.proofs.ClosedViews.{View}
 use Rattle.trail_laws.proofs.Views.{legal-view, shown}
 use Rattle.trail_laws.proofs.Tells.{mark-is, MarkIs}
@@ -65,7 +63,7 @@ placed laws {setting} {sub} history low legal level cluster address below is_som
 not_empty : (setting : Setting) (marks : ℕ → PresenceMark) (node last hops way : ℕ)
     → IsLed setting marks None node last hops way → marks node ≢ Empty
 unfolding IsLed
-not_empty setting marks node last hops way led empty = grind (arith, answers, lead)
+not_empty setting marks node last hops way led empty = grind arith
 
 pub addresses-lead : Laws → AddressesLead
 addresses-lead laws setting sub history low legal level cluster address known below is_some knows =
@@ -80,12 +78,12 @@ entries-tell laws setting sub history low legal level cluster below = told
     told None e = tt
     told (Some address) e =
         let there = placed laws history low legal level cluster address below e in
-        let led = there.leads None tt in grind (arith, same_stop, not_empty, mark_seen, standing)
+        let led = there.leads None tt in grind (arith, same_stop, not_empty)
       where
         same_stop : (n : ℕ) → slice_index (start setting sub ∷ map (λ (m : Move). m.to)
             (course_in setting sub (puts_to sub history)).moves) n
             ≡ stop (course_in setting sub (puts_to sub history)) n
-        same_stop n = grind (arith, slice_index, map, course_in, puts_to, start-kept, course_at, start, steps_in)
+        same_stop n = grind (arith, start-kept)
 
 pub top-has_entry : Laws → TopHasEntry
 unfolding HistoryView

@@ -1,13 +1,13 @@
 -- After each move of a course each level has gathered less than its threshold.
 use Rattle.std.proofs.lemmas.Bool.{cases_Bool, cases_eq, cases_lt}
-use Rattle.std.proofs.Common.{◌≡◌, inl, inr, ℕ, zero, suc, ◌+◌, ◌<◌, ◌≤◌, Bool, false, List, [], ◌∷◌, ◌++◌, length, ap, ◌∙◌, arith, length-append}
-use Rattle.std.specs.Prelude.{nat_le, sum_by}
+use Rattle.std.proofs.Common.{◌≡◌, inl, inr, ℕ, zero, suc, ◌+◌, ◌<◌, ◌≤◌, Bool, false, List, [], ◌∷◌, ◌++◌, ap, ◌∙◌, arith, length-append}
+use Rattle.std.specs.Prelude.{nat_le}
 use Rattle.std.proofs.lemmas.Bool.Decides.{nat_tests}
 use Rattle.std.proofs.lemmas.List.{take_all, take-append-le}
 use Rattle.std.proofs.Math.ListN.{drop_of_length-le}
-use Rattle.directory.specs.Settings.{levels, Setting, start}
+use Rattle.directory.specs.Settings.{levels, Setting}
 use Rattle.directory.specs.Histories.{History, puts_to}
-use Rattle.directory.specs.Courses.{after_step, after_steps, base, Course, course_at, gathered_weight, highest, MaySteps, Move, move_to, next_move, Step}
+use Rattle.directory.specs.Courses.{after_step, after_steps, base, Course, gathered_weight, highest, MaySteps, Move, move_to, next_move, Step}
 use Rattle.directory.specs.Legal.{IsLegal}
 use Rattle.directory.specs.Puts.{course_in}
 use Rattle.trail_laws.proofs.Links.{IsSound, base-low, sound-step}
@@ -43,7 +43,7 @@ lazy-whole_move : {setting : Setting} {course : Course} (node level : ℕ) → I
 lazy-whole_move {setting} {course} node level sound some below =
     elim (cases_Bool (nat_le level move.renewed)) [
       | inl e ↦
-          grind (arith, weight_from, move, length, sum_by, drop_of_length-le, length-append, base-with)
+          grind (arith, move, drop_of_length-le, length-append, base-with)
       | inr e ↦
           let high : move.renewed < level = grind (arith, nat_tests, e) in
           let failed : nat_le (setting.threshold level) (gathered_weight course level + move.weight) ≡ false =
@@ -66,7 +66,7 @@ lazy-whole_move {setting} {course} node level sound some below =
 lazy-step : {setting : Setting} {course : Course} (step : Step) → IsSound setting course
     → ((i : ℕ) → i ≤ setting.top → 1 ≤ setting.threshold i) → AreLazy setting course.moves
     → AreLazy setting (after_step setting course step).moves
-lazy-step {setting} {course} (move_to node) sound some lazy = grind (arith, lazy-push, next_move, lazy-whole_move)
+lazy-step {setting} {course} (move_to node) sound some lazy = grind (arith, lazy-push, lazy-whole_move)
 lazy-step step sound some lazy = lazy
 
 lazy-steps : (setting : Setting) (course : Course) (steps : List Step) → IsSound setting course
@@ -85,4 +85,4 @@ lazy-none setting some k level low below = grind arith
 pub legal-lazy : {setting : Setting} {sub : ℕ} (history : History)
     → ((i : ℕ) → i ≤ setting.top → 1 ≤ setting.threshold i) → IsLegal setting sub history
     → AreLazy setting (course_in setting sub (puts_to sub history)).moves
-legal-lazy {setting} {sub} history some legal = grind (arith, lazy-steps, course_at, start, lazy-none)
+legal-lazy {setting} {sub} history some legal = grind (arith, lazy-steps, lazy-none)

@@ -71,7 +71,7 @@ module _ {setting : Setting} {course : Course} (sound : IsSound setting course) 
 
   pub trail-ends : stop_at (stop_at course.start course.moves b) (drop b course.moves) (length (drop b course.moves))
       ≡ last_stop course
-  trail-ends = grind (arith, trail-stops, length, drop, stop_at, trail-count, stop-end)
+  trail-ends = grind (arith, trail-stops, trail-count, stop-end)
 
   -- whatever the exits
   stops-lead : (marks : ℕ → PresenceMark) (last most more_hops more_way : ℕ) → length course.moves ≤ most
@@ -99,7 +99,7 @@ old-leads hops way level sound below lead known knows =
 
 -- ---- at rest
 pub answered-there : (course : Course) (known : Option ℕ) → answers known (there course) ≡ true
-answered-there course known = grind (arith, cond_both, length, answers)
+answered-there course known = grind (arith, cond_both)
 
 pub rest-there : (setting : Setting) (course : Course) → rest_mark setting course (last_stop course) ≡ there course
 rest-there setting course = rw (eq-eqb (last_stop course) (last_stop course) refl)
@@ -113,13 +113,13 @@ pub rest-leads : {setting : Setting} {shown : Shown} (h : IsResting setting show
 rest-leads {setting} {shown} h = stops-lead h.sound _ (base-low setting.top h.sound) shown.marks _ _ 0 0 (omega arith)
     (rest-exits setting shown.marks _ _ (last_stop h.course) (since_top setting h.course) _
     (trail-ends h.sound _ (base-low setting.top h.sound))
-    (grind (arith, last_stop, stop-inside, rest-there, answered-there))
+    (grind (arith, stop-inside, rest-there, answered-there))
     (λ w low other. h.marks_are w low ∙ rest-other setting h.course w other))
 
 -- ---- before the commit
 module _ {setting : Setting} {shown : Shown} {written : List ℕ} (h : IsMoving setting shown (coming written)) where
   pub coming-there : (k : Option ℕ) → answers k (shown.marks (last_stop h.course)) ≡ true
-  coming-there k = grind (arith, last_stop, stop-inside, ne_eqb, rest-there, answered-there)
+  coming-there k = grind (arith, stop-inside, ne_eqb, rest-there, answered-there)
 
   pub coming-at_to : shown.marks h.move.to ≡ Coming h.move.number (last_stop h.course)
   coming-at_to = h.marks_are h.move.to h.next.inside ∙ rw (eq-eqb h.move.to h.move.to refl, h.next.from)
@@ -194,4 +194,4 @@ clearing-leads {setting} {shown} h none =
   where
     others : (v : ℕ) → v < setting.nodes → v ≢ h.move.to → shown.marks v
         ≡ trail_mark (drop (low_of setting h.course) (h.course.moves ++ h.move ∷ [])) v Empty
-    others v low off_to = grind (arith, ne_eqb, trail-with, trail_mark-push, since_top, rest_mark, trail_mark)
+    others v low off_to = grind (arith, ne_eqb, trail-with, trail_mark-push)

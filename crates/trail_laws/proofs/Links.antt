@@ -49,7 +49,7 @@ renewed-low setting course node = highest-low _ setting.top
 
 pub sound-step : {setting : Setting} {course : Course} (step : Step) → IsSound setting course
     → MayStep setting course step → IsSound setting (after_step setting course step)
-sound-step {setting} {course} (move_to node) sound may = grind (arith, linked-push, next_move)
+sound-step {setting} {course} (move_to node) sound may = grind (arith, linked-push)
 sound-step step sound may = record { begins = sound.begins; linked = sound.linked }
 
 pub sound-steps : (setting : Setting) (course : Course) (steps : List Step) → IsSound setting course

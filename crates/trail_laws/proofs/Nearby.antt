@@ -45,7 +45,7 @@ near-kept {setting} {course} {move} level metric sound next below lazy e = omega
 rest-has : (setting : Setting) (course : Course) (level : ℕ)
     → rest_entry setting course level (setting.home level (address_node course level))
     ≡ Some (record { number = base level course.moves; node = address_node course level })
-rest-has setting course level = grind (arith, base, address_node, eq-eqb)
+rest-has setting course level = grind (arith, eq-eqb)
 
 written-has : (setting : Setting) (course : Course) (move : Move) (written : List ℕ) (level : ℕ)
     → (address : Address) × (entry_written setting course move written level
@@ -71,7 +71,7 @@ module _ {setting : Setting} {shown : Shown} {phase : Phase} (h : IsMoving setti
       ≡ Some address)) → (HasMetric setting → AreLazy setting (h.course.moves ++ h.move ∷ [])
       → setting.distance (address_node h.course level) (standing_of shown) < setting.threshold level)
       → HasNear setting shown level
-  old-one found near = grind (arith, address_node, old-inside)
+  old-one found near = grind (arith, old-inside)
 
   new-one : shown.commits ≡ map commit_by (h.course.moves ++ h.move ∷ [])
       → shown.entries level (setting.home level h.move.to) ≡ new_entry h.move → HasNear setting shown level
@@ -138,7 +138,7 @@ level-has {setting} {shown} level below (inr (clearing erased purged, h)) =
     its_old = old_home setting h.course level
 
     outside : nat_le level h.move.renewed ≡ false → has level (old_levels setting h.course h.move) ≡ false
-    outside t = grind (arith, passing_over, old_home)
+    outside t = grind (arith, passing_over)
 
     kept : nat_le level h.move.renewed ≡ true → (b : Bool) → (new_home == its_old) ≡ b
         → (has level erased && b) ≡ false

@@ -1,5 +1,5 @@
 -- While a Coming stands whose move is committed, the passage of that move is open.
-use Rattle.std.proofs.Common.{◌≡◌, ◌⊎◌, inl, inr, ℕ, zero, suc, ◌-◌, ◌<◌, ◌≤◌, ◌^◌, Bool, true, false, ◌==◌, ◌&&◌, List, [], ◌∷◌, ◌++◌, Option, Some, None, length, take, refl, sym, ap, ◌∙◌, arith, length-append}
+use Rattle.std.proofs.Common.{◌≡◌, ◌⊎◌, inl, inr, ℕ, zero, suc, ◌-◌, ◌<◌, ◌≤◌, ◌^◌, Bool, true, false, ◌==◌, List, [], ◌∷◌, ◌++◌, Option, Some, None, length, take, refl, sym, ap, ◌∙◌, arith, length-append}
 use Rattle.std.specs.Prelude.{slice_get}
 use Rattle.std.specs.List.{cons_option, last_or, list_any}
 use Rattle.std.proofs.lemmas.Bool.{and_parts, cases_Bool, eqb-false, eqb-true, eq-eqb, ne_eqb}
@@ -9,9 +9,8 @@ use Rattle.std.proofs.lemmas.List.Sums.{fold-append}
 use Rattle.entry_word.specs.Marks.{mark_in}
 use Rattle.entry_word.specs.declared.mark.PresenceMark.{PresenceMark}
 use Rattle.entry_word.specs.declared.mark.PresenceMark.TheVariants.{Here, Gone, Coming}
-use Rattle.entry_word.specs.declared.visit.Key.TheVariants.{Presence, Entry}
+use Rattle.entry_word.specs.declared.visit.Key.TheVariants.{Presence}
 use Rattle.entry_word.specs.declared.visit.Act.{Act}
-use Rattle.entry_word.specs.declared.visit.Act.TheVariants.{Put}
 use Rattle.entry_word.specs.declared.visit.Visit.{Visit}
 use Rattle.directory.specs.Settings.{Setting}
 use Rattle.directory.specs.Histories.{cell, History, is_put_for, puts_to, word_after}
@@ -91,16 +90,16 @@ past-step laws {setting} {sub} c history visit low inside legal legal_more past 
     tells = laws.marks setting sub (history ++ visit ∷ []) low legal_more c.to inside
 
     count : number sub history ≤ number sub (history ++ visit ∷ [])
-    count = grind (arith, length, commits-append, length-append, commits)
+    count = grind (arith, commits-append, length-append)
 
     -- it was confirmed before, and the mark at its node stays
     kept : cell setting (history ++ visit ∷ []) (Presence c.to sub) ≡ cell setting history (Presence c.to sub)
         → list_any (confirmed c) (puts_to sub history) ≡ true → Goal
-    kept same earlier = grind (arith, count, mark_in)
+    kept same earlier = grind (arith, count)
 
     earlier : is_put_for sub visit.act ≡ true → confirmed c visit ≡ false
         → list_any (confirmed c) (puts_to sub history) ≡ true
-    earlier own g = grind (arith, puts-push_own, list_any-append, confirmed, puts_to, or-false, list_any)
+    earlier own g = grind (arith, puts-push_own, list_any-append, or-false)
 
     at_cases : is_put_for sub visit.act ≡ true
         → ((word_after (Presence c.to sub) (cell setting history (Presence c.to sub)) visit.act
@@ -108,11 +107,11 @@ past-step laws {setting} {sub} c history visit low inside legal legal_more past 
         ⊎ (mark_in (word_after (Presence c.to sub) (cell setting history (Presence c.to sub)) visit.act)
         ≡ mark_put visit.act) → (b : Bool) → confirmed c visit ≡ b → Goal
     at_cases own (inl same) b g = kept (after ∙ same.0) (earlier own same.1)
-    at_cases own (inr new) true g = grind (arith, mark_seen, mark_in, after, confirm-here, node_put, mark_put, tells)
+    at_cases own (inr new) true g = grind (arith, after, confirm-here, tells)
     at_cases own (inr new) false g =
         let before = past (earlier own g) in (
           omega (arith, before.0, count),
-          grind (arith, tells, coming-grows, puts_to, mark_in, after, length, course_in, puts-push_own),
+          grind (arith, tells, coming-grows, after, puts-push_own),
         )
 
 past-all : PassageLaws → {setting : Setting} {sub : ℕ} (c : Commit) (history : History) → setting.nodes ≤ 2 ^ 16

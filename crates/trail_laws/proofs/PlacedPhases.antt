@@ -10,7 +10,7 @@ use Rattle.entry_word.specs.declared.address.Address.{Address}
 use Rattle.directory.specs.Settings.{Setting}
 use Rattle.directory.specs.Courses.{Move, Course, address_node, base}
 use Rattle.directory.specs.Standing.{commit_by}
-use Rattle.trail_laws.specs.Trail.{answers, KnowsAtMost}
+use Rattle.trail_laws.specs.Trail.{KnowsAtMost}
 use Rattle.trail_laws.proofs.Links.{IsSound, base-low, moves-count}
 use Rattle.trail_laws.proofs.Holders.{IsNew, IsOld, erased-some, move_address, old_address, only-new, rest-some, written-some}
 use Rattle.trail_laws.proofs.GoneCounts.{above, gone_above, passing-fewer, some-out}
@@ -137,7 +137,7 @@ module _ {setting : Setting} {shown : Shown} (level cluster : ℕ) (address : Ad
       → IsNew setting h.move level cluster address → IsPlaced setting shown level cluster address
   new-placed h = move-placed level cluster address _ _ 0 0
       (all-count h h.commits_are) (next-stands h h.commits_are) (omega arith) h (fine-new h level _ below)
-      (grind (arith, arrived, answers, clearing-here))
+      (grind (arith, arrived, clearing-here))
 
   clearing-placed : {erased purged : List ℕ} (h : IsMoving setting shown (clearing erased purged)) → purged ≡ []
       → IsEither h → IsPlaced setting shown level cluster address

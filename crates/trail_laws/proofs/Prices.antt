@@ -1,8 +1,7 @@
 -- What the ways along the marks weigh: no level has gathered its threshold, so that the trail from its address is
 -- short.
 use Rattle.trail_laws.proofs.ClosedMarks.{from-inside, IsNext}
-use Rattle.std.proofs.Common.{◌≡◌, ℕ, ◌+◌, ◌*◌, ◌<◌, ◌≤◌, List, [], ◌∷◌, ◌++◌, length, take, drop, refl, ap, arith, length-append}
-use Rattle.std.specs.Prelude.{sum_by}
+use Rattle.std.proofs.Common.{◌≡◌, ℕ, ◌+◌, ◌*◌, ◌<◌, ◌≤◌, List, [], ◌∷◌, ◌++◌, length, take, refl, arith, length-append}
 use Rattle.std.proofs.lemmas.List.{drop-append-le, take_all, take_at}
 use Rattle.std.proofs.lemmas.List.Sums.{sum_by_push}
 use Rattle.directory.specs.Settings.{Setting}
@@ -30,7 +29,7 @@ lazy-front setting xs ys level below lazy =
 
 pub weight-push : (moves : List Move) (move : Move) (b : ℕ) → b ≤ length moves
     → weight_from (moves ++ move ∷ []) b ≡ weight_from moves b + move.weight
-weight-push moves move b low = grind (arith, sum_by, drop-append-le, sum_by_push, drop)
+weight-push moves move b low = grind (arith, drop-append-le, sum_by_push)
 
 -- how far the address of a level is from the last stop
 pub address-near : {setting : Setting} {course : Course} (level : ℕ) → IsSound setting course → HasMetric setting

@@ -85,7 +85,7 @@ from-level : (setting : Setting) (sub node : ℕ) (seen : History) (cluster firs
     (setting.readers level node)) (numbers_from first count))
 from-level setting sub node seen cluster first zero low high h some = absurd (omega arith)
 from-level setting sub node seen cluster first (suc count) low high h some = elim (cases_eq first setting.top) [
-  | inl e ↦ grind (arith, at-level, has, is_some, entry_seen)
+  | inl e ↦ grind (arith, at-level)
   | inr other ↦ passed setting sub seen
       (map (λ c. record { level = first; cluster = c }) (setting.readers first node)) _
       (from-level setting sub node seen cluster (suc first) count (omega (arith, other, low)) (omega arith) h some)
@@ -136,7 +136,7 @@ quiet-answers used setting history actor call found tickets low reads inside leg
     begins : Begins setting (before (first_of tickets) history) call Anything
     begins = record {
       here = tt;
-      climbing = grind (arith, affords-any, before, all_readers, legal_seen, readers-low, readers-have);
+      climbing = grind (arith, affords-any, legal_seen, readers-low, readers-have);
       chasing = λ p from e.
           let there = used.comings setting call.sub (before (first_of tickets) history) low legal_seen call.from p
           from None

@@ -1,7 +1,6 @@
 -- How far the marks lead in each phase, and what rest is.
 use Rattle.std.proofs.lemmas.Bool.{cases_Bool}
 use Rattle.std.proofs.Common.{◌≡◌, ◌≢◌, ℕ, ◌^◌, ◌≤◌, Some, length, map, sym, ap, ◌∙◌, arith}
-use Rattle.std.specs.Prelude.{filter_map}
 use Rattle.std.proofs.lemmas.List.{length-map}
 use Rattle.entry_word.specs.declared.address.Address.{Address}
 use Rattle.entry_word.specs.declared.mark.PresenceMark.TheVariants.{Coming}
@@ -11,11 +10,9 @@ use Rattle.directory.specs.Legal.{IsLegal}
 use Rattle.directory.specs.Courses.{Course, course_at, last_stop}
 use Rattle.directory.specs.Puts.{course_in, steps_in}
 use Rattle.directory.specs.Standing.{commit_by, commits, number, off, standing}
-use Rattle.directory.specs.States.{entry_left, write_commit}
 use Rattle.trail_laws.specs.Trail.{entry_seen, mark_seen}
 use Rattle.trail_laws.specs.Phases.{AddressesLeadByPhase, IsAtRest, IsCurrent, IsMarked, RestEndsItsCourse, RestIsSettled}
 use Rattle.trail_laws.proofs.ClosedMarks.{there}
-use Rattle.trail_laws.proofs.ClosedEntries.{rest_entry}
 use Rattle.trail_laws.proofs.ClosedWrites.{commits-steps, off-steps}
 use Rattle.trail_laws.proofs.Views.{all-made, mark-there, shown, rest-entries_of, sound-opening}
 use Rattle.trail_laws.proofs.Tells.{rest-stands}
@@ -50,7 +47,7 @@ module _ (laws : Laws) (setting : Setting) (sub : ℕ) (history : History) (low 
 
   -- a subscriber that rests has committed all its moves
   all-committed : commits sub history ≡ map commit_by course.moves
-  all-committed = grind (arith, filter_map, write_commit, all-made, commits-steps, course_at, start, steps_in, puts_to)
+  all-committed = grind (arith, all-made, commits-steps)
 
   all : length course.moves ≡ number sub history
   all = omega (arith, ap length all-committed, length-map course.moves commit_by)
@@ -75,8 +72,7 @@ module _ (laws : Laws) (setting : Setting) (sub : ℕ) (history : History) (low 
   current : (level cluster : ℕ) (address : Address) → level ≤ setting.top
       → entry_seen setting sub history level cluster ≡ Some address → IsCurrent setting sub history level address
   unfolding IsOld
-  current level cluster address below is_some =
-      grind (arith, rest-some, course, entry_seen, rest_entry, entry_left, all-made, rest-entries_of, steps_in, puts_to)
+  current level cluster address below is_some = grind (arith, rest-some, all-made, rest-entries_of)
 
 pub rest-ends : Laws → RestEndsItsCourse
 rest-ends laws setting sub history low legal rest =

@@ -13,7 +13,7 @@ use Rattle.directory.specs.Orders.{AreValid, IsFindCall, Scripts, history_of}
 use Rattle.directory.specs.Outcomes.{IsFindLine, IsMade, found_line, outcome_of}
 use Rattle.directory.specs.Statements.{LinesAreMade, OrdersAreDone, OrdersArePlayed, PlayedIsLegal}
 use Rattle.directory.specs.declared.answers.Done.{Done}
-use Rattle.directory.specs.declared.answers.Done.TheVariants.{Moved, Switched, Found as FoundBy, Off as OffBy}
+use Rattle.directory.specs.declared.answers.Done.TheVariants.{Found as FoundBy, Off as OffBy}
 use Rattle.directory.specs.declared.answers.Found.{Found}
 use Rattle.directory.specs.declared.answers.Found.TheVariants.{Again}
 use Rattle.trail_laws.specs.Rightness.{AgainHasItsCause, AnswersAreRight, HasNumber, NumbersNeverFall, ReadsTop}
@@ -70,7 +70,7 @@ told_by : (setting : Setting) (history : History) (actor from : ℕ) (found : Fo
     → IsFind setting history actor (record { from = from; sub = sub }) found seen
     → line ≡ found_line actor (record { from = from; sub = sub }) found (first_of seen) (last_of seen)
     → TellsNumber line s p ticket → Numbered setting history s p ticket
-told_by setting history actor from found seen line sub s p ticket is find tells told = grind (arith, last_of)
+told_by setting history actor from found seen line sub s p ticket is find tells told = grind arith
 
 numbered : {setting : Setting} {scripts : Scripts} (history : History) → AreValid setting scripts → (line : Done)
     (s p ticket : ℕ) → IsMade setting scripts history line → TellsNumber line s p ticket

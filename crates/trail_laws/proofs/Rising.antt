@@ -2,7 +2,6 @@
 use Rattle.std.proofs.lemmas.Bool.{cases_Bool, cases_cond, eqb-false, cases_eq, cases_lt}
 use Rattle.std.proofs.Common.{◌≡◌, ◌≢◌, inl, inr, ℕ, ◌+◌, ◌-◌, ◌<◌, ◌≤◌, ◌^◌, List, [], ◌∷◌, ◌++◌, length, map, drop, refl, sym, ◌∙◌, arith, eqb-true}
 use Rattle.std.proofs.lemmas.Option.{slice_get_within}
-use Rattle.node_set.specs.Ascending.{has}
 use Rattle.entry_word.specs.declared.mark.PresenceMark.{PresenceMark}
 use Rattle.entry_word.specs.declared.mark.PresenceMark.TheVariants.{Empty, Gone, Coming}
 use Rattle.directory.specs.Settings.{Setting, start}
@@ -42,8 +41,7 @@ passing-gone {setting} {course} {move} v p w next h =
 clearing-gone : {setting : Setting} {course : Course} {move : Move} (purged : List ℕ) (v p w : ℕ)
     → IsNext setting course move → mark_erasing setting course move purged v ≡ Gone p w
     → (trail_mark (since_top setting course ++ move ∷ []) v Empty ≡ Gone p w) × (v ≢ move.to)
-clearing-gone {setting} {course} {move} purged v p w next h =
-    grind (arith, has, mark_passing, trail_mark, since_top, passing-gone)
+clearing-gone {setting} {course} {move} purged v p w next h = grind (arith, passing-gone)
 
 -- each Gone is that of the last of these moves that left its node, and there is none at this node
 abbrev AreLast : Setting → (ℕ → PresenceMark) → List Move → ℕ → Type 0
@@ -68,7 +66,7 @@ later {setting} trail j w q x low few stop at_w =
     elim (last-left setting trail.from trail.number trail.moves w Empty trail.linked) [
       | inl none ↦ let clash : Empty ≡ Gone q x = sym none.0 ∙ gone.0 in cc
       | inr left ↦
-          grind (arith, cases_lt, there, cases_eq, length, stop_at)
+          grind (arith, cases_lt, cases_eq)
     ]
 
 -- the moves of a course from a number on
@@ -84,7 +82,7 @@ trail-of shown {course} b sound low begins are told = record {
   count = omega (arith, count-told course.moves are, trail-count sound b low);
   stops = λ j h.
       let placed : b + (j - b) ≡ j = omega (arith, h) in
-      trail-stops sound b low (j - b) ∙ (grind (arith, stop_at, stops-told));
+      trail-stops sound b low (j - b) ∙ (grind (arith, stops-told));
 }
 
 -- that of a course with one move more

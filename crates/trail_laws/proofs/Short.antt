@@ -1,8 +1,8 @@
 -- The laws of near levels and of short ways after every legal history.
 use Rattle.std.proofs.Common.{◌≡◌, ◌⊎◌, inl, inr, ℕ, suc, ◌≤◌, Some, None, refl, arith}
 use Rattle.std.proofs.lemmas.Bool.Decides.{nat_tests}
-use Rattle.directory.specs.Standing.{number, standing}
-use Rattle.trail_laws.specs.Trail.{EntriesTell, EntryTells, mark_seen, MarksTell}
+use Rattle.directory.specs.Standing.{number}
+use Rattle.trail_laws.specs.Trail.{EntriesTell, EntryTells, MarksTell}
 use Rattle.trail_laws.specs.Phases.{AddressesLeadByPhase, PhasesCover}
 use Rattle.trail_laws.specs.Ways.{AddressesLeadShortly, ComingsLeadShortly, LevelsStayNear, PassagesAreOpen, StandsInside}
 use Rattle.trail_laws.proofs.Stops.{view-inside}
@@ -42,7 +42,7 @@ addresses-short by_phase cover tell setting sub history low metric some legal le
       there.2,
       there.3,
       elim (cover setting sub history low legal) [
-        | inl before ↦ grind (arith, old-or_new, number)
+        | inl before ↦ grind (arith, old-or_new)
         | inr after ↦ elim after [
           | inl passing ↦ omega (
             arith,
@@ -59,4 +59,4 @@ pub comings-short : Laws → MarksTell → ComingsLeadShortly
 unfolding HistoryView
 comings-short laws marks setting sub history low metric legal node p u pass inside comes opens =
     let there = coming-leads_on node p u None inside (view laws history low legal) comes in
-    grind (arith, standing, stands-inside, mark_seen)
+    grind (arith, stands-inside)

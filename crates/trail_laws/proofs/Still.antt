@@ -45,7 +45,7 @@ still-step used rested {setting} {sub} {one} {history} visit low legal legal_mor
         → mark_seen setting sub (history ++ visit ∷ []) (standing setting sub one) ≡ Coming p u
     at_put false e p u comes same = ap mark_in
         (cell-kept used.cells setting sub history visit (Presence (standing setting sub one) sub) refl e) ∙ comes
-    at_put true e p u comes same = grind (arith, switch-rests, switching, mark_seen)
+    at_put true e p u comes same = grind (arith, switch-rests, switching)
 
 pub stand-still : Used → RestIsSettled → PassagesAreOpen → StandsInside → QuietFindsStandStill
 stand-still used rested opens inside setting history actor call found tickets low legal find quiet =

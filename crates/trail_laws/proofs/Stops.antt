@@ -71,7 +71,7 @@ all-committed h are = grind (arith, sound-with, count-told)
 
 pub committed : {setting : Setting} {shown : Shown} → View setting shown → IsCommitted setting shown
 committed (inl h) = grind (arith, count-told)
-committed (inr (coming written, h)) = grind (arith, count-told, length, moves-count)
+committed (inr (coming written, h)) = grind (arith, count-told, moves-count)
 committed (inr (passage, h)) = all-committed h h.commits_are
 committed (inr (clearing erased purged, h)) = all-committed h h.commits_are
 

@@ -1,6 +1,6 @@
 -- What makes a find sure of an answer at each pursuit: a look keeps it, and what is no put of a move.
 use Rattle.std.proofs.lemmas.Bool.{cond_both}
-use Rattle.std.proofs.Common.{◌≡◌, ℕ, zero, suc, ◌+◌, ◌*◌, ◌<◌, ◌≤◌, ◌^◌, true, false, List, [], ◌∷◌, Option, Some, None, length, refl, sym, ap, ◌∙◌, subst, arith}
+use Rattle.std.proofs.Common.{◌≡◌, ℕ, zero, suc, ◌+◌, ◌*◌, ◌<◌, ◌≤◌, ◌^◌, false, List, [], ◌∷◌, Option, Some, length, refl, arith}
 use Rattle.entry_word.specs.declared.address.Address.{Address}
 use Rattle.entry_word.specs.declared.mark.PresenceMark.{PresenceMark}
 use Rattle.entry_word.specs.declared.mark.PresenceMark.TheVariants.{Empty, Gone, Coming}
@@ -9,12 +9,12 @@ use Rattle.entry_word.specs.declared.visit.Key.TheVariants.{Presence}
 use Rattle.directory.specs.Settings.{Setting}
 use Rattle.directory.specs.Histories.{before, cell, History}
 use Rattle.directory.specs.Legal.{IsLegal}
-use Rattle.directory.specs.Finds.{after_entry, after_mark, after_origin, after_word, all_readers, at_origin, Chase, chases, climb, climbs, ended, FindCall, hop, is_known, key_of, Reader, Pursuit, way_in, found_weight}
+use Rattle.directory.specs.Finds.{after_entry, after_mark, after_origin, after_word, all_readers, at_origin, Chase, chases, climb, climbs, ended, FindCall, hop, key_of, Reader, Pursuit, way_in, found_weight}
 use Rattle.directory.specs.Looks.{moves_at}
 use Rattle.directory.specs.Parts.{known_after, lead}
 use Rattle.directory.specs.Standing.{number, standing}
 use Rattle.directory.specs.Statements.{CellsOfPuts, FrontsAreLegal, MarksAreLeft, StepsBeginAtRest}
-use Rattle.trail_laws.specs.Trail.{AddressesLead, answers, ComingsLead, entry_seen, IsLed, KnowsAtMost, mark_seen, MarksTell, MarkTells, TopHasEntry}
+use Rattle.trail_laws.specs.Trail.{AddressesLead, ComingsLead, entry_seen, IsLed, KnowsAtMost, mark_seen, MarksTell, MarkTells, TopHasEntry}
 use Rattle.trail_laws.specs.Rightness.{IsAnswered}
 use Rattle.trail_laws.specs.Within.{Affords, AffordsAddress, Begins, EntryAsks}
 use Rattle.trail_laws.proofs.Passing.{while-quiet}
@@ -93,7 +93,7 @@ module _ (setting : Setting) (seen : History) (call : FindCall) (Within : ℕ �
   origin-sure : (mark : PresenceMark) → Begins setting seen call Within
       → mark_seen setting call.sub seen call.from ≡ mark → MarkTells setting call.sub seen call.from mark
       → IsSureOf (after_origin setting call mark)
-  origin-sure Empty begins same tells = grind (arith, climb-sure, all_readers)
+  origin-sure Empty begins same tells = grind (arith, climb-sure)
   origin-sure (Gone q to) begins same tells =
       grind (arith, climb-sure, all_readers setting call.from, gone-known setting call.sub seen call.from q to tells)
   origin-sure (Coming q from) begins same tells = grind (arith, begins.chasing q from same)
@@ -104,7 +104,7 @@ module _ (setting : Setting) (seen : History) (call : FindCall) (Within : ℕ �
       → EntryAsks entry (Affords setting call.sub seen call Within (weight + 2 * way_in setting call reader) later)
       (λ address. AffordsAddress setting call.sub seen call Within weight reader address)
       → IsSureOf (after_entry setting call known weight reader later entry)
-  entry-sure known weight reader later entry knows some = grind (arith, climb-sure, way_in)
+  entry-sure known weight reader later entry knows some = grind (arith, climb-sure)
 
   -- a hop along what leads
   hop-sure : (known level : Option ℕ) (weight hops_left node to hops way : ℕ) → suc hops ≤ hops_left
@@ -126,18 +126,9 @@ module _ (setting : Setting) (seen : History) (call : FindCall) (Within : ℕ �
       → IsLed setting (mark_seen setting call.sub seen) chase.known node (standing setting call.sub seen) hops way
       → Within (chase.weight + way) → IsSureOf (after_mark setting chase node mark)
   unfolding IsLed
-  mark-sure chase node Empty same zero way few led allowed =
-      let clash : false ≡ true = sym (ap (answers chase.known) same) ∙ led.1 in cc
-  mark-sure chase node (Gone q to) same zero way few led allowed =
-      let clash : false ≡ true = sym (ap (answers chase.known) same) ∙ led.1 in cc
-  mark-sure chase node (Coming q from) same zero way few led allowed = grind arith
-  mark-sure chase node mark same zero way few led allowed =
-      (tt, subst Within (let e : chase.weight + way ≡ chase.weight = omega (arith, led.2) in e) allowed)
-  mark-sure chase node (Gone q to) same (suc hops) way few led allowed = grind (arith, hop-on)
-  mark-sure chase node (Coming q from) same (suc hops) way few led allowed =
-      grind (arith, cond_both, is_known, ended, hop, hop-on, known_after, lead, mark_seen)
-  mark-sure chase node mark same (suc hops) way few led allowed =
-      let clash : None ≡ Some led.0 = sym (ap (lead chase.known) same) ∙ led.2 in cc
+  mark-sure chase node mark same zero way few led allowed = grind arith
+  mark-sure chase node (Coming q from) same (suc hops) way few led allowed = grind (arith, cond_both, hop-on)
+  mark-sure chase node mark same (suc hops) way few led allowed = grind (arith, hop-on)
 
 -- the look at the origin, and one after it
 pub first-sure : Used → {setting : Setting} {seen : History} {call : FindCall} {Within : ℕ → Type 0} (key : Key)

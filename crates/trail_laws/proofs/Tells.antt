@@ -1,7 +1,7 @@
 -- What marks tell.
 use Rattle.std.proofs.lemmas.Bool.{cond_both, eqb-true, eq-eqb}
 use Rattle.trail_laws.proofs.ClosedMarks.{from-inside, IsNext, rest_mark, mark_passing, mark_erasing, since_top, there, trail_mark}
-use Rattle.std.proofs.Common.{◌≡◌, ◌⊎◌, inl, inr, ℕ, zero, suc, ◌+◌, ◌-◌, ◌<◌, ◌≤◌, Bool, true, false, cond, ◌==◌, List, [], ◌∷◌, ◌++◌, Some, length, map, drop, fold, refl, sym, ap, ◌∙◌, arith}
+use Rattle.std.proofs.Common.{◌≡◌, ◌⊎◌, inl, inr, ℕ, zero, suc, ◌+◌, ◌-◌, ◌<◌, ◌≤◌, true, false, ◌==◌, List, [], ◌∷◌, ◌++◌, Some, length, map, drop, fold, refl, sym, ap, ◌∙◌, arith}
 use Rattle.std.specs.Prelude.{slice_get, option_map}
 use Rattle.std.proofs.lemmas.List.{append-nil, length-map, map-append}
 use Rattle.std.proofs.lemmas.List.Sums.{fold-append}
@@ -13,7 +13,7 @@ use Rattle.directory.specs.Courses.{Move, Course, base, last_stop}
 use Rattle.directory.specs.Standing.{Commit, commit_by}
 use Rattle.trail_laws.proofs.Links.{AreLinked, IsSound, base-low, moves-count}
 use Rattle.trail_laws.proofs.ClosedViews.{clearing, coming, IsMoving, passage, Phase, Shown, View}
-use Rattle.trail_laws.proofs.LinkedStops.{last-left, LeavesMark, stop_at}
+use Rattle.trail_laws.proofs.LinkedStops.{last-left, stop_at}
 use Rattle.directory.specs.ListLaws.{slice_get-left}
 use Rattle.std.proofs.lemmas.Option.{slice_get-map}
 
@@ -65,24 +65,22 @@ gone-is : {setting : Setting} (shown : Shown) {course : Course} (node : ℕ) (mo
     → IsSound setting course → shown.commits ≡ map commit_by course.moves ++ more
     → MarkIs setting.nodes shown node (trail_mark (since_top setting course) node Empty)
 gone-is {setting} shown {course} node more sound are =
-    at_left (last-left setting (stop_at course.start course.moves low) (0 + low) (since_top setting course) node Empty
-    (linked-drop setting course.start 0 course.moves low sound.linked (base-low setting.top sound)))
+    elim (last-left setting (stop_at course.start course.moves low) (0 + low) (since_top setting course) node Empty
+    (linked-drop setting course.start 0 course.moves low sound.linked (base-low setting.top sound))) [
+      | inl none ↦ rw none.0 tt
+      | inr left ↦
+          let placed : left.move.number - 1 ≡ low + left.place = omega (arith, left.link.its_number) in
+          rw left.mark_is (
+            omega (arith, left.link.its_number),
+            rw (are, placed) (slice_get-left (map commit_by course.moves) more (low + left.place)
+                (commit_by left.move) (grind (arith, slice_get-map, commit_by, low, option_map, slice_get-drop))
+                ∙ ap (λ f. Some (record { number = left.move.number; from = f; to = left.move.to })) left.link.its_from),
+            left.link.inside,
+          )
+    ]
   where
     low : ℕ
     low = base setting.top course.moves
-
-    at_left : LeavesMark setting (stop_at course.start course.moves low) (0 + low) (since_top setting course) node Empty
-        → MarkIs setting.nodes shown node (trail_mark (since_top setting course) node Empty)
-    at_left (inl none) = rw none.0 tt
-    at_left (inr left) = rw left.mark_is (omega (arith, left.link.its_number), listed, left.link.inside)
-      where
-        listed : slice_get shown.commits (left.move.number - 1)
-            ≡ Some (record { number = left.move.number; from = node; to = left.move.to })
-        listed =
-            let placed : left.move.number - 1 ≡ low + left.place = omega (arith, left.link.its_number) in
-            rw (are, placed) (slice_get-left (map commit_by course.moves) more (low + left.place)
-            (commit_by left.move) (grind (arith, slice_get-map, commit_by, low, option_map, slice_get-drop))
-            ∙ ap (λ f. Some (record { number = left.move.number; from = f; to = left.move.to })) left.link.its_from)
 
 -- where all moves are committed there are as many of one as of the other
 pub count-told : {commits : List Commit} (moves : List Move) → commits ≡ map commit_by moves
@@ -100,7 +98,7 @@ rest-is : {setting : Setting} (shown : Shown) {course : Course} (node : ℕ) →
 rest-is {setting} shown {course} node sound begins are off =
     cond_both (node == last_stop course) (there course) (trail_mark (since_top setting course) node Empty)
     (MarkIs setting.nodes shown node)
-    (grind (arith, standing_of, eqb-true, last_stop, rest-stands, cond_both, length, count-told))
+    (grind (arith, eqb-true, rest-stands, cond_both, count-told))
     (λ e. gone-is shown node [] sound (are ∙ sym (append-nil (map commit_by course.moves))))
 
 -- the Gone of the move itself
@@ -139,35 +137,23 @@ module _ {setting : Setting} {shown : Shown} {phase : Phase} (h : IsMoving setti
       (gone-is shown node (commit_by h.move ∷ []) h.sound (are ∙ map-append commit_by h.course.moves (h.move ∷ [])))
 
   left-is : (node == h.move.from) ≡ true → MarkIs setting.nodes shown node (Gone h.move.number h.move.to)
-  left-is e = grind (arith, slice_get, own-gone, eqb-true)
+  left-is e = grind (arith, own-gone, eqb-true)
 
   passing-is : shown.marks h.move.from ≡ Gone h.move.number h.move.to
       → MarkIs setting.nodes shown node (mark_passing setting h.course h.move node)
-  passing-is gone = at_from (node == h.move.from) (node == h.move.to) refl refl
-    where
-      at_from : (b t : Bool) → (node == h.move.from) ≡ b → (node == h.move.to) ≡ t
-          → MarkIs setting.nodes shown node (cond b (Gone h.move.number h.move.to)
-          (cond t (Coming h.move.number h.move.from) (rest_mark setting h.course node)))
-      at_from true t e at = left-is e
-      at_from false true e at = (
+  passing-is gone = cond_both (node == h.move.from) _ _ (MarkIs setting.nodes shown node) left-is (λ off_from.
+      cond_both (node == h.move.to) _ _ (MarkIs setting.nodes shown node) (λ at. (
         begun-count h,
         from-inside h.sound h.next,
         h.off_is,
         grind (arith, next-count h are, eqb-true node h.move.to, next-stands h are),
-      )
-      at_from false false e at = trail-is e
+      )) (λ off_to. trail-is off_from))
 
   clearing-is : (purged : List ℕ) → MarkIs setting.nodes shown node (mark_erasing setting h.course h.move purged node)
-  clearing-is purged = at_marks (has node purged) (node == h.move.to) (node == h.move.from) refl refl
-    where
-      at_marks : (p t f : Bool) → (node == h.move.to) ≡ t → (node == h.move.from) ≡ f
-          → MarkIs setting.nodes shown node (cond p Empty (cond t (Here h.move.number)
-          (cond f (Gone h.move.number h.move.to)
-          (cond t (Coming h.move.number h.move.from) (rest_mark setting h.course node)))))
-      at_marks true t f at e = tt
-      at_marks false true f at e = (eqb-true node h.move.to at ∙ sym (next-stands h are), next-count h are, h.off_is)
-      at_marks false false true at e = left-is e
-      at_marks false false false at e = trail-is e
+  clearing-is purged = cond_both (has node purged) _ _ (MarkIs setting.nodes shown node) (λ gone. tt) (λ kept.
+      cond_both (node == h.move.to) _ _ (MarkIs setting.nodes shown node)
+      (λ at. (eqb-true node h.move.to at ∙ sym (next-stands h are), next-count h are, h.off_is))
+      (λ off. rw off (cond_both (node == h.move.from) _ _ (MarkIs setting.nodes shown node) left-is trail-is)))
 
 -- so a mark of a view tells it
 pub mark-is : {setting : Setting} {shown : Shown} (node : ℕ) → node < setting.nodes → View setting shown

@@ -17,7 +17,7 @@ use Rattle.directory.specs.Puts.{course_in, steps_in}
 use Rattle.trail_laws.specs.Phases.{IsAtRest}
 use Rattle.directory.specs.Statements.{CommitsAreTold, EntriesAreLeft, LegalIsAmid, MarksAreLeft, OffIsTold}
 use Rattle.directory.specs.Courses.{last_stop, Step, move_to, Move, Course, course_at, next_move, after_step, after_steps, MayMove, MayStep, MaySteps}
-use Rattle.directory.specs.Writes.{Write, mark_at, entry_at, new_address, old_home, move_writes, visit_of, visits, writes}
+use Rattle.directory.specs.Writes.{Write, mark_at, new_address, move_writes, visit_of, visits, writes}
 use Rattle.directory.specs.Standing.{commits, off}
 use Rattle.directory.specs.States.{entry_after, entry_left, mark_after, mark_left, opening_entry, opening_mark, write_commit, write_off, writes_made}
 use Rattle.trail_laws.specs.Trail.{entry_seen, mark_seen}
@@ -42,7 +42,7 @@ module _ (setting : Setting) (sub : ℕ) where
   sound-opening steps script = record { begins = script.begins; linked = tt }
 
   pub sound-script : (steps : List Step) → IsScript setting sub steps → IsSound setting (course_of steps)
-  sound-script steps script = grind (arith, sound-steps, course_at, start, sound-opening)
+  sound-script steps script = grind (arith, sound-steps, sound-opening)
 
   opens-marks : (v : ℕ) → sub < subs setting
       → opening_mark setting sub v ≡ rest_mark setting (course_at (start setting sub)) v
@@ -171,7 +171,7 @@ module _ {setting : Setting} {sub : ℕ} {before : List Step} {node : ℕ} (scri
           ∙ (ap (λ cs. cs ++ filter_map write_commit front)
           (commits-steps setting (course_at (start setting sub)) before) ∙ left.commits);
       off_is = fold-append (λ o write. write_off write) false made front ∙ left.on _;
-      moves_are = grind (arith, fold-append, after_step, course_at, start, move_to);
+      moves_are = grind (arith, fold-append);
     },
   )
     where
@@ -204,8 +204,7 @@ module _ {setting : Setting} {sub : ℕ} {before : List Step} {node : ℕ} (scri
       at_order (inl none) b t = inl (rw none)
       at_order (inr whole) false t =
           inl (ap (λ b. take p (cond b (purge_nodes setting its_course its_move) [])) t ∙ take-nil p)
-      at_order (inr whole) true t =
-          grind (arith, take_all, its_old, length, length-take, erasures, its_course, length-map, entry_at, old_home)
+      at_order (inr whole) true t = grind (arith, take_all, length-take, length-map)
 
   amid-move : (made : ℕ) → 1 ≤ made → Goal (take made (move_writes setting its_course its_move))
   unfolding phase_writes
@@ -230,7 +229,7 @@ unfolding writes
 amid-view {setting} {sub} before [] made script one some few = grind (arith, append-nil, writes_of, take-nil, rests)
 amid-view {setting} {sub} before (move_to node ∷ []) made script one some few =
     let may = may-before setting (course_at (start setting sub)) before (move_to node) script.allowed in
-    grind (arith, append-nil, move_writes, course_of, next_move, amid-move)
+    grind (arith, append-nil, amid-move)
 amid-view {setting} {sub} before (step ∷ []) made script one some few =
     let e : made ≡ 1 = omega (arith, some, few) in
     rw e (rw (writes-more setting (course_at (start setting sub)) before step) at
@@ -253,5 +252,4 @@ pub legal-view : LegalIsAmid → MarksAreLeft → EntriesAreLeft → CommitsAreT
     → {setting : Setting} {sub : ℕ} (history : History) → setting.nodes ≤ 2 ^ 16 → IsLegal setting sub history
     → View setting (shown setting sub history)
 unfolding WritesView
-legal-view amid marks_left entries_left told off_told {setting} {sub} history low legal =
-    grind (arith, amid-view, puts_to, shown, written, writes_made, course_in, start, commits, off)
+legal-view amid marks_left entries_left told off_told {setting} {sub} history low legal = grind (arith, amid-view)
