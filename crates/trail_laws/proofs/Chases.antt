@@ -88,24 +88,16 @@ module _ (setting : Setting) (marks : ℕ → PresenceMark) where
   leads from number last moves most more_hops more_way linked all exits zero i v known enough low inside is_stop knows =
       grind (arith, there)
   leads from number last moves most more_hops more_way linked all exits (suc fuel) i v known enough low inside is_stop
-      knows =
-      at_exit (exits i v known low inside is_stop knows)
-      (λ j w k h1 h2 h3 h4 h5. leads from number last moves most more_hops more_way linked all exits fuel j w k h1 h2 h3
-      h4 h5)
-    where
-      Goal : Type 0
-      Goal = Arrives number last moves more_hops more_way i v known
-
-      at_exit : Arrives number last moves more_hops more_way i v known
-          ⊎ ((marks v ≡ trail_mark moves v Empty) × (i < length moves))
-          → ((j w : ℕ) (k : Option ℕ) → length moves ≤ fuel + j → j ≤ length moves → w < setting.nodes
-          → stop_at from moves j ≡ w → KnowsAtMost most k → Arrives number last moves more_hops more_way j w k) → Goal
-      at_exit (inl there) more = there
-      at_exit (inr goes) more = at_left (last-left setting from number moves v Empty linked)
-        where
-          at_left : LeavesMark setting from number moves v Empty → Goal
-          at_left (inl none) = absurd (none.1 i goes.1 is_stop)
-          at_left (inr left) =
+      knows = elim (exits i v known low inside is_stop knows) [
+        | inl there ↦ there
+        | inr goes ↦ elim (last-left setting from number moves v Empty linked) [
+          | inl none ↦ absurd (none.1 i goes.1 is_stop)
+          | inr left ↦
+              let late : i ≤ left.place = left.last i goes.1 is_stop in
+              let gone : marks v ≡ Gone left.move.number left.move.to = goes.0 ∙ left.mark_is in
+              let rises : above setting marks (number + suc left.place) < above setting marks (number + i) =
+              above-less setting marks v (number + suc left.place) (number + i) left.move.to inside
+              (grind (arith, gone)) (omega (arith, late)) in
               longer known v last (suc (more_hops + above setting marks (number + suc left.place)))
               (more_hops + above setting marks (number + i))
               (setting.distance v left.move.to + (weight_from moves (suc left.place) + more_way))
@@ -116,21 +108,13 @@ module _ (setting : Setting) (marks : ℕ → PresenceMark) where
                 weight-step moves left.place left.move left.is_move,
                 left.link.its_weight,
                 weight-mono moves i left.place late,
-              )) (hopped known v left.move.to last _ _ (ap (lead known) gone) (rw gone (more (suc left.place)
-              left.move.to (known_with left.move.number known) (omega (arith, enough, late))
-              (omega (arith, left.within)) left.link.inside left.goes_on
+              )) (hopped known v left.move.to last _ _ (ap (lead known) gone) (rw gone (leads from number last moves most
+              more_hops more_way linked all exits fuel (suc left.place) left.move.to
+              (known_with left.move.number known) (omega (arith, enough, late)) (omega (arith, left.within))
+              left.link.inside left.goes_on
               (knows-with most left.move.number known knows (omega (arith, left.link.its_number, left.within, all))))))
-            where
-              late : i ≤ left.place
-              late = left.last i goes.1 is_stop
-
-              gone : marks v ≡ Gone left.move.number left.move.to
-              gone = goes.0 ∙ left.mark_is
-
-              rises : above setting marks (number + suc left.place) < above setting marks (number + i)
-              rises = above-less setting marks v (number + suc left.place) (number + i) left.move.to inside
-                  (grind (arith, gone))
-                  (omega (arith, late))
+        ]
+      ]
 
   -- at rest: the end of the trail is an exit
   pub rest-exits : (from number last : ℕ) (moves : List Move) (most : ℕ) → stop_at from moves (length moves) ≡ last
@@ -157,19 +141,17 @@ module _ (setting : Setting) (marks : ℕ → PresenceMark) where
       → Exits from number last moves most 1 0
   unfolding Exits
   coming-exits from number last moves most p to linked begins ends above_most comes answered others i v known low inside
-      is_stop knows = at_last (cases_eq v last) (cases_eq v to)
-    where
-      at_last : (v ≡ last) ⊎ (v ≢ last) → (v ≡ to) ⊎ (v ≢ to) → Arrives number last moves 1 0 i v known
-          ⊎ ((marks v ≡ trail_mark moves v Empty) × (i < length moves))
-      at_last (inl same) t = inl (arrived known v last _ _ same (rw same (answered known)))
-      at_last (inr other) (inl at_to) =
-          inl (longer known v last 1 (1 + above setting marks (number + i)) (setting.distance v last + 0)
-          (weight_from moves i + 0) (omega arith) (λ metric. omega (arith, way metric)) (grind (arith, back-leads)))
-        where
-          way : HasMetric setting → setting.distance v last ≤ weight_from moves i
-          way metric = rw (is_stop, ends) at (way-short from number moves i linked begins metric low)
-      at_last (inr other) (inr off_to) =
-          inr (others v inside other off_to, before-end from last moves i v ends low is_stop other)
+      is_stop knows = elim (cases_eq v last) [
+        | inl same ↦ inl (arrived known v last _ _ same (rw same (answered known)))
+        | inr other ↦ elim (cases_eq v to) [
+          | inl at_to ↦
+              let way : HasMetric setting → setting.distance v last ≤ weight_from moves i =
+              λ metric. rw (is_stop, ends) at (way-short from number moves i linked begins metric low) in
+              inl (longer known v last 1 (1 + above setting marks (number + i)) (setting.distance v last + 0)
+              (weight_from moves i + 0) (omega arith) (λ metric. omega (arith, way metric)) (grind (arith, back-leads)))
+          | inr off_to ↦ inr (others v inside other off_to, before-end from last moves i v ends low is_stop other)
+        ]
+      ]
 
   -- between commit and confirm: from the node that was left one hop leads on, and a Coming that isn't known leads there
   -- and back
@@ -189,21 +171,17 @@ module _ (setting : Setting) (marks : ℕ → PresenceMark) where
       → Exits from number to moves most 1 (2 * setting.distance left to)
   unfolding Exits
   passing-exits from number left moves most p to ends above_all left_inside to_inside gone comes others i v known low
-      inside is_stop knows = at_last (cases_eq v to) (cases_eq v left)
+      inside is_stop knows = elim (cases_eq v to) [
+        | inl at_to ↦ inl (rw at_to (longer known to to 2 _ _ _ (omega (arith, counted))
+            (λ metric. omega (arith, metric.both_ways to left to_inside left_inside))
+            (passing-leads left p to known gone comes)))
+        | inr off_to ↦ elim (cases_eq v left) [
+          | inl at_left ↦ inl (rw at_left (longer known left to 1 _ _ _ (omega arith) (λ metric. omega arith)
+              (left-leads left p to known gone comes)))
+          | inr off_left ↦
+              inr (others v inside off_left off_to, before-end from left moves i v ends low is_stop off_left)
+        ]
+      ]
     where
       counted : above setting marks p < above setting marks (number + i)
       counted = above-less setting marks left p (number + i) to left_inside gone (omega (arith, above_all, low))
-
-      at_exit : (x few way : ℕ) → v ≡ x → few ≤ 1 + above setting marks (number + i)
-          → (HasMetric setting → way ≤ weight_from moves i + 2 * setting.distance left to)
-          → Arrival setting marks known x to few way
-          → Arrives number to moves 1 (2 * setting.distance left to) i v known
-      at_exit x few way same less short there = rw same (longer known x to few _ way _ less short there)
-
-      at_last : (v ≡ to) ⊎ (v ≢ to) → (v ≡ left) ⊎ (v ≢ left)
-          → Arrives number to moves 1 (2 * setting.distance left to) i v known
-          ⊎ ((marks v ≡ trail_mark moves v Empty) × (i < length moves))
-      at_last (inl at_to) l = grind (arith, at_exit, counted, passing-leads left p to known gone comes)
-      at_last (inr off_to) (inl at_left) = grind (arith, at_exit, left-leads left p to known gone comes)
-      at_last (inr off_to) (inr off_left) =
-          inr (others v inside off_left off_to, before-end from left moves i v ends low is_stop off_left)
