@@ -11,7 +11,7 @@ use Rattle.directory.specs.Finds.{after_word, chases, ended, FindCall, is_known,
 use Rattle.directory.specs.Standing.{commits, number}
 use Rattle.trail_laws.specs.Trail.{GoesUp}
 use Rattle.trail_laws.specs.Phases.{moves_begun}
-use Rattle.trail_laws.specs.Chased.{FollowOn, GoesBack, gone_number, mark_chased, marks_chased}
+use Rattle.trail_laws.specs.Chased.{FollowOn, gone_number, mark_chased, marks_chased}
 use Rattle.trail_laws.proofs.Stops.{stop_after, stop-kept}
 use Rattle.trail_laws.proofs.Passing.{begun-grows, commits-grow, number-grows}
 
@@ -32,10 +32,6 @@ pub record IsBehind (setting : Setting) (sub : ℕ) (seen : History) (behind : B
   pub early : behind.begun ≤ moves_begun setting sub seen
   pub rises : behind.gone ≤ behind.place
   pub fresh : (p : ℕ) → is_known p known ≡ false → behind.gone ≤ p - 1
-
-behind-nothing : (setting : Setting) (sub : ℕ) (seen : History) (known : Option ℕ) (node : ℕ)
-    → IsBehind setting sub seen nothing known node
-behind-nothing setting sub seen known node = grind arith
 
 -- it stays so
 pub behind-later : {setting : Setting} {sub : ℕ} (t u : ℕ) (history : History) {behind : Behind} {known : Option ℕ}
@@ -62,7 +58,7 @@ IsTracked setting sub seen behind pursuit = behind ≡ nothing
 
 pub tracked-nothing : (setting : Setting) (sub : ℕ) (seen : History) (pursuit : Pursuit)
     → IsTracked setting sub seen nothing pursuit
-tracked-nothing setting sub seen pursuit = grind (arith, behind-nothing)
+tracked-nothing setting sub seen pursuit = grind arith
 
 -- a mark fits what is behind it
 abbrev pub IsBegun : ℕ → PresenceMark → Type 0
@@ -88,9 +84,6 @@ below-less : (a b : ℕ) (xs : List ℕ) → a ≤ b → IsBelowAll b xs → IsB
 below-less a b [] h all = tt
 below-less a b (x ∷ xs) h all = (omega (arith, h, all.0), below-less a b xs h all.1)
 
-goes-back : (p : ℕ) (mark : PresenceMark) → GoesUp (p - 1) mark → IsBegun p mark → GoesBack p mark
-goes-back p mark up begun = grind arith
-
 -- what a mark leaves for the next one
 abbrev pub after_gone : ℕ → Behind
 after_gone p = record { place = p; begun = p; gone = p }
@@ -106,7 +99,7 @@ Continues behind mark later = later ≡ []
 pub one-more : (behind : Behind) (mark : PresenceMark) (later : List PresenceMark) → behind.gone ≤ behind.place
     → GoesUp behind.place mark → IsBegun behind.begun mark → Continues behind mark later
     → Rises behind (mark ∷ later)
-one-more behind mark later low up begun rest = grind (arith, below-less, goes-back)
+one-more behind mark later low up begun rest = grind (arith, below-less)
 
 -- no mark is read after the end
 pub ended-none : (setting : Setting) (call : FindCall) (pursuit : Pursuit) (words : List ℕ)

@@ -1,18 +1,18 @@
 -- Where the marks of a trail lead: the numbers rise from hop to hop, so that no node is met twice.
 use Rattle.std.proofs.lemmas.Bool.{cases_Bool, cases_eq}
-use Rattle.std.proofs.Common.{◌≡◌, ◌≢◌, ◌⊎◌, inl, inr, ℕ, zero, suc, ◌+◌, ◌*◌, ◌<◌, ◌≤◌, true, false, List, Option, Some, length, refl, ap, ◌∙◌, arith}
+use Rattle.std.proofs.Common.{◌≡◌, ◌≢◌, ◌⊎◌, inl, inr, ℕ, zero, suc, ◌+◌, ◌*◌, ◌<◌, ◌≤◌, true, List, Option, Some, length, refl, ap, ◌∙◌, arith}
 use Rattle.std.proofs.lemmas.Bool.Decides.{nat_tests}
 use Rattle.entry_word.specs.declared.mark.PresenceMark.{PresenceMark}
 use Rattle.entry_word.specs.declared.mark.PresenceMark.TheVariants.{Empty, Gone, Coming}
 use Rattle.directory.specs.Settings.{Setting}
 use Rattle.directory.specs.Courses.{Move}
-use Rattle.directory.specs.Finds.{is_known, known_with}
+use Rattle.directory.specs.Finds.{known_with}
 use Rattle.directory.specs.Parts.{known_after, lead}
 use Rattle.trail_laws.specs.Trail.{answers, IsLed, HasMetric, KnowsAtMost}
 use Rattle.trail_laws.proofs.Links.{AreLinked}
 use Rattle.trail_laws.proofs.ClosedMarks.{trail_mark, there}
 use Rattle.trail_laws.proofs.GoneCounts.{above, above-less}
-use Rattle.trail_laws.proofs.LinkedStops.{last-left, LeavesMark, stop_at, way-short, weight-mono, weight-step, weight_from}
+use Rattle.trail_laws.proofs.LinkedStops.{last-left, stop_at, way-short, weight-mono, weight-step, weight_from}
 
 -- ---- arrivals
 pub record Arrival (setting : Setting) (marks : ℕ → PresenceMark) (known : Option ℕ)
@@ -27,13 +27,6 @@ pub record Arrival (setting : Setting) (marks : ℕ → PresenceMark) (known : O
 pub knows-with : (most p : ℕ) (known : Option ℕ) → KnowsAtMost most known → p ≤ most
     → KnowsAtMost most (known_with p known)
 knows-with most p known knows low = grind arith
-
-knows-it : (number : ℕ) (known : Option ℕ) → is_known number (known_with number known) ≡ true
-knows-it number known = grind arith
-
-knows-less : (most number : ℕ) (known : Option ℕ) → KnowsAtMost most known → most < number
-    → is_known number known ≡ false
-knows-less most number known h low = grind arith
 
 -- a stop that isn't the last is left by a move
 before-end : (from end : ℕ) (moves : List Move) (i v : ℕ) → stop_at from moves (length moves) ≡ end
@@ -130,7 +123,7 @@ module _ (setting : Setting) (marks : ℕ → PresenceMark) where
       → marks to ≡ Coming p last
       → ((k : Option ℕ) → answers k (marks last) ≡ true)
       → Arrival setting marks known to last 1 (setting.distance to last + 0)
-  back-leads last most p to known above_most knows comes answered = grind (arith, knows-less, arrived, hopped)
+  back-leads last most p to known above_most knows comes answered = grind (arith, arrived, hopped)
 
   -- before the commit of a move: the node that is come to leads back to where the subscriber stands, no farther than
   -- the trail does
@@ -157,7 +150,7 @@ module _ (setting : Setting) (marks : ℕ → PresenceMark) where
   -- and back
   pub left-leads : (left p to : ℕ) (known : Option ℕ) → marks left ≡ Gone p to → marks to ≡ Coming p left
       → Arrival setting marks known left to 1 (setting.distance left to + 0)
-  left-leads left p to known gone comes = grind (arith, knows-it, arrived, hopped)
+  left-leads left p to known gone comes = grind (arith, arrived, hopped)
 
   pub passing-leads : (left p to : ℕ) (known : Option ℕ) → marks left ≡ Gone p to → marks to ≡ Coming p left
       → Arrival setting marks known to to 2 (setting.distance to left + (setting.distance left to + 0))

@@ -45,12 +45,9 @@ entered-levels at new level cluster entry (l ∷ levels) =
     entered-levels at new level cluster (cond (level == l && cluster == at l) new entry) levels
     ∙ at_test (level == l) refl
   where
-    twice : (h k : Bool) → cond (h && k) new (cond k new entry) ≡ cond k new entry
-    twice h k = grind arith
-
     at_test : (b : Bool) → (level == l) ≡ b → cond (has level levels && cluster == at level) new
         (cond (b && cluster == at l) new entry) ≡ cond ((b || has level levels) && cluster == at level) new entry
-    at_test true e = grind (arith, eqb-true, twice)
+    at_test true e = grind (arith, eqb-true)
     at_test false e = refl
 
 -- the stop where the address of a level was made, whatever moves come behind, and that of a move
@@ -63,13 +60,6 @@ pub new-stop : {setting : Setting} {course : Course} {move : Move} → IsNext se
     → stop (with_move course move) move.number ≡ move.to
 new-stop {course} {move} next = grind (arith, map-append, length-map, get_or_at)
 
--- the address of a level after a move
-pub address-with : {setting : Setting} {course : Course} {move : Move} (level : ℕ) → IsSound setting course
-    → IsNext setting course move
-    → address_node (with_move course move) level ≡ cond (nat_le level move.renewed) move.to
-    (address_node course level)
-address-with {course} {move} level sound next = grind (arith, base-with, new-stop, old-stop)
-
 -- when a move has made all its writes its subscriber rests again
 pub entries-rest : {setting : Setting} {course : Course} {move : Move} (written erased : List ℕ) (level cluster : ℕ)
     → IsSound setting course → IsNext setting course move
@@ -78,4 +68,4 @@ pub entries-rest : {setting : Setting} {course : Course} {move : Move} (written 
     → entry_erased setting course move written erased level cluster
     ≡ rest_entry setting (with_move course move) level cluster
 entries-rest {setting} {course} {move} written erased level cluster sound next all gone =
-    grind (arith, address-with, base-with, eqb-true, eq-eqb)
+    grind (arith, base-with, new-stop, old-stop, eqb-true, eq-eqb)

@@ -1,7 +1,7 @@
 -- The marks of a subscriber in closed form: at rest after a course, and in each phase of the move that comes next.
 use Rattle.std.proofs.lemmas.Bool.{or_parts, eqb-true}
 use Rattle.trail_laws.proofs.Links.{stop-inside, IsSound, base-low, linked-push, renewed-low}
-use Rattle.std.proofs.Common.{◌≡◌, ◌≢◌, ℕ, suc, ◌<◌, ◌≤◌, Bool, true, false, cond, not, ◌==◌, ◌&&◌, ◌||◌, List, [], ◌∷◌, ◌++◌, length, map, drop, fold, refl, sym, ap, ◌∙◌, arith, length-append}
+use Rattle.std.proofs.Common.{◌≡◌, ◌≢◌, ℕ, suc, ◌<◌, ◌≤◌, Bool, true, false, cond, not, ◌==◌, ◌&&◌, List, [], ◌∷◌, ◌++◌, length, map, drop, fold, refl, sym, ap, ◌∙◌, arith, length-append}
 use Rattle.std.specs.Prelude.{if◌then◌else◌, nat_le}
 use Rattle.std.proofs.lemmas.Bool.Decides.{nat_tests}
 use Rattle.std.proofs.lemmas.List.{drop-append-le, map-append}
@@ -121,22 +121,6 @@ there-with : {setting : Setting} {course : Course} {move : Move} → IsNext sett
     → there (with_move course move) ≡ Here move.number
 there-with {course} {move} next = grind (arith, with_move, count-with)
 
-pub trail-has : {setting : Setting} {course : Course} (move : Move) (v : ℕ) → IsSound setting course
-    → has v (trail setting course move) ≡ (has v (map (λ (m : Move). m.from) (since_top setting course)) ||
-    (v == move.from || false))
-trail-has {setting} {course} move v sound = grind (arith, base-low, drop-append-le, since_top, map-append, has-append)
-
--- a renewal of the top level leaves the new node alone
-purged-rest : (f a b : Bool) (here gone coming its mark : PresenceMark) → (f ≡ false → mark ≡ Empty)
-    → cond ((f || (b || false)) && not a) Empty (cond a here (cond b gone (cond a coming (cond b its mark))))
-    ≡ cond a here Empty
-purged-rest f a b here gone coming its mark h = grind arith
-
--- another move adds the node that it left to the trail
-added-rest : (a b : Bool) (here gone coming its mark : PresenceMark)
-    → cond a here (cond b gone (cond a coming (cond b its mark))) ≡ cond a here (cond b gone mark)
-added-rest a b here gone coming its mark = grind arith
-
 -- when a move has made all its writes its subscriber rests again
 pub marks-rest : {setting : Setting} {course : Course} {move : Move} (purged : List ℕ) (v : ℕ)
     → IsSound setting course → IsNext setting course move
@@ -163,9 +147,9 @@ marks-rest {setting} {course} {move} purged v sound next whole none =
         let none_since : since_top setting (with_move course move)
         ≡ [] = grind (arith, drop_of_length-le, base-with, count-with)
         in
-        grind (arith, trail-has, purged-rest, since, trail_mark-none)
+        grind (arith, base-low, drop-append-le, since_top, map-append, has-append, since, trail_mark-none)
     at_top false e =
         let low : nat_le setting.top move.renewed ≡ false = grind (arith, nat_tests, next.renewed, e) in
         let one_since : since_top setting (with_move course move) ≡ since ++ move ∷ [] =
         grind (arith, base-with, drop-append-le, base-low) in
-        grind (arith, trail_mark-push, since, added-rest)
+        grind (arith, trail_mark-push, since)

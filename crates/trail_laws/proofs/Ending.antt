@@ -14,10 +14,6 @@ use Rattle.directory.specs.StepLaws.{place-after_steps}
 use Rattle.trail_laws.specs.Censuses.{CensusesEndByScripts, CensusesEndRight, IsCounted, is_on_at}
 use Rattle.trail_laws.specs.Phases.{RestEndsItsCourse}
 
-on-there : (node stands : ℕ) (is_off : Bool) → is_on_at node (record { node = stands; is_off = is_off }) ≡ true
-    → (node ≡ stands) × (is_off ≡ false)
-on-there node stands is_off h = grind (arith, eqb-true)
-
 there-on : (node stands : ℕ) (is_off : Bool) → node ≡ stands → is_off ≡ false
     → is_on_at node (record { node = stands; is_off = is_off }) ≡ true
 there-on node stands is_off same on =
@@ -50,4 +46,4 @@ end-by_scripts right ends rests shows played done legal setting scripts order no
         (omega (arith, known)) in
         let end = end-there ends rests shows legal (history_of setting scripts order) sub low valid known
         (played setting scripts order) (done setting scripts order sub) in
-        grind (arith, there-on, on-there)
+        grind (arith, there-on, eqb-true)

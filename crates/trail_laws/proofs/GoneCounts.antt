@@ -1,5 +1,5 @@
 -- How many nodes hold a Gone above a number: the measure by which a chase ends.
-use Rattle.std.proofs.Common.{List, ◌≡◌, ◌⊎◌, inl, inr, ℕ, zero, suc, ◌+◌, ◌<◌, ◌≤◌, Bool, true, false, cond, ◌==◌, ◌∷◌, length, refl, ap, ◌∙◌, arith}
+use Rattle.std.proofs.Common.{◌≡◌, ◌⊎◌, inl, inr, ℕ, zero, suc, ◌+◌, ◌<◌, ◌≤◌, Bool, true, false, cond, ◌==◌, ◌∷◌, length, refl, ap, ◌∙◌, arith}
 use Rattle.std.specs.Prelude.{nat_lt}
 use Rattle.std.proofs.lemmas.Bool.Decides.{nat_tests}
 use Rattle.node_set.specs.Ascending.{sift}
@@ -9,15 +9,10 @@ use Rattle.directory.specs.Settings.{Setting}
 use Rattle.node_set.specs.SetLaws.{length-passing_all}
 
 -- ---- how many pass a test
--- one number more on the left is one more on the right
-cond-fewer : (a b : Bool) (v d : ℕ) (xs ys : List ℕ) → (a ≡ true → b ≡ true) → d + length xs ≤ length ys
-    → d + length (cond a (v ∷ xs) xs) ≤ length (cond b (v ∷ ys) ys)
-cond-fewer a b v d xs ys e more = grind arith
-
 pub passing-fewer : (f g : ℕ → Bool) (v k : ℕ) → ((x : ℕ) → f x ≡ true → g x ≡ true)
     → length (sift f v k) ≤ length (sift g v k)
 passing-fewer f g v zero h = omega arith
-passing-fewer f g v (suc k) h = grind (arith, passing-fewer f g (suc v) k h, cond-fewer)
+passing-fewer f g v (suc k) h = grind (arith, passing-fewer f g (suc v) k h)
 
 pub passing-less : (f g : ℕ → Bool) (x v k : ℕ) → v ≤ x → x < v + k → ((y : ℕ) → f y ≡ true → g y ≡ true)
     → f x ≡ false → g x ≡ true → length (sift f v k) < length (sift g v k)
@@ -33,7 +28,7 @@ passing-less f g x v (suc k) low high h out within = at_place (cases v x)
         → length (cond (f v) (v ∷ sift f (suc v) k) (sift f (suc v) k)) < length
         (cond (g v) (v ∷ sift g (suc v) k) (sift g (suc v) k))
     at_place (inl e) more = rw (ap f e ∙ out, ap g e ∙ within) (omega (arith, passing-fewer f g (suc v) k h))
-    at_place (inr e) more = grind (arith, cond-fewer)
+    at_place (inr e) more = grind arith
 
 pub some-out : (test : ℕ → Bool) (x n : ℕ) → x < n → test x ≡ false → suc (length (sift test 0 n)) ≤ n
 some-out test x n low out = omega (

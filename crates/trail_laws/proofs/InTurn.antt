@@ -5,10 +5,10 @@ use Rattle.std.proofs.lemmas.Option.{slice_get_within}
 use Rattle.directory.specs.Settings.{Setting, subs}
 use Rattle.directory.specs.Statements.{CallersCount, FindsFollow, TicketsAscend}
 use Rattle.directory.specs.Courses.{Course, Step, after_step}
-use Rattle.directory.specs.Finds.{FindCall, Pursuit}
+use Rattle.directory.specs.Finds.{FindCall}
 use Rattle.directory.specs.Histories.{History, tickets}
-use Rattle.directory.specs.Orders.{Answer, Caller as Seeker, IsPlayed, Scripts, after_read, caller_in, read_by, with_pursuit}
-use Rattle.directory.specs.Outcomes.{FollowEachOther, answer_line, caller_lines, found_line, step_line, step_lines, sub_lines}
+use Rattle.directory.specs.Orders.{Answer, Caller as Seeker, IsPlayed, Scripts, after_read, caller_in, read_by}
+use Rattle.directory.specs.Outcomes.{FollowEachOther, answer_line, caller_lines, found_line, step_lines, sub_lines}
 use Rattle.directory.specs.Writes.{numbers_from, step_writes}
 use Rattle.directory.specs.CallLines.{actor_of, find_of}
 use Rattle.directory.specs.declared.answers.FindLine.{FindLine}
@@ -45,16 +45,10 @@ follow-behind place (x ∷ answers) (suc i) (suc j) a b follows le at_a at_b =
 abbrev AreLooked : ℕ → List Answer → Type 0
 AreLooked next answers = (i : ℕ) (a : Answer) → slice_get answers i ≡ Some a → a.last < next
 
-looked-on : (caller : Seeker) (call : FindCall) (later : List FindCall) (pursuit : Pursuit) (answer : Option Found)
-    → AreLooked caller.next caller.answers
-    → AreLooked (with_pursuit caller call later pursuit answer).next
-    (with_pursuit caller call later pursuit answer).answers
-looked-on caller call later pursuit answer h = grind (arith, append-at)
-
 looked-more : (setting : Setting) (caller : Seeker) (calls : List FindCall) (word : ℕ)
     → AreLooked caller.next caller.answers
     → AreLooked (read_by setting caller calls word).next (read_by setting caller calls word).answers
-looked-more setting caller calls word h = grind (arith, looked-on)
+looked-more setting caller calls word h = grind (arith, append-at)
 
 looked-all : (setting : Setting) (words : List ℕ) (caller : Seeker) → AreLooked caller.next caller.answers
     → AreLooked (fold (after_read setting) caller words).next (fold (after_read setting) caller words).answers
@@ -82,10 +76,6 @@ line-visits : (caller : ℕ) (call : FindCall) (found : Found) (first last : ℕ
 unfolding first-of last-of
 line-visits caller call found first last find is = grind (arith, first-of, last-of)
 
-actor-found : (caller : ℕ) (call : FindCall) (found : Found) (first last : ℕ)
-    → actor_of (found_line caller call found first last) ≡ caller
-actor-found caller call found first last = grind arith
-
 abbrev AreInTurn : Done → Done → Type 0
 AreInTurn one other = (earlier later : FindLine) → find_of one ≡ Some earlier → find_of other ≡ Some later
     → (earlier.last < later.first) × (later.first ≤ later.last)
@@ -108,10 +98,6 @@ caller-in-turn follow count ascend setting scripts history played actor i j one 
     let one_is = line-visits actor a.0.call a.0.found (get_or seen a.0.first 0) (get_or seen a.0.last 0) earlier
     (rw a.2 is_earlier) in
     grind (arith, line-visits, place-rises, place-stays_or_rises)
-
-line-of-caller : (setting : Setting) (scripts : Scripts) (history : History) (actor i : ℕ) (line : Done)
-    → slice_get (caller_lines setting scripts history actor) i ≡ Some line → actor_of line ≡ actor
-line-of-caller setting scripts history actor i line at = grind (arith, map-at, actor-found)
 
 -- the lines of each actor lie together
 block-above : (f : ℕ → List Done) (x k : ℕ) → ((a i : ℕ) (y : Done) → x ≤ a → slice_get (f a) i ≡ Some y
@@ -142,10 +128,6 @@ all-in-turn f x (suc k) each order i j one other le at_one at_other same =
     ]
 
 -- the lines of subscribers tell of no find
-step-untold : (setting : Setting) (sub : ℕ) (course : Course) (step : Step) (seen : List ℕ) (find : FindLine)
-    → find_of (step_line setting sub course step seen) ≡ Some find → ⊥
-step-untold setting sub course step seen find told = grind arith
-
 abbrev AreUntold : List Done → Type 0
 AreUntold lines = (i : ℕ) (line : Done) (find : FindLine) → slice_get lines i ≡ Some line
     → find_of line ≡ Some find → ⊥
@@ -154,7 +136,7 @@ steps-untold : (setting : Setting) (sub : ℕ) (course : Course) (steps : List S
     → AreUntold (step_lines setting sub course steps seen)
 unfolding step_lines
 steps-untold setting sub course [] seen i line find is told = cc
-steps-untold setting sub course (step ∷ steps) seen zero line find is told = grind (arith, step-untold)
+steps-untold setting sub course (step ∷ steps) seen zero line find is told = grind arith
 steps-untold setting sub course (step ∷ steps) seen (suc i) line find is told =
     steps-untold setting sub (after_step setting course step) steps
     (drop (length (step_writes setting course step)) seen) i line find is told
@@ -176,7 +158,7 @@ outcome-in-turn follow count ascend setting scripts history played i j one other
       | inl a ↦ absurd (subs-untold setting scripts history _ i one earlier a is_earlier)
       | inr a ↦ elim (append-at steps finds j other at_other) [
         | inl b ↦ absurd (subs-untold setting scripts history _ j other later b is_later)
-        | inr b ↦ grind (arith, all-in-turn, line-of-caller, caller-in-turn)
+        | inr b ↦ grind (arith, all-in-turn, map-at, caller-in-turn)
       ]
     ]
   where

@@ -1,13 +1,10 @@
 -- The laws of marks and addresses after every legal history.
-use Rattle.std.proofs.Common.{arith, ◌≡◌, ◌≢◌, ℕ, ◌≤◌, ◌^◌, ◌∷◌, map, Option, Some, None, refl, sym, ◌∙◌}
-use Rattle.std.specs.Prelude.{slice_index}
+use Rattle.std.proofs.Common.{arith, ◌≡◌, ◌≢◌, ℕ, ◌≤◌, ◌^◌, Option, Some, None, refl, sym, ◌∙◌}
 use Rattle.entry_word.specs.declared.mark.PresenceMark.{PresenceMark}
 use Rattle.entry_word.specs.declared.mark.PresenceMark.TheVariants.{Empty}
 use Rattle.entry_word.specs.declared.address.Address.{Address}
-use Rattle.directory.specs.Settings.{Setting, start}
-use Rattle.directory.specs.Histories.{History, puts_to}
-use Rattle.directory.specs.Courses.{Move, stop}
-use Rattle.directory.specs.Puts.{course_in}
+use Rattle.directory.specs.Settings.{Setting}
+use Rattle.directory.specs.Histories.{History}
 use Rattle.directory.specs.Legal.{IsLegal}
 use Rattle.directory.specs.Statements.{CommitsAreTold, EntriesAreLeft, LegalIsAmid, MarksAreLeft, OffIsTold}
 use Rattle.trail_laws.specs.Trail.{AddressesLead, ComingsLead, EntriesTell, entry_seen, EntryTells, IsLed, mark_seen, MarksTell, MarkTells, OneComing, TopHasEntry}
@@ -78,12 +75,7 @@ entries-tell laws setting sub history low legal level cluster below = told
     told None e = tt
     told (Some address) e =
         let there = placed laws history low legal level cluster address below e in
-        let led = there.leads None tt in grind (arith, same_stop, not_empty)
-      where
-        same_stop : (n : ℕ) → slice_index (start setting sub ∷ map (λ (m : Move). m.to)
-            (course_in setting sub (puts_to sub history)).moves) n
-            ≡ stop (course_in setting sub (puts_to sub history)) n
-        same_stop n = grind (arith, start-kept)
+        let led = there.leads None tt in grind (arith, start-kept, not_empty)
 
 pub top-has_entry : Laws → TopHasEntry
 unfolding HistoryView

@@ -78,11 +78,8 @@ lazy-steps setting course (step ∷ steps) sound may some lazy =
     lazy-steps setting (after_step setting course step) steps (sound-step step sound may.0) may.1 some
     (lazy-step step sound some lazy)
 
-lazy-none : (setting : Setting) → ((i : ℕ) → i ≤ setting.top → 1 ≤ setting.threshold i) → AreLazy setting []
-lazy-none setting some k level low below = grind arith
-
 -- so it is after the puts of a legal history
 pub legal-lazy : {setting : Setting} {sub : ℕ} (history : History)
     → ((i : ℕ) → i ≤ setting.top → 1 ≤ setting.threshold i) → IsLegal setting sub history
     → AreLazy setting (course_in setting sub (puts_to sub history)).moves
-legal-lazy {setting} {sub} history some legal = grind (arith, lazy-steps, lazy-none)
+legal-lazy {setting} {sub} history some legal = grind (arith, lazy-steps)

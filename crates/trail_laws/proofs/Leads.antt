@@ -98,9 +98,6 @@ old-leads hops way level sound below lead known knows =
     lead _ _ known (base-top level sound below) (base-low level sound) (old-inside level sound) refl knows
 
 -- ---- at rest
-pub answered-there : (course : Course) (known : Option ℕ) → answers known (there course) ≡ true
-answered-there course known = grind (arith, cond_both)
-
 pub rest-there : (setting : Setting) (course : Course) → rest_mark setting course (last_stop course) ≡ there course
 rest-there setting course = rw (eq-eqb (last_stop course) (last_stop course) refl)
 
@@ -113,13 +110,13 @@ pub rest-leads : {setting : Setting} {shown : Shown} (h : IsResting setting show
 rest-leads {setting} {shown} h = stops-lead h.sound _ (base-low setting.top h.sound) shown.marks _ _ 0 0 (omega arith)
     (rest-exits setting shown.marks _ _ (last_stop h.course) (since_top setting h.course) _
     (trail-ends h.sound _ (base-low setting.top h.sound))
-    (grind (arith, stop-inside, rest-there, answered-there))
+    (grind (arith, stop-inside, rest-there, cond_both))
     (λ w low other. h.marks_are w low ∙ rest-other setting h.course w other))
 
 -- ---- before the commit
 module _ {setting : Setting} {shown : Shown} {written : List ℕ} (h : IsMoving setting shown (coming written)) where
   pub coming-there : (k : Option ℕ) → answers k (shown.marks (last_stop h.course)) ≡ true
-  coming-there k = grind (arith, stop-inside, ne_eqb, rest-there, answered-there)
+  coming-there k = grind (arith, stop-inside, ne_eqb, rest-there, cond_both)
 
   pub coming-at_to : shown.marks h.move.to ≡ Coming h.move.number (last_stop h.course)
   coming-at_to = h.marks_are h.move.to h.next.inside ∙ rw (eq-eqb h.move.to h.move.to refl, h.next.from)

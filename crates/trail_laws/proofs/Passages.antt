@@ -1,5 +1,5 @@
 -- While a Coming stands whose move is committed, the passage of that move is open.
-use Rattle.std.proofs.Common.{◌≡◌, ◌⊎◌, inl, inr, ℕ, zero, suc, ◌-◌, ◌<◌, ◌≤◌, ◌^◌, Bool, true, false, ◌==◌, List, [], ◌∷◌, ◌++◌, Option, Some, None, length, take, refl, sym, ap, ◌∙◌, arith, length-append}
+use Rattle.std.proofs.Common.{◌≡◌, ◌⊎◌, inl, inr, ℕ, zero, suc, ◌-◌, ◌<◌, ◌≤◌, ◌^◌, Bool, true, false, List, [], ◌∷◌, ◌++◌, Option, Some, None, length, take, refl, sym, ap, ◌∙◌, arith, length-append}
 use Rattle.std.specs.Prelude.{slice_get}
 use Rattle.std.specs.List.{cons_option, last_or, list_any}
 use Rattle.std.proofs.lemmas.Bool.{and_parts, cases_Bool, eqb-false, eqb-true, eq-eqb, ne_eqb}
@@ -7,8 +7,7 @@ use Rattle.std.proofs.Math.Bool.{or-false}
 use Rattle.std.proofs.lemmas.List.Folds.{list_any-append}
 use Rattle.std.proofs.lemmas.List.Sums.{fold-append}
 use Rattle.entry_word.specs.Marks.{mark_in}
-use Rattle.entry_word.specs.declared.mark.PresenceMark.{PresenceMark}
-use Rattle.entry_word.specs.declared.mark.PresenceMark.TheVariants.{Here, Gone, Coming}
+use Rattle.entry_word.specs.declared.mark.PresenceMark.TheVariants.{Gone, Coming}
 use Rattle.entry_word.specs.declared.visit.Key.TheVariants.{Presence}
 use Rattle.entry_word.specs.declared.visit.Act.{Act}
 use Rattle.entry_word.specs.declared.visit.Visit.{Visit}
@@ -24,19 +23,11 @@ use Rattle.trail_laws.specs.Trail.{mark_seen, MarksTell, MarkTells}
 use Rattle.trail_laws.proofs.Passing.{cell-kept, front-legal}
 use Rattle.directory.specs.HistoryLaws.{commits-append}
 
--- a confirm is a Here with its number at its node
-confirm-here : (c : Commit) (node : ℕ) (mark : PresenceMark) → confirms c node mark ≡ true
-    → (node ≡ c.to) × (mark ≡ Here c.number)
-confirm-here c node mark h = grind (arith, and_parts, eqb-true)
-
-confirm-other : (c : Commit) (node : ℕ) (mark : PresenceMark) → (node == c.to) ≡ false → confirms c node mark ≡ false
-confirm-other c node mark h = grind arith
-
 -- a put for a subscriber leaves the mark at a commit's node alone, and doesn't confirm it, or is that mark
 put-cases : (c : Commit) (sub word : ℕ) (act : Act) → is_put_for sub act ≡ true
     → ((word_after (Presence c.to sub) word act ≡ word) × (confirms c (node_put act) (mark_put act) ≡ false))
     ⊎ (mark_in (word_after (Presence c.to sub) word act) ≡ mark_put act)
-put-cases c sub word act put = grind (arith, cases_Bool, eqb-true, eq-eqb, eqb-false, ne_eqb, confirm-other)
+put-cases c sub word act put = grind (arith, cases_Bool, eqb-true, eq-eqb, eqb-false, ne_eqb)
 
 put-course : (setting : Setting) (sub : ℕ) (puts : List Visit) (visit : Visit) → (off : Bool)
     × (course_in setting sub (puts ++ visit ∷ []) ≡ after_steps setting (course_in setting sub puts)
@@ -107,7 +98,7 @@ past-step laws {setting} {sub} c history visit low inside legal legal_more past 
         ⊎ (mark_in (word_after (Presence c.to sub) (cell setting history (Presence c.to sub)) visit.act)
         ≡ mark_put visit.act) → (b : Bool) → confirmed c visit ≡ b → Goal
     at_cases own (inl same) b g = kept (after ∙ same.0) (earlier own same.1)
-    at_cases own (inr new) true g = grind (arith, after, confirm-here, tells)
+    at_cases own (inr new) true g = grind (arith, after, and_parts, eqb-true, tells)
     at_cases own (inr new) false g =
         let before = past (earlier own g) in (
           omega (arith, before.0, count),

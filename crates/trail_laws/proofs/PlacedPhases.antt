@@ -1,4 +1,7 @@
 -- What an address tells, and where the marks lead from its node: at rest, and in each phase of a move.
+use Rattle.std.proofs.lemmas.Bool.{cases_Bool}
+use Rattle.std.proofs.lemmas.Bool.{and_parts}
+use Rattle.trail_laws.proofs.ClosedEntries.{new_entry}
 use Rattle.trail_laws.proofs.ClosedMarks.{from-inside}
 use Rattle.std.proofs.Common.{◌==◌, ◌≡◌, ◌≢◌, ◌⊎◌, inl, inr, ℕ, suc, ◌+◌, ◌<◌, ◌≤◌, true, List, [], ◌∷◌, ◌++◌, Option, length, map, refl, sym, ap, ◌∙◌, arith, length-append, ◌*◌, Some}
 use Rattle.std.proofs.lemmas.Bool.{eqb-true}
@@ -12,7 +15,7 @@ use Rattle.directory.specs.Courses.{Move, Course, address_node, base}
 use Rattle.directory.specs.Standing.{commit_by}
 use Rattle.trail_laws.specs.Trail.{KnowsAtMost}
 use Rattle.trail_laws.proofs.Links.{IsSound, base-low, moves-count}
-use Rattle.trail_laws.proofs.Holders.{IsNew, IsOld, erased-some, move_address, old_address, only-new, rest-some, written-some}
+use Rattle.trail_laws.proofs.Holders.{IsNew, IsOld, erased-some, move_address, old_address, only-new, rest-some}
 use Rattle.trail_laws.proofs.GoneCounts.{above, gone_above, passing-fewer, some-out}
 use Rattle.trail_laws.proofs.Chases.{Arrival, arrived, longer}
 use Rattle.trail_laws.proofs.LinkedStops.{stop_at, old-inside}
@@ -153,7 +156,9 @@ module _ {setting : Setting} {shown : Shown} (level cluster : ℕ) (address : Ad
   -- an entry of a move under way is either
   either : {phase : Phase} (h : IsMoving setting shown phase) (written : List ℕ)
       → entry_written setting h.course h.move written level cluster ≡ Some address → IsEither h
-  either h written e = grind (arith, written-some)
+  unfolding IsNew
+  either h written e =
+      grind (arith, setting.home level h.move.to, cases_Bool, and_parts, new_entry, move_address, rest-some)
 
   -- so it is for each address of a view
   pub entry-placed : View setting shown → shown.entries level cluster ≡ Some address

@@ -13,7 +13,7 @@ use Rattle.directory.specs.Settings.{levels, Setting}
 use Rattle.directory.specs.Histories.{before, cell, History, through, words_at}
 use Rattle.directory.specs.Writes.{numbers_from}
 use Rattle.directory.specs.Legal.{IsLegal}
-use Rattle.directory.specs.Finds.{after_entry, after_mark, after_origin, after_word, all_readers, at_origin, Chase, chases, climb, climbs, ended, find, FindCall, hop, is_known, key_of, known_with, Reader, Pursuit, way_in}
+use Rattle.directory.specs.Finds.{after_entry, after_mark, after_origin, after_word, all_readers, at_origin, Chase, chases, climb, climbs, ended, find, FindCall, hop, key_of, known_with, Reader, Pursuit, way_in}
 use Rattle.directory.specs.Looks.{AreLooks, first_of, IsFind, last_of, look_by}
 use Rattle.directory.specs.Standing.{number, off, standing}
 use Rattle.directory.specs.Statements.{FrontsAreLegal}
@@ -34,12 +34,9 @@ IsSafe setting most (climbs known weight reader later) = KnowsAtMost most known 
 IsSafe setting most (chases chase node) = KnowsAtMost most chase.known × (node < setting.nodes)
 IsSafe setting most (ended found) = Unit {0}
 
-pub knows-more : (most more : ℕ) (known : Option ℕ) → most ≤ more → KnowsAtMost most known → KnowsAtMost more known
-knows-more most more known h k = grind arith
-
 pub safe-later : (setting : Setting) (most more : ℕ) (pursuit : Pursuit) → most ≤ more → IsSafe setting most pursuit
     → IsSafe setting more pursuit
-safe-later setting most more other h safe = grind (arith, knows-more)
+safe-later setting most more other h safe = grind arith
 
 -- what holds of an answer told at a history
 abbrev pub RightAt : Setting → ℕ → History → Found → Type 0
@@ -108,9 +105,6 @@ hop-good : (setting : Setting) (sub : ℕ) (seen : History) (known level : Optio
     → IsGood setting sub seen (hop setting known level weight hops_left node to)
 hop-good setting sub seen known level weight hops_left node to knows inside = grind arith
 
-known-low : (most p : ℕ) (known : Option ℕ) → KnowsAtMost most known → is_known p known ≡ true → p ≤ most
-known-low most p known knows h = grind arith
-
 mark-good : (setting : Setting) (sub : ℕ) (seen : History) (chase : Chase) (node : ℕ) (mark : PresenceMark)
     → KnowsAtMost (number sub seen) chase.known → MarkTells setting sub seen node mark
     → IsGood setting sub seen (after_mark setting chase node mark)
@@ -121,7 +115,7 @@ mark-good setting sub seen chase node (Gone q to) knows tells =
     hop-good setting sub seen (known_with q chase.known) chase.level chase.weight chase.hops_left node to
     (knows-with (number sub seen) q chase.known knows (gone-known setting sub seen node q to tells)) tells.2
 mark-good setting sub seen chase node (Coming q from) knows tells =
-    grind (arith, IsGood, known-low, hop-good, cond_both)
+    grind (arith, IsGood, hop-good, cond_both)
 
 -- one look
 pub look-good : MarksTell → EntriesTell → {setting : Setting} (seen : History) (call : FindCall) (pursuit : Pursuit)

@@ -10,7 +10,7 @@ use Rattle.directory.specs.Finds.{FindCall}
 use Rattle.directory.specs.ScriptLaws.{call_of_valid}
 use Rattle.directory.specs.Looks.{first_of, last_of, IsFind}
 use Rattle.directory.specs.Orders.{AreValid, IsFindCall, Scripts, history_of}
-use Rattle.directory.specs.Outcomes.{IsFindLine, IsMade, found_line, outcome_of}
+use Rattle.directory.specs.Outcomes.{IsMade, found_line, outcome_of}
 use Rattle.directory.specs.Statements.{LinesAreMade, OrdersAreDone, OrdersArePlayed, PlayedIsLegal}
 use Rattle.directory.specs.declared.answers.Done.{Done}
 use Rattle.directory.specs.declared.answers.Done.TheVariants.{Found as FoundBy, Off as OffBy}
@@ -29,20 +29,12 @@ right_find right cause setting history actor call (Again why weight) seen low re
 right_find right cause setting history actor call found seen low reads is legal find =
     right setting history actor call found seen low is.inside legal find
 
--- so the line of a find is
-right_line : AnswersAreRight → AgainHasItsCause → {setting : Setting} {scripts : Scripts} {history : History}
-    → setting.nodes ≤ 2 ^ 16 → ReadsTop setting → AreValid setting scripts
-    → ((sub : ℕ) → sub < subs setting → IsLegal setting sub history) → {actor : ℕ} {call : FindCall} {line : Done}
-    → IsFindLine setting scripts history actor call line → IsRightLine setting history line
-right_line right cause {setting} {scripts} {history} low reads valid legal {actor} {call} h =
-    grind (arith, call_of_valid, right_find)
-
 -- and each line of an outcome
 made_right : AnswersAreRight → AgainHasItsCause → {setting : Setting} {scripts : Scripts} (history : History)
     → setting.nodes ≤ 2 ^ 16 → ReadsTop setting → AreValid setting scripts
     → ((sub : ℕ) → sub < subs setting → IsLegal setting sub history) → (line : Done)
     → IsMade setting scripts history line → IsRightLine setting history line
-made_right right cause history low reads valid legal line h = grind (arith, right_line)
+made_right right cause history low reads valid legal line h = grind (arith, call_of_valid, right_find)
 
 pub outcomes-right : AnswersAreRight → AgainHasItsCause → OrdersArePlayed → OrdersAreDone → PlayedIsLegal
     → LinesAreMade → OutcomesAreRight
@@ -65,20 +57,13 @@ record Numbered (setting : Setting) (history : History) (sub p ticket : ℕ) : T
   pub last : last_of seen ≡ ticket
 
 -- a line that tells a number is made by such a find
-told_by : (setting : Setting) (history : History) (actor from : ℕ) (found : Found) (seen : List ℕ) (line : Done)
-    (sub s p ticket : ℕ) → IsFindCall setting (record { from = from; sub = sub })
-    → IsFind setting history actor (record { from = from; sub = sub }) found seen
-    → line ≡ found_line actor (record { from = from; sub = sub }) found (first_of seen) (last_of seen)
-    → TellsNumber line s p ticket → Numbered setting history s p ticket
-told_by setting history actor from found seen line sub s p ticket is find tells told = grind arith
-
 numbered : {setting : Setting} {scripts : Scripts} (history : History) → AreValid setting scripts → (line : Done)
     (s p ticket : ℕ) → IsMade setting scripts history line → TellsNumber line s p ticket
     → Numbered setting history s p ticket
 numbered {setting} {scripts} history valid (FoundBy actor from sub node n level weight first last) s p ticket h told =
-    grind (arith, told_by, call_of_valid)
+    grind (arith, call_of_valid)
 numbered {setting} {scripts} history valid (OffBy actor from sub node n level weight first last) s p ticket h told =
-    grind (arith, told_by, call_of_valid)
+    grind (arith, call_of_valid)
 numbered history valid line s p ticket h told = absurd told
 
 at_place : {A : Type 0} (P : A → Type 0) (xs : List A) (i : ℕ) (x : A) → All P xs → slice_get xs i ≡ Some x → P x

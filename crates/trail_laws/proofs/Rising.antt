@@ -11,7 +11,7 @@ use Rattle.directory.specs.Legal.{IsLegal}
 use Rattle.directory.specs.Standing.{commit_by, commits, number}
 use Rattle.trail_laws.specs.Trail.{GoesUp, MarksTell, MarkTells, NumbersGoUp, mark_seen}
 use Rattle.trail_laws.proofs.Links.{AreLinked, IsSound, base-low}
-use Rattle.trail_laws.proofs.ClosedMarks.{IsNext, mark_coming, mark_erasing, mark_passing, rest_mark, since_top, sound-with, stop-with, there, trail_mark, trail_mark-push}
+use Rattle.trail_laws.proofs.ClosedMarks.{IsNext, mark_erasing, mark_passing, rest_mark, since_top, sound-with, stop-with, trail_mark, trail_mark-push}
 use Rattle.trail_laws.proofs.ClosedViews.{IsMoving, Phase, View, coming, passage, clearing, Shown}
 use Rattle.trail_laws.proofs.LinkedStops.{last-left, stop_at}
 use Rattle.trail_laws.proofs.Leads.{low-with, trail-count, trail-ends, trail-linked, trail-stops, trail-with}
@@ -20,23 +20,15 @@ use Rattle.trail_laws.proofs.Laws.{HistoryView, Laws, view}
 use Rattle.trail_laws.proofs.Stops.{stop_after, stop-listed, stops-told}
 
 -- at rest, and in each phase of a move
-there-not : (course : Course) (p w : ℕ) → there course ≡ Gone p w → ⊥
-there-not course p w h = grind (arith, cases_cond)
-
 rest-gone : (setting : Setting) (course : Course) (v p w : ℕ) → rest_mark setting course v ≡ Gone p w
     → (trail_mark (since_top setting course) v Empty ≡ Gone p w) × (v ≢ last_stop course)
-rest-gone setting course v p w h = grind (arith, cases_Bool, there-not, eqb-false)
-
-coming-gone : (setting : Setting) (course : Course) (move : Move) (v p w : ℕ)
-    → mark_coming setting course move v ≡ Gone p w
-    → (trail_mark (since_top setting course) v Empty ≡ Gone p w) × (v ≢ last_stop course) × (v ≢ move.to)
-coming-gone setting course move v p w h = grind (arith, cases_Bool, rest-gone, eqb-false)
+rest-gone setting course v p w h = grind (arith, cases_Bool, cases_cond, eqb-false)
 
 passing-gone : {setting : Setting} {course : Course} {move : Move} (v p w : ℕ) → IsNext setting course move
     → mark_passing setting course move v ≡ Gone p w
     → (trail_mark (since_top setting course ++ move ∷ []) v Empty ≡ Gone p w) × (v ≢ move.to)
 passing-gone {setting} {course} {move} v p w next h =
-    grind (arith, cases_Bool, since_top, trail_mark-push, eqb-true, coming-gone)
+    grind (arith, cases_Bool, since_top, trail_mark-push, eqb-true, rest-gone, eqb-false)
 
 clearing-gone : {setting : Setting} {course : Course} {move : Move} (purged : List ℕ) (v p w : ℕ)
     → IsNext setting course move → mark_erasing setting course move purged v ≡ Gone p w
@@ -82,7 +74,7 @@ trail-of shown {course} b sound low begins are told = record {
   count = omega (arith, count-told course.moves are, trail-count sound b low);
   stops = λ j h.
       let placed : b + (j - b) ≡ j = omega (arith, h) in
-      trail-stops sound b low (j - b) ∙ (grind (arith, stops-told));
+      trail-stops sound b low (j - b) ∙ (grind (arith, stop_at, stops-told));
 }
 
 -- that of a course with one move more
@@ -98,7 +90,7 @@ has-trail {setting} {shown} (inl h) =
     (λ v p w low is. rest-gone setting h.course v p w (sym (h.marks_are v low) ∙ is))
 has-trail {setting} {shown} (inr (coming written, h)) =
     trail-of shown _ h.sound (base-low setting.top h.sound) h.begins h.commits_are
-    (grind (arith, coming-gone))
+    (grind (arith, cases_Bool, rest-gone, eqb-false))
 has-trail (inr (passage, h)) = long-trail h h.commits_are
     (λ v p w low is. passing-gone v p w h.next (sym (h.marks_are v low) ∙ is))
 has-trail (inr (clearing erased purged, h)) = long-trail h h.commits_are

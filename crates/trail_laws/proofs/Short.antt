@@ -1,5 +1,5 @@
 -- The laws of near levels and of short ways after every legal history.
-use Rattle.std.proofs.Common.{◌≡◌, ◌⊎◌, inl, inr, ℕ, suc, ◌≤◌, Some, None, refl, arith}
+use Rattle.std.proofs.Common.{inl, inr, Some, None, refl, arith}
 use Rattle.std.proofs.lemmas.Bool.Decides.{nat_tests}
 use Rattle.directory.specs.Standing.{number}
 use Rattle.trail_laws.specs.Trail.{EntriesTell, EntryTells, MarksTell}
@@ -27,9 +27,6 @@ pub passages-open : PassageLaws → PassagesAreOpen
 passages-open laws setting sub history low legal node p from inside comes reached =
     coming-opens laws history node p from low inside legal comes reached
 
-old-or_new : (a b : ℕ) → a ≤ suc b → (a ≤ b) ⊎ (a ≡ suc b)
-old-or_new a b h = grind (arith, nat_tests)
-
 -- the way from an address is short in whichever phase it is
 pub addresses-short : AddressesLeadByPhase → PhasesCover → EntriesTell → AddressesLeadShortly
 addresses-short by_phase cover tell setting sub history low metric some legal level cluster address known pass below
@@ -42,7 +39,7 @@ addresses-short by_phase cover tell setting sub history low metric some legal le
       there.2,
       there.3,
       elim (cover setting sub history low legal) [
-        | inl before ↦ grind (arith, old-or_new)
+        | inl before ↦ grind (arith, nat_tests)
         | inr after ↦ elim after [
           | inl passing ↦ omega (
             arith,

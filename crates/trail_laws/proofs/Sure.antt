@@ -9,14 +9,13 @@ use Rattle.entry_word.specs.declared.visit.Key.TheVariants.{Presence}
 use Rattle.directory.specs.Settings.{Setting}
 use Rattle.directory.specs.Histories.{before, cell, History}
 use Rattle.directory.specs.Legal.{IsLegal}
-use Rattle.directory.specs.Finds.{after_entry, after_mark, after_origin, after_word, all_readers, at_origin, Chase, chases, climb, climbs, ended, FindCall, hop, key_of, Reader, Pursuit, way_in, found_weight}
+use Rattle.directory.specs.Finds.{after_mark, after_origin, after_word, all_readers, at_origin, Chase, chases, climb, climbs, ended, FindCall, key_of, Reader, Pursuit, way_in, found_weight}
 use Rattle.directory.specs.Looks.{moves_at}
-use Rattle.directory.specs.Parts.{known_after, lead}
 use Rattle.directory.specs.Standing.{number, standing}
 use Rattle.directory.specs.Statements.{CellsOfPuts, FrontsAreLegal, MarksAreLeft, StepsBeginAtRest}
 use Rattle.trail_laws.specs.Trail.{AddressesLead, ComingsLead, entry_seen, IsLed, KnowsAtMost, mark_seen, MarksTell, MarkTells, TopHasEntry}
 use Rattle.trail_laws.specs.Rightness.{IsAnswered}
-use Rattle.trail_laws.specs.Within.{Affords, AffordsAddress, Begins, EntryAsks}
+use Rattle.trail_laws.specs.Within.{Affords, Begins, EntryAsks}
 use Rattle.trail_laws.proofs.Passing.{while-quiet}
 use Rattle.trail_laws.proofs.Right.{gone-known}
 use Rattle.trail_laws.proofs.Alike.{alike-step, IsAlike, led-alike}
@@ -35,11 +34,6 @@ IsSure setting sub seen call Within (ended found) = IsAnswered found × Within (
 -- ---- it stays
 module _ {setting : Setting} {sub : ℕ} {one other : History} (call : FindCall) (Within : ℕ → Type 0)
     (alike : IsAlike setting sub one other) where
-  led-on : (known : Option ℕ) (node hops way : ℕ)
-      → IsLed setting (mark_seen setting sub one) known node (standing setting sub one) hops way
-      → IsLed setting (mark_seen setting sub other) known node (standing setting sub other) hops way
-  led-on known node hops way led = grind (arith, led-alike)
-
   entry-alike : (old new : Option Address) (on other_on : Type 0) (there other_there : Address → Type 0) → new ≡ old
       → (on → other_on) → ((a : Address) → there a → other_there a) → EntryAsks old on there
       → EntryAsks new other_on other_there
@@ -53,11 +47,11 @@ module _ {setting : Setting} {sub : ℕ} {one other : History} (call : FindCall)
       entry-alike (entry_seen setting sub one reader.level reader.cluster)
       (entry_seen setting sub other reader.level reader.cluster) _ _ _ _ (alike.entries reader.level reader.cluster)
       (affords-alike (weight + 2 * way_in setting call reader) later)
-      (grind (arith, led-on)) h
+      (grind (arith, led-alike)) h
 
   pub sure-alike : (pursuit : Pursuit) → IsSure setting sub one call Within pursuit
       → IsSure setting sub other call Within pursuit
-  sure-alike other_pursuit sure = grind (arith, affords-alike, led-on)
+  sure-alike other_pursuit sure = grind (arith, affords-alike, led-alike)
 
 -- what is used of the laws
 pub record Used : Type 0 where
@@ -99,36 +93,15 @@ module _ (setting : Setting) (seen : History) (call : FindCall) (Within : ℕ �
   origin-sure (Coming q from) begins same tells = grind (arith, begins.chasing q from same)
   origin-sure mark begins same tells = (tt, begins.here)
 
-  entry-sure : (known : Option ℕ) (weight : ℕ) (reader : Reader) (later : List Reader) (entry : Option Address)
-      → KnowsAtMost (number call.sub seen) known
-      → EntryAsks entry (Affords setting call.sub seen call Within (weight + 2 * way_in setting call reader) later)
-      (λ address. AffordsAddress setting call.sub seen call Within weight reader address)
-      → IsSureOf (after_entry setting call known weight reader later entry)
-  entry-sure known weight reader later entry knows some = grind (arith, climb-sure)
-
-  -- a hop along what leads
-  hop-sure : (known level : Option ℕ) (weight hops_left node to hops way : ℕ) → suc hops ≤ hops_left
-      → IsLed setting (mark_seen setting call.sub seen) known to (standing setting call.sub seen) hops way
-      → Within (weight + setting.distance node to + way)
-      → IsSureOf (hop setting known level weight hops_left node to)
-  hop-sure known level weight hops_left node to hops way few led allowed = grind arith
-
-  hop-on : (chase : Chase) (node to : ℕ) (known : Option ℕ) (hops way : ℕ) → suc hops ≤ chase.hops_left
-      → IsLed setting (mark_seen setting call.sub seen) chase.known node (standing setting call.sub seen) (suc hops) way
-      → Within (chase.weight + way) → lead chase.known (mark_seen setting call.sub seen node) ≡ Some to
-      → known_after chase.known (mark_seen setting call.sub seen node) ≡ known
-      → IsSureOf (hop setting known chase.level chase.weight chase.hops_left node to)
-  unfolding IsLed
-  hop-on chase node to known hops way few led allowed leads knows = grind (arith, setting.distance node led.0, hop-sure)
-
   mark-sure : (chase : Chase) (node : ℕ) (mark : PresenceMark) → mark_seen setting call.sub seen node ≡ mark
       → (hops way : ℕ) → hops ≤ chase.hops_left
       → IsLed setting (mark_seen setting call.sub seen) chase.known node (standing setting call.sub seen) hops way
       → Within (chase.weight + way) → IsSureOf (after_mark setting chase node mark)
   unfolding IsLed
   mark-sure chase node mark same zero way few led allowed = grind arith
-  mark-sure chase node (Coming q from) same (suc hops) way few led allowed = grind (arith, cond_both, hop-on)
-  mark-sure chase node mark same (suc hops) way few led allowed = grind (arith, hop-on)
+  mark-sure chase node (Coming q from) same (suc hops) way few led allowed =
+      grind (arith, cond_both, setting.distance node led.0)
+  mark-sure chase node mark same (suc hops) way few led allowed = grind (arith, setting.distance node led.0)
 
 -- the look at the origin, and one after it
 pub first-sure : Used → {setting : Setting} {seen : History} {call : FindCall} {Within : ℕ → Type 0} (key : Key)
@@ -144,7 +117,7 @@ pub look-sure : (setting : Setting) (seen : History) (call : FindCall) (Within :
     → IsSure setting call.sub seen call Within (after_word setting call pursuit (cell setting seen key))
 unfolding Affords
 look-sure setting seen call Within at_origin key sure wanted = absurd sure
-look-sure setting seen call Within (climbs known weight reader later) key sure wanted = grind (arith, entry-sure)
+look-sure setting seen call Within (climbs known weight reader later) key sure wanted = grind (arith, climb-sure)
 look-sure setting seen call Within (chases chase node) key sure wanted =
     let e : key ≡ Presence node call.sub = cc in
     rw e (mark-sure setting seen call Within chase node (mark_seen setting call.sub seen node) refl sure.0 sure.1
