@@ -75,43 +75,31 @@ module _ (setting : Setting) (course : Course) (move : Move) where
   }
   leaves passage = record {
     marks = grind (arith, fold-append, addresses-still);
-    entries = λ level cluster.
-        fold-append (entry_after level cluster) _ (map (new_address setting move) (renewed_levels move)) _
-        ∙ entered-levels (λ l. setting.home l move.to) (new_entry move) level cluster
-        (rest_entry setting course level cluster) (renewed_levels move);
-    commits = ap (λ cs. map commit_by course.moves ++ cs)
-        (grind (arith, filter_map-append, none-new))
-        ∙ sym (map-append commit_by course.moves (move ∷ []));
+    entries = λ level cluster. grind (arith, fold-append, entered-levels (λ l. setting.home l move.to) (new_entry move) level cluster (rest_entry setting course level cluster) (renewed_levels move));
+    commits = grind (arith, filter_map-append, none-new, map-append);
     on = grind (arith, fold-append);
   }
   leaves (clearing erased purged) = record {
-    marks = λ v. fold-append (mark_after v) _ (map (new_address setting move) (renewed_levels move)) _
-        ∙ (ap (λ m. marked v (cond (v == move.to) (Here move.number)
-        (cond (v == move.from) (Gone move.number move.to) m)) (erasures setting course erased ++ purges purged))
-        (addresses-still (mark_after v) (mark_coming setting course move v) (renewed_levels move) (λ level. refl))
-        ∙ (fold-append (mark_after v) (arrived v) (erasures setting course erased) (purges purged)
-        ∙ (grind (arith, fold-still, arrived, marked-purges))));
-    entries = λ level cluster.
-        fold-append (entry_after level cluster) _ (map (new_address setting move) (renewed_levels move)) _
-        ∙ (ap (λ e. entered level cluster e (erasures setting course erased ++ purges purged))
-        (entered-levels (λ l. setting.home l move.to) (new_entry move) level cluster
-        (rest_entry setting course level cluster) (renewed_levels move))
-        ∙ (fold-append (entry_after level cluster) _ (erasures setting course erased) (purges purged)
-        ∙ (fold-still (entry_after level cluster) _ (λ (node : ℕ). mark_at node Empty) purged (λ node. refl)
-        ∙ entered-levels (λ l. old_home setting course l) None level cluster
-        (entry_written setting course move (renewed_levels move) level cluster) erased)));
-    commits = ap (λ cs. map commit_by course.moves ++ cs)
-        (filter_map-append write_commit (map (new_address setting move) (renewed_levels move)) _
-        ∙ (ap (λ cs. cs ++ (commit_by move ∷ filter_map write_commit (erasures setting course erased ++ purges purged)))
-        (none-new (renewed_levels move))
-        ∙ ap (λ cs. commit_by move ∷ cs)
-        (grind (arith, filter_map-append, none-told))))
-        ∙ sym (map-append commit_by course.moves (move ∷ []));
+    marks = λ v. grind (
+      arith,
+      fold-append,
+      addresses-still,
+      fold-still (mark_after v) (cond (v == move.to) (Here move.number) (mark_passing setting course move v))
+          (λ (level : ℕ). entry_at level (old_home setting course level) None) erased (λ level. refl),
+      marked-purges,
+    );
+    entries = λ level cluster. grind (
+      arith,
+      fold-append,
+      entered-levels (λ l. setting.home l move.to) (new_entry move) level cluster
+          (rest_entry setting course level cluster) (renewed_levels move),
+      entered-levels (λ l. old_home setting course l) None level cluster
+          (entry_written setting course move (renewed_levels move) level cluster) erased,
+      fold-still (entry_after level cluster) (entry_erased setting course move (renewed_levels move) erased level cluster) (λ (node : ℕ). mark_at node Empty) purged (λ node. refl),
+    );
+    commits = grind (arith, filter_map-append, none-new, none-told, map-append);
     on = grind (arith, fold-append, fold-still);
   }
-    where
-      arrived : ℕ → PresenceMark
-      arrived v = cond (v == move.to) (Here move.number) (mark_passing setting course move v)
 
 -- ---- a whole move
 abbrev pub whole_phase : Setting → Course → Move → Phase
@@ -163,9 +151,6 @@ fold-steps f setting its one course (step ∷ steps) sound may =
     ∙ (ap (λ a. fold f a (writes setting (after_step setting course step) steps)) (one course step sound may.0)
     ∙ fold-steps f setting its one (after_step setting course step) steps (sound-step step sound may.0) may.1)
 
-over-again : (b : Bool) (new old mark : PresenceMark) → cond b new (cond b old mark) ≡ cond b new mark
-over-again b new old mark = grind (arith, nat_tests, cases_Bool)
-
 pub marks-steps : {setting : Setting} {course : Course} (steps : List Step) (v : ℕ) → v < setting.nodes
     → IsSound setting course → MaySteps setting course steps
     → marked v (rest_mark setting course v) (writes setting course steps)
@@ -181,8 +166,7 @@ marks-steps {setting} {course} steps v low = fold-steps (mark_after v) setting
         ap (marked v (rest_mark setting course v)) (whole-writes setting course move)
         ∙ ((leaves setting course move (whole_phase setting course move)).marks v
         ∙ whole-marks v low sound (is-next may))
-    one course switch_off sound may = over-again (v == last_stop course) (Off (length course.moves)) (there course) _
-    one course switch_on sound may = over-again (v == last_stop course) (Here (length course.moves)) (there course) _
+    one course step sound may = grind (arith, nat_tests, cases_Bool)
 
 pub entries-steps : {setting : Setting} {course : Course} (steps : List Step) (level cluster : ℕ)
     → IsSound setting course → MaySteps setting course steps
@@ -207,11 +191,7 @@ pub commits-steps : (setting : Setting) (course : Course) (steps : List Step)
 unfolding writes
 commits-steps setting course [] = append-nil (map commit_by course.moves)
 commits-steps setting course (step ∷ steps) =
-    ap (λ cs. map commit_by course.moves ++ cs) (filter_map-append write_commit (step_writes setting course step)
-    (writes setting (after_step setting course step) steps))
-    ∙ (sym (grind (arith, append_assoc))
-    ∙ (ap (λ cs. cs ++ filter_map write_commit (writes setting (after_step setting course step) steps)) (one step)
-    ∙ commits-steps setting (after_step setting course step) steps))
+    grind (arith, filter_map-append, append_assoc, one step, commits-steps setting (after_step setting course step) steps)
   where
     one : (step : Step) → map commit_by course.moves ++ filter_map write_commit (step_writes setting course step)
         ≡ map commit_by (after_step setting course step).moves
