@@ -68,10 +68,7 @@ at-level : (setting : Setting) (sub : ℕ) (seen : History) (level cluster : ℕ
     → HasReader setting sub seen (map (λ c. record { level = level; cluster = c }) clusters ++ rest)
 at-level setting sub seen level cluster [] rest h some = cc
 at-level setting sub seen level cluster (c ∷ clusters) rest h some =
-    elim (or_cases (cluster == c) (has cluster clusters) h) [
-      | inl e ↦ inl (rw (← eqb-true cluster c e) some)
-      | inr later ↦ inr (at-level setting sub seen level cluster clusters rest later some)
-    ]
+    grind (arith, or_cases, eqb-true, at-level setting sub seen level cluster clusters rest)
 
 passed : (setting : Setting) (sub : ℕ) (seen : History) (xs ys : List Reader) → HasReader setting sub seen ys
     → HasReader setting sub seen (xs ++ ys)
@@ -86,9 +83,7 @@ from-level : (setting : Setting) (sub node : ℕ) (seen : History) (cluster firs
 from-level setting sub node seen cluster first zero low high h some = absurd (omega arith)
 from-level setting sub node seen cluster first (suc count) low high h some = elim (cases_eq first setting.top) [
   | inl e ↦ grind (arith, at-level)
-  | inr other ↦ passed setting sub seen
-      (map (λ c. record { level = first; cluster = c }) (setting.readers first node)) _
-      (from-level setting sub node seen cluster (suc first) count (omega (arith, other, low)) (omega arith) h some)
+  | inr other ↦ grind (arith, passed, from-level setting sub node seen cluster (suc first) count)
 ]
 
 pub readers-have : Used → {setting : Setting} {sub : ℕ} (node : ℕ) (seen : History) → setting.nodes ≤ 2 ^ 16

@@ -2,7 +2,7 @@
 use Rattle.std.proofs.Math.Seq.{take-nil}
 use Rattle.std.proofs.Common.{◌≡◌, ◌⊎◌, inl, inr, ℕ, zero, suc, ◌<◌, ◌≤◌, ◌^◌, Bool, cond, true, false, ◌==◌, List, [], ◌∷◌, ◌++◌, length, map, take, fold, refl, sym, ap, ◌∙◌, subst, arith}
 use Rattle.std.specs.Prelude.{filter_map}
-use Rattle.std.proofs.lemmas.Bool.{cond_both, eq-eqb, lt-ltb, or_parts}
+use Rattle.std.proofs.lemmas.Bool.{cases_Bool, cond_both, eq-eqb, lt-ltb, or_parts}
 use Rattle.std.proofs.Math.Bool.{and-false}
 use Rattle.node_set.specs.Ascending.{has}
 use Rattle.node_set.specs.SetLaws.{has-passing}
@@ -108,12 +108,9 @@ module _ (setting : Setting) (sub : ℕ) (history : History) (rest : IsAtRest se
       → mark_seen setting sub history (last_stop (course_in setting sub (puts_to sub history)))
       ≡ there (course_in setting sub (puts_to sub history))
   mark-there marks low legal =
-      let course = course_in setting sub (puts_to sub history) in
-      marks setting sub history low legal (last_stop course)
-      ∙ (ap (λ ws. mark_left setting sub ws (last_stop course)) all-made
-      ∙ (rest-marks_of setting sub (steps_in (puts_to sub history)) (last_stop course) legal.script
-      (stop-inside (sound-script setting sub (steps_in (puts_to sub history)) legal.script))
-      ∙ rw (eq-eqb (last_stop course) (last_stop course) refl)))
+      rw (marks setting sub history low legal (last_stop (course_in setting sub (puts_to sub history))), all-made)
+      (rest-marks_of setting sub (steps_in (puts_to sub history)) _ legal.script
+      (stop-inside (sound-script setting sub (steps_in (puts_to sub history)) legal.script)) ∙ rw (eq-eqb _ _ refl))
 
 -- the steps before one may be made, and then that one
 pub may-before : (setting : Setting) (course : Course) (before : List Step) (step : Step)
@@ -161,15 +158,14 @@ module _ {setting : Setting} {sub : ℕ} {before : List Step} {node : ℕ} (scri
       next = is-next may;
       is_phase = is_phase;
       begins = start-kept setting (course_at (start setting sub)) before;
-      marks_are = λ v low. fold-append (mark_after v) (opening_mark setting sub v) made front
-          ∙ (ap (λ m. marked v m front) (rest-marks_of setting sub before v script low) ∙ left.marks v);
-      entries_are = λ level cluster low.
-          fold-append (entry_after level cluster) (opening_entry setting sub level cluster) made front
-          ∙ (ap (λ e. entered level cluster e front) (rest-entries_of setting sub before level cluster script low)
-          ∙ left.entries level cluster);
-      commits_are = filter_map-append write_commit made front
-          ∙ (ap (λ cs. cs ++ filter_map write_commit front)
-          (commits-steps setting (course_at (start setting sub)) before) ∙ left.commits);
+      marks_are = λ v low. grind (arith, fold-append, rest-marks_of setting sub before v script low, left.marks v);
+      entries_are = λ level cluster low. grind (
+        arith,
+        fold-append,
+        rest-entries_of setting sub before level cluster script low,
+        left.entries level cluster,
+      );
+      commits_are = grind (arith, filter_map-append, commits-steps setting (course_at (start setting sub)) before, left.commits);
       off_is = fold-append (λ o write. write_off write) false made front ∙ left.on _;
       moves_are = grind (arith, fold-append);
     },
@@ -195,16 +191,8 @@ module _ {setting : Setting} {sub : ℕ} {before : List Step} {node : ℕ} (scri
   cleared e p in_order = record {
     stays = not-taken node p its_purged (new-stays setting its_course its_move may.inside);
     kept = λ level. not-taken level e its_old;
-    in_order = at_order in_order (its_move.renewed == setting.top) refl;
+    in_order = grind (arith, cases_Bool (its_move.renewed == setting.top), take-nil, take_all, length-take, length-map);
   }
-    where
-      at_order : (p ≡ 0) ⊎ (take e (erasures setting its_course its_old) ≡ erasures setting its_course its_old)
-          → (b : Bool) → (its_move.renewed == setting.top) ≡ b → (take p its_purged ≡ [])
-          ⊎ ((take e its_old ≡ its_old) × ((its_move.renewed == setting.top) ≡ true))
-      at_order (inl none) b t = inl (rw none)
-      at_order (inr whole) false t =
-          inl (ap (λ b. take p (cond b (purge_nodes setting its_course its_move) [])) t ∙ take-nil p)
-      at_order (inr whole) true t = grind (arith, take_all, length-take, length-map)
 
   amid-move : (made : ℕ) → 1 ≤ made → Goal (take made (move_writes setting its_course its_move))
   unfolding phase_writes
