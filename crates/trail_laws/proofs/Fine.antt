@@ -69,9 +69,7 @@ fine-coming_new {setting} {shown} h level = grind (arith, count-told, stood, cla
     longer all = omega (arith, all, begun-count h, h.next.number, count-told h.course.moves h.commits_are)
 
     clash : (u : ℕ) → shown.marks (standing_of shown) ≡ Coming (length shown.commits) u → ⊥
-    clash u comes =
-        let there : answers None (Coming (length shown.commits) u) ≡ true =
-        sym (ap (answers None) (sym (ap shown.marks stood) ∙ comes)) ∙ coming-there h None in cc
+    clash u comes = grind (arith, stood, coming-there h None)
 
 pub fine-passing : {setting : Setting} {shown : Shown} (h : IsMoving setting shown passage) (level : ℕ)
     (address : Address) (way : ℕ)
@@ -81,12 +79,7 @@ pub fine-passing : {setting : Setting} {shown : Shown} (h : IsMoving setting sho
 fine-passing {setting} {shown} h level address way short = record {
   before_old = λ metric lazy all old. absurd (all-committed h h.commits_are all);
   before_new = λ metric lazy all new. absurd (all-committed h h.commits_are all);
-  passing = λ metric lazy u comes. omega (
-    arith,
-    short metric (rw h.moves_are at lazy),
-    ap (setting.distance u) (next-stands h h.commits_are),
-    ap (λ n. setting.distance n h.move.to) (left_is u (sym comes_here ∙ comes)),
-  );
+  passing = λ metric lazy u comes. grind (arith, short metric, next-stands h h.commits_are, comes_here);
   settled = λ metric lazy all other. absurd (other h.move.from comes_here);
   current = λ metric lazy all other same. absurd (other h.move.from comes_here);
 }
@@ -94,9 +87,6 @@ fine-passing {setting} {shown} h level address way short = record {
     comes_here : shown.marks (standing_of shown) ≡ Coming (length shown.commits) h.move.from
     comes_here = ap shown.marks (next-stands h h.commits_are)
         ∙ (passing-at_to h ∙ ap (λ n. Coming n h.move.from) (next-count h h.commits_are))
-
-    left_is : (u : ℕ) → Coming (length shown.commits) h.move.from ≡ Coming (length shown.commits) u → u ≡ h.move.from
-    left_is u e = cc
 
 pub fine-clearing : {setting : Setting} {shown : Shown} {erased purged : List ℕ}
     (h : IsMoving setting shown (clearing erased purged)) (level : ℕ) → level ≤ setting.top
@@ -106,15 +96,10 @@ fine-clearing {setting} {shown} h level below = record {
   before_old = λ metric lazy all old. absurd (all-committed h h.commits_are all);
   before_new = λ metric lazy all new. absurd (all-committed h h.commits_are all);
   passing = λ metric lazy u comes. absurd (clash u comes);
-  settled = λ metric lazy all other. omega (
-    arith,
-    price-clearing level h.sound h.next below metric (rw h.moves_are at lazy),
-    ap (setting.distance (address_node h.course level)) (next-stands h h.commits_are),
-  );
+  settled = λ metric lazy all other.
+      grind (arith, price-clearing level h.sound h.next below metric, next-stands h h.commits_are);
   current = grind (arith, lazy-whole);
 }
   where
     clash : (u : ℕ) → shown.marks (standing_of shown) ≡ Coming (length shown.commits) u → ⊥
-    clash u comes =
-        let both : Here h.move.number ≡ Coming (length shown.commits) u =
-        sym (ap shown.marks (next-stands h h.commits_are) ∙ clearing-here h) ∙ comes in cc
+    clash u comes = grind (arith, next-stands h h.commits_are, clearing-here h)

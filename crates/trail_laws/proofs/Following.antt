@@ -80,13 +80,10 @@ unknown p q (Some k) h = let more : max k p < q = grind (arith, nat_tests, h) in
 gone-leads : ChaseLaws → {setting : Setting} {sub : ℕ} (seen : History) (known : Option ℕ) (node p to : ℕ)
     → setting.nodes ≤ 2 ^ 16 → IsLegal setting sub seen → MarkTells setting sub seen node (Gone p to)
     → IsBehind setting sub seen (after_gone p) (known_with p known) to
-gone-leads laws {setting} {sub} seen known node p to low legal tells = record {
-  few = gone-known setting sub seen node p to tells;
-  stop = inr (stop-listed (start setting sub) (commits sub seen) p _ tells.0 tells.1);
-  early = omega (arith, gone-known setting sub seen node p to tells, number-few laws.cells seen low legal);
-  rises = omega arith;
-  fresh = λ q h. unknown p q known h;
-}
+gone-leads laws {setting} {sub} seen known node p to low legal tells =
+    let few = gone-known setting sub seen node p to tells in
+    let more = number-few laws.cells seen low legal in
+    grind (arith, stop-listed (start setting sub) (commits sub seen) p, unknown)
 
 coming-leads : ChaseLaws → {setting : Setting} {sub : ℕ} {seen : History} {behind : Behind} {known : Option ℕ}
     {node : ℕ} (p from : ℕ) → setting.nodes ≤ 2 ^ 16 → IsLegal setting sub seen
@@ -96,13 +93,9 @@ unfolding HistoryView
 coming-leads laws {setting} {sub} {seen} {node} p from low legal tells is new = record {
   few = omega (arith, tells.3);
   stop = inr (elim tells.3 [
-    | inl early ↦
-        let e : p - 1 ≡ length (commits sub seen) = omega (arith, early.0) in
-        rw e (stop-last (start setting sub) (commits sub seen) ∙ sym early.1)
+    | inl early ↦ grind (arith, stop-last (start setting sub) (commits sub seen))
     | inr late ↦
-        let gone : MarkTells setting sub seen from (Gone p node) =
-        rw late.2 at (laws.marks setting sub seen low legal from tells.1) in
-        stop-left (view laws.cells seen low legal) (p - 1) _ gone.1
+        grind (arith, laws.marks setting sub seen low legal from tells.1, stop-left (view laws.cells seen low legal))
   ]);
   early = omega (arith, tells.0);
   rises = is.fresh p new;
@@ -131,9 +124,6 @@ module _ (laws : ChaseLaws) {setting : Setting} (history : History) (call : Find
   continues : (mark : PresenceMark) → MarkTells setting call.sub (before t history) node mark
       → Later (after_mark setting chase node mark)
       → Continues behind mark (marks_chased setting call (after_mark setting chase node mark) words)
-  continues Empty tells more = ended-so (Again (EmptyAt node) chase.weight)
-  continues (Here q) tells more = ended-so (At node q chase.level chase.weight)
-  continues (Off q) tells more = ended-so (OffAt node q chase.level chase.weight)
   continues (Gone q to) tells more = hop-rises (known_with q chase.known) chase.level chase.weight chase.hops_left to
       (after_gone q) (gone-leads laws (before t history) chase.known node q to low legal tells) more
   continues (Coming q from) tells more = elim (cases_Bool (is_known q chase.known)) [
@@ -141,6 +131,7 @@ module _ (laws : ChaseLaws) {setting : Setting} (history : History) (call : Find
     | inr e ↦ rw e (hop-rises chase.known chase.level chase.weight chase.hops_left from (after_coming behind q)
         (coming-leads laws q from low legal tells is e) (rw e at more))
   ]
+  continues mark tells more = grind (arith, ended-so)
 
   chase-rises : node < setting.nodes
       → Later (after_mark setting chase node (mark_seen setting call.sub (before t history) node))
@@ -148,12 +139,9 @@ module _ (laws : ChaseLaws) {setting : Setting} (history : History) (call : Find
       ∷ marks_chased setting call (after_mark setting chase node
       (mark_seen setting call.sub (before t history) node)) words)
   chase-rises inside more =
-      one-more behind (mark_seen setting call.sub (before t history) node) _ is.rises (fits-up laws low legal inside is)
-      (fits-begun laws (before t history) behind.begun node (mark_seen setting call.sub (before t history) node) low
-      legal is.early tells) (continues (mark_seen setting call.sub (before t history) node) tells more)
-    where
-      tells : MarkTells setting call.sub (before t history) node (mark_seen setting call.sub (before t history) node)
-      tells = laws.marks setting call.sub (before t history) low legal node inside
+      let tells = laws.marks setting call.sub (before t history) low legal node inside in
+      one-more behind _ _ is.rises (fits-up laws low legal inside is)
+      (fits-begun laws (before t history) behind.begun node _ low legal is.early tells) (continues _ tells more)
 
 -- one look of a find
 look-rises : ChaseLaws → {setting : Setting} (history : History) (call : FindCall) (t : ℕ) (pursuit : Pursuit)

@@ -103,11 +103,8 @@ caller-in-turn follow count ascend setting scripts history played actor i j one 
 block-above : (f : ℕ → List Done) (x k : ℕ) → ((a i : ℕ) (y : Done) → x ≤ a → slice_get (f a) i ≡ Some y
     → actor_of y ≡ a) → (i : ℕ) (y : Done) → slice_get (flat_map f (numbers_from x k)) i ≡ Some y → x ≤ actor_of y
 block-above f x zero each i y h = cc
-block-above f x (suc k) each i y h = elim (append-at (f x) (flat_map f (numbers_from (suc x) k)) i y h) [
-  | inl here ↦ omega (arith, each x i y (omega arith) here)
-  | inr there ↦
-      omega (arith, block-above f (suc x) k (λ a n z low. each a n z (omega (arith, low))) there.0 y there.2)
-]
+block-above f x (suc k) each i y h =
+    grind (arith, append-at, block-above f (suc x) k (λ a n z low. each a n z (omega (arith, low))))
 
 all-in-turn : (f : ℕ → List Done) (x k : ℕ) → ((a i : ℕ) (y : Done) → x ≤ a → slice_get (f a) i ≡ Some y
     → actor_of y ≡ a)
@@ -144,11 +141,8 @@ steps-untold setting sub course (step ∷ steps) seen (suc i) line find is told 
 subs-untold : (setting : Setting) (scripts : Scripts) (history : History) (some : List ℕ)
     → AreUntold (flat_map (sub_lines setting scripts history) some)
 subs-untold setting scripts history [] i line find is told = cc
-subs-untold setting scripts history (sub ∷ some) i line find is told = elim
-    (append-at (sub_lines setting scripts history sub) (flat_map (sub_lines setting scripts history) some) i line is) [
-      | inl here ↦ grind (arith, steps-untold)
-      | inr there ↦ subs-untold setting scripts history some there.0 line find there.2 told
-    ]
+subs-untold setting scripts history (sub ∷ some) i line find is told =
+    grind (arith, append-at, steps-untold, subs-untold setting scripts history some)
 
 -- so all lines are in turn
 pub outcome-in-turn : FindsFollow → CallersCount → TicketsAscend → LinesAreInTurn

@@ -19,13 +19,8 @@ use Rattle.trail_laws.proofs.Prices.{AreLazy, weight-push}
 highest-above : (test : ℕ → Bool) (limit level : ℕ) → highest test limit < level → level < limit → test level ≡ false
 unfolding highest
 highest-above test zero level above below = absurd (omega arith)
-highest-above test (suc limit) level above below = elim (cases_Bool (test limit)) [
-  | inl e ↦ let passed : limit < level = rw e at above in absurd (omega (arith, passed, below))
-  | inr e ↦ elim (cases_eq level limit) [
-    | inl same ↦ ap test same ∙ e
-    | inr other ↦ highest-above test limit level (rw e at above) (omega (arith, other, below))
-  ]
-]
+highest-above test (suc limit) level above below =
+    grind (arith, cases_Bool (test limit), cases_eq level limit, highest-above test limit level)
 
 -- one more move
 lazy-push : (setting : Setting) (moves : List Move) (move : Move) → AreLazy setting moves

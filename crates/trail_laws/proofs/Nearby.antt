@@ -29,7 +29,8 @@ near-kept : {setting : Setting} {course : Course} {move : Move} (level : ℕ) �
     → setting.distance (address_node course level) move.to < setting.threshold level
 near-kept {setting} {course} {move} level metric sound next below lazy e = omega (
   arith,
-  metric.detour (address_node course level) move.from move.to old_inside (from-inside sound next) next.inside,
+  metric.detour (address_node course level) move.from move.to (old-inside level sound) (from-inside sound next)
+      next.inside,
   address-near level sound metric,
   ap (setting.distance (address_node course level)) next.from,
   next.weight,
@@ -37,9 +38,6 @@ near-kept {setting} {course} {move} level metric sound next below lazy e = omega
   rw (base-with level course move ∙ ap (λ b. cond b move.number (base level course.moves)) e) at
       (lazy-whole setting (course.moves ++ move ∷ []) level below lazy),
 )
-  where
-    old_inside : address_node course level < setting.nodes
-    old_inside = old-inside level sound
 
 -- ---- each level has an address
 rest-has : (setting : Setting) (course : Course) (level : ℕ)

@@ -43,12 +43,10 @@ module _ (fronts : FrontsAreLegal) {setting : Setting} {sub : ℕ} (history : Hi
     | inl same ↦ rw same at now
     | inr apart ↦
         let found = slice_get-within history u (omega arith) in
-        let more : before (suc u) history ≡ before u history ++ found.0 ∷ [] =
-        take-more history u found.0 found.1 in
-        rw more (one (before u history) found.0 (front-legal fronts setting sub history u low legal)
-        (rw more at (front-legal fronts setting sub history (suc u) low legal))
-        (sym (ap (λ o. moves_by sub (before u history) o) found.1) ∙ quiet u (omega arith) (omega arith))
-        (while-quiet t u (omega arith) (omega arith) (λ x h g. quiet x h (omega arith)) now))
+        rw (take-more history u found.0 found.1) (one (before u history) found.0
+        (front-legal fronts setting sub history u low legal)
+        (rw (← take-more history u found.0 found.1) (front-legal fronts setting sub history (suc u) low legal))
+        (grind (arith, quiet u)) (while-quiet t u (omega arith) (omega arith) (λ x h g. quiet x h (omega arith)) now))
   ]
 
 further : (t u : ℕ) (history : History) → t ≤ u → take u history ≡ take t history ++ drop t (take u history)

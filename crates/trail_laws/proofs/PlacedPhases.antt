@@ -125,15 +125,12 @@ module _ {setting : Setting} {shown : Shown} (level cluster : ℕ) (address : Ad
       (old-leads 1 (2 * setting.distance h.move.from h.move.to) level h.sound below (passage-leads h)) old
   passing-placed h (inl new) = move-placed level cluster address _ _ 2 _ (all-count h h.commits_are)
       (next-stands h h.commits_are)
-      (two-inside h.move.to h.move.from h.next.inside (from-inside h.sound h.next) h.next.moving) h
+      (grind (arith, h.next.inside, from-inside h.sound h.next, h.next.moving)) h
       (fine-passing h level _ _ (λ metric lazy. omega (
         arith,
         lazy-front setting h.course.moves (h.move ∷ []) level below lazy,
         metric.both_ways h.move.to h.move.from h.next.inside (from-inside h.sound h.next),
       ))) (λ known knows. passage-new h known) new
-    where
-      two-inside : (a b : ℕ) → a < setting.nodes → b < setting.nodes → a ≢ b → 2 ≤ setting.nodes
-      two-inside a b low other apart = omega (arith, low, other, apart)
 
   -- where the new node holds the subscriber, its address needs no hop
   new-placed : {erased purged : List ℕ} (h : IsMoving setting shown (clearing erased purged))
