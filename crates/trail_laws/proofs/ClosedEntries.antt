@@ -47,8 +47,7 @@ entered-levels at new level cluster entry (l ∷ levels) =
   where
     at_test : (b : Bool) → (level == l) ≡ b → cond (has level levels && cluster == at level) new
         (cond (b && cluster == at l) new entry) ≡ cond ((b || has level levels) && cluster == at level) new entry
-    at_test true e = grind (arith, eqb-true)
-    at_test false e = refl
+    at_test b e = grind (arith, eqb-true)
 
 -- the stop where the address of a level was made, whatever moves come behind, and that of a move
 pub old-stop : {setting : Setting} {course : Course} (more : List Move) (level : ℕ) → IsSound setting course

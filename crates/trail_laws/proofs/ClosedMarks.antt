@@ -130,26 +130,18 @@ pub marks-rest : {setting : Setting} {course : Course} {move : Move} (purged : L
     → mark_erasing setting course move purged v ≡ rest_mark setting (with_move course move) v
 unfolding trail_mark
 marks-rest {setting} {course} {move} purged v sound next whole none =
-    rw (stop-with course move, there-with next, sym next.from) (at_top (move.renewed == setting.top) refl)
-  where
-    since : List Move
-    since = since_top setting course
-
-    at_top : (b : Bool) → (move.renewed == setting.top) ≡ b
-        → cond (has v purged) Empty (cond (v == move.to) (Here move.number)
-        (cond (v == move.from) (Gone move.number move.to)
-        (cond (v == move.to) (Coming move.number move.from)
-        (cond (v == move.from) (there course) (trail_mark since v Empty)))))
-        ≡ cond (v == move.to) (Here move.number) (trail_mark (since_top setting (with_move course move)) v Empty)
-    at_top true e =
-        let same : move.renewed ≡ setting.top = eqb-true move.renewed setting.top e in
-        let top : nat_le setting.top move.renewed ≡ true = grind (arith, nat_tests, same) in
-        let none_since : since_top setting (with_move course move)
-        ≡ [] = grind (arith, drop_of_length-le, base-with, count-with)
-        in
-        grind (arith, base-low, drop-append-le, since_top, map-append, has-append, since, trail_mark-none)
-    at_top false e =
-        let low : nat_le setting.top move.renewed ≡ false = grind (arith, nat_tests, next.renewed, e) in
-        let one_since : since_top setting (with_move course move) ≡ since ++ move ∷ [] =
-        grind (arith, base-with, drop-append-le, base-low) in
-        grind (arith, trail_mark-push, since)
+    grind (
+      arith,
+      nat_tests,
+      stop-with,
+      there-with,
+      base-with,
+      count-with,
+      base-low,
+      drop_of_length-le,
+      drop-append-le,
+      map-append,
+      has-append,
+      trail_mark-none,
+      trail_mark-push,
+    )

@@ -33,20 +33,16 @@ rest-not_coming {setting} {course} v p u sound h = grind (arith, cases_Bool, the
 module _ {setting : Setting} {course : Course} (move : Move) (v p u : ℕ) (sound : IsSound setting course) where
   coming-not : (t : Bool) → cond t (Coming move.number move.from) (rest_mark setting course v) ≡ Coming p u
       → (t ≡ true) × (u ≡ move.from)
-  coming-not true h = (refl, cc)
-  coming-not false h = absurd (rest-not_coming v p u sound h)
+  coming-not t h = grind (arith, rest-not_coming)
 
   passing-not : (f t : Bool) → cond f (Gone move.number move.to)
       (cond t (Coming move.number move.from) (rest_mark setting course v)) ≡ Coming p u
       → (t ≡ true) × (u ≡ move.from)
-  passing-not true t h = cc
-  passing-not false t h = coming-not t h
+  passing-not f t h = grind (arith, coming-not)
 
   clearing-not : (a t f : Bool) → cond a Empty (cond t (Here move.number) (cond f (Gone move.number move.to)
       (cond t (Coming move.number move.from) (rest_mark setting course v)))) ≡ Coming p u → ⊥
-  clearing-not true t f h = cc
-  clearing-not false true f h = cc
-  clearing-not false false f h = let clash : false ≡ true = (passing-not f false h).0 in cc
+  clearing-not a t f h = grind (arith, passing-not)
 
 -- where a view has a Coming
 pub coming_node : (setting : Setting) (shown : Shown) → View setting shown → ℕ

@@ -20,20 +20,12 @@ use Rattle.std.proofs.lemmas.Option.{same_Some}
 
 pub covers : Laws → MarksTell → StandsInside → PhasesCover
 unfolding HistoryView
-covers laws marks inside setting sub history low legal = elim (view-counts (view laws history low legal)) [
-  | inl before ↦ inl before
-  | inr all ↦ at_mark all (mark_seen setting sub history (standing setting sub history)) refl
-      (marks setting sub history low legal (standing setting sub history) (inside setting sub history low legal))
-]
-  where
-    Goal : Type 0
-    Goal = IsBeforeCommit setting sub history
-        ⊎ (((from : ℕ) × IsPassingFrom setting sub history from) ⊎ IsSettled setting sub history)
-
-    at_mark : length (course_in setting sub (puts_to sub history)).moves ≡ number sub history → (mark : PresenceMark)
-        → mark_seen setting sub history (standing setting sub history) ≡ mark
-        → MarkTells setting sub history (standing setting sub history) mark → Goal
-    at_mark all mark e tells = grind arith
+covers laws marks inside setting sub history low legal =
+    grind (
+      arith,
+      view-counts (view laws history low legal),
+      marks setting sub history low legal (standing setting sub history) (inside setting sub history low legal),
+    )
 
 -- a move that isn't committed has its Coming where it goes
 last-is : (xs : List Move) (x y : Move) → last_or None (xs ++ x ∷ []) ≡ Some y → x ≡ y

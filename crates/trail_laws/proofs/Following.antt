@@ -54,9 +54,7 @@ off-rests laws {setting} {sub} history low legal e =
 -- the mark that a chase reads fits what is behind it
 zero-up : (setting : Setting) (sub : ℕ) (seen : History) (node : ℕ) (mark : PresenceMark)
     → MarkTells setting sub seen node mark → GoesUp 0 mark
-zero-up setting sub seen node Empty tells = tt
-zero-up setting sub seen node (Gone q to) tells = tells.0
-zero-up setting sub seen node mark tells = omega arith
+zero-up setting sub seen node mark tells = grind arith
 
 fits-up : ChaseLaws → {setting : Setting} {sub : ℕ} {seen : History} {behind : Behind} {known : Option ℕ} {node : ℕ}
     → setting.nodes ≤ 2 ^ 16 → IsLegal setting sub seen → node < setting.nodes
@@ -74,8 +72,7 @@ fits-begun laws seen n node mark low legal early tells = tt
 
 -- where a Gone and a Coming lead
 unknown : (p q : ℕ) (known : Option ℕ) → is_known q (known_with p known) ≡ false → p ≤ q - 1
-unknown p q None h = let more : p < q = grind (arith, nat_tests, h) in omega (arith, more)
-unknown p q (Some k) h = let more : max k p < q = grind (arith, nat_tests, h) in omega (arith, more)
+unknown p q known h = grind arith
 
 gone-leads : ChaseLaws → {setting : Setting} {sub : ℕ} (seen : History) (known : Option ℕ) (node p to : ℕ)
     → setting.nodes ≤ 2 ^ 16 → IsLegal setting sub seen → MarkTells setting sub seen node (Gone p to)

@@ -17,26 +17,12 @@ passing-fewer f g v (suc k) h = grind (arith, passing-fewer f g (suc v) k h)
 pub passing-less : (f g : ℕ → Bool) (x v k : ℕ) → v ≤ x → x < v + k → ((y : ℕ) → f y ≡ true → g y ≡ true)
     → f x ≡ false → g x ≡ true → length (sift f v k) < length (sift g v k)
 passing-less f g x v zero low high h out within = absurd (omega arith)
-passing-less f g x v (suc k) low high h out within = at_place (cases v x)
-    (λ l. passing-less f g x (suc v) k l (omega arith) h out within)
-  where
-    cases : (a b : ℕ) → (a ≡ b) ⊎ ((a == b) ≡ false)
-    cases a b = grind (arith, nat_tests)
-
-    at_place : (v ≡ x) ⊎ ((v == x) ≡ false) → (suc v ≤ x
-        → length (sift f (suc v) k) < length (sift g (suc v) k))
-        → length (cond (f v) (v ∷ sift f (suc v) k) (sift f (suc v) k)) < length
-        (cond (g v) (v ∷ sift g (suc v) k) (sift g (suc v) k))
-    at_place (inl e) more = rw (ap f e ∙ out, ap g e ∙ within) (omega (arith, passing-fewer f g (suc v) k h))
-    at_place (inr e) more = grind arith
+passing-less f g x v (suc k) low high h out within =
+    grind (arith, nat_tests, passing-fewer f g (suc v) k h, passing-less f g x (suc v) k)
 
 pub some-out : (test : ℕ → Bool) (x n : ℕ) → x < n → test x ≡ false → suc (length (sift test 0 n)) ≤ n
-some-out test x n low out = omega (
-  arith,
-  passing-less test (λ y. true) x 0 n (omega arith) (omega arith)
-      (λ y e. refl) out refl,
-  length-passing_all 0 n,
-)
+some-out test x n low out =
+    grind (arith, passing-less test (λ y. true) x 0 n, length-passing_all 0 n)
 
 -- ---- how many nodes hold a Gone above a number
 abbrev pub gone_above : ℕ → PresenceMark → Bool

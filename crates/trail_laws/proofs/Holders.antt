@@ -52,6 +52,4 @@ pub only-new : {setting : Setting} {course : Course} {move : Move} (level cluste
     ≡ Some address → IsNew setting move level cluster address
 unfolding IsOld IsNew
 only-new {setting} {course} {move} level cluster address sound next low top h =
-    let at_top : nat_le level move.renewed ≡ true =
-    grind (arith, nat_tests, low, eqb-true move.renewed setting.top top) in
-    grind (arith, rest-some, whole-entries, base-with, new-stop, old-stop)
+    grind (arith, nat_le, eqb-true, rest-some, whole-entries, base-with, new-stop, old-stop)

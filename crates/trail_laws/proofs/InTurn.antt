@@ -35,12 +35,10 @@ follow-above place (a ∷ answers) (suc j) b follows at = grind (arith, follow-a
 follow-behind : (place : ℕ) (answers : List Answer) (i j : ℕ) (a b : Answer) → FollowEachOther place answers
     → i < j → slice_get answers i ≡ Some a → slice_get answers j ≡ Some b → (a.last < b.first) × (b.first ≤ b.last)
 unfolding FollowEachOther
-follow-behind place [] i j a b follows le at_a at_b = cc
-follow-behind place (x ∷ answers) zero zero a b follows le at_a at_b = absurd (omega (arith, le))
 follow-behind place (x ∷ answers) zero (suc j) a b follows le at_a at_b = grind (arith, follow-above)
-follow-behind place (x ∷ answers) (suc i) zero a b follows le at_a at_b = absurd (omega (arith, le))
 follow-behind place (x ∷ answers) (suc i) (suc j) a b follows le at_a at_b =
     follow-behind (suc x.last) answers i j a b follows.2 (omega (arith, le)) at_a at_b
+follow-behind place answers i j a b follows le at_a at_b = grind arith
 
 abbrev AreLooked : ℕ → List Answer → Type 0
 AreLooked next answers = (i : ℕ) (a : Answer) → slice_get answers i ≡ Some a → a.last < next
@@ -63,19 +61,6 @@ map-at f [] i y h = cc
 map-at f (x ∷ xs) zero y h = let same : f x ≡ y = cc in (x, refl, same)
 map-at f (x ∷ xs) (suc i) y h = map-at f xs i y h
 
-first-of : Option FindLine → ℕ
-first-of None = 0
-first-of (Some find) = find.first
-
-last-of : Option FindLine → ℕ
-last-of None = 0
-last-of (Some find) = find.last
-
-line-visits : (caller : ℕ) (call : FindCall) (found : Found) (first last : ℕ) (find : FindLine)
-    → find_of (found_line caller call found first last) ≡ Some find → (first ≡ find.first) × (last ≡ find.last)
-unfolding first-of last-of
-line-visits caller call found first last find is = grind (arith, first-of, last-of)
-
 abbrev AreInTurn : Done → Done → Type 0
 AreInTurn one other = (earlier later : FindLine) → find_of one ≡ Some earlier → find_of other ≡ Some later
     → (earlier.last < later.first) × (later.first ≤ later.last)
@@ -86,18 +71,7 @@ caller-in-turn : FindsFollow → CallersCount → TicketsAscend → (setting : S
     → slice_get (caller_lines setting scripts history actor) j ≡ Some other → AreInTurn one other
 caller-in-turn follow count ascend setting scripts history played actor i j one other high le at_one at_other
     earlier later is_earlier is_later =
-    let seen : List ℕ = tickets actor history in
-    let seeker : Seeker = caller_in setting scripts history actor in
-    let a = map-at (answer_line actor seen) seeker.answers i one at_one in
-    let b = map-at (answer_line actor seen) seeker.answers j other at_other in
-    let order = follow-behind 0 seeker.answers i j a.0 b.0 (follow setting scripts history actor high played) le
-    a.1 b.1 in
-    let looked : b.0.last < seeker.next = grind (arith, looked-all) in
-    let short : b.0.last < length seen =
-    omega (arith, looked, (count setting scripts history actor high played).0) in
-    let one_is = line-visits actor a.0.call a.0.found (get_or seen a.0.first 0) (get_or seen a.0.last 0) earlier
-    (rw a.2 is_earlier) in
-    grind (arith, line-visits, place-rises, place-stays_or_rises)
+    grind (arith, map-at, follow-behind, looked-all, place-rises, place-stays_or_rises)
 
 -- the lines of each actor lie together
 block-above : (f : ℕ → List Done) (x k : ℕ) → ((a i : ℕ) (y : Done) → x ≤ a → slice_get (f a) i ≡ Some y
@@ -114,15 +88,14 @@ all-in-turn : (f : ℕ → List Done) (x k : ℕ) → ((a i : ℕ) (y : Done) �
     → slice_get (flat_map f (numbers_from x k)) j ≡ Some other → actor_of one ≡ actor_of other → AreInTurn one other
 all-in-turn f x zero each order i j one other le at_one at_other same = cc
 all-in-turn f x (suc k) each order i j one other le at_one at_other same =
-    elim (append-at (f x) (flat_map f (numbers_from (suc x) k)) i one at_one) [
-      | inl a ↦ grind (arith, append-at, block-above)
-      | inr a ↦ elim (append-at (f x) (flat_map f (numbers_from (suc x) k)) j other at_other) [
-        | inl b ↦ absurd (omega (arith, le, a.1, slice_get_within (f x) j other b))
-        | inr b ↦ all-in-turn f (suc x) k (λ c i y h. each c i y (omega (arith, h)))
-            (λ c i j y z h. order c i j y z (omega (arith, h))) a.0 b.0 one other (omega (arith, le, a.1, b.1)) a.2 b.2
-            same
-      ]
-    ]
+    grind (
+      arith,
+      append-at,
+      block-above,
+      slice_get_within,
+      all-in-turn f (suc x) k (λ c i y h. each c i y (omega (arith, h)))
+          (λ c i j y z h. order c i j y z (omega (arith, h))),
+    )
 
 -- the lines of subscribers tell of no find
 abbrev AreUntold : List Done → Type 0
@@ -148,16 +121,4 @@ subs-untold setting scripts history (sub ∷ some) i line find is told =
 pub outcome-in-turn : FindsFollow → CallersCount → TicketsAscend → LinesAreInTurn
 outcome-in-turn follow count ascend setting scripts history played i j one other le at_one at_other same
     earlier later is_earlier is_later =
-    elim (append-at steps finds i one at_one) [
-      | inl a ↦ absurd (subs-untold setting scripts history _ i one earlier a is_earlier)
-      | inr a ↦ elim (append-at steps finds j other at_other) [
-        | inl b ↦ absurd (subs-untold setting scripts history _ j other later b is_later)
-        | inr b ↦ grind (arith, all-in-turn, map-at, caller-in-turn)
-      ]
-    ]
-  where
-    steps : List Done
-    steps = flat_map (sub_lines setting scripts history) (numbers_from 0 (subs setting))
-
-    finds : List Done
-    finds = flat_map (caller_lines setting scripts history) (numbers_from (subs setting) (length scripts.finds))
+    grind (arith, append-at, subs-untold, all-in-turn, map-at, caller-in-turn)

@@ -35,12 +35,8 @@ view laws {setting}
 
 pub marks-tell : Laws → MarksTell
 unfolding HistoryView
-marks-tell laws setting sub history low legal node inside = told (mark_seen setting sub history node)
-    (mark-is node inside (view laws history low legal))
-  where
-    told : (mark : PresenceMark) → MarkIs setting.nodes (shown setting sub history) node mark
-        → MarkTells setting sub history node mark
-    told mark h = h
+marks-tell laws setting sub history low legal node inside =
+    grind (arith, mark-is node inside (view laws history low legal))
 
 pub one-coming : Laws → OneComing
 unfolding HistoryView
@@ -85,5 +81,4 @@ top-has_entry laws setting sub history low legal =
 pub comings-lead : Laws → ComingsLead
 unfolding HistoryView
 comings-lead laws setting sub history low legal node p from known inside comes knows =
-    let there = coming-leads_on node p from known inside (view laws history low legal) comes in
-    (there.2.hops, there.2.way, there.2.few, there.2.led)
+    grind (arith, coming-leads_on node p from known inside (view laws history low legal) comes)

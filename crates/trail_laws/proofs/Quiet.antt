@@ -81,10 +81,8 @@ from-level : (setting : Setting) (sub node : ℕ) (seen : History) (cluster firs
     → HasReader setting sub seen (flat_map (λ level. map (λ c. record { level = level; cluster = c })
     (setting.readers level node)) (numbers_from first count))
 from-level setting sub node seen cluster first zero low high h some = absurd (omega arith)
-from-level setting sub node seen cluster first (suc count) low high h some = elim (cases_eq first setting.top) [
-  | inl e ↦ grind (arith, at-level)
-  | inr other ↦ grind (arith, passed, from-level setting sub node seen cluster (suc first) count)
-]
+from-level setting sub node seen cluster first (suc count) low high h some =
+    grind (arith, from-level setting sub node seen cluster (suc first) count, cases_eq, at-level, passed)
 
 pub readers-have : Used → {setting : Setting} {sub : ℕ} (node : ℕ) (seen : History) → setting.nodes ≤ 2 ^ 16
     → ReadsTop setting → node < setting.nodes → IsLegal setting sub seen

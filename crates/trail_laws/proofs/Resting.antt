@@ -26,19 +26,7 @@ pub addresses-by_phase : Laws → AddressesLeadByPhase
 addresses-by_phase laws setting sub history low metric some legal level cluster address known below is_some knows =
     let its = placed laws history low legal level cluster address below is_some in
     let there = its.leads known knows in
-    let lazy = legal-lazy history some legal in (
-      there.hops,
-      there.way,
-      there.few,
-      there.led,
-      record {
-        before_old = λ all old. omega (arith, there.short metric, its.fine.before_old metric lazy all old);
-        before_new = λ all new. omega (arith, there.short metric, its.fine.before_new metric lazy all new);
-        passing = λ from comes. omega (arith, there.short metric, its.fine.passing metric lazy from comes);
-        settled = λ is. omega (arith, there.short metric, its.fine.settled metric lazy is.0 is.1);
-        current = λ is same. omega (arith, there.short metric, its.fine.current metric lazy is.0 is.1 same);
-      },
-    )
+    let lazy = legal-lazy history some legal in grind (arith, there.short metric)
 
 module _ (laws : Laws) (setting : Setting) (sub : ℕ) (history : History) (low : setting.nodes ≤ 2 ^ 16)
     (legal : IsLegal setting sub history) (rest : IsAtRest setting sub history) where

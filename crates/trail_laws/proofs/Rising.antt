@@ -103,14 +103,7 @@ pub stop-goes_up : Laws → MarksTell → {setting : Setting} {sub : ℕ} (histo
     → GoesUp j (mark_seen setting sub history w)
 unfolding HistoryView
 stop-goes_up laws tells {setting} {sub} history low legal j w few stop inside =
-    at_mark (mark_seen setting sub history w) refl (tells setting sub history low legal w inside)
-  where
-    at_mark : (mark : PresenceMark) → mark_seen setting sub history w ≡ mark
-        → MarkTells setting sub history w mark → GoesUp j mark
-    at_mark Empty e told = tt
-    at_mark (Gone q x) e told = later (has-trail (view laws history low legal)) j w q x inside few stop e
-    at_mark (Coming q u) e told = omega (arith, few, told.3)
-    at_mark mark e told = omega (arith, few, told.1)
+    grind (arith, tells setting sub history low legal w inside, later (has-trail (view laws history low legal)))
 
 pub numbers-go_up : Laws → MarksTell → NumbersGoUp
 numbers-go_up laws tells setting sub history low legal node p to inside is =

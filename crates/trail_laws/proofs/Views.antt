@@ -219,9 +219,7 @@ amid-view {setting} {sub} before (move_to node ∷ []) made script one some few 
     let may = may-before setting (course_at (start setting sub)) before (move_to node) script.allowed in
     grind (arith, append-nil, amid-move)
 amid-view {setting} {sub} before (step ∷ []) made script one some few =
-    let e : made ≡ 1 = omega (arith, some, few) in
-    rw e (rw (writes-more setting (course_at (start setting sub)) before step) at
-    (rests setting sub (before ++ step ∷ []) script))
+    grind (arith, writes-more, rests setting sub (before ++ step ∷ []) script)
 amid-view before (step ∷ other ∷ more) made script one some few = absurd (omega (arith, one))
 
 -- what is shown after a history
