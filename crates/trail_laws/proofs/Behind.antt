@@ -38,17 +38,8 @@ pub behind-later : {setting : Setting} {sub : ℕ} (t u : ℕ) (history : Histor
     {node : ℕ}
     → t ≤ u → IsBehind setting sub (before t history) behind known node
     → IsBehind setting sub (before u history) behind known node
-behind-later {setting} {sub} t u history {behind} h is = record {
-  few = omega (arith, is.few, number-grows sub t u history h);
-  stop = elim is.stop [
-    | inl none ↦ inl none
-    | inr stop ↦ inr (rw (commits-grow sub t u history h).1
-        (stop-kept (start setting sub) (commits sub (before t history)) _ behind.place is.few ∙ stop))
-  ];
-  early = omega (arith, is.early, begun-grows setting sub t u history h);
-  rises = is.rises;
-  fresh = is.fresh;
-}
+behind-later {setting} {sub} t u history {behind} h is =
+    grind (arith, number-grows, commits-grow sub t u history h, stop-kept, begun-grows)
 
 -- what is known at a pursuit
 abbrev pub IsTracked : Setting → ℕ → History → Behind → Pursuit → Type 0

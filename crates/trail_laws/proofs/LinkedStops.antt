@@ -88,8 +88,7 @@ last-left setting from number (m ∷ later) v mark linked =
       move = m;
       is_move = refl;
       within = omega arith;
-      link =
-          grind (arith, eqb-true);
+      link = grind (arith, eqb-true);
       mark_is = h.0 ∙ ap its_mark e;
       goes_on = refl;
       last = at_first (λ i. i ≤ 0) (λ same. omega arith) (λ i low same. absurd (h.1 i low same));

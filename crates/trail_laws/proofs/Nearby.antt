@@ -27,16 +27,15 @@ near-kept : {setting : Setting} {course : Course} {move : Move} (level : ℕ) �
     → IsSound setting course → IsNext setting course move → level ≤ setting.top
     → AreLazy setting (course.moves ++ move ∷ []) → nat_le level move.renewed ≡ false
     → setting.distance (address_node course level) move.to < setting.threshold level
-near-kept {setting} {course} {move} level metric sound next below lazy e = omega (
+near-kept {setting} {course} {move} level metric sound next below lazy e = grind (
   arith,
-  metric.detour (address_node course level) move.from move.to (old-inside level sound) (from-inside sound next)
-      next.inside,
+  metric.detour (address_node course level) move.from move.to,
+  old-inside level sound,
+  from-inside sound next,
   address-near level sound metric,
-  ap (setting.distance (address_node course level)) next.from,
-  next.weight,
   weight-push course.moves move (base level course.moves) (base-low level sound),
-  rw (base-with level course move ∙ ap (λ b. cond b move.number (base level course.moves)) e) at
-      (lazy-whole setting (course.moves ++ move ∷ []) level below lazy),
+  base-with,
+  lazy-whole setting (course.moves ++ move ∷ []) level below lazy,
 )
 
 -- ---- each level has an address
@@ -78,11 +77,10 @@ module _ {setting : Setting} {shown : Shown} {phase : Phase} (h : IsMoving setti
     move_address h.move,
     h.next.inside,
     e,
-    λ metric lazy. omega (
+    λ metric lazy. grind (
       arith,
-      ap (setting.distance h.move.to) (next-stands h are),
-      metric.none h.move.to h.next.inside,
-      lazy-front setting h.course.moves (h.move ∷ []) level below (rw h.moves_are at lazy),
+      next-stands h are,
+      lazy-front setting h.course.moves (h.move ∷ []) level below,
     ),
   )
 
@@ -107,17 +105,17 @@ level-has {setting} {shown} level below (inl h) = (
 )
 level-has {setting} {shown} level below (inr (coming written, h)) =
     let found = written-has setting h.course h.move written level in
-    old-one h level below (found.0, h.entries_are level _ below ∙ found.1) (λ metric lazy. omega (
+    old-one h level below (found.0, h.entries_are level _ below ∙ found.1) (λ metric lazy. grind (
       arith,
-      ap (setting.distance (address_node h.course level)) (rest-stands shown h.course h.begins h.commits_are),
+      rest-stands shown h.course h.begins h.commits_are,
       address-near level h.sound metric,
-      lazy-front setting h.course.moves (h.move ∷ []) level below lazy,
+      lazy-front setting h.course.moves (h.move ∷ []) level below,
     ))
 level-has {setting} level below (inr (passage, h)) = elim (cases_Bool (nat_le level h.move.renewed)) [
   | inl t ↦ new-one h level below h.commits_are (h.entries_are level _ below ∙ new-written h level below t)
   | inr t ↦
       let found = written-has setting h.course h.move (renewed_levels h.move) level in
-      old-one h level below (found.0, h.entries_are level _ below ∙ found.1) (old-near h level below h.commits_are t)
+      grind (arith, old-one h level below, old-near h level below h.commits_are t)
 ]
 level-has {setting} {shown} level below (inr (clearing erased purged, h)) =
     elim (cases_Bool (nat_le level h.move.renewed)) [

@@ -123,15 +123,8 @@ pub coming-opens : PassageLaws → {setting : Setting} {sub : ℕ} (history : Hi
     → setting.nodes ≤ 2 ^ 16 → node < setting.nodes → IsLegal setting sub history
     → mark_seen setting sub history node ≡ Coming p u → p ≡ number sub history
     → passage setting sub history ≡ setting.distance u node
-coming-opens laws {setting} {sub} history node p u low inside legal comes reached = elim its.3 [
-  | inl before ↦ absurd (omega (arith, before.0, reached))
-  | inr after ↦
-      let gone : MarkTells setting sub history u (Gone p node) =
-      rw after.2 at (laws.marks setting sub history low legal u its.1) in
-      ap (passage_of setting (puts_to sub history))
-      (last-get (commits sub history) (p - 1) None c (omega (arith, reached, gone.0)) gone.1)
-      ∙ rw (not_yet (list_any (confirmed c) (puts_to sub history)) refl)
-]
+coming-opens laws {setting} {sub} history node p u low inside legal comes reached =
+    grind (arith, its, laws.marks setting sub history low legal u, last-get, not_yet)
   where
     its : MarkTells setting sub history node (Coming p u)
     its = rw comes at (laws.marks setting sub history low legal node inside)

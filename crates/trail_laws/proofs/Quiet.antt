@@ -109,12 +109,12 @@ affords-any used {setting} seen call weight (reader ∷ later) low legal all som
         → EntryAsks entry (Affords setting call.sub seen call Anything
         (weight + 2 * way_in setting call reader) later)
         (λ address. AffordsAddress setting call.sub seen call Anything weight reader address)
-    at_entry None e (inl h) more = let clash : false ≡ true = sym (ap is_some e) ∙ h in cc
-    at_entry None e (inr h) more = more h
-    at_entry (Some address) e h more = λ known knows.
-        let there = used.addresses setting call.sub seen low legal reader.level reader.cluster address known
-        (All-head (Low setting) reader later all) e knows in
-        (there.0, there.1, there.2, there.3, tt)
+    at_entry None e h more = grind arith
+    at_entry (Some address) e h more = λ known knows. grind (
+      arith,
+      used.addresses setting call.sub seen low legal reader.level reader.cluster address known,
+      All-head (Low setting) reader later all,
+    )
 
 pub quiet-answers : Used → QuietFindsAnswer
 quiet-answers used setting history actor call found tickets low reads inside legal find quiet =
@@ -130,11 +130,7 @@ quiet-answers used setting history actor call found tickets low reads inside leg
     begins = record {
       here = tt;
       climbing = grind (arith, affords-any, legal_seen, readers-low, readers-have);
-      chasing = λ p from e.
-          let there = used.comings setting call.sub (before (first_of tickets) history) low legal_seen call.from p
-          from None
-          inside e tt in
-          (there.0, there.1, there.2, there.3, tt);
+      chasing = λ p from e. grind (arith, used.comings setting call.sub seen low legal_seen call.from p from None inside);
     }
 
 -- either all tickets of a range are quiet, or one isn't

@@ -84,12 +84,10 @@ origin-good : (setting : Setting) (seen : History) (call : FindCall) (mark : Pre
     → MarkTells setting call.sub seen call.from mark → IsGood setting call.sub seen (after_origin setting call mark)
 origin-good setting seen call Empty tells = climb-good setting call.sub seen None 0 (all_readers setting call.from) tt
     (readers-low setting call.from)
-origin-good setting seen call (Here q) tells = tells
-origin-good setting seen call (Off q) tells = tells
 origin-good setting seen call (Gone q to) tells = climb-good setting call.sub seen (Some q) 0
     (all_readers setting call.from) (gone-known setting call.sub seen call.from q to tells)
     (readers-low setting call.from)
-origin-good setting seen call (Coming q from) tells = (tt, tells.1)
+origin-good setting seen call mark tells = grind arith
 
 entry-good : (setting : Setting) (seen : History) (call : FindCall) (known : Option ℕ) (weight : ℕ) (reader : Reader)
     (later : List Reader) (entry : Option Address) → KnowsAtMost (number call.sub seen) known
@@ -108,14 +106,10 @@ hop-good setting sub seen known level weight hops_left node to knows inside = gr
 mark-good : (setting : Setting) (sub : ℕ) (seen : History) (chase : Chase) (node : ℕ) (mark : PresenceMark)
     → KnowsAtMost (number sub seen) chase.known → MarkTells setting sub seen node mark
     → IsGood setting sub seen (after_mark setting chase node mark)
-mark-good setting sub seen chase node Empty knows tells = tt
-mark-good setting sub seen chase node (Here q) knows tells = tells
-mark-good setting sub seen chase node (Off q) knows tells = tells
 mark-good setting sub seen chase node (Gone q to) knows tells =
-    hop-good setting sub seen (known_with q chase.known) chase.level chase.weight chase.hops_left node to
-    (knows-with (number sub seen) q chase.known knows (gone-known setting sub seen node q to tells)) tells.2
-mark-good setting sub seen chase node (Coming q from) knows tells =
-    grind (arith, IsGood, hop-good, cond_both)
+    grind (arith, hop-good, knows-with, gone-known setting sub seen node q to tells)
+mark-good setting sub seen chase node (Coming q from) knows tells = grind (arith, IsGood, hop-good, cond_both)
+mark-good setting sub seen chase node mark knows tells = grind arith
 
 -- one look
 pub look-good : MarksTell → EntriesTell → {setting : Setting} (seen : History) (call : FindCall) (pursuit : Pursuit)

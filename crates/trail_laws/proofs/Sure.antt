@@ -34,20 +34,12 @@ IsSure setting sub seen call Within (ended found) = IsAnswered found × Within (
 -- ---- it stays
 module _ {setting : Setting} {sub : ℕ} {one other : History} (call : FindCall) (Within : ℕ → Type 0)
     (alike : IsAlike setting sub one other) where
-  entry-alike : (old new : Option Address) (on other_on : Type 0) (there other_there : Address → Type 0) → new ≡ old
-      → (on → other_on) → ((a : Address) → there a → other_there a) → EntryAsks old on there
-      → EntryAsks new other_on other_there
-  entry-alike old new on other_on there other_there same f g h = grind arith
-
   affords-alike : (weight : ℕ) (readers : List Reader)
       → Affords setting sub one call Within weight readers → Affords setting sub other call Within weight readers
   unfolding Affords
   affords-alike weight [] h = h
   affords-alike weight (reader ∷ later) h =
-      entry-alike (entry_seen setting sub one reader.level reader.cluster)
-      (entry_seen setting sub other reader.level reader.cluster) _ _ _ _ (alike.entries reader.level reader.cluster)
-      (affords-alike (weight + 2 * way_in setting call reader) later)
-      (grind (arith, led-alike)) h
+      grind (arith, alike, affords-alike (weight + 2 * way_in setting call reader) later, led-alike)
 
   pub sure-alike : (pursuit : Pursuit) → IsSure setting sub one call Within pursuit
       → IsSure setting sub other call Within pursuit
