@@ -167,7 +167,8 @@ alike-switch marks_left rests {setting} {sub} {history} visit low legal legal_mo
         grind (arith, course, due)
 
     there_now : mark_seen setting sub history (last_stop course) ≡ there course
-    there_now = mark-there setting sub history (switch-rests rests visit low legal legal_more put switch) marks_left low legal
+    there_now = mark-there setting sub history (switch-rests rests visit low legal legal_more put switch) marks_left
+        low legal
 
     answered : AnswersAll (there course)
     answered = grind (arith, cond_both)
@@ -186,7 +187,8 @@ pub alike-step : CellsOfPuts → MarksAreLeft → StepsBeginAtRest
     → is_of_move sub history visit.act ≡ false → IsAlike setting sub history (history ++ visit ∷ [])
 alike-step cells marks_left rests {setting} {sub} history visit low legal legal_more quiet =
     elim (cases_Bool (is_put_for sub visit.act)) [
-      | inl put ↦ alike-switch marks_left rests visit low legal legal_more put (switching sub history visit.act put quiet)
+      | inl put ↦
+          alike-switch marks_left rests visit low legal legal_more put (switching sub history visit.act put quiet)
       | inr other ↦ alike-other cells setting sub history visit other
     ]
 

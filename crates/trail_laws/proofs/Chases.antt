@@ -101,8 +101,8 @@ module _ (setting : Setting) (marks : ℕ → PresenceMark) where
                 weight-step moves left.place left.move left.is_move,
                 left.link.its_weight,
                 weight-mono moves i left.place late,
-              )) (hopped known v left.move.to last _ _ (ap (lead known) gone) (rw gone (leads from number last moves most
-              more_hops more_way linked all exits fuel (suc left.place) left.move.to
+              )) (hopped known v left.move.to last _ _ (ap (lead known) gone) (rw gone (leads from number last moves
+              most more_hops more_way linked all exits fuel (suc left.place) left.move.to
               (known_with left.move.number known) (omega (arith, enough, late)) (omega (arith, left.within))
               left.link.inside left.goes_on
               (knows-with most left.move.number known knows (omega (arith, left.link.its_number, left.within, all))))))

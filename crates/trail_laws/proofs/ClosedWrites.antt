@@ -75,7 +75,12 @@ module _ (setting : Setting) (course : Course) (move : Move) where
   }
   leaves passage = record {
     marks = grind (arith, fold-append, addresses-still);
-    entries = λ level cluster. grind (arith, fold-append, entered-levels (λ l. setting.home l move.to) (new_entry move) level cluster (rest_entry setting course level cluster) (renewed_levels move));
+    entries = λ level cluster. grind (
+      arith,
+      fold-append,
+      entered-levels (λ l. setting.home l move.to) (new_entry move) level cluster
+          (rest_entry setting course level cluster) (renewed_levels move),
+    );
     commits = grind (arith, filter_map-append, none-new, map-append);
     on = grind (arith, fold-append);
   }
@@ -95,7 +100,9 @@ module _ (setting : Setting) (course : Course) (move : Move) where
           (rest_entry setting course level cluster) (renewed_levels move),
       entered-levels (λ l. old_home setting course l) None level cluster
           (entry_written setting course move (renewed_levels move) level cluster) erased,
-      fold-still (entry_after level cluster) (entry_erased setting course move (renewed_levels move) erased level cluster) (λ (node : ℕ). mark_at node Empty) purged (λ node. refl),
+      fold-still (entry_after level cluster)
+          (entry_erased setting course move (renewed_levels move) erased level cluster)
+          (λ (node : ℕ). mark_at node Empty) purged (λ node. refl),
     );
     commits = grind (arith, filter_map-append, none-new, none-told, map-append);
     on = grind (arith, fold-append, fold-still);
@@ -191,7 +198,8 @@ pub commits-steps : (setting : Setting) (course : Course) (steps : List Step)
 unfolding writes
 commits-steps setting course [] = append-nil (map commit_by course.moves)
 commits-steps setting course (step ∷ steps) =
-    grind (arith, filter_map-append, append_assoc, one step, commits-steps setting (after_step setting course step) steps)
+    let more = commits-steps setting (after_step setting course step) steps in
+    grind (arith, filter_map-append, append_assoc, one step)
   where
     one : (step : Step) → map commit_by course.moves ++ filter_map write_commit (step_writes setting course step)
         ≡ map commit_by (after_step setting course step).moves

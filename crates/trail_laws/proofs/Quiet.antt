@@ -32,8 +32,8 @@ quiet-within used {setting} {history} {actor} {call} {Within} {found} {tickets} 
     (at-last setting history actor call SureTo next tickets find (λ t key same is_look wanted. (
       omega (arith, same),
       λ calm.
-          first-sure used {seen = before t history} {Within = Within} key (rw same begins) low inside (front-legal used.fronts setting call.sub history t low legal)
-          wanted,
+          first-sure used {seen = before t history} {Within = Within} key (rw same begins) low inside
+          (front-legal used.fronts setting call.sub history t low legal) wanted,
     ))).1 quiet
   where
     -- while no visit of a move is made it is sure
@@ -47,8 +47,9 @@ quiet-within used {setting} {history} {actor} {call} {Within} {found} {tickets} 
     next t u pursuit key later is_look wanted sure = (
       omega (arith, later, sure.0),
       λ calm.
-          look-sure setting (before u history) call Within pursuit key (sure-until used history call Within t u pursuit low
-          legal (omega (arith, later)) (omega (arith, slice_get_within history u (look_by actor key) is_look))
+          look-sure setting (before u history) call Within pursuit key
+          (sure-until used history call Within t u pursuit low legal (omega (arith, later))
+          (omega (arith, slice_get_within history u (look_by actor key) is_look))
           (λ x h g. calm x (omega (arith, h, sure.0)) (omega (arith, g)))
           (sure.1 (λ x h g. calm x h (omega (arith, g, later))))) wanted,
     )
@@ -130,7 +131,8 @@ quiet-answers used setting history actor call found tickets low reads inside leg
     begins = record {
       here = tt;
       climbing = grind (arith, affords-any, legal_seen, readers-low, readers-have);
-      chasing = λ p from e. grind (arith, used.comings setting call.sub seen low legal_seen call.from p from None inside);
+      chasing = λ p from e.
+          grind (arith, used.comings setting call.sub seen low legal_seen call.from p from None inside);
     }
 
 -- either all tickets of a range are quiet, or one isn't

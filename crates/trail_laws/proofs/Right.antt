@@ -158,7 +158,8 @@ module _ (setting : Setting) (history : History) (actor : ℕ) (call : FindCall)
   pub at-last : {found : Found} (tickets : List ℕ) → IsFind setting history actor call found tickets
       → ((t : ℕ) (key : Key) → t ≡ first_of tickets → slice_get history t ≡ Some (look_by actor key)
       → key_of call at_origin ≡ Some key
-      → P t (after_word setting call at_origin (cell setting (before t history) key))) → P (last_of tickets) (ended found)
+      → P t (after_word setting call at_origin (cell setting (before t history) key)))
+      → P (last_of tickets) (ended found)
   unfolding AreLooks
   at-last {found} [] find start = let clash : at_origin ≡ ended found = find.answer in cc
   at-last (t ∷ later) find start =

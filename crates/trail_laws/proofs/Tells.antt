@@ -74,7 +74,8 @@ gone-is {setting} shown {course} node more sound are =
             omega (arith, left.link.its_number),
             rw (are, placed) (slice_get-left (map commit_by course.moves) more (low + left.place)
                 (commit_by left.move) (grind (arith, slice_get-map, commit_by, low, option_map, slice_get-drop))
-                ∙ ap (λ f. Some (record { number = left.move.number; from = f; to = left.move.to })) left.link.its_from),
+                ∙ ap (λ f. Some (record { number = left.move.number; from = f; to = left.move.to }))
+                left.link.its_from),
             left.link.inside,
           )
     ]

@@ -165,7 +165,8 @@ module _ {setting : Setting} {sub : ℕ} {before : List Step} {node : ℕ} (scri
         rest-entries_of setting sub before level cluster script low,
         left.entries level cluster,
       );
-      commits_are = grind (arith, filter_map-append, commits-steps setting (course_at (start setting sub)) before, left.commits);
+      commits_are =
+          grind (arith, filter_map-append, commits-steps setting (course_at (start setting sub)) before, left.commits);
       off_is = fold-append (λ o write. write_off write) false made front ∙ left.on _;
       moves_are = grind (arith, fold-append);
     },
