@@ -1,6 +1,7 @@
 -- What the marks that a chase has read leave for the next one, and what follows for the whole list. Each is read where
 -- the subscriber was after so many of its commits, and that stays so.
-use Rattle.std.proofs.Common.{◌≡◌, ◌⊎◌, inl, inr, ℕ, ◌-◌, ◌≤◌, false, List, [], ◌∷◌, Option, refl, ◌∙◌, arith}
+use Rattle.std.proofs.lemmas.List.{map-append, length-map, get_or_append_left}
+use Rattle.std.proofs.Common.{◌≡◌, ◌⊎◌, ℕ, ◌-◌, ◌≤◌, false, List, [], ◌∷◌, Option, refl, arith}
 use Rattle.std.specs.Prelude.{filter_map}
 use Rattle.node_set.specs.Ascending.{IsAscending, IsBelowAll}
 use Rattle.entry_word.specs.declared.mark.PresenceMark.{PresenceMark}
@@ -12,7 +13,7 @@ use Rattle.directory.specs.Standing.{commits, number}
 use Rattle.trail_laws.specs.Trail.{GoesUp}
 use Rattle.trail_laws.specs.Phases.{moves_begun}
 use Rattle.trail_laws.specs.Chased.{FollowOn, gone_number, mark_chased, marks_chased}
-use Rattle.trail_laws.proofs.Stops.{stop_after, stop-kept}
+use Rattle.trail_laws.proofs.Stops.{stop_after}
 use Rattle.trail_laws.proofs.Passing.{begun-grows, commits-grow, number-grows}
 
 -- what the marks that were read leave for the next one: after how many commits the subscriber was at its node, a number
@@ -39,7 +40,7 @@ pub behind-later : {setting : Setting} {sub : ℕ} (t u : ℕ) (history : Histor
     → t ≤ u → IsBehind setting sub (before t history) behind known node
     → IsBehind setting sub (before u history) behind known node
 behind-later {setting} {sub} t u history {behind} h is =
-    grind (arith, number-grows, commits-grow sub t u history h, stop-kept, begun-grows)
+    grind (arith, number-grows, commits-grow sub t u history h, map-append, length-map, get_or_append_left, begun-grows)
 
 -- what is known at a pursuit
 abbrev pub IsTracked : Setting → ℕ → History → Behind → Pursuit → Type 0

@@ -1,7 +1,7 @@
 -- The marks of a subscriber in closed form: at rest after a course, and in each phase of the move that comes next.
-use Rattle.std.proofs.lemmas.Bool.{or_parts, eqb-true}
+use Rattle.std.proofs.lemmas.Bool.{or_parts}
 use Rattle.trail_laws.proofs.Links.{stop-inside, IsSound, base-low, linked-push, renewed-low}
-use Rattle.std.proofs.Common.{◌≡◌, ◌≢◌, ℕ, suc, ◌<◌, ◌≤◌, Bool, true, false, cond, not, ◌==◌, ◌&&◌, List, [], ◌∷◌, ◌++◌, length, map, drop, fold, refl, sym, ap, ◌∙◌, arith, length-append}
+use Rattle.std.proofs.Common.{◌≡◌, ◌≢◌, ℕ, suc, ◌<◌, ◌≤◌, true, false, cond, not, ◌==◌, ◌&&◌, List, [], ◌∷◌, ◌++◌, length, map, drop, fold, refl, ap, ◌∙◌, arith, length-append}
 use Rattle.std.specs.Prelude.{if◌then◌else◌, nat_le}
 use Rattle.std.proofs.lemmas.Bool.Decides.{nat_tests}
 use Rattle.std.proofs.lemmas.List.{drop-append-le, map-append}
@@ -117,10 +117,6 @@ pub base-with : (level : ℕ) (course : Course) (move : Move)
     (base level course.moves)
 base-with level course move = grind (arith, fold-append)
 
-there-with : {setting : Setting} {course : Course} {move : Move} → IsNext setting course move
-    → there (with_move course move) ≡ Here move.number
-there-with {course} {move} next = grind (arith, with_move, count-with)
-
 -- when a move has made all its writes its subscriber rests again
 pub marks-rest : {setting : Setting} {course : Course} {move : Move} (purged : List ℕ) (v : ℕ)
     → IsSound setting course → IsNext setting course move
@@ -134,9 +130,9 @@ marks-rest {setting} {course} {move} purged v sound next whole none =
       arith,
       nat_tests,
       stop-with,
-      there-with,
-      base-with,
+      with_move,
       count-with,
+      base-with,
       base-low,
       drop_of_length-le,
       drop-append-le,

@@ -1,5 +1,5 @@
 -- What the writes of steps leave in closed form: of a move in each phase, and of whole steps.
-use Rattle.std.proofs.Common.{◌≡◌, inl, inr, ℕ, suc, ◌<◌, Bool, true, false, cond, not, ◌==◌, ◌&&◌, List, [], ◌∷◌, ◌++◌, None, length, map, fold, refl, sym, ap, ◌∙◌, arith, append_assoc}
+use Rattle.std.proofs.Common.{◌≡◌, inl, inr, ℕ, suc, ◌<◌, Bool, true, false, cond, not, ◌==◌, ◌&&◌, List, [], ◌∷◌, ◌++◌, None, map, fold, refl, sym, ap, ◌∙◌, arith, append_assoc}
 use Rattle.std.specs.Prelude.{nat_le, filter_map}
 use Rattle.std.specs.List.{cons_option}
 use Rattle.std.proofs.lemmas.Bool.Decides.{nat_tests}
@@ -8,15 +8,14 @@ use Rattle.std.proofs.lemmas.List.Sums.{fold-append}
 use Rattle.std.proofs.lemmas.List.Elements.{filter_map-append}
 use Rattle.node_set.specs.Ascending.{has, sift}
 use Rattle.node_set.specs.SetLaws.{has-passing, passing_over}
-use Rattle.entry_word.specs.declared.mark.PresenceMark.{PresenceMark}
-use Rattle.entry_word.specs.declared.mark.PresenceMark.TheVariants.{Empty, Here, Gone, Coming, Off}
+use Rattle.entry_word.specs.declared.mark.PresenceMark.TheVariants.{Empty, Here, Gone, Coming}
 use Rattle.directory.specs.Settings.{Setting}
-use Rattle.directory.specs.Courses.{Step, move_to, switch_off, switch_on, Move, Course, last_stop, next_move, after_step, after_steps, MayStep, MaySteps}
+use Rattle.directory.specs.Courses.{Step, move_to, Move, Course, next_move, after_step, after_steps, MayStep, MaySteps}
 use Rattle.directory.specs.Writes.{Write, mark_at, entry_at, new_address, old_home, move_writes, step_writes, writes}
 use Rattle.directory.specs.Standing.{commit_by}
 use Rattle.directory.specs.States.{entry_after, mark_after, write_commit, write_off}
 use Rattle.trail_laws.proofs.Links.{IsSound, sound-step}
-use Rattle.trail_laws.proofs.ClosedMarks.{IsNext, is-next, rest_mark, mark_coming, mark_passing, mark_erasing, fold-still, marked, marked-purges, with_move, marks-rest, there}
+use Rattle.trail_laws.proofs.ClosedMarks.{IsNext, is-next, rest_mark, mark_passing, mark_erasing, fold-still, marked, marked-purges, with_move, marks-rest}
 use Rattle.trail_laws.proofs.ClosedEntries.{rest_entry, entry_written, entry_erased, new_entry, entered, entered-levels, entries-rest}
 use Rattle.trail_laws.proofs.ClosedViews.{clearing, coming, old_levels, passage, Phase, phase_commits, phase_entry, phase_mark, purge_nodes, purged_nodes, renewed_levels}
 use Rattle.std.proofs.lemmas.Bool.{cases_Bool, cases_lt}

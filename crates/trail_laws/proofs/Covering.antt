@@ -1,15 +1,12 @@
 -- The phases of a move cover all that a legal history leaves; in the first one its Coming stands where it goes.
-use Rattle.std.proofs.Common.{◌≡◌, ◌⊎◌, inl, inr, ℕ, suc, List, [], ◌∷◌, ◌++◌, Some, None, length, refl, sym, ◌∙◌, arith, eq-eqb}
+use Rattle.std.proofs.Common.{◌≡◌, suc, List, [], ◌∷◌, ◌++◌, Some, None, length, sym, ◌∙◌, arith, eq-eqb}
 use Rattle.std.specs.List.{last_or}
-use Rattle.entry_word.specs.declared.mark.PresenceMark.{PresenceMark}
 use Rattle.entry_word.specs.declared.mark.PresenceMark.TheVariants.{Coming}
 use Rattle.directory.specs.Settings.{Setting}
 use Rattle.directory.specs.Courses.{Move}
-use Rattle.directory.specs.Histories.{puts_to}
-use Rattle.directory.specs.Puts.{course_in}
-use Rattle.directory.specs.Standing.{number, standing}
-use Rattle.trail_laws.specs.Trail.{mark_seen, MarksTell, MarkTells}
-use Rattle.trail_laws.specs.Phases.{ComingStands, IsBeforeCommit, IsPassingFrom, IsSettled, PhasesCover}
+use Rattle.directory.specs.Standing.{standing}
+use Rattle.trail_laws.specs.Trail.{MarksTell}
+use Rattle.trail_laws.specs.Phases.{ComingStands, PhasesCover}
 use Rattle.trail_laws.specs.Ways.{StandsInside}
 use Rattle.trail_laws.proofs.ClosedViews.{Shown, View}
 use Rattle.trail_laws.proofs.Tells.{all-committed, count-told}

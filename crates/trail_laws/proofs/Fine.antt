@@ -1,10 +1,10 @@
 -- What the ways along the marks weigh, told for each state of the move under way.
-use Rattle.std.proofs.Common.{◌≡◌, ◌≢◌, ℕ, suc, ◌+◌, ◌*◌, ◌<◌, ◌≤◌, true, List, [], ◌∷◌, ◌++◌, None, length, sym, ap, ◌∙◌, arith}
-use Rattle.entry_word.specs.declared.mark.PresenceMark.TheVariants.{Here, Coming}
+use Rattle.std.proofs.Common.{◌≡◌, ◌≢◌, ℕ, suc, ◌+◌, ◌*◌, ◌<◌, ◌≤◌, List, [], ◌∷◌, ◌++◌, None, length, ap, ◌∙◌, arith}
+use Rattle.entry_word.specs.declared.mark.PresenceMark.TheVariants.{Coming}
 use Rattle.entry_word.specs.declared.address.Address.{Address}
 use Rattle.directory.specs.Settings.{Setting}
-use Rattle.directory.specs.Courses.{address_node, base, last_stop}
-use Rattle.trail_laws.specs.Trail.{answers, HasMetric}
+use Rattle.directory.specs.Courses.{base, last_stop}
+use Rattle.trail_laws.specs.Trail.{HasMetric}
 use Rattle.trail_laws.proofs.Links.{base-low}
 use Rattle.trail_laws.proofs.ClosedViews.{clearing, coming, IsMoving, IsResting, passage, Phase, Shown}
 use Rattle.trail_laws.proofs.Holders.{move_address, old_address}

@@ -1,11 +1,10 @@
 -- How the marks of a chase follow one another, by the looks of a find: what a Gone or a Coming tells of the node where
 -- it leads holds at every later look.
 use Rattle.std.proofs.lemmas.Bool.{cases_Bool}
-use Rattle.std.proofs.Common.{◌≡◌, inl, inr, ℕ, zero, suc, ◌-◌, ◌<◌, ◌≤◌, ◌^◌, max, true, false, List, [], ◌∷◌, Option, Some, None, length, refl, sym, ◌∙◌, arith}
+use Rattle.std.proofs.Common.{◌≡◌, inl, inr, ℕ, zero, suc, ◌<◌, ◌≤◌, ◌^◌, true, false, List, [], ◌∷◌, Option, Some, refl, arith}
 use Rattle.std.specs.Prelude.{flat_map}
-use Rattle.std.proofs.lemmas.Bool.Decides.{nat_tests}
 use Rattle.entry_word.specs.declared.mark.PresenceMark.{PresenceMark}
-use Rattle.entry_word.specs.declared.mark.PresenceMark.TheVariants.{Empty, Here, Gone, Coming, Off}
+use Rattle.entry_word.specs.declared.mark.PresenceMark.TheVariants.{Gone, Coming, Off}
 use Rattle.entry_word.specs.declared.visit.Key.{Key}
 use Rattle.entry_word.specs.declared.visit.Key.TheVariants.{Presence}
 use Rattle.directory.specs.Settings.{Setting, start}
@@ -16,8 +15,8 @@ use Rattle.directory.specs.Looks.{AreLooks}
 use Rattle.directory.specs.Standing.{commits, number, off}
 use Rattle.directory.specs.Statements.{FrontsAreLegal}
 use Rattle.directory.specs.declared.answers.Found.{Found}
-use Rattle.directory.specs.declared.answers.Found.TheVariants.{At, Off as OffAt, Again}
-use Rattle.directory.specs.declared.answers.Why.TheVariants.{Empty as EmptyAt, Chased}
+use Rattle.directory.specs.declared.answers.Found.TheVariants.{At, Again}
+use Rattle.directory.specs.declared.answers.Why.TheVariants.{Chased}
 use Rattle.trail_laws.specs.Trail.{EntriesTell, GoesUp, mark_seen, MarksTell, MarkTells}
 use Rattle.trail_laws.specs.Phases.{moves_begun}
 use Rattle.trail_laws.specs.Chased.{ChasesRise, marks_chased}
@@ -52,15 +51,11 @@ off-rests laws {setting} {sub} history low legal e =
     off-counts (view laws history low legal) e
 
 -- the mark that a chase reads fits what is behind it
-zero-up : (setting : Setting) (sub : ℕ) (seen : History) (node : ℕ) (mark : PresenceMark)
-    → MarkTells setting sub seen node mark → GoesUp 0 mark
-zero-up setting sub seen node mark tells = grind arith
-
 fits-up : ChaseLaws → {setting : Setting} {sub : ℕ} {seen : History} {behind : Behind} {known : Option ℕ} {node : ℕ}
     → setting.nodes ≤ 2 ^ 16 → IsLegal setting sub seen → node < setting.nodes
     → IsBehind setting sub seen behind known node → GoesUp behind.place (mark_seen setting sub seen node)
 fits-up laws {setting} {sub} {seen} {behind} {node} low legal inside is =
-    grind (arith, laws.marks setting sub seen low legal node inside, zero-up, stop-goes_up)
+    grind (arith, laws.marks setting sub seen low legal node inside, stop-goes_up)
 
 fits-begun : ChaseLaws → {setting : Setting} {sub : ℕ} (seen : History) (n node : ℕ) (mark : PresenceMark)
     → setting.nodes ≤ 2 ^ 16 → IsLegal setting sub seen → n ≤ moves_begun setting sub seen
@@ -71,16 +66,13 @@ fits-begun laws {setting} {sub} seen n node (Off q) low legal early tells =
 fits-begun laws seen n node mark low legal early tells = tt
 
 -- where a Gone and a Coming lead
-unknown : (p q : ℕ) (known : Option ℕ) → is_known q (known_with p known) ≡ false → p ≤ q - 1
-unknown p q known h = grind arith
-
 gone-leads : ChaseLaws → {setting : Setting} {sub : ℕ} (seen : History) (known : Option ℕ) (node p to : ℕ)
     → setting.nodes ≤ 2 ^ 16 → IsLegal setting sub seen → MarkTells setting sub seen node (Gone p to)
     → IsBehind setting sub seen (after_gone p) (known_with p known) to
 gone-leads laws {setting} {sub} seen known node p to low legal tells =
     let few = gone-known setting sub seen node p to tells in
     let more = number-few laws.cells seen low legal in
-    grind (arith, stop-listed (start setting sub) (commits sub seen) p, unknown)
+    grind (arith, stop-listed (start setting sub) (commits sub seen) p)
 
 coming-leads : ChaseLaws → {setting : Setting} {sub : ℕ} {seen : History} {behind : Behind} {known : Option ℕ}
     {node : ℕ} (p from : ℕ) → setting.nodes ≤ 2 ^ 16 → IsLegal setting sub seen

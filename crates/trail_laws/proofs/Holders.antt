@@ -1,17 +1,14 @@
 -- Which addresses an entry has: the old one of its level, or that of the move under way.
-use Rattle.trail_laws.proofs.ClosedEntries.{new-stop}
-use Rattle.trail_laws.proofs.ClosedEntries.{old-stop}
+use Rattle.trail_laws.proofs.ClosedEntries.{new-stop, old-stop, entry_erased, entry_written, rest_entry}
 use Rattle.std.proofs.lemmas.Option.{cond_some}
 use Rattle.std.proofs.lemmas.Bool.{cases_Bool, eqb-true}
 use Rattle.std.proofs.Common.{◌≡◌, ℕ, ◌≤◌, true, false, ◌==◌, ◌&&◌, List, Some, arith}
 use Rattle.std.specs.Prelude.{nat_le}
-use Rattle.std.proofs.lemmas.Bool.Decides.{nat_tests}
 use Rattle.node_set.specs.Ascending.{has}
 use Rattle.entry_word.specs.declared.address.Address.{Address}
 use Rattle.directory.specs.Settings.{Setting}
 use Rattle.directory.specs.Courses.{Move, Course, address_node, base}
 use Rattle.directory.specs.Writes.{old_home}
-use Rattle.trail_laws.proofs.ClosedEntries.{entry_erased, entry_written, rest_entry}
 use Rattle.trail_laws.proofs.ClosedViews.{old_levels, renewed_levels}
 use Rattle.trail_laws.proofs.ClosedWrites.{whole-entries}
 use Rattle.trail_laws.proofs.ClosedMarks.{base-with, IsNext}

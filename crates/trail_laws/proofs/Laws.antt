@@ -7,10 +7,10 @@ use Rattle.directory.specs.Settings.{Setting}
 use Rattle.directory.specs.Histories.{History}
 use Rattle.directory.specs.Legal.{IsLegal}
 use Rattle.directory.specs.Statements.{CommitsAreTold, EntriesAreLeft, LegalIsAmid, MarksAreLeft, OffIsTold}
-use Rattle.trail_laws.specs.Trail.{AddressesLead, ComingsLead, EntriesTell, entry_seen, EntryTells, IsLed, mark_seen, MarksTell, MarkTells, OneComing, TopHasEntry}
+use Rattle.trail_laws.specs.Trail.{AddressesLead, ComingsLead, EntriesTell, entry_seen, EntryTells, IsLed, MarksTell, OneComing, TopHasEntry}
 use Rattle.trail_laws.proofs.ClosedViews.{View}
 use Rattle.trail_laws.proofs.Views.{legal-view, shown}
-use Rattle.trail_laws.proofs.Tells.{mark-is, MarkIs}
+use Rattle.trail_laws.proofs.Tells.{mark-is}
 use Rattle.trail_laws.proofs.PlacedPhases.{IsPlaced, entry-placed}
 use Rattle.trail_laws.proofs.Comings.{coming-leads_on, coming-one}
 use Rattle.trail_laws.proofs.Nearby.{level-has}

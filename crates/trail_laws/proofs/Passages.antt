@@ -1,5 +1,5 @@
 -- While a Coming stands whose move is committed, the passage of that move is open.
-use Rattle.std.proofs.Common.{◌≡◌, ◌⊎◌, inl, inr, ℕ, zero, suc, ◌-◌, ◌<◌, ◌≤◌, ◌^◌, Bool, true, false, List, [], ◌∷◌, ◌++◌, Option, Some, None, length, take, refl, sym, ap, ◌∙◌, arith, length-append}
+use Rattle.std.proofs.Common.{◌≡◌, ◌⊎◌, inl, inr, ℕ, zero, suc, ◌<◌, ◌≤◌, ◌^◌, Bool, true, false, List, [], ◌∷◌, ◌++◌, Option, Some, length, take, refl, sym, ap, ◌∙◌, arith, length-append}
 use Rattle.std.specs.Prelude.{slice_get}
 use Rattle.std.specs.List.{cons_option, last_or, list_any}
 use Rattle.std.proofs.lemmas.Bool.{and_parts, cases_Bool, eqb-false, eqb-true, eq-eqb, ne_eqb}
@@ -7,7 +7,7 @@ use Rattle.std.proofs.Math.Bool.{or-false}
 use Rattle.std.proofs.lemmas.List.Folds.{list_any-append}
 use Rattle.std.proofs.lemmas.List.Sums.{fold-append}
 use Rattle.entry_word.specs.Marks.{mark_in}
-use Rattle.entry_word.specs.declared.mark.PresenceMark.TheVariants.{Gone, Coming}
+use Rattle.entry_word.specs.declared.mark.PresenceMark.TheVariants.{Coming}
 use Rattle.entry_word.specs.declared.visit.Key.TheVariants.{Presence}
 use Rattle.entry_word.specs.declared.visit.Act.{Act}
 use Rattle.entry_word.specs.declared.visit.Visit.{Visit}
@@ -16,7 +16,7 @@ use Rattle.directory.specs.Histories.{cell, History, is_put_for, puts_to, word_a
 use Rattle.directory.specs.Courses.{after_steps}
 use Rattle.directory.specs.Puts.{course_in, mark_put, mark_step, node_put, steps_from}
 use Rattle.directory.specs.Legal.{IsLegal}
-use Rattle.directory.specs.Standing.{Commit, commits, confirms, number, passage, passage_of}
+use Rattle.directory.specs.Standing.{Commit, confirms, number, passage}
 use Rattle.directory.specs.StepLaws.{by_fronts, steps-append, take-more, puts-push_other, puts-push_own}
 use Rattle.directory.specs.Statements.{CellsOfPuts, CommitsAreMoves, FrontsAreLegal}
 use Rattle.trail_laws.specs.Trail.{mark_seen, MarksTell, MarkTells}
@@ -124,13 +124,10 @@ pub coming-opens : PassageLaws → {setting : Setting} {sub : ℕ} (history : Hi
     → mark_seen setting sub history node ≡ Coming p u → p ≡ number sub history
     → passage setting sub history ≡ setting.distance u node
 coming-opens laws {setting} {sub} history node p u low inside legal comes reached =
-    grind (arith, its, laws.marks setting sub history low legal u, last-get, not_yet)
+    grind (arith, its, laws.marks setting sub history low legal u, last-get, past-all, c)
   where
     its : MarkTells setting sub history node (Coming p u)
     its = rw comes at (laws.marks setting sub history low legal node inside)
 
     c : Commit
     c = record { number = p; from = u; to = node }
-
-    not_yet : (b : Bool) → list_any (confirmed c) (puts_to sub history) ≡ b → b ≡ false
-    not_yet b e = grind (arith, past-all, c)

@@ -12,7 +12,7 @@ use Rattle.directory.specs.Courses.{Course, Step, after_step, after_steps, move_
 use Rattle.directory.specs.Keys.{key_sub}
 use Rattle.directory.specs.Histories.{before, cell, History, is_put_for, puts_to, through}
 use Rattle.directory.specs.Legal.{IsLegal}
-use Rattle.directory.specs.Looks.{look_by, moves_at, moves_by}
+use Rattle.directory.specs.Looks.{look_by, moves_at}
 use Rattle.directory.specs.Puts.{course_in, ends_off, is_of_move, steps_from}
 use Rattle.directory.specs.Standing.{Commit, commits, number}
 use Rattle.directory.specs.StepLaws.{puts-push, puts-push_other, slice_get-within, steps-append, take-more}

@@ -1,10 +1,8 @@
 -- What an address tells, and where the marks lead from its node: at rest, and in each phase of a move.
-use Rattle.std.proofs.lemmas.Bool.{cases_Bool}
-use Rattle.std.proofs.lemmas.Bool.{and_parts}
-use Rattle.trail_laws.proofs.ClosedEntries.{new_entry}
+use Rattle.std.proofs.lemmas.Bool.{cases_Bool, and_parts, eqb-true}
+use Rattle.trail_laws.proofs.ClosedEntries.{new_entry, entry_erased, entry_written, new-stop, old-stop}
 use Rattle.trail_laws.proofs.ClosedMarks.{from-inside}
-use Rattle.std.proofs.Common.{◌==◌, ◌≡◌, ◌≢◌, ◌⊎◌, inl, inr, ℕ, suc, ◌+◌, ◌<◌, ◌≤◌, true, List, [], ◌∷◌, ◌++◌, Option, length, map, refl, sym, ap, ◌∙◌, arith, length-append, ◌*◌, Some}
-use Rattle.std.proofs.lemmas.Bool.{eqb-true}
+use Rattle.std.proofs.Common.{◌==◌, ◌≡◌, ◌⊎◌, inl, inr, ℕ, suc, ◌+◌, ◌<◌, ◌≤◌, true, List, [], ◌∷◌, ◌++◌, Option, length, map, refl, sym, ap, ◌∙◌, arith, length-append, ◌*◌, Some}
 use Rattle.std.proofs.lemmas.List.{append-nil}
 use Rattle.node_set.specs.SetLaws.{length-passing_all}
 use Rattle.entry_word.specs.declared.mark.PresenceMark.{PresenceMark}
@@ -23,7 +21,6 @@ use Rattle.trail_laws.proofs.Tells.{begun-count, count-told, next-stands, rest-s
 use Rattle.trail_laws.proofs.Fine.{fine-clearing, fine-coming, fine-coming_new, fine-new, fine-passing, fine-rest, IsFine}
 use Rattle.trail_laws.proofs.Prices.{lazy-front}
 use Rattle.trail_laws.proofs.Leads.{base-top, clearing-here, clearing-leads, coming-at_to, coming-back, coming-leads, old-leads, passage-leads, passage-new, passing-at_to, rest-leads}
-use Rattle.trail_laws.proofs.ClosedEntries.{entry_erased, entry_written, new-stop, old-stop}
 use Rattle.trail_laws.proofs.ClosedViews.{clearing, coming, IsMoving, IsResting, passage, Phase, renewed_levels, Shown, View}
 
 -- what an address of a view tells

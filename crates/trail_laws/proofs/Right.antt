@@ -7,13 +7,13 @@ use Rattle.std.proofs.lemmas.List.Elements.{All-append, All-map, All-head, All-n
 use Rattle.std.proofs.lemmas.Option.{slice_get_within}
 use Rattle.entry_word.specs.declared.address.Address.{Address}
 use Rattle.entry_word.specs.declared.mark.PresenceMark.{PresenceMark}
-use Rattle.entry_word.specs.declared.mark.PresenceMark.TheVariants.{Empty, Here, Gone, Coming, Off}
+use Rattle.entry_word.specs.declared.mark.PresenceMark.TheVariants.{Empty, Gone, Coming}
 use Rattle.entry_word.specs.declared.visit.Key.{Key}
 use Rattle.directory.specs.Settings.{levels, Setting}
 use Rattle.directory.specs.Histories.{before, cell, History, through, words_at}
 use Rattle.directory.specs.Writes.{numbers_from}
 use Rattle.directory.specs.Legal.{IsLegal}
-use Rattle.directory.specs.Finds.{after_entry, after_mark, after_origin, after_word, all_readers, at_origin, Chase, chases, climb, climbs, ended, find, FindCall, hop, key_of, known_with, Reader, Pursuit, way_in}
+use Rattle.directory.specs.Finds.{after_entry, after_mark, after_origin, after_word, all_readers, at_origin, Chase, chases, climb, climbs, ended, find, FindCall, key_of, Reader, Pursuit, way_in}
 use Rattle.directory.specs.Looks.{AreLooks, first_of, IsFind, last_of, look_by}
 use Rattle.directory.specs.Standing.{number, off, standing}
 use Rattle.directory.specs.Statements.{FrontsAreLegal}
@@ -98,17 +98,12 @@ entry-good setting seen call known weight reader later None knows all tells = cl
     (weight + 2 * way_in setting call reader) later knows (All-tail (Low setting) reader later all)
 entry-good setting seen call known weight reader later (Some address) knows all tells = (knows, tells.0)
 
-hop-good : (setting : Setting) (sub : ℕ) (seen : History) (known level : Option ℕ) (weight hops_left node to : ℕ)
-    → KnowsAtMost (number sub seen) known → to < setting.nodes
-    → IsGood setting sub seen (hop setting known level weight hops_left node to)
-hop-good setting sub seen known level weight hops_left node to knows inside = grind arith
-
 mark-good : (setting : Setting) (sub : ℕ) (seen : History) (chase : Chase) (node : ℕ) (mark : PresenceMark)
     → KnowsAtMost (number sub seen) chase.known → MarkTells setting sub seen node mark
     → IsGood setting sub seen (after_mark setting chase node mark)
 mark-good setting sub seen chase node (Gone q to) knows tells =
-    grind (arith, hop-good, knows-with, gone-known setting sub seen node q to tells)
-mark-good setting sub seen chase node (Coming q from) knows tells = grind (arith, IsGood, hop-good, cond_both)
+    grind (arith, knows-with, gone-known setting sub seen node q to tells)
+mark-good setting sub seen chase node (Coming q from) knows tells = grind (arith, IsGood, cond_both)
 mark-good setting sub seen chase node mark knows tells = grind arith
 
 -- one look

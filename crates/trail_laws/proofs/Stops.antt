@@ -2,7 +2,6 @@
 use Rattle.trail_laws.proofs.ClosedMarks.{sound-with}
 use Rattle.std.proofs.Common.{◌⊎◌, true, false, ◌≡◌, inl, inr, ℕ, zero, suc, ◌-◌, ◌<◌, ◌≤◌, List, [], ◌∷◌, ◌++◌, Some, length, map, fold, refl, sym, ap, ◌∙◌, arith}
 use Rattle.std.specs.Prelude.{slice_get, slice_index}
-use Rattle.std.proofs.lemmas.List.{get_or_append_left, length-map, map-append}
 use Rattle.directory.specs.Settings.{Setting}
 use Rattle.directory.specs.Courses.{Move}
 use Rattle.directory.specs.Standing.{Commit, commit_by}
@@ -14,11 +13,6 @@ use Rattle.trail_laws.proofs.LinkedStops.{stop_at}
 -- where a subscriber is after so many of its commits
 abbrev pub stop_after : ℕ → List Commit → ℕ → ℕ
 stop_after begin commits j = slice_index (begin ∷ map (λ (c : Commit). c.to) commits) j
-
--- later commits don't change it
-pub stop-kept : (begin : ℕ) (xs ys : List Commit) (j : ℕ) → j ≤ length xs
-    → stop_after begin (xs ++ ys) j ≡ stop_after begin xs j
-stop-kept begin xs ys j few = grind (arith, map-append, length-map, get_or_append_left)
 
 -- a commit leads to its node
 stop-next : (begin : ℕ) (xs : List Commit) (i : ℕ) (c : Commit) → slice_get xs i ≡ Some c

@@ -1,7 +1,6 @@
 -- What makes a find sure of an answer at each pursuit: a look keeps it, and what is no put of a move.
 use Rattle.std.proofs.lemmas.Bool.{cond_both}
 use Rattle.std.proofs.Common.{◌≡◌, ℕ, zero, suc, ◌+◌, ◌*◌, ◌<◌, ◌≤◌, ◌^◌, false, List, [], ◌∷◌, Option, Some, length, refl, arith}
-use Rattle.entry_word.specs.declared.address.Address.{Address}
 use Rattle.entry_word.specs.declared.mark.PresenceMark.{PresenceMark}
 use Rattle.entry_word.specs.declared.mark.PresenceMark.TheVariants.{Empty, Gone, Coming}
 use Rattle.entry_word.specs.declared.visit.Key.{Key}
@@ -13,9 +12,9 @@ use Rattle.directory.specs.Finds.{after_mark, after_origin, after_word, all_read
 use Rattle.directory.specs.Looks.{moves_at}
 use Rattle.directory.specs.Standing.{number, standing}
 use Rattle.directory.specs.Statements.{CellsOfPuts, FrontsAreLegal, MarksAreLeft, StepsBeginAtRest}
-use Rattle.trail_laws.specs.Trail.{AddressesLead, ComingsLead, entry_seen, IsLed, KnowsAtMost, mark_seen, MarksTell, MarkTells, TopHasEntry}
+use Rattle.trail_laws.specs.Trail.{AddressesLead, ComingsLead, IsLed, KnowsAtMost, mark_seen, MarksTell, MarkTells, TopHasEntry}
 use Rattle.trail_laws.specs.Rightness.{IsAnswered}
-use Rattle.trail_laws.specs.Within.{Affords, Begins, EntryAsks}
+use Rattle.trail_laws.specs.Within.{Affords, Begins}
 use Rattle.trail_laws.proofs.Passing.{while-quiet}
 use Rattle.trail_laws.proofs.Right.{gone-known}
 use Rattle.trail_laws.proofs.Alike.{alike-step, IsAlike, led-alike}
@@ -41,10 +40,6 @@ module _ {setting : Setting} {sub : ℕ} {one other : History} (call : FindCall)
   affords-alike weight (reader ∷ later) h =
       grind (arith, alike, affords-alike (weight + 2 * way_in setting call reader) later, led-alike)
 
-  pub sure-alike : (pursuit : Pursuit) → IsSure setting sub one call Within pursuit
-      → IsSure setting sub other call Within pursuit
-  sure-alike other_pursuit sure = grind (arith, affords-alike, led-alike)
-
 -- what is used of the laws
 pub record Used : Type 0 where
   pub cells : CellsOfPuts
@@ -64,7 +59,7 @@ pub sure-until : Used → {setting : Setting} {sub : ℕ} (history : History) (c
     → IsSure setting sub (before u history) call Within pursuit
 sure-until used {setting} {sub} history call Within t u pursuit low legal =
     while-quiet used.fronts history (λ seen. IsSure setting sub seen call Within pursuit) low legal
-    (grind (arith, sure-alike, alike-step)) t u
+    (grind (arith, affords-alike, led-alike, alike-step)) t u
 
 -- ---- one look
 module _ (setting : Setting) (seen : History) (call : FindCall) (Within : ℕ → Type 0) where

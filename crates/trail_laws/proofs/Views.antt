@@ -1,6 +1,6 @@
 -- What a legal history leaves, in closed form: its subscriber rests, or is in a phase of a move.
 use Rattle.std.proofs.Math.Seq.{take-nil}
-use Rattle.std.proofs.Common.{◌≡◌, ◌⊎◌, inl, inr, ℕ, zero, suc, ◌<◌, ◌≤◌, ◌^◌, Bool, cond, true, false, ◌==◌, List, [], ◌∷◌, ◌++◌, length, map, take, fold, refl, sym, ap, ◌∙◌, subst, arith}
+use Rattle.std.proofs.Common.{◌≡◌, ◌⊎◌, inl, inr, ℕ, zero, suc, ◌<◌, ◌≤◌, ◌^◌, false, ◌==◌, List, [], ◌∷◌, ◌++◌, length, map, take, fold, refl, sym, ap, ◌∙◌, subst, arith}
 use Rattle.std.specs.Prelude.{filter_map}
 use Rattle.std.proofs.lemmas.Bool.{cases_Bool, cond_both, eq-eqb, lt-ltb, or_parts}
 use Rattle.std.proofs.Math.Bool.{and-false}
@@ -19,7 +19,7 @@ use Rattle.directory.specs.Statements.{CommitsAreTold, EntriesAreLeft, LegalIsAm
 use Rattle.directory.specs.Courses.{last_stop, Step, move_to, Move, Course, course_at, next_move, after_step, after_steps, MayMove, MayStep, MaySteps}
 use Rattle.directory.specs.Writes.{Write, mark_at, new_address, move_writes, visit_of, visits, writes}
 use Rattle.directory.specs.Standing.{commits, off}
-use Rattle.directory.specs.States.{entry_after, entry_left, mark_after, mark_left, opening_entry, opening_mark, write_commit, write_off, writes_made}
+use Rattle.directory.specs.States.{entry_left, mark_left, opening_entry, opening_mark, write_commit, write_off, writes_made}
 use Rattle.trail_laws.specs.Trail.{entry_seen, mark_seen}
 use Rattle.trail_laws.proofs.Links.{IsSound, sound-steps, stop-inside}
 use Rattle.trail_laws.proofs.Fronts.{fronts}
