@@ -1,5 +1,5 @@
 -- The entries of a subscriber in closed form: at rest after a course, and in each phase of the move that comes next.
-use Rattle.std.proofs.Common.{◌≡◌, ℕ, Bool, cond, not, ◌==◌, ◌&&◌, ◌||◌, List, [], ◌∷◌, ◌++◌, Option, Some, None, map, fold, refl, ◌∙◌, arith}
+use Rattle.std.proofs.Common.{◌≡◌, ℕ, cond, not, ◌==◌, ◌&&◌, List, [], ◌∷◌, ◌++◌, Option, Some, None, map, fold, refl, arith}
 use Rattle.std.specs.Prelude.{nat_le, slice_index}
 use Rattle.std.proofs.lemmas.Bool.{eqb-true, eq-eqb}
 use Rattle.std.proofs.lemmas.List.{get_or_append_left, get_or_at, length-map, map-append}
@@ -42,12 +42,7 @@ pub entered-levels : (at : ℕ → ℕ) (new : Option Address) (level cluster : 
     ≡ cond (has level levels && cluster == at level) new entry
 entered-levels at new level cluster entry [] = refl
 entered-levels at new level cluster entry (l ∷ levels) =
-    entered-levels at new level cluster (cond (level == l && cluster == at l) new entry) levels
-    ∙ at_test (level == l) refl
-  where
-    at_test : (b : Bool) → (level == l) ≡ b → cond (has level levels && cluster == at level) new
-        (cond (b && cluster == at l) new entry) ≡ cond ((b || has level levels) && cluster == at level) new entry
-    at_test b e = grind (arith, eqb-true)
+    grind (arith, eqb-true, entered-levels at new level cluster (cond (level == l && cluster == at l) new entry) levels)
 
 -- the stop where the address of a level was made, whatever moves come behind, and that of a move
 pub old-stop : {setting : Setting} {course : Course} (more : List Move) (level : ℕ) → IsSound setting course

@@ -76,8 +76,7 @@ pub trail_mark-none : (moves : List Move) (v : ℕ) (mark : PresenceMark)
 unfolding trail_mark
 trail_mark-none [] v mark h = refl
 trail_mark-none (move ∷ later) v mark h =
-    let parts = or_parts (v == move.from) (has v (map (λ (m : Move). m.from) later)) h in
-    rw parts.0 (trail_mark-none later v mark parts.1)
+    grind (arith, or_parts, trail_mark-none later v mark)
 
 -- a move that comes next
 pub record IsNext (setting : Setting) (course : Course) (move : Move) : Type 0 where

@@ -4,7 +4,7 @@ use Rattle.std.proofs.lemmas.Bool.{cases_Bool}
 use Rattle.std.proofs.Common.{◌≡◌, inl, inr, ℕ, zero, suc, ◌<◌, ◌≤◌, ◌^◌, true, false, List, [], ◌∷◌, Option, Some, refl, arith}
 use Rattle.std.specs.Prelude.{flat_map}
 use Rattle.entry_word.specs.declared.mark.PresenceMark.{PresenceMark}
-use Rattle.entry_word.specs.declared.mark.PresenceMark.TheVariants.{Gone, Coming, Off}
+use Rattle.entry_word.specs.declared.mark.PresenceMark.TheVariants.{Gone, Coming}
 use Rattle.entry_word.specs.declared.visit.Key.{Key}
 use Rattle.entry_word.specs.declared.visit.Key.TheVariants.{Presence}
 use Rattle.directory.specs.Settings.{Setting, start}
@@ -60,10 +60,7 @@ fits-up laws {setting} {sub} {seen} {behind} {node} low legal inside is =
 fits-begun : ChaseLaws → {setting : Setting} {sub : ℕ} (seen : History) (n node : ℕ) (mark : PresenceMark)
     → setting.nodes ≤ 2 ^ 16 → IsLegal setting sub seen → n ≤ moves_begun setting sub seen
     → MarkTells setting sub seen node mark → IsBegun n mark
-fits-begun laws seen n node (Coming q from) low legal early tells = omega (arith, early, tells.0)
-fits-begun laws {setting} {sub} seen n node (Off q) low legal early tells =
-    omega (arith, early, tells.1, off-rests laws.cells seen low legal tells.2)
-fits-begun laws seen n node mark low legal early tells = tt
+fits-begun laws seen n node mark low legal early tells = grind (arith, off-rests laws.cells seen low legal)
 
 -- where a Gone and a Coming lead
 gone-leads : ChaseLaws → {setting : Setting} {sub : ℕ} (seen : History) (known : Option ℕ) (node p to : ℕ)

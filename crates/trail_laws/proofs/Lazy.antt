@@ -40,16 +40,13 @@ lazy-whole_move {setting} {course} node level sound some below =
       | inl e ↦
           grind (arith, move, drop_of_length-le, length-append, base-with)
       | inr e ↦
-          let high : move.renewed < level = grind (arith, nat_tests, e) in
-          let failed : nat_le (setting.threshold level) (gathered_weight course level + move.weight) ≡ false =
-          highest-above test (levels setting) level high (omega (arith, below)) in
-          let less : gathered_weight course level + move.weight < setting.threshold level =
-          grind (arith, nat_tests, failed) in
-          rw (base-with level course move, e) (omega (
+          grind (
             arith,
-            less,
+            nat_tests,
+            highest-above test (levels setting) level,
+            base-with,
             weight-push course.moves move (base level course.moves) (base-low level sound),
-          ))
+          )
     ]
   where
     move : Move
