@@ -1,13 +1,13 @@
 -- What isn't a visit of a move changes nothing that leads a find: a switch turns a Here into an Off, or back, where the
 -- subscriber rests.
-use Rattle.std.proofs.Common.{inl, inr, ◌≡◌, ℕ, zero, suc, ◌≤◌, ◌^◌, Bool, true, false, not, ◌==◌, ◌&&◌, ◌||◌, List, [], ◌∷◌, ◌++◌, Option, Some, None, length, map, take, fold, refl, sym, ap, ◌∙◌, subst, arith}
-use Rattle.std.proofs.lemmas.Bool.{cases_Bool, cond_both, and_parts, eqb-true, eq-eqb}
+use Rattle.std.proofs.Common.{inl, inr, ◌≡◌, ℕ, zero, suc, ◌≤◌, ◌^◌, true, false, ◌==◌, List, [], ◌∷◌, ◌++◌, Option, Some, None, length, take, fold, refl, sym, ap, ◌∙◌, arith}
+use Rattle.std.proofs.lemmas.Bool.{cases_Bool, cond_both, eqb-true, eq-eqb}
 use Rattle.std.proofs.Math.Bool.{and-false}
 use Rattle.std.specs.Prelude.{slice_get}
 use Rattle.std.specs.List.{cons_option}
 use Rattle.std.proofs.lemmas.List.{append-nil}
 use Rattle.std.proofs.lemmas.List.Sums.{fold-append}
-use Rattle.entry_word.specs.Marks.{mark_in, says_here, says_off}
+use Rattle.entry_word.specs.Marks.{mark_in}
 use Rattle.entry_word.specs.Addresses.{address_in}
 use Rattle.entry_word.specs.declared.mark.PresenceMark.{PresenceMark}
 use Rattle.entry_word.specs.declared.mark.PresenceMark.TheVariants.{Here, Off}
@@ -18,8 +18,8 @@ use Rattle.entry_word.specs.declared.visit.Act.TheVariants.{Put}
 use Rattle.entry_word.specs.declared.visit.Visit.{Visit}
 use Rattle.directory.specs.Settings.{Setting, start}
 use Rattle.directory.specs.Histories.{cell, History, is_put_for, puts_to, word_after}
-use Rattle.directory.specs.Courses.{Course, course_at, last_stop, Step, switch_off, switch_on}
-use Rattle.directory.specs.Writes.{visit_of, visits, writes, step_writes, mark_at}
+use Rattle.directory.specs.Courses.{Course, last_stop, Step, switch_off, switch_on}
+use Rattle.directory.specs.Writes.{visits, writes, step_writes, mark_at}
 use Rattle.directory.specs.Puts.{course_in, ends_off, is_of_move, mark_put, mark_step, node_put, steps_from, steps_in}
 use Rattle.directory.specs.Legal.{ArePuts, IsLegal}
 use Rattle.directory.specs.Standing.{Commit, commit_of, commits, number, standing}
@@ -64,66 +64,48 @@ AnswersAll mark = (known : Option ℕ) → (lead known mark ≡ None) × (answer
     × (known_after known mark ≡ known)
 
 -- what a switch puts
-pub record IsSwitching (sub : ℕ) (history : History) (visit : Visit) : Type 0 where
+pub record IsSwitching (sub : ℕ) (history : History) (act : Act) : Type 0 where
   pub node : ℕ
   pub word : ℕ
   pub step : Step
-  pub is_put : visit.act ≡ Put (Presence node sub) word
+  pub is_put : act ≡ Put (Presence node sub) word
   pub answers_all : AnswersAll (mark_in word)
-  pub begins : mark_step (ends_off (puts_to sub history)) (node_put visit.act) (mark_put visit.act) ≡ Some step
+  pub begins : mark_step (ends_off (puts_to sub history)) (node_put act) (mark_put act) ≡ Some step
   pub is_switch_step : (setting : Setting) (course : Course) → (mark : PresenceMark)
       × (step_writes setting course step ≡ mark_at (last_stop course) mark ∷ [])
-  pub no_commit : commit_of (node_put visit.act) (mark_put visit.act) ≡ None
+  pub no_commit : commit_of (node_put act) (mark_put act) ≡ None
 
-pub switching : (sub : ℕ) (history : History) (visit : Visit) → is_put_for sub visit.act ≡ true
-    → is_of_move sub history visit.act ≡ false → IsSwitching sub history visit
-switching sub history visit put quiet = at_act visit.act refl put is_switching
+pub switching : (sub : ℕ) (history : History) (act : Act) → is_put_for sub act ≡ true
+    → is_of_move sub history act ≡ false → IsSwitching sub history act
+switching sub history (Put (Entry level cluster s) word) put quiet = grind (arith, and-false)
+switching sub history (Put (Presence node s) word) put quiet = at_mark (mark_in word) refl
   where
-    is_switching : (says_off (mark_put visit.act) || (ends_off (puts_to sub history) && says_here
-        (mark_put visit.act))) ≡ true
-    is_switching = of_both (is_put_for sub visit.act) _ put quiet
-      where
-        of_both : (p x : Bool) → p ≡ true → (p && not (p && x)) ≡ false → x ≡ true
-        of_both true true h g = refl
-        of_both true false h g = cc
-        of_both false x h g = cc
+    its : Put (Presence node s) word ≡ Put (Presence node sub) word
+    its = ap (λ t. Put (Presence node t) word) (eqb-true s sub put)
 
-    at_act : (act : Act) → visit.act ≡ act → is_put_for sub act ≡ true
-        → (says_off (mark_put act) || (ends_off (puts_to sub history) && says_here (mark_put act))) ≡ true
-        → IsSwitching sub history visit
-    at_act (Put (Entry level cluster s) word) e p x =
-        let clash : false ≡ true = sym (and-false (ends_off (puts_to sub history))) ∙ x in cc
-    at_act (Put (Presence node s) word) e p x = at_mark (mark_in word) refl x
-      where
-        its : visit.act ≡ Put (Presence node sub) word
-        its = e ∙ ap (λ t. Put (Presence node t) word) (eqb-true s sub p)
-
-        switched : (mark : PresenceMark) (step : Step) → mark_in word ≡ mark → AnswersAll mark
-            → mark_step (ends_off (puts_to sub history)) (node_put visit.act) mark ≡ Some step
-            → ((setting : Setting) (course : Course) → (its : PresenceMark)
-            × (step_writes setting course step ≡ mark_at (last_stop course) its ∷ []))
-            → commit_of (node_put visit.act) mark ≡ None → IsSwitching sub history visit
-        switched mark step m all begins is_step none = record {
-          node = node;
-          word = word;
-          step = step;
-          is_put = its;
-          answers_all = rw m all;
-          begins = rw (e, m) (rw e at begins);
-          is_switch_step = is_step;
-          no_commit = rw (e, m) (rw e at none);
-        }
-
-        at_mark : (mark : PresenceMark) → mark_in word ≡ mark
-            → (says_off mark || (ends_off (puts_to sub history) && says_here mark)) ≡ true
-            → IsSwitching sub history visit
-        at_mark (Off q) m y = switched (Off q) switch_off m (λ known. (refl, refl, refl)) refl
-            (λ setting course. (Off (length course.moves), refl)) refl
-        at_mark (Here q) m y = switched (Here q) switch_on m (λ known. (refl, refl, refl))
-            (rw (and_parts (ends_off (puts_to sub history)) true y).0)
-            (λ setting course. (Here (length course.moves), refl)) refl
-        at_mark mark m y = let clash : false ≡ true = sym (and-false (ends_off (puts_to sub history))) ∙ y in cc
-    at_act act e p x = cc
+    at_mark : (mark : PresenceMark) → mark_in word ≡ mark → IsSwitching sub history (Put (Presence node s) word)
+    at_mark (Off q) m = record {
+      node = node;
+      word = word;
+      step = switch_off;
+      is_put = its;
+      answers_all = rw m (λ known. (refl, refl, refl));
+      begins = rw m;
+      is_switch_step = λ setting course. (Off (length course.moves), refl);
+      no_commit = rw m;
+    }
+    at_mark (Here q) m = record {
+      node = node;
+      word = word;
+      step = switch_on;
+      is_put = its;
+      answers_all = rw m (λ known. (refl, refl, refl));
+      begins = grind arith;
+      is_switch_step = λ setting course. (Here (length course.moves), refl);
+      no_commit = rw m;
+    }
+    at_mark mark m = grind (arith, and-false)
+switching sub history act put quiet = cc
 
 get-next : (xs ys zs : List Visit) (visit : Visit) → xs ++ visit ∷ [] ≡ take (length (xs ++ visit ∷ [])) (ys ++ zs)
     → length xs ≡ length ys → slice_get zs 0 ≡ Some visit
@@ -135,19 +117,25 @@ get-next (x ∷ xs) (y ∷ ys) zs visit h same =
 get-next xs ys zs visit h same = absurd (omega (arith, same))
 
 -- a switch is put where the subscriber rests
-pub switch-rests : StepsBeginAtRest → {setting : Setting} {sub : ℕ} {history : History} {visit : Visit}
+pub switch-rests : StepsBeginAtRest → {setting : Setting} {sub : ℕ} {history : History} (visit : Visit)
     → setting.nodes ≤ 2 ^ 16 → IsLegal setting sub history → IsLegal setting sub (history ++ visit ∷ [])
-    → is_put_for sub visit.act ≡ true → IsSwitching sub history visit → IsAtRest setting sub history
-switch-rests rests {setting} {sub} {history} {visit} low legal legal_more put switch =
+    → is_put_for sub visit.act ≡ true → IsSwitching sub history visit.act → IsAtRest setting sub history
+switch-rests rests {setting} {sub} {history} visit low legal legal_more put switch =
     grind (arith, puts-push_own, drop_of_length-le)
 
-pub alike-switch : MarksAreLeft → StepsBeginAtRest → {setting : Setting} {sub : ℕ} {history : History} {visit : Visit}
+pub alike-switch : MarksAreLeft → StepsBeginAtRest → {setting : Setting} {sub : ℕ} {history : History} (visit : Visit)
     → setting.nodes ≤ 2 ^ 16 → IsLegal setting sub history → IsLegal setting sub (history ++ visit ∷ [])
-    → is_put_for sub visit.act ≡ true → IsSwitching sub history visit
+    → is_put_for sub visit.act ≡ true → IsSwitching sub history visit.act
     → IsAlike setting sub history (history ++ visit ∷ [])
 unfolding steps_from writes
-alike-switch marks_left rests {setting} {sub} {history} {visit} low legal legal_more put switch = record {
-  marks = λ v. at_node v (v == switch.node) refl;
+alike-switch marks_left rests {setting} {sub} {history} visit low legal legal_more put switch = record {
+  marks = λ v. elim (cases_Bool (v == switch.node)) [
+    | inl e ↦
+        let before_it : mark_seen setting sub history v ≡ there course =
+        ap (mark_seen setting sub history) (eqb-true v switch.node e ∙ at_stop) ∙ there_now in
+        rw (before_it, after (Presence v sub), e, eq-eqb sub sub refl) (grind (arith, answered))
+    | inr e ↦ rw (after (Presence v sub), e) (λ known. (refl, refl, refl))
+  ];
   entries = λ level cluster. ap address_in (after (Entry level cluster sub));
   stands = ap (fold (λ n (c : Commit). c.to) (start setting sub)) same_commits;
   count = ap length same_commits;
@@ -156,11 +144,8 @@ alike-switch marks_left rests {setting} {sub} {history} {visit} low legal legal_
     puts : List Visit
     puts = puts_to sub history
 
-    more_puts : puts_to sub (history ++ visit ∷ []) ≡ puts ++ visit ∷ []
-    more_puts = puts-push_own sub history visit put
-
     legal_puts : ArePuts setting sub (puts ++ visit ∷ [])
-    legal_puts = subst (ArePuts setting sub) more_puts legal_more
+    legal_puts = rw (puts-push_own sub history visit put) at legal_more
 
     done : length puts ≡ length (visits setting sub (steps_in puts))
     done = rests setting sub puts visit switch.step low legal legal_puts switch.begins
@@ -174,44 +159,26 @@ alike-switch marks_left rests {setting} {sub} {history} {visit} low legal legal_
     due : slice_get (visits_in setting sub course (switch.step ∷ [])) 0 ≡ Some visit
     due = get-next puts (visits setting sub (steps_in puts)) (visits_in setting sub course (switch.step ∷ [])) visit
         (legal_puts.front ∙ ap (take (length (puts ++ visit ∷ [])))
-        (ap (visits setting sub) longer ∙ visits-append setting sub (course_at (start setting sub))
-        (steps_in puts) (switch.step ∷ []))) done
+        (grind (arith, longer, visits-append, puts))) done
 
     at_stop : switch.node ≡ last_stop course
     at_stop =
         let its = switch.is_switch_step setting course in
-        let written : slice_get (map (visit_of sub) (mark_at (last_stop course) its.0 ∷ [])) 0
-        ≡ Some visit = sym (ap (λ ws. slice_get (map (visit_of sub) (ws ++ [])) 0) its.1) ∙ due in
-        let same : visit_of sub (mark_at (last_stop course) its.0) ≡ visit = cc in
-        sym (ap node_put switch.is_put) ∙ sym (ap (λ (v : Visit). node_put v.act) same)
+        grind (arith, course, due)
 
     there_now : mark_seen setting sub history (last_stop course) ≡ there course
-    there_now = mark-there setting sub history (switch-rests rests low legal legal_more put switch) marks_left low legal
+    there_now = mark-there setting sub history (switch-rests rests visit low legal legal_more put switch) marks_left
+        low legal
 
     answered : AnswersAll (there course)
-    answered = cond_both course.is_off (Off (length course.moves)) (Here (length course.moves)) AnswersAll
-        (λ e known. (refl, refl, refl)) (λ e known. (refl, refl, refl))
+    answered = grind (arith, cond_both)
 
     after : (key : Key) → cell setting (history ++ visit ∷ []) key
         ≡ word_after key (cell setting history key) (Put (Presence switch.node sub) switch.word)
-    after key = fold-append (λ w (v : Visit). word_after key w v.act) _ history (visit ∷ [])
-        ∙ ap (word_after key (cell setting history key)) switch.is_put
-
-    at_node : (v : ℕ) (b : Bool) → (v == switch.node) ≡ b
-        → AreAlike (mark_seen setting sub history v) (mark_seen setting sub (history ++ visit ∷ []) v)
-    at_node v false e = rw (after (Presence v sub), e) (λ known. (refl, refl, refl))
-    at_node v true e =
-        let before_it : mark_seen setting sub history v ≡ there course =
-        ap (mark_seen setting sub history) (eqb-true v switch.node e ∙ at_stop) ∙ there_now in
-        rw (before_it, after (Presence v sub), e, eq-eqb sub sub refl) (λ known. (
-          (answered known).0 ∙ sym (switch.answers_all known).0,
-          (answered known).1 ∙ sym (switch.answers_all known).1,
-          (answered known).2 ∙ sym (switch.answers_all known).2,
-        ))
+    after key = grind (arith, fold-append)
 
     same_commits : commits sub (history ++ visit ∷ []) ≡ commits sub history
-    same_commits = rw (commits-append sub history (visit ∷ []), put, switch.no_commit)
-        (append-nil (commits sub history))
+    same_commits = grind (arith, commits-append, append-nil)
 
 -- so it is for each visit that is none of a move
 pub alike-step : CellsOfPuts → MarksAreLeft → StepsBeginAtRest
@@ -220,7 +187,8 @@ pub alike-step : CellsOfPuts → MarksAreLeft → StepsBeginAtRest
     → is_of_move sub history visit.act ≡ false → IsAlike setting sub history (history ++ visit ∷ [])
 alike-step cells marks_left rests {setting} {sub} history visit low legal legal_more quiet =
     elim (cases_Bool (is_put_for sub visit.act)) [
-      | inl put ↦ alike-switch marks_left rests low legal legal_more put (switching sub history visit put quiet)
+      | inl put ↦
+          alike-switch marks_left rests visit low legal legal_more put (switching sub history visit.act put quiet)
       | inr other ↦ alike-other cells setting sub history visit other
     ]
 

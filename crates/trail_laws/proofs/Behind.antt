@@ -1,18 +1,19 @@
 -- What the marks that a chase has read leave for the next one, and what follows for the whole list. Each is read where
 -- the subscriber was after so many of its commits, and that stays so.
-use Rattle.std.proofs.Common.{◌≡◌, ◌⊎◌, inl, inr, ℕ, ◌-◌, ◌≤◌, false, List, [], ◌∷◌, Option, refl, ◌∙◌, arith}
+use Rattle.std.proofs.lemmas.List.{map-append, length-map, get_or_append_left}
+use Rattle.std.proofs.Common.{◌≡◌, ◌⊎◌, ℕ, ◌-◌, ◌≤◌, false, List, [], ◌∷◌, Option, refl, arith}
 use Rattle.std.specs.Prelude.{filter_map}
 use Rattle.node_set.specs.Ascending.{IsAscending, IsBelowAll}
 use Rattle.entry_word.specs.declared.mark.PresenceMark.{PresenceMark}
-use Rattle.entry_word.specs.declared.mark.PresenceMark.TheVariants.{Here, Gone, Coming, Off}
+use Rattle.entry_word.specs.declared.mark.PresenceMark.TheVariants.{Gone, Coming, Off}
 use Rattle.directory.specs.Settings.{Setting, start}
 use Rattle.directory.specs.Histories.{before, History}
 use Rattle.directory.specs.Finds.{after_word, chases, ended, FindCall, is_known, Pursuit}
 use Rattle.directory.specs.Standing.{commits, number}
 use Rattle.trail_laws.specs.Trail.{GoesUp}
 use Rattle.trail_laws.specs.Phases.{moves_begun}
-use Rattle.trail_laws.specs.Chased.{FollowOn, GoesBack, gone_number, mark_chased, marks_chased}
-use Rattle.trail_laws.proofs.Stops.{stop_after, stop-kept}
+use Rattle.trail_laws.specs.Chased.{FollowOn, gone_number, mark_chased, marks_chased}
+use Rattle.trail_laws.proofs.Stops.{stop_after}
 use Rattle.trail_laws.proofs.Passing.{begun-grows, commits-grow, number-grows}
 
 -- what the marks that were read leave for the next one: after how many commits the subscriber was at its node, a number
@@ -33,32 +34,13 @@ pub record IsBehind (setting : Setting) (sub : ℕ) (seen : History) (behind : B
   pub rises : behind.gone ≤ behind.place
   pub fresh : (p : ℕ) → is_known p known ≡ false → behind.gone ≤ p - 1
 
-behind-nothing : (setting : Setting) (sub : ℕ) (seen : History) (known : Option ℕ) (node : ℕ)
-    → IsBehind setting sub seen nothing known node
-behind-nothing setting sub seen known node = record {
-  few = omega arith;
-  stop = inl refl;
-  early = omega arith;
-  rises = omega arith;
-  fresh = λ p h. omega arith;
-}
-
 -- it stays so
 pub behind-later : {setting : Setting} {sub : ℕ} (t u : ℕ) (history : History) {behind : Behind} {known : Option ℕ}
     {node : ℕ}
     → t ≤ u → IsBehind setting sub (before t history) behind known node
     → IsBehind setting sub (before u history) behind known node
-behind-later {setting} {sub} t u history {behind} h is = record {
-  few = omega (arith, is.few, number-grows sub t u history h);
-  stop = elim is.stop [
-    | inl none ↦ inl none
-    | inr stop ↦ inr (rw (commits-grow sub t u history h).1
-        (stop-kept (start setting sub) (commits sub (before t history)) _ behind.place is.few ∙ stop))
-  ];
-  early = omega (arith, is.early, begun-grows setting sub t u history h);
-  rises = is.rises;
-  fresh = is.fresh;
-}
+behind-later {setting} {sub} t u history {behind} h is =
+    grind (arith, number-grows, commits-grow sub t u history h, map-append, length-map, get_or_append_left, begun-grows)
 
 -- what is known at a pursuit
 abbrev pub IsTracked : Setting → ℕ → History → Behind → Pursuit → Type 0
@@ -68,9 +50,7 @@ IsTracked setting sub seen behind pursuit = behind ≡ nothing
 
 pub tracked-nothing : (setting : Setting) (sub : ℕ) (seen : History) (pursuit : Pursuit)
     → IsTracked setting sub seen nothing pursuit
-tracked-nothing setting sub seen (chases chase node) = behind-nothing setting sub seen chase.known node
-tracked-nothing setting sub seen (ended found) = tt
-tracked-nothing setting sub seen pursuit = refl
+tracked-nothing setting sub seen pursuit = grind arith
 
 -- a mark fits what is behind it
 abbrev pub IsBegun : ℕ → PresenceMark → Type 0
@@ -96,11 +76,6 @@ below-less : (a b : ℕ) (xs : List ℕ) → a ≤ b → IsBelowAll b xs → IsB
 below-less a b [] h all = tt
 below-less a b (x ∷ xs) h all = (omega (arith, h, all.0), below-less a b xs h all.1)
 
-goes-back : (p : ℕ) (mark : PresenceMark) → GoesUp (p - 1) mark → IsBegun p mark → GoesBack p mark
-goes-back p (Here q) up begun = omega (arith, up)
-goes-back p (Gone q to) up begun = omega (arith, up)
-goes-back p mark up begun = begun
-
 -- what a mark leaves for the next one
 abbrev pub after_gone : ℕ → Behind
 after_gone p = record { place = p; begun = p; gone = p }
@@ -116,29 +91,7 @@ Continues behind mark later = later ≡ []
 pub one-more : (behind : Behind) (mark : PresenceMark) (later : List PresenceMark) → behind.gone ≤ behind.place
     → GoesUp behind.place mark → IsBegun behind.begun mark → Continues behind mark later
     → Rises behind (mark ∷ later)
-one-more behind (Gone q to) later low up begun rest = record {
-  head = (up, tt);
-  on = joined later rest.head rest.on;
-  above = (omega (arith, low, up), below-less behind.gone q _ (omega (arith, low, up)) rest.above);
-  ascends = (rest.above, rest.ascends);
-}
-  where
-    joined : (marks : List PresenceMark) → HeadFits q q marks → FollowOn marks → FollowOn (Gone q to ∷ marks)
-    joined [] head on = tt
-    joined (next ∷ more) head on = (head.0, on)
-one-more behind (Coming q from) later low up begun rest = record {
-  head = (up, begun);
-  on = joined later rest.head rest.on;
-  above = rest.above;
-  ascends = rest.ascends;
-}
-  where
-    joined : (marks : List PresenceMark) → HeadFits (q - 1) q marks → FollowOn marks
-        → FollowOn (Coming q from ∷ marks)
-    joined [] head on = tt
-    joined (next ∷ more) head on = (goes-back q next head.0 head.1, on)
-one-more behind mark later low up begun none = rw none
-    (record { head = (up, begun); on = tt; above = tt; ascends = tt })
+one-more behind mark later low up begun rest = grind (arith, below-less)
 
 -- no mark is read after the end
 pub ended-none : (setting : Setting) (call : FindCall) (pursuit : Pursuit) (words : List ℕ)

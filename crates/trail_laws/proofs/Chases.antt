@@ -1,19 +1,18 @@
 -- Where the marks of a trail lead: the numbers rise from hop to hop, so that no node is met twice.
 use Rattle.std.proofs.lemmas.Bool.{cases_Bool, cases_eq}
-use Rattle.std.proofs.Common.{◌≡◌, ◌≢◌, ◌⊎◌, inl, inr, ℕ, zero, suc, ◌+◌, ◌*◌, ◌<◌, ◌≤◌, max, true, false, List, Option, Some, None, length, refl, ap, ◌∙◌, arith}
-use Rattle.std.specs.Prelude.{nat_le}
+use Rattle.std.proofs.Common.{◌≡◌, ◌≢◌, ◌⊎◌, inl, inr, ℕ, zero, suc, ◌+◌, ◌*◌, ◌<◌, ◌≤◌, true, List, Option, Some, length, refl, ap, ◌∙◌, arith}
 use Rattle.std.proofs.lemmas.Bool.Decides.{nat_tests}
 use Rattle.entry_word.specs.declared.mark.PresenceMark.{PresenceMark}
 use Rattle.entry_word.specs.declared.mark.PresenceMark.TheVariants.{Empty, Gone, Coming}
 use Rattle.directory.specs.Settings.{Setting}
 use Rattle.directory.specs.Courses.{Move}
-use Rattle.directory.specs.Finds.{is_known, known_with}
+use Rattle.directory.specs.Finds.{known_with}
 use Rattle.directory.specs.Parts.{known_after, lead}
 use Rattle.trail_laws.specs.Trail.{answers, IsLed, HasMetric, KnowsAtMost}
 use Rattle.trail_laws.proofs.Links.{AreLinked}
 use Rattle.trail_laws.proofs.ClosedMarks.{trail_mark, there}
 use Rattle.trail_laws.proofs.GoneCounts.{above, above-less}
-use Rattle.trail_laws.proofs.LinkedStops.{last-left, LeavesMark, stop_at, way-short, weight-mono, weight-step, weight_from}
+use Rattle.trail_laws.proofs.LinkedStops.{last-left, stop_at, way-short, weight-mono, weight-step, weight_from}
 
 -- ---- arrivals
 pub record Arrival (setting : Setting) (marks : ℕ → PresenceMark) (known : Option ℕ)
@@ -27,18 +26,7 @@ pub record Arrival (setting : Setting) (marks : ℕ → PresenceMark) (known : O
 -- what is known stays within the most
 pub knows-with : (most p : ℕ) (known : Option ℕ) → KnowsAtMost most known → p ≤ most
     → KnowsAtMost most (known_with p known)
-knows-with most p None knows low = low
-knows-with most p (Some k) knows low = omega (arith, knows)
-
-knows-it : (number : ℕ) (known : Option ℕ) → is_known number (known_with number known) ≡ true
-knows-it number None = let e : nat_le number number ≡ true = grind (arith, nat_tests) in e
-knows-it number (Some k) = let low : number ≤ max k number = omega arith in let e : nat_le number (max k number)
-    ≡ true = grind (arith, nat_tests, low) in e
-
-knows-less : (most number : ℕ) (known : Option ℕ) → KnowsAtMost most known → most < number
-    → is_known number known ≡ false
-knows-less most number None h low = refl
-knows-less most number (Some k) h low = grind (arith, nat_tests)
+knows-with most p known knows low = grind arith
 
 -- a stop that isn't the last is left by a move
 before-end : (from end : ℕ) (moves : List Move) (i v : ℕ) → stop_at from moves (length moves) ≡ end
@@ -49,8 +37,7 @@ module _ (setting : Setting) (marks : ℕ → PresenceMark) where
   pub arrived : (known : Option ℕ) (node last most_hops most_way : ℕ) → node ≡ last
       → answers known (marks node) ≡ true → Arrival setting marks known node last most_hops most_way
   unfolding IsLed
-  arrived known node last most_hops most_way same answered = record
-      { hops = 0; way = 0; led = (same, answered, refl); few = omega arith; short = λ metric. omega arith }
+  arrived known node last most_hops most_way same answered = grind arith
 
   -- one hop more
   hopped : (known : Option ℕ) (node to last most_hops most_way : ℕ) → lead known (marks node) ≡ Some to
@@ -68,13 +55,7 @@ module _ (setting : Setting) (marks : ℕ → PresenceMark) where
   pub longer : (known : Option ℕ) (node last few few_more short short_more : ℕ) → few ≤ few_more
       → (HasMetric setting → short ≤ short_more) → Arrival setting marks known node last few short
       → Arrival setting marks known node last few_more short_more
-  longer known node last few few_more short short_more h g a = record {
-    hops = a.hops;
-    way = a.way;
-    led = a.led;
-    few = omega (arith, a.few, h);
-    short = λ metric. omega (arith, a.short metric, g metric);
-  }
+  longer known node last few few_more short short_more h g a = grind arith
 
   -- from a stop of a trail the marks lead to the end, in no more hops than nodes hold a later Gone, and so many more
   abbrev pub Arrives : ℕ → ℕ → List Move → ℕ → ℕ → ℕ → ℕ → Option ℕ → Type 0
@@ -100,24 +81,16 @@ module _ (setting : Setting) (marks : ℕ → PresenceMark) where
   leads from number last moves most more_hops more_way linked all exits zero i v known enough low inside is_stop knows =
       grind (arith, there)
   leads from number last moves most more_hops more_way linked all exits (suc fuel) i v known enough low inside is_stop
-      knows =
-      at_exit (exits i v known low inside is_stop knows)
-      (λ j w k h1 h2 h3 h4 h5. leads from number last moves most more_hops more_way linked all exits fuel j w k h1 h2 h3
-      h4 h5)
-    where
-      Goal : Type 0
-      Goal = Arrives number last moves more_hops more_way i v known
-
-      at_exit : Arrives number last moves more_hops more_way i v known
-          ⊎ ((marks v ≡ trail_mark moves v Empty) × (i < length moves))
-          → ((j w : ℕ) (k : Option ℕ) → length moves ≤ fuel + j → j ≤ length moves → w < setting.nodes
-          → stop_at from moves j ≡ w → KnowsAtMost most k → Arrives number last moves more_hops more_way j w k) → Goal
-      at_exit (inl there) more = there
-      at_exit (inr goes) more = at_left (last-left setting from number moves v Empty linked)
-        where
-          at_left : LeavesMark setting from number moves v Empty → Goal
-          at_left (inl none) = absurd (none.1 i goes.1 is_stop)
-          at_left (inr left) =
+      knows = elim (exits i v known low inside is_stop knows) [
+        | inl there ↦ there
+        | inr goes ↦ elim (last-left setting from number moves v Empty linked) [
+          | inl none ↦ absurd (none.1 i goes.1 is_stop)
+          | inr left ↦
+              let late : i ≤ left.place = left.last i goes.1 is_stop in
+              let gone : marks v ≡ Gone left.move.number left.move.to = goes.0 ∙ left.mark_is in
+              let rises : above setting marks (number + suc left.place) < above setting marks (number + i) =
+              above-less setting marks v (number + suc left.place) (number + i) left.move.to inside
+              (grind (arith, gone)) (omega (arith, late)) in
               longer known v last (suc (more_hops + above setting marks (number + suc left.place)))
               (more_hops + above setting marks (number + i))
               (setting.distance v left.move.to + (weight_from moves (suc left.place) + more_way))
@@ -128,22 +101,13 @@ module _ (setting : Setting) (marks : ℕ → PresenceMark) where
                 weight-step moves left.place left.move left.is_move,
                 left.link.its_weight,
                 weight-mono moves i left.place late,
-              )) (hopped known v left.move.to last _ _ (ap (lead known) gone) (rw gone (more (suc left.place)
-              left.move.to (known_with left.move.number known) (omega (arith, enough, late))
-              (omega (arith, left.within)) left.link.inside left.goes_on
+              )) (hopped known v left.move.to last _ _ (ap (lead known) gone) (rw gone (leads from number last moves
+              most more_hops more_way linked all exits fuel (suc left.place) left.move.to
+              (known_with left.move.number known) (omega (arith, enough, late)) (omega (arith, left.within))
+              left.link.inside left.goes_on
               (knows-with most left.move.number known knows (omega (arith, left.link.its_number, left.within, all))))))
-            where
-              late : i ≤ left.place
-              late = left.last i goes.1 is_stop
-
-              gone : marks v ≡ Gone left.move.number left.move.to
-              gone = goes.0 ∙ left.mark_is
-
-              rises : above setting marks (number + suc left.place) < above setting marks (number + i)
-              rises = above-less setting marks v (number + suc left.place) (number + i) left.move.to inside
-                  (gone ∙ ap (λ n. Gone n left.move.to) (left.link.its_number
-                  ∙ (let e : suc (number + left.place) ≡ number + suc left.place = omega arith in e)))
-                  (omega (arith, late))
+        ]
+      ]
 
   -- at rest: the end of the trail is an exit
   pub rest-exits : (from number last : ℕ) (moves : List Move) (most : ℕ) → stop_at from moves (length moves) ≡ last
@@ -159,7 +123,7 @@ module _ (setting : Setting) (marks : ℕ → PresenceMark) where
       → marks to ≡ Coming p last
       → ((k : Option ℕ) → answers k (marks last) ≡ true)
       → Arrival setting marks known to last 1 (setting.distance to last + 0)
-  back-leads last most p to known above_most knows comes answered = grind (arith, knows-less, arrived, hopped)
+  back-leads last most p to known above_most knows comes answered = grind (arith, arrived, hopped)
 
   -- before the commit of a move: the node that is come to leads back to where the subscriber stands, no farther than
   -- the trail does
@@ -170,26 +134,23 @@ module _ (setting : Setting) (marks : ℕ → PresenceMark) where
       → Exits from number last moves most 1 0
   unfolding Exits
   coming-exits from number last moves most p to linked begins ends above_most comes answered others i v known low inside
-      is_stop knows = at_last (cases_eq v last) (cases_eq v to)
-    where
-      at_last : (v ≡ last) ⊎ (v ≢ last) → (v ≡ to) ⊎ (v ≢ to) → Arrives number last moves 1 0 i v known
-          ⊎ ((marks v ≡ trail_mark moves v Empty) × (i < length moves))
-      at_last (inl same) t = inl (arrived known v last _ _ same (rw same (answered known)))
-      at_last (inr other) (inl at_to) =
-          inl (longer known v last 1 (1 + above setting marks (number + i)) (setting.distance v last + 0)
-          (weight_from moves i + 0) (omega arith) (λ metric. omega (arith, way metric)) (rw at_to
-          (back-leads last most p to known above_most knows comes answered)))
-        where
-          way : HasMetric setting → setting.distance v last ≤ weight_from moves i
-          way metric = rw (is_stop, ends) at (way-short from number moves i linked begins metric low)
-      at_last (inr other) (inr off_to) =
-          inr (others v inside other off_to, before-end from last moves i v ends low is_stop other)
+      is_stop knows = elim (cases_eq v last) [
+        | inl same ↦ inl (arrived known v last _ _ same (rw same (answered known)))
+        | inr other ↦ elim (cases_eq v to) [
+          | inl at_to ↦
+              let way : HasMetric setting → setting.distance v last ≤ weight_from moves i =
+              λ metric. rw (is_stop, ends) at (way-short from number moves i linked begins metric low) in
+              inl (longer known v last 1 (1 + above setting marks (number + i)) (setting.distance v last + 0)
+              (weight_from moves i + 0) (omega arith) (λ metric. omega (arith, way metric)) (grind (arith, back-leads)))
+          | inr off_to ↦ inr (others v inside other off_to, before-end from last moves i v ends low is_stop other)
+        ]
+      ]
 
   -- between commit and confirm: from the node that was left one hop leads on, and a Coming that isn't known leads there
   -- and back
   pub left-leads : (left p to : ℕ) (known : Option ℕ) → marks left ≡ Gone p to → marks to ≡ Coming p left
       → Arrival setting marks known left to 1 (setting.distance left to + 0)
-  left-leads left p to known gone comes = grind (arith, knows-it, arrived, hopped)
+  left-leads left p to known gone comes = grind (arith, arrived, hopped)
 
   pub passing-leads : (left p to : ℕ) (known : Option ℕ) → marks left ≡ Gone p to → marks to ≡ Coming p left
       → Arrival setting marks known to to 2 (setting.distance to left + (setting.distance left to + 0))
@@ -203,24 +164,17 @@ module _ (setting : Setting) (marks : ℕ → PresenceMark) where
       → Exits from number to moves most 1 (2 * setting.distance left to)
   unfolding Exits
   passing-exits from number left moves most p to ends above_all left_inside to_inside gone comes others i v known low
-      inside is_stop knows = at_last (cases_eq v to) (cases_eq v left)
+      inside is_stop knows = elim (cases_eq v to) [
+        | inl at_to ↦ inl (rw at_to (longer known to to 2 _ _ _ (omega (arith, counted))
+            (λ metric. omega (arith, metric.both_ways to left to_inside left_inside))
+            (passing-leads left p to known gone comes)))
+        | inr off_to ↦ elim (cases_eq v left) [
+          | inl at_left ↦ inl (rw at_left (longer known left to 1 _ _ _ (omega arith) (λ metric. omega arith)
+              (left-leads left p to known gone comes)))
+          | inr off_left ↦
+              inr (others v inside off_left off_to, before-end from left moves i v ends low is_stop off_left)
+        ]
+      ]
     where
       counted : above setting marks p < above setting marks (number + i)
       counted = above-less setting marks left p (number + i) to left_inside gone (omega (arith, above_all, low))
-
-      at_exit : (x few way : ℕ) → v ≡ x → few ≤ 1 + above setting marks (number + i)
-          → (HasMetric setting → way ≤ weight_from moves i + 2 * setting.distance left to)
-          → Arrival setting marks known x to few way
-          → Arrives number to moves 1 (2 * setting.distance left to) i v known
-      at_exit x few way same less short there = rw same (longer known x to few _ way _ less short there)
-
-      at_last : (v ≡ to) ⊎ (v ≢ to) → (v ≡ left) ⊎ (v ≢ left)
-          → Arrives number to moves 1 (2 * setting.distance left to) i v known
-          ⊎ ((marks v ≡ trail_mark moves v Empty) × (i < length moves))
-      at_last (inl at_to) l = inl (at_exit to 2 _ at_to (omega (arith, counted))
-          (λ metric. omega (arith, metric.both_ways to left to_inside left_inside))
-          (passing-leads left p to known gone comes))
-      at_last (inr off_to) (inl at_left) = inl (at_exit left 1 _ at_left (omega arith) (λ metric. omega arith)
-          (left-leads left p to known gone comes))
-      at_last (inr off_to) (inr off_left) =
-          inr (others v inside off_left off_to, before-end from left moves i v ends low is_stop off_left)

@@ -1,5 +1,5 @@
 -- The entries of a subscriber in closed form: at rest after a course, and in each phase of the move that comes next.
-use Rattle.std.proofs.Common.{◌≡◌, ℕ, Bool, true, false, cond, not, ◌==◌, ◌&&◌, ◌||◌, List, [], ◌∷◌, ◌++◌, Option, Some, None, map, fold, refl, sym, ap, ◌∙◌, arith}
+use Rattle.std.proofs.Common.{◌≡◌, ℕ, cond, not, ◌==◌, ◌&&◌, List, [], ◌∷◌, ◌++◌, Option, Some, None, map, fold, refl, arith}
 use Rattle.std.specs.Prelude.{nat_le, slice_index}
 use Rattle.std.proofs.lemmas.Bool.{eqb-true, eq-eqb}
 use Rattle.std.proofs.lemmas.List.{get_or_append_left, get_or_at, length-map, map-append}
@@ -42,20 +42,7 @@ pub entered-levels : (at : ℕ → ℕ) (new : Option Address) (level cluster : 
     ≡ cond (has level levels && cluster == at level) new entry
 entered-levels at new level cluster entry [] = refl
 entered-levels at new level cluster entry (l ∷ levels) =
-    entered-levels at new level cluster (cond (level == l && cluster == at l) new entry) levels
-    ∙ at_test (level == l) refl
-  where
-    twice : (h k : Bool) → cond (h && k) new (cond k new entry) ≡ cond k new entry
-    twice true true = refl
-    twice h k = refl
-
-    at_test : (b : Bool) → (level == l) ≡ b → cond (has level levels && cluster == at level) new
-        (cond (b && cluster == at l) new entry) ≡ cond ((b || has level levels) && cluster == at level) new entry
-    at_test true e =
-        let same : level ≡ l = eqb-true level l e in
-        ap (λ n. cond (has level levels && cluster == at level) new (cond (cluster == at n) new entry)) (sym same)
-        ∙ twice (has level levels) (cluster == at level)
-    at_test false e = refl
+    grind (arith, eqb-true, entered-levels at new level cluster (cond (level == l && cluster == at l) new entry) levels)
 
 -- the stop where the address of a level was made, whatever moves come behind, and that of a move
 pub old-stop : {setting : Setting} {course : Course} (more : List Move) (level : ℕ) → IsSound setting course
@@ -67,19 +54,6 @@ pub new-stop : {setting : Setting} {course : Course} {move : Move} → IsNext se
     → stop (with_move course move) move.number ≡ move.to
 new-stop {course} {move} next = grind (arith, map-append, length-map, get_or_at)
 
--- the address of a level after a move
-pub address-with : {setting : Setting} {course : Course} {move : Move} (level : ℕ) → IsSound setting course
-    → IsNext setting course move
-    → address_node (with_move course move) level ≡ cond (nat_le level move.renewed) move.to
-    (address_node course level)
-address-with {course} {move} level sound next =
-    ap (stop (with_move course move)) (base-with level course move) ∙ at_test (nat_le level move.renewed)
-  where
-    at_test : (b : Bool) → stop (with_move course move) (cond b move.number (base level course.moves))
-        ≡ cond b move.to (address_node course level)
-    at_test true = new-stop next
-    at_test false = old-stop (move ∷ []) level sound
-
 -- when a move has made all its writes its subscriber rests again
 pub entries-rest : {setting : Setting} {course : Course} {move : Move} (written erased : List ℕ) (level cluster : ℕ)
     → IsSound setting course → IsNext setting course move
@@ -88,34 +62,4 @@ pub entries-rest : {setting : Setting} {course : Course} {move : Move} (written 
     → entry_erased setting course move written erased level cluster
     ≡ rest_entry setting (with_move course move) level cluster
 entries-rest {setting} {course} {move} written erased level cluster sound next all gone =
-    rw (all, gone, address-with level sound next, base-with level course move) (at_test (nat_le level move.renewed))
-  where
-    old : ℕ
-    old = old_home setting course level
-
-    new : ℕ
-    new = setting.home level move.to
-
-    its : Option Address
-    its = Some (record { number = base level course.moves; node = address_node course level })
-
-    renewed : (x y z : Bool) → (x ≡ true → y ≡ z) → (y ≡ true → z ≡ true → x ≡ true)
-        → cond (not x && y) None (cond z (new_entry move) (cond y its None)) ≡ cond z (new_entry move) None
-    renewed true true false f g = let e : true ≡ false = f refl in cc
-    renewed true false true f g = let e : false ≡ true = f refl in cc
-    renewed false true true f g = let e : false ≡ true = g refl refl in cc
-    renewed x y z f g = refl
-
-    at_test : (b : Bool)
-        → cond ((b && not (old == new)) && cluster == old) None
-        (cond (b && cluster == new) (new_entry move) (cond (cluster == old) its None))
-        ≡ cond (cluster == setting.home level (cond b move.to (address_node course level)))
-        (Some (record {
-          number = cond b move.number (base level course.moves);
-          node = cond b move.to
-              (address_node course level);
-        })) None
-    at_test true = renewed (old == new) (cluster == old) (cluster == new)
-        (λ e. ap (λ n. cluster == n) (eqb-true old new e))
-        (λ e f. eq-eqb old new (sym (eqb-true cluster old e) ∙ eqb-true cluster new f))
-    at_test false = refl
+    grind (arith, base-with, new-stop, old-stop, eqb-true, eq-eqb)

@@ -1,7 +1,7 @@
 -- The marks of a subscriber in closed form: at rest after a course, and in each phase of the move that comes next.
-use Rattle.std.proofs.lemmas.Bool.{or_parts, eqb-true}
+use Rattle.std.proofs.lemmas.Bool.{or_parts}
 use Rattle.trail_laws.proofs.Links.{stop-inside, IsSound, base-low, linked-push, renewed-low}
-use Rattle.std.proofs.Common.{◌≡◌, ◌≢◌, ℕ, suc, ◌<◌, ◌≤◌, Bool, true, false, cond, not, ◌==◌, ◌&&◌, ◌||◌, List, [], ◌∷◌, ◌++◌, length, map, drop, fold, refl, sym, ap, ◌∙◌, arith, length-append}
+use Rattle.std.proofs.Common.{◌≡◌, ◌≢◌, ℕ, suc, ◌<◌, ◌≤◌, true, false, cond, not, ◌==◌, ◌&&◌, List, [], ◌∷◌, ◌++◌, length, map, drop, fold, refl, ap, ◌∙◌, arith, length-append}
 use Rattle.std.specs.Prelude.{if◌then◌else◌, nat_le}
 use Rattle.std.proofs.lemmas.Bool.Decides.{nat_tests}
 use Rattle.std.proofs.lemmas.List.{drop-append-le, map-append}
@@ -59,12 +59,7 @@ fold-still f a g (x ∷ xs) still = ap (λ b. fold f b (map g xs)) (still x) ∙
 pub marked-purges : (v : ℕ) (mark : PresenceMark) (nodes : List ℕ)
     → marked v mark (map (λ node. mark_at node Empty) nodes) ≡ cond (has v nodes) Empty mark
 marked-purges v mark [] = refl
-marked-purges v mark (node ∷ nodes) = marked-purges v (cond (v == node) Empty mark) nodes
-    ∙ at_test (v == node) (has v nodes)
-  where
-    at_test : (a b : Bool) → cond b Empty (cond a Empty mark) ≡ cond (a || b) Empty mark
-    at_test true true = refl
-    at_test a b = refl
+marked-purges v mark (node ∷ nodes) = grind (arith, marked-purges v (cond (v == node) Empty mark) nodes)
 
 -- the trail with one more move
 pub trail_mark-push : (moves : List Move) (move : Move) (v : ℕ) (mark : PresenceMark)
@@ -81,8 +76,7 @@ pub trail_mark-none : (moves : List Move) (v : ℕ) (mark : PresenceMark)
 unfolding trail_mark
 trail_mark-none [] v mark h = refl
 trail_mark-none (move ∷ later) v mark h =
-    let parts = or_parts (v == move.from) (has v (map (λ (m : Move). m.from) later)) h in
-    rw parts.0 (trail_mark-none later v mark parts.1)
+    grind (arith, or_parts, trail_mark-none later v mark)
 
 -- a move that comes next
 pub record IsNext (setting : Setting) (course : Course) (move : Move) : Type 0 where
@@ -101,15 +95,7 @@ from-inside sound next = rw next.from (stop-inside sound)
 
 pub is-next : {setting : Setting} {course : Course} {node : ℕ} → MayMove setting course node
     → IsNext setting course (next_move setting course node)
-is-next {setting} {course} {node} may = record {
-  number = refl;
-  from = refl;
-  weight = refl;
-  renewed = renewed-low setting course node;
-  inside = may.inside;
-  moving = may.moving;
-  is_on = may.is_on;
-}
+is-next {setting} {course} {node} may = grind (arith, renewed-low)
 
 -- the course after a move
 abbrev pub with_move : Course → Move → Course
@@ -117,15 +103,7 @@ with_move course move = record course { moves = course.moves ++ move ∷ [] }
 
 pub sound-with : {setting : Setting} {course : Course} {move : Move} → IsSound setting course
     → IsNext setting course move → IsSound setting (with_move course move)
-sound-with {setting} {course} {move} sound next = record {
-  begins = sound.begins;
-  linked = linked-push setting course.start 0 course.moves move (record {
-    its_number = omega (arith, next.number);
-    its_from = next.from;
-    its_weight = next.weight ∙ ap (λ n. setting.distance n move.to) next.from;
-    inside = next.inside;
-  }) sound.linked;
-}
+sound-with {setting} {course} {move} sound next = grind (arith, linked-push)
 
 pub stop-with : (course : Course) (move : Move) → last_stop (with_move course move) ≡ move.to
 stop-with course move = fold-append (λ node (m : Move). m.to) course.start course.moves (move ∷ [])
@@ -136,32 +114,7 @@ count-with course move = omega (arith, length-append course.moves (move ∷ []))
 pub base-with : (level : ℕ) (course : Course) (move : Move)
     → base level (with_move course move).moves ≡ cond (nat_le level move.renewed) move.number
     (base level course.moves)
-base-with level course move = fold-append (λ last (m : Move). if nat_le level m.renewed then m.number else last) 0
-    course.moves (move ∷ [])
-
-there-with : {setting : Setting} {course : Course} {move : Move} → IsNext setting course move
-    → there (with_move course move) ≡ Here move.number
-there-with {course} {move} next = grind (arith, with_move, count-with)
-
-pub trail-has : {setting : Setting} {course : Course} (move : Move) (v : ℕ) → IsSound setting course
-    → has v (trail setting course move) ≡ (has v (map (λ (m : Move). m.from) (since_top setting course)) ||
-    (v == move.from || false))
-trail-has {setting} {course} move v sound = grind (arith, base-low, drop-append-le, since_top, map-append, has-append)
-
--- a renewal of the top level leaves the new node alone
-purged-rest : (f a b : Bool) (here gone coming its mark : PresenceMark) → (f ≡ false → mark ≡ Empty)
-    → cond ((f || (b || false)) && not a) Empty (cond a here (cond b gone (cond a coming (cond b its mark))))
-    ≡ cond a here Empty
-purged-rest false false false here gone coming its mark h = h refl
-purged-rest false true true here gone coming its mark h = refl
-purged-rest true true b here gone coming its mark h = refl
-purged-rest f a b here gone coming its mark h = refl
-
--- another move adds the node that it left to the trail
-added-rest : (a b : Bool) (here gone coming its mark : PresenceMark)
-    → cond a here (cond b gone (cond a coming (cond b its mark))) ≡ cond a here (cond b gone mark)
-added-rest false true here gone coming its mark = refl
-added-rest a b here gone coming its mark = refl
+base-with level course move = grind (arith, fold-append)
 
 -- when a move has made all its writes its subscriber rests again
 pub marks-rest : {setting : Setting} {course : Course} {move : Move} (purged : List ℕ) (v : ℕ)
@@ -172,41 +125,18 @@ pub marks-rest : {setting : Setting} {course : Course} {move : Move} (purged : L
     → mark_erasing setting course move purged v ≡ rest_mark setting (with_move course move) v
 unfolding trail_mark
 marks-rest {setting} {course} {move} purged v sound next whole none =
-    rw (stop-with course move, there-with next, sym next.from) (at_top (move.renewed == setting.top) refl)
-  where
-    since : List Move
-    since = since_top setting course
-
-    at_top : (b : Bool) → (move.renewed == setting.top) ≡ b
-        → cond (has v purged) Empty (cond (v == move.to) (Here move.number)
-        (cond (v == move.from) (Gone move.number move.to)
-        (cond (v == move.to) (Coming move.number move.from)
-        (cond (v == move.from) (there course) (trail_mark since v Empty)))))
-        ≡ cond (v == move.to) (Here move.number) (trail_mark (since_top setting (with_move course move)) v Empty)
-    at_top true e =
-        let same : move.renewed ≡ setting.top = eqb-true move.renewed setting.top e in
-        let top : nat_le setting.top move.renewed ≡ true = grind (arith, nat_tests, same) in
-        let none_since : since_top setting (with_move course move)
-        ≡ [] = drop_of_length-le (with_move course move).moves
-        {i = base setting.top (with_move course move).moves}
-        (omega (
-          arith,
-          base-with setting.top course move
-              ∙ ap (λ b. cond b move.number (base setting.top course.moves)) top,
-          next.number,
-          count-with course move,
-        ))
-        in
-        rw (none_since, whole e, trail-has move v sound)
-        (purged-rest (has v (map (λ (m : Move). m.from) since)) (v == move.to) (v == move.from) (Here move.number)
-        (Gone move.number move.to) (Coming move.number move.from) (there course) (trail_mark since v Empty)
-        (trail_mark-none since v Empty) ∙ ap (cond (v == move.to) (Here move.number)) refl)
-    at_top false e =
-        let low : nat_le setting.top move.renewed ≡ false = grind (arith, nat_tests, next.renewed, e) in
-        let one_since : since_top setting (with_move course move) ≡ since ++ move ∷ [] =
-        ap (λ n. drop n (course.moves ++ move ∷ [])) (base-with setting.top course move
-        ∙ ap (λ b. cond b move.number (base setting.top course.moves)) low)
-        ∙ drop-append-le (base setting.top course.moves) course.moves (move ∷ []) (base-low setting.top sound) in
-        rw (one_since, none e, trail_mark-push since move v Empty)
-        (added-rest (v == move.to) (v == move.from) (Here move.number) (Gone move.number move.to)
-        (Coming move.number move.from) (there course) (trail_mark since v Empty))
+    grind (
+      arith,
+      nat_tests,
+      stop-with,
+      with_move,
+      count-with,
+      base-with,
+      base-low,
+      drop_of_length-le,
+      drop-append-le,
+      map-append,
+      has-append,
+      trail_mark-none,
+      trail_mark-push,
+    )

@@ -1,5 +1,5 @@
 -- What the writes of steps leave in closed form: of a move in each phase, and of whole steps.
-use Rattle.std.proofs.Common.{◌≡◌, inl, inr, ℕ, suc, ◌<◌, Bool, true, false, cond, not, ◌==◌, ◌&&◌, List, [], ◌∷◌, ◌++◌, None, length, map, fold, refl, sym, ap, ◌∙◌, arith, append_assoc}
+use Rattle.std.proofs.Common.{◌≡◌, inl, inr, ℕ, suc, ◌<◌, Bool, true, false, cond, not, ◌==◌, ◌&&◌, List, [], ◌∷◌, ◌++◌, None, map, fold, refl, sym, ap, ◌∙◌, arith, append_assoc}
 use Rattle.std.specs.Prelude.{nat_le, filter_map}
 use Rattle.std.specs.List.{cons_option}
 use Rattle.std.proofs.lemmas.Bool.Decides.{nat_tests}
@@ -8,18 +8,17 @@ use Rattle.std.proofs.lemmas.List.Sums.{fold-append}
 use Rattle.std.proofs.lemmas.List.Elements.{filter_map-append}
 use Rattle.node_set.specs.Ascending.{has, sift}
 use Rattle.node_set.specs.SetLaws.{has-passing, passing_over}
-use Rattle.entry_word.specs.declared.mark.PresenceMark.{PresenceMark}
-use Rattle.entry_word.specs.declared.mark.PresenceMark.TheVariants.{Empty, Here, Gone, Coming, Off}
+use Rattle.entry_word.specs.declared.mark.PresenceMark.TheVariants.{Empty, Here, Gone, Coming}
 use Rattle.directory.specs.Settings.{Setting}
-use Rattle.directory.specs.Courses.{Step, move_to, switch_off, switch_on, Move, Course, last_stop, next_move, after_step, after_steps, MayStep, MaySteps}
-use Rattle.directory.specs.Writes.{Write, mark_at, entry_at, new_address, old_home, erasure_writes, move_writes, step_writes, writes}
+use Rattle.directory.specs.Courses.{Step, move_to, Move, Course, next_move, after_step, after_steps, MayStep, MaySteps}
+use Rattle.directory.specs.Writes.{Write, mark_at, entry_at, new_address, old_home, move_writes, step_writes, writes}
 use Rattle.directory.specs.Standing.{commit_by}
 use Rattle.directory.specs.States.{entry_after, mark_after, write_commit, write_off}
 use Rattle.trail_laws.proofs.Links.{IsSound, sound-step}
-use Rattle.trail_laws.proofs.ClosedMarks.{IsNext, is-next, rest_mark, mark_coming, mark_passing, mark_erasing, fold-still, marked, marked-purges, with_move, marks-rest, there}
+use Rattle.trail_laws.proofs.ClosedMarks.{IsNext, is-next, rest_mark, mark_passing, mark_erasing, fold-still, marked, marked-purges, with_move, marks-rest}
 use Rattle.trail_laws.proofs.ClosedEntries.{rest_entry, entry_written, entry_erased, new_entry, entered, entered-levels, entries-rest}
 use Rattle.trail_laws.proofs.ClosedViews.{clearing, coming, old_levels, passage, Phase, phase_commits, phase_entry, phase_mark, purge_nodes, purged_nodes, renewed_levels}
-use Rattle.std.proofs.lemmas.Bool.{cases_lt}
+use Rattle.std.proofs.lemmas.Bool.{cases_Bool, cases_lt}
 use Rattle.std.proofs.Math.Bool.{and-true}
 
 -- ---- the writes of a move in each phase, by lists of levels and nodes
@@ -74,57 +73,39 @@ module _ (setting : Setting) (course : Course) (move : Move) where
     on = λ off. addresses-still (λ o write. write_off write) false written (λ level. refl);
   }
   leaves passage = record {
-    marks = λ v. fold-append (mark_after v) _ (map (new_address setting move) (renewed_levels move)) _
-        ∙ ap (λ m. cond (v == move.from) (Gone move.number move.to) m)
-        (addresses-still (mark_after v) (mark_coming setting course move v) (renewed_levels move) (λ level. refl));
-    entries = λ level cluster.
-        fold-append (entry_after level cluster) _ (map (new_address setting move) (renewed_levels move)) _
-        ∙ entered-levels (λ l. setting.home l move.to) (new_entry move) level cluster
-        (rest_entry setting course level cluster) (renewed_levels move);
-    commits = ap (λ cs. map commit_by course.moves ++ cs)
-        (filter_map-append write_commit (map (new_address setting move) (renewed_levels move)) _
-        ∙ ap (λ cs. cs ++ commit_by move ∷ []) (none-new (renewed_levels move)))
-        ∙ sym (map-append commit_by course.moves (move ∷ []));
-    on = λ off. fold-append (λ o write. write_off write) false
-        (map (new_address setting move) (renewed_levels move)) _;
+    marks = grind (arith, fold-append, addresses-still);
+    entries = λ level cluster. grind (
+      arith,
+      fold-append,
+      entered-levels (λ l. setting.home l move.to) (new_entry move) level cluster
+          (rest_entry setting course level cluster) (renewed_levels move),
+    );
+    commits = grind (arith, filter_map-append, none-new, map-append);
+    on = grind (arith, fold-append);
   }
   leaves (clearing erased purged) = record {
-    marks = λ v. fold-append (mark_after v) _ (map (new_address setting move) (renewed_levels move)) _
-        ∙ (ap (λ m. marked v (cond (v == move.to) (Here move.number)
-        (cond (v == move.from) (Gone move.number move.to) m)) (erasures setting course erased ++ purges purged))
-        (addresses-still (mark_after v) (mark_coming setting course move v) (renewed_levels move) (λ level. refl))
-        ∙ (fold-append (mark_after v) (arrived v) (erasures setting course erased) (purges purged)
-        ∙ (ap (λ m. marked v m (purges purged)) (fold-still (mark_after v) (arrived v)
-        (λ (level : ℕ). entry_at level (old_home setting course level) None) erased (λ level. refl))
-        ∙ marked-purges v (arrived v) purged)));
-    entries = λ level cluster.
-        fold-append (entry_after level cluster) _ (map (new_address setting move) (renewed_levels move)) _
-        ∙ (ap (λ e. entered level cluster e (erasures setting course erased ++ purges purged))
-        (entered-levels (λ l. setting.home l move.to) (new_entry move) level cluster
-        (rest_entry setting course level cluster) (renewed_levels move))
-        ∙ (fold-append (entry_after level cluster) _ (erasures setting course erased) (purges purged)
-        ∙ (fold-still (entry_after level cluster) _ (λ (node : ℕ). mark_at node Empty) purged (λ node. refl)
-        ∙ entered-levels (λ l. old_home setting course l) None level cluster
-        (entry_written setting course move (renewed_levels move) level cluster) erased)));
-    commits = ap (λ cs. map commit_by course.moves ++ cs)
-        (filter_map-append write_commit (map (new_address setting move) (renewed_levels move)) _
-        ∙ (ap (λ cs. cs ++ (commit_by move ∷ filter_map write_commit (erasures setting course erased ++ purges purged)))
-        (none-new (renewed_levels move))
-        ∙ ap (λ cs. commit_by move ∷ cs)
-        (filter_map-append write_commit (erasures setting course erased) (purges purged)
-        ∙ (ap (λ cs. cs ++ filter_map write_commit (purges purged)) (none-told _ erased (λ level. refl))
-        ∙ none-told _ purged (λ node. refl)))))
-        ∙ sym (map-append commit_by course.moves (move ∷ []));
-    on = λ off. fold-append (λ o write. write_off write) false
-        (map (new_address setting move) (renewed_levels move)) _
-        ∙ (fold-append (λ o write. write_off write) false (erasures setting course erased) (purges purged)
-        ∙ (ap (λ o. fold (λ x write. write_off write) o (purges purged))
-        (fold-still (λ o write. write_off write) false _ erased (λ level. refl))
-        ∙ fold-still (λ o write. write_off write) false _ purged (λ node. refl)));
+    marks = λ v. grind (
+      arith,
+      fold-append,
+      addresses-still,
+      fold-still (mark_after v) (cond (v == move.to) (Here move.number) (mark_passing setting course move v))
+          (λ (level : ℕ). entry_at level (old_home setting course level) None) erased (λ level. refl),
+      marked-purges,
+    );
+    entries = λ level cluster. grind (
+      arith,
+      fold-append,
+      entered-levels (λ l. setting.home l move.to) (new_entry move) level cluster
+          (rest_entry setting course level cluster) (renewed_levels move),
+      entered-levels (λ l. old_home setting course l) None level cluster
+          (entry_written setting course move (renewed_levels move) level cluster) erased,
+      fold-still (entry_after level cluster)
+          (entry_erased setting course move (renewed_levels move) erased level cluster)
+          (λ (node : ℕ). mark_at node Empty) purged (λ node. refl),
+    );
+    commits = grind (arith, filter_map-append, none-new, none-told, map-append);
+    on = grind (arith, fold-append, fold-still);
   }
-    where
-      arrived : ℕ → PresenceMark
-      arrived v = cond (v == move.to) (Here move.number) (mark_passing setting course move v)
 
 -- ---- a whole move
 abbrev pub whole_phase : Setting → Course → Move → Phase
@@ -133,25 +114,14 @@ whole_phase setting course move = clearing (old_levels setting course move) (pur
 pub whole-writes : (setting : Setting) (course : Course) (move : Move)
     → move_writes setting course move ≡ phase_writes setting course move (whole_phase setting course move)
 unfolding phase_writes
-whole-writes setting course move =
-    ap (λ ws. mark_at move.to (Coming move.number move.from) ∷
-    (map (new_address setting move) (renewed_levels move) ++
-    (mark_at move.from (Gone move.number move.to) ∷
-    (mark_at move.to (Here move.number) ∷ (erasure_writes setting course move ++ ws)))))
-    (at_test (move.renewed == setting.top))
-  where
-    at_test : (b : Bool) → cond b (purges (purge_nodes setting course move)) []
-        ≡ purges (cond b (purge_nodes setting course move) [])
-    at_test true = refl
-    at_test false = refl
+whole-writes setting course move = grind arith
 
 -- which levels and nodes pass a test
 in-passing : (test : ℕ → Bool) (x n : ℕ) → has x (sift test 0 (suc n)) ≡ (nat_le x n && test x)
 in-passing test x n = elim (cases_lt n x) as (λ _. has x (sift test 0 (suc n)) ≡ (nat_le x n && test x)) [
   | inr low ↦ let e : nat_le x n ≡ true = grind (arith, nat_tests, low) in rw e
       (has-passing test x 0 (suc n) (omega arith) (omega arith))
-  | inl high ↦ let e : nat_le x n ≡ false = grind (arith, nat_tests, high) in rw e
-      (passing_over test x 0 (suc n) (omega arith))
+  | inl high ↦ grind (arith, passing_over)
 ]
 
 pub in-levels : (level : ℕ) (move : Move) → has level (renewed_levels move) ≡ nat_le level move.renewed
@@ -187,10 +157,6 @@ fold-steps f setting its one course (step ∷ steps) sound may =
     ∙ (ap (λ a. fold f a (writes setting (after_step setting course step) steps)) (one course step sound may.0)
     ∙ fold-steps f setting its one (after_step setting course step) steps (sound-step step sound may.0) may.1)
 
-over-again : (b : Bool) (new old mark : PresenceMark) → cond b new (cond b old mark) ≡ cond b new mark
-over-again true new old mark = refl
-over-again false new old mark = refl
-
 pub marks-steps : {setting : Setting} {course : Course} (steps : List Step) (v : ℕ) → v < setting.nodes
     → IsSound setting course → MaySteps setting course steps
     → marked v (rest_mark setting course v) (writes setting course steps)
@@ -206,8 +172,7 @@ marks-steps {setting} {course} steps v low = fold-steps (mark_after v) setting
         ap (marked v (rest_mark setting course v)) (whole-writes setting course move)
         ∙ ((leaves setting course move (whole_phase setting course move)).marks v
         ∙ whole-marks v low sound (is-next may))
-    one course switch_off sound may = over-again (v == last_stop course) (Off (length course.moves)) (there course) _
-    one course switch_on sound may = over-again (v == last_stop course) (Here (length course.moves)) (there course) _
+    one course step sound may = grind (arith, nat_tests, cases_Bool)
 
 pub entries-steps : {setting : Setting} {course : Course} (steps : List Step) (level cluster : ℕ)
     → IsSound setting course → MaySteps setting course steps
@@ -232,12 +197,8 @@ pub commits-steps : (setting : Setting) (course : Course) (steps : List Step)
 unfolding writes
 commits-steps setting course [] = append-nil (map commit_by course.moves)
 commits-steps setting course (step ∷ steps) =
-    ap (λ cs. map commit_by course.moves ++ cs) (filter_map-append write_commit (step_writes setting course step)
-    (writes setting (after_step setting course step) steps))
-    ∙ (sym (append_assoc (map commit_by course.moves) (filter_map write_commit (step_writes setting course step))
-    (filter_map write_commit (writes setting (after_step setting course step) steps)))
-    ∙ (ap (λ cs. cs ++ filter_map write_commit (writes setting (after_step setting course step) steps)) (one step)
-    ∙ commits-steps setting (after_step setting course step) steps))
+    let more = commits-steps setting (after_step setting course step) steps in
+    grind (arith, filter_map-append, append_assoc, one step)
   where
     one : (step : Step) → map commit_by course.moves ++ filter_map write_commit (step_writes setting course step)
         ≡ map commit_by (after_step setting course step).moves

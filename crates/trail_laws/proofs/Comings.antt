@@ -1,6 +1,7 @@
 -- A Coming stands at one node, and leads to where the subscriber stands.
 use Rattle.std.proofs.lemmas.Bool.{cases_Bool, cases_cond, eqb-true}
-use Rattle.std.proofs.Common.{◌≡◌, inl, inr, ℕ, ◌+◌, ◌<◌, ◌≤◌, Bool, true, false, cond, Option, refl, sym, ◌∙◌, arith}
+use Rattle.std.proofs.Common.{◌≡◌, inl, inr, ℕ, ◌+◌, ◌<◌, ◌≤◌, Bool, true, cond, Option, refl, sym, ◌∙◌, arith}
+use Rattle.std.proofs.lemmas.Bool.Decides.{nat_tests}
 use Rattle.entry_word.specs.declared.mark.PresenceMark.TheVariants.{Empty, Here, Gone, Coming}
 use Rattle.directory.specs.Settings.{Setting}
 use Rattle.directory.specs.Courses.{Move, Course, last_stop}
@@ -32,20 +33,16 @@ rest-not_coming {setting} {course} v p u sound h = grind (arith, cases_Bool, the
 module _ {setting : Setting} {course : Course} (move : Move) (v p u : ℕ) (sound : IsSound setting course) where
   coming-not : (t : Bool) → cond t (Coming move.number move.from) (rest_mark setting course v) ≡ Coming p u
       → (t ≡ true) × (u ≡ move.from)
-  coming-not true h = (refl, cc)
-  coming-not false h = absurd (rest-not_coming v p u sound h)
+  coming-not t h = grind (arith, rest-not_coming)
 
   passing-not : (f t : Bool) → cond f (Gone move.number move.to)
       (cond t (Coming move.number move.from) (rest_mark setting course v)) ≡ Coming p u
       → (t ≡ true) × (u ≡ move.from)
-  passing-not true t h = cc
-  passing-not false t h = coming-not t h
+  passing-not f t h = grind (arith, coming-not)
 
   clearing-not : (a t f : Bool) → cond a Empty (cond t (Here move.number) (cond f (Gone move.number move.to)
       (cond t (Coming move.number move.from) (rest_mark setting course v)))) ≡ Coming p u → ⊥
-  clearing-not true t f h = cc
-  clearing-not false true f h = cc
-  clearing-not false false f h = let clash : false ≡ true = (passing-not f false h).0 in cc
+  clearing-not a t f h = grind (arith, passing-not)
 
 -- where a view has a Coming
 pub coming_node : (setting : Setting) (shown : Shown) → View setting shown → ℕ
@@ -55,13 +52,8 @@ coming_node setting shown (inr h) = h.1.move.to
 pub coming-one : {setting : Setting} {shown : Shown} (v p u : ℕ) → v < setting.nodes → (view : View setting shown)
     → shown.marks v ≡ Coming p u → v ≡ coming_node setting shown view
 unfolding coming_node
-coming-one v p u low (inl h) comes = absurd (rest-not_coming v p u h.sound (sym (h.marks_are v low) ∙ comes))
-coming-one v p u low (inr (coming written, h)) comes =
-    eqb-true v h.move.to (coming-not h.move v p u h.sound _ (sym (h.marks_are v low) ∙ comes)).0
-coming-one v p u low (inr (passage, h)) comes =
-    eqb-true v h.move.to (passing-not h.move v p u h.sound _ _ (sym (h.marks_are v low) ∙ comes)).0
-coming-one v p u low (inr (clearing erased purged, h)) comes =
-    absurd (clearing-not h.move v p u h.sound _ _ _ (sym (h.marks_are v low) ∙ comes))
+coming-one v p u low view comes =
+    grind (arith, nat_tests, cases_Bool, rest-not_coming, eqb-true, coming-not, passing-not, clearing-not)
 
 -- from the node that it names the marks lead on
 pub coming-leads_on : {setting : Setting} {shown : Shown} (v p u : ℕ) (known : Option ℕ) → v < setting.nodes

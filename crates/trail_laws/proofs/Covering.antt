@@ -1,17 +1,14 @@
 -- The phases of a move cover all that a legal history leaves; in the first one its Coming stands where it goes.
-use Rattle.std.proofs.Common.{◌≡◌, ◌⊎◌, inl, inr, ℕ, suc, List, [], ◌∷◌, ◌++◌, Some, None, length, refl, sym, ap, ◌∙◌, arith, eq-eqb}
+use Rattle.std.proofs.Common.{◌≡◌, suc, List, [], ◌∷◌, ◌++◌, Some, None, length, sym, ◌∙◌, arith, eq-eqb}
 use Rattle.std.specs.List.{last_or}
-use Rattle.entry_word.specs.declared.mark.PresenceMark.{PresenceMark}
 use Rattle.entry_word.specs.declared.mark.PresenceMark.TheVariants.{Coming}
 use Rattle.directory.specs.Settings.{Setting}
 use Rattle.directory.specs.Courses.{Move}
-use Rattle.directory.specs.Histories.{puts_to}
-use Rattle.directory.specs.Puts.{course_in}
-use Rattle.directory.specs.Standing.{number, standing}
-use Rattle.trail_laws.specs.Trail.{mark_seen, MarksTell, MarkTells}
-use Rattle.trail_laws.specs.Phases.{ComingStands, IsBeforeCommit, IsPassingFrom, IsSettled, PhasesCover}
+use Rattle.directory.specs.Standing.{standing}
+use Rattle.trail_laws.specs.Trail.{MarksTell}
+use Rattle.trail_laws.specs.Phases.{ComingStands, PhasesCover}
 use Rattle.trail_laws.specs.Ways.{StandsInside}
-use Rattle.trail_laws.proofs.ClosedViews.{clearing, coming, passage, Shown, View}
+use Rattle.trail_laws.proofs.ClosedViews.{Shown, View}
 use Rattle.trail_laws.proofs.Tells.{all-committed, count-told}
 use Rattle.trail_laws.proofs.Stops.{view-counts}
 use Rattle.trail_laws.proofs.Laws.{HistoryView, Laws, view}
@@ -20,25 +17,12 @@ use Rattle.std.proofs.lemmas.Option.{same_Some}
 
 pub covers : Laws → MarksTell → StandsInside → PhasesCover
 unfolding HistoryView
-covers laws marks inside setting sub history low legal = elim (view-counts (view laws history low legal)) [
-  | inl before ↦ inl before
-  | inr all ↦ at_mark all (mark_seen setting sub history (standing setting sub history)) refl
-      (marks setting sub history low legal (standing setting sub history) (inside setting sub history low legal))
-]
-  where
-    Goal : Type 0
-    Goal = IsBeforeCommit setting sub history
-        ⊎ (((from : ℕ) × IsPassingFrom setting sub history from) ⊎ IsSettled setting sub history)
-
-    at_mark : length (course_in setting sub (puts_to sub history)).moves ≡ number sub history → (mark : PresenceMark)
-        → mark_seen setting sub history (standing setting sub history) ≡ mark
-        → MarkTells setting sub history (standing setting sub history) mark → Goal
-    at_mark all (Coming p from) e tells = inr (inl (from, e ∙ ap (λ n. Coming n from) (tells.0 ∙ all)))
-    at_mark all mark e tells = inr (inr (
-      all,
-      λ from comes.
-          let clash : mark ≡ Coming (number sub history) from = sym e ∙ comes in cc,
-    ))
+covers laws marks inside setting sub history low legal =
+    grind (
+      arith,
+      view-counts (view laws history low legal),
+      marks setting sub history low legal (standing setting sub history) (inside setting sub history low legal),
+    )
 
 -- a move that isn't committed has its Coming where it goes
 last-is : (xs : List Move) (x y : Move) → last_or None (xs ++ x ∷ []) ≡ Some y → x ≡ y
@@ -47,13 +31,7 @@ last-is xs x y h = same_Some x y (sym (last_or-push None xs x) ∙ h)
 begun-shown : {setting : Setting} {shown : Shown} (move : Move) → View setting shown
     → length shown.moves ≡ suc (length shown.commits) → last_or None shown.moves ≡ Some move
     → shown.marks move.to ≡ Coming move.number move.from
-begun-shown move (inl h) early last =
-    absurd (omega (arith, early, ap length h.moves_are, count-told h.course.moves h.commits_are))
-begun-shown move (inr (coming written, h)) early last =
-    rw (← last-is h.course.moves h.move move (sym (ap (last_or None) h.moves_are) ∙ last))
-    (h.marks_are h.move.to h.next.inside ∙ rw (eq-eqb h.move.to h.move.to refl))
-begun-shown move (inr (passage, h)) early last = absurd (all-committed h h.commits_are early)
-begun-shown move (inr (clearing erased purged, h)) early last = absurd (all-committed h h.commits_are early)
+begun-shown move view early last = grind (arith, count-told, last-is, eq-eqb, all-committed)
 
 pub coming-stands : Laws → ComingStands
 unfolding HistoryView

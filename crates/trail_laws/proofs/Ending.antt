@@ -1,27 +1,18 @@
 -- Where the scripts lead, and that the censuses at the end of an order say so.
-use Rattle.std.proofs.Common.{◌≡◌, ◌<◌, ◌≤◌, ◌^◌, ℕ, Bool, true, false, refl, sym, ap, ◌∙◌, arith, eqb-true, eq-eqb}
+use Rattle.std.proofs.Common.{◌≡◌, ◌<◌, ◌≤◌, ◌^◌, ℕ, Bool, true, false, sym, ap, ◌∙◌, arith, eqb-true, eq-eqb}
 use Rattle.entry_word.specs.Marks.{mark_in, says_here}
 use Rattle.entry_word.specs.declared.visit.Key.TheVariants.{Presence}
 use Rattle.std.specs.Prelude.{◌==◌, ◌&&◌, not, slice_index}
 use Rattle.node_set.specs.SetLaws.{has-passing, passing_same}
 use Rattle.directory.specs.Settings.{Setting, start, subs}
-use Rattle.directory.specs.Courses.{Course, after_steps, course_at, last_stop}
-use Rattle.directory.specs.Histories.{History, cell, puts_to}
-use Rattle.directory.specs.Legal.{IsLegal}
+use Rattle.directory.specs.Histories.{History, cell}
 use Rattle.directory.specs.Orders.{AreValid, IsDone, IsPlayed, Scripts, history_of, steps_of}
-use Rattle.directory.specs.Puts.{course_in}
 use Rattle.directory.specs.Standing.{off, standing}
 use Rattle.directory.specs.Statements.{DoneIsRest, DoneShowsScript, OrdersAreDone, OrdersArePlayed, PlayedIsLegal}
-use Rattle.directory.specs.Places.{Place, place_at_end}
+use Rattle.directory.specs.Places.{place_at_end}
 use Rattle.directory.specs.StepLaws.{place-after_steps}
 use Rattle.trail_laws.specs.Censuses.{CensusesEndByScripts, CensusesEndRight, IsCounted, is_on_at}
 use Rattle.trail_laws.specs.Phases.{RestEndsItsCourse}
-use Rattle.std.specs.Cmp.{both_ways}
-
-on-there : (node stands : ℕ) (is_off : Bool) → is_on_at node (record { node = stands; is_off = is_off }) ≡ true
-    → (node ≡ stands) × (is_off ≡ false)
-on-there node stands true h = let clash : false ≡ true = h in cc
-on-there node stands false h = (sym (eqb-true stands node h), refl)
 
 there-on : (node stands : ℕ) (is_off : Bool) → node ≡ stands → is_off ≡ false
     → is_on_at node (record { node = stands; is_off = is_off }) ≡ true
@@ -37,17 +28,7 @@ end-there : RestEndsItsCourse → DoneIsRest → DoneShowsScript → PlayedIsLeg
     (history : History) (sub : ℕ) → setting.nodes ≤ 2 ^ 16 → AreValid setting scripts → sub < subs setting
     → IsPlayed setting scripts history → IsDone setting scripts history sub → AtEnd setting scripts history sub
 end-there ends rests shows legal {setting} {scripts} history sub low valid known played done =
-    let is_legal : IsLegal setting sub history = legal setting scripts history sub low valid known played in
-    let its = ends setting sub history low is_legal (rests setting scripts history sub low valid known played done) in
-    let course : course_in setting sub (puts_to sub history)
-    ≡ after_steps setting (course_at (start setting sub)) (steps_of scripts sub) =
-    ap (after_steps setting (course_at (start setting sub)))
-    (shows setting scripts history sub low valid known played done) in
-    let place = place-after_steps setting (course_at (start setting sub)) (steps_of scripts sub) in
-    record {
-      stands = its.0 ∙ (ap last_stop course ∙ ap (λ (p : Place). p.node) (sym place));
-      off_is = its.1 ∙ (ap (λ (c : Course). c.is_off) course ∙ ap (λ (p : Place). p.is_off) (sym place));
-    }
+    grind (arith, place-after_steps)
 
 pub end-by_scripts : CensusesEndRight → RestEndsItsCourse → DoneIsRest → DoneShowsScript → OrdersArePlayed
     → OrdersAreDone → PlayedIsLegal → CensusesEndByScripts
@@ -65,9 +46,4 @@ end-by_scripts right ends rests shows played done legal setting scripts order no
         (omega (arith, known)) in
         let end = end-there ends rests shows legal (history_of setting scripts order) sub low valid known
         (played setting scripts order) (done setting scripts order sub) in
-        let place : Place = place_at_end (start setting sub) (steps_of scripts sub) in
-        both_ways _ _
-        (λ here. let on = counted.0 (listed ∙ here) in
-        there-on node place.node place.is_off (on.0 ∙ end.stands) (sym end.off_is ∙ on.1))
-        (λ there. let on = on-there node place.node place.is_off there in
-        sym listed ∙ counted.1 (on.0 ∙ sym end.stands, end.off_is ∙ on.1))
+        grind (arith, there-on, eqb-true)

@@ -1,10 +1,10 @@
 -- What the ways along the marks weigh, told for each state of the move under way.
-use Rattle.std.proofs.Common.{◌≡◌, ◌≢◌, ℕ, suc, ◌+◌, ◌*◌, ◌<◌, ◌≤◌, true, List, [], ◌∷◌, ◌++◌, None, length, sym, ap, ◌∙◌, arith}
-use Rattle.entry_word.specs.declared.mark.PresenceMark.TheVariants.{Here, Coming}
+use Rattle.std.proofs.Common.{◌≡◌, ◌≢◌, ℕ, suc, ◌+◌, ◌*◌, ◌<◌, ◌≤◌, List, [], ◌∷◌, ◌++◌, None, length, ap, ◌∙◌, arith}
+use Rattle.entry_word.specs.declared.mark.PresenceMark.TheVariants.{Coming}
 use Rattle.entry_word.specs.declared.address.Address.{Address}
 use Rattle.directory.specs.Settings.{Setting}
-use Rattle.directory.specs.Courses.{address_node, base, last_stop}
-use Rattle.trail_laws.specs.Trail.{answers, HasMetric}
+use Rattle.directory.specs.Courses.{base, last_stop}
+use Rattle.trail_laws.specs.Trail.{HasMetric}
 use Rattle.trail_laws.proofs.Links.{base-low}
 use Rattle.trail_laws.proofs.ClosedViews.{clearing, coming, IsMoving, IsResting, passage, Phase, Shown}
 use Rattle.trail_laws.proofs.Holders.{move_address, old_address}
@@ -36,13 +36,7 @@ fine-short : (setting : Setting) (shown : Shown) (level : ℕ) (address : Addres
     → (AreLazy setting shown.moves → way < setting.threshold level)
     → (length shown.moves ≡ suc (length shown.commits) → address.number ≡ suc (length shown.commits)
     → way ≤ setting.distance address.node (standing_of shown)) → IsFine setting shown level address way
-fine-short setting shown level address way short new = record {
-  before_old = λ metric lazy all old. short lazy;
-  before_new = λ metric lazy all is_new. new all is_new;
-  passing = λ metric lazy u comes. omega (arith, short lazy);
-  settled = λ metric lazy all other. omega (arith, short lazy);
-  current = λ metric lazy all other same. short lazy;
-}
+fine-short setting shown level address way short new = grind arith
 
 pub fine-rest : {setting : Setting} {shown : Shown} (h : IsResting setting shown) (level : ℕ) (address : Address)
     → level ≤ setting.top
@@ -66,14 +60,7 @@ fine-new {setting} {shown} h level address below = fine-short setting shown leve
 pub fine-coming_new : {setting : Setting} {shown : Shown} {written : List ℕ}
     (h : IsMoving setting shown (coming written)) (level : ℕ)
     → IsFine setting shown level (move_address h.move) (setting.distance h.move.to (last_stop h.course) + 0)
-fine-coming_new {setting} {shown} h level = record {
-  before_old = λ metric lazy all old.
-      absurd (omega (arith, old, h.next.number, count-told h.course.moves h.commits_are));
-  before_new = λ metric lazy all new. omega (arith, ap (setting.distance h.move.to) stood);
-  passing = λ metric lazy u comes. absurd (clash u comes);
-  settled = λ metric lazy all other. absurd (longer all);
-  current = λ metric lazy all other same. absurd (longer all);
-}
+fine-coming_new {setting} {shown} h level = grind (arith, count-told, stood, clash, longer)
   where
     stood : standing_of shown ≡ last_stop h.course
     stood = rest-stands shown h.course h.begins h.commits_are
@@ -82,9 +69,7 @@ fine-coming_new {setting} {shown} h level = record {
     longer all = omega (arith, all, begun-count h, h.next.number, count-told h.course.moves h.commits_are)
 
     clash : (u : ℕ) → shown.marks (standing_of shown) ≡ Coming (length shown.commits) u → ⊥
-    clash u comes =
-        let there : answers None (Coming (length shown.commits) u) ≡ true =
-        sym (ap (answers None) (sym (ap shown.marks stood) ∙ comes)) ∙ coming-there h None in cc
+    clash u comes = grind (arith, stood, coming-there h None)
 
 pub fine-passing : {setting : Setting} {shown : Shown} (h : IsMoving setting shown passage) (level : ℕ)
     (address : Address) (way : ℕ)
@@ -94,12 +79,7 @@ pub fine-passing : {setting : Setting} {shown : Shown} (h : IsMoving setting sho
 fine-passing {setting} {shown} h level address way short = record {
   before_old = λ metric lazy all old. absurd (all-committed h h.commits_are all);
   before_new = λ metric lazy all new. absurd (all-committed h h.commits_are all);
-  passing = λ metric lazy u comes. omega (
-    arith,
-    short metric (rw h.moves_are at lazy),
-    ap (setting.distance u) (next-stands h h.commits_are),
-    ap (λ n. setting.distance n h.move.to) (left_is u (sym comes_here ∙ comes)),
-  );
+  passing = λ metric lazy u comes. grind (arith, short metric, next-stands h h.commits_are, comes_here);
   settled = λ metric lazy all other. absurd (other h.move.from comes_here);
   current = λ metric lazy all other same. absurd (other h.move.from comes_here);
 }
@@ -107,9 +87,6 @@ fine-passing {setting} {shown} h level address way short = record {
     comes_here : shown.marks (standing_of shown) ≡ Coming (length shown.commits) h.move.from
     comes_here = ap shown.marks (next-stands h h.commits_are)
         ∙ (passing-at_to h ∙ ap (λ n. Coming n h.move.from) (next-count h h.commits_are))
-
-    left_is : (u : ℕ) → Coming (length shown.commits) h.move.from ≡ Coming (length shown.commits) u → u ≡ h.move.from
-    left_is u e = cc
 
 pub fine-clearing : {setting : Setting} {shown : Shown} {erased purged : List ℕ}
     (h : IsMoving setting shown (clearing erased purged)) (level : ℕ) → level ≤ setting.top
@@ -119,16 +96,10 @@ fine-clearing {setting} {shown} h level below = record {
   before_old = λ metric lazy all old. absurd (all-committed h h.commits_are all);
   before_new = λ metric lazy all new. absurd (all-committed h h.commits_are all);
   passing = λ metric lazy u comes. absurd (clash u comes);
-  settled = λ metric lazy all other. omega (
-    arith,
-    price-clearing level h.sound h.next below metric (rw h.moves_are at lazy),
-    ap (setting.distance (address_node h.course level)) (next-stands h h.commits_are),
-  );
-  current = λ metric lazy all other same. rw (same, h.moves_are)
-      (omega (arith, lazy-whole setting (h.course.moves ++ h.move ∷ []) level below (rw h.moves_are at lazy)));
+  settled = λ metric lazy all other.
+      grind (arith, price-clearing level h.sound h.next below metric, next-stands h h.commits_are);
+  current = grind (arith, lazy-whole);
 }
   where
     clash : (u : ℕ) → shown.marks (standing_of shown) ≡ Coming (length shown.commits) u → ⊥
-    clash u comes =
-        let both : Here h.move.number ≡ Coming (length shown.commits) u =
-        sym (ap shown.marks (next-stands h h.commits_are) ∙ clearing-here h) ∙ comes in cc
+    clash u comes = grind (arith, next-stands h h.commits_are, clearing-here h)

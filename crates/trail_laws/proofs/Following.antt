@@ -1,11 +1,10 @@
 -- How the marks of a chase follow one another, by the looks of a find: what a Gone or a Coming tells of the node where
 -- it leads holds at every later look.
 use Rattle.std.proofs.lemmas.Bool.{cases_Bool}
-use Rattle.std.proofs.Common.{◌≡◌, inl, inr, ℕ, zero, suc, ◌-◌, ◌<◌, ◌≤◌, ◌^◌, max, true, false, List, [], ◌∷◌, Option, Some, None, length, refl, sym, ◌∙◌, arith}
+use Rattle.std.proofs.Common.{◌≡◌, inl, inr, ℕ, zero, suc, ◌<◌, ◌≤◌, ◌^◌, true, false, List, [], ◌∷◌, Option, Some, refl, arith}
 use Rattle.std.specs.Prelude.{flat_map}
-use Rattle.std.proofs.lemmas.Bool.Decides.{nat_tests}
 use Rattle.entry_word.specs.declared.mark.PresenceMark.{PresenceMark}
-use Rattle.entry_word.specs.declared.mark.PresenceMark.TheVariants.{Empty, Here, Gone, Coming, Off}
+use Rattle.entry_word.specs.declared.mark.PresenceMark.TheVariants.{Gone, Coming}
 use Rattle.entry_word.specs.declared.visit.Key.{Key}
 use Rattle.entry_word.specs.declared.visit.Key.TheVariants.{Presence}
 use Rattle.directory.specs.Settings.{Setting, start}
@@ -16,8 +15,8 @@ use Rattle.directory.specs.Looks.{AreLooks}
 use Rattle.directory.specs.Standing.{commits, number, off}
 use Rattle.directory.specs.Statements.{FrontsAreLegal}
 use Rattle.directory.specs.declared.answers.Found.{Found}
-use Rattle.directory.specs.declared.answers.Found.TheVariants.{At, Off as OffAt, Again}
-use Rattle.directory.specs.declared.answers.Why.TheVariants.{Empty as EmptyAt, Chased}
+use Rattle.directory.specs.declared.answers.Found.TheVariants.{At, Again}
+use Rattle.directory.specs.declared.answers.Why.TheVariants.{Chased}
 use Rattle.trail_laws.specs.Trail.{EntriesTell, GoesUp, mark_seen, MarksTell, MarkTells}
 use Rattle.trail_laws.specs.Phases.{moves_begun}
 use Rattle.trail_laws.specs.Chased.{ChasesRise, marks_chased}
@@ -52,41 +51,25 @@ off-rests laws {setting} {sub} history low legal e =
     off-counts (view laws history low legal) e
 
 -- the mark that a chase reads fits what is behind it
-zero-up : (setting : Setting) (sub : ℕ) (seen : History) (node : ℕ) (mark : PresenceMark)
-    → MarkTells setting sub seen node mark → GoesUp 0 mark
-zero-up setting sub seen node Empty tells = tt
-zero-up setting sub seen node (Gone q to) tells = tells.0
-zero-up setting sub seen node mark tells = omega arith
-
 fits-up : ChaseLaws → {setting : Setting} {sub : ℕ} {seen : History} {behind : Behind} {known : Option ℕ} {node : ℕ}
     → setting.nodes ≤ 2 ^ 16 → IsLegal setting sub seen → node < setting.nodes
     → IsBehind setting sub seen behind known node → GoesUp behind.place (mark_seen setting sub seen node)
 fits-up laws {setting} {sub} {seen} {behind} {node} low legal inside is =
-    grind (arith, laws.marks setting sub seen low legal node inside, zero-up, stop-goes_up)
+    grind (arith, laws.marks setting sub seen low legal node inside, stop-goes_up)
 
 fits-begun : ChaseLaws → {setting : Setting} {sub : ℕ} (seen : History) (n node : ℕ) (mark : PresenceMark)
     → setting.nodes ≤ 2 ^ 16 → IsLegal setting sub seen → n ≤ moves_begun setting sub seen
     → MarkTells setting sub seen node mark → IsBegun n mark
-fits-begun laws seen n node (Coming q from) low legal early tells = omega (arith, early, tells.0)
-fits-begun laws {setting} {sub} seen n node (Off q) low legal early tells =
-    omega (arith, early, tells.1, off-rests laws.cells seen low legal tells.2)
-fits-begun laws seen n node mark low legal early tells = tt
+fits-begun laws seen n node mark low legal early tells = grind (arith, off-rests laws.cells seen low legal)
 
 -- where a Gone and a Coming lead
-unknown : (p q : ℕ) (known : Option ℕ) → is_known q (known_with p known) ≡ false → p ≤ q - 1
-unknown p q None h = let more : p < q = grind (arith, nat_tests, h) in omega (arith, more)
-unknown p q (Some k) h = let more : max k p < q = grind (arith, nat_tests, h) in omega (arith, more)
-
 gone-leads : ChaseLaws → {setting : Setting} {sub : ℕ} (seen : History) (known : Option ℕ) (node p to : ℕ)
     → setting.nodes ≤ 2 ^ 16 → IsLegal setting sub seen → MarkTells setting sub seen node (Gone p to)
     → IsBehind setting sub seen (after_gone p) (known_with p known) to
-gone-leads laws {setting} {sub} seen known node p to low legal tells = record {
-  few = gone-known setting sub seen node p to tells;
-  stop = inr (stop-listed (start setting sub) (commits sub seen) p _ tells.0 tells.1);
-  early = omega (arith, gone-known setting sub seen node p to tells, number-few laws.cells seen low legal);
-  rises = omega arith;
-  fresh = λ q h. unknown p q known h;
-}
+gone-leads laws {setting} {sub} seen known node p to low legal tells =
+    let few = gone-known setting sub seen node p to tells in
+    let more = number-few laws.cells seen low legal in
+    grind (arith, stop-listed (start setting sub) (commits sub seen) p)
 
 coming-leads : ChaseLaws → {setting : Setting} {sub : ℕ} {seen : History} {behind : Behind} {known : Option ℕ}
     {node : ℕ} (p from : ℕ) → setting.nodes ≤ 2 ^ 16 → IsLegal setting sub seen
@@ -96,13 +79,9 @@ unfolding HistoryView
 coming-leads laws {setting} {sub} {seen} {node} p from low legal tells is new = record {
   few = omega (arith, tells.3);
   stop = inr (elim tells.3 [
-    | inl early ↦
-        let e : p - 1 ≡ length (commits sub seen) = omega (arith, early.0) in
-        rw e (stop-last (start setting sub) (commits sub seen) ∙ sym early.1)
+    | inl early ↦ grind (arith, stop-last (start setting sub) (commits sub seen))
     | inr late ↦
-        let gone : MarkTells setting sub seen from (Gone p node) =
-        rw late.2 at (laws.marks setting sub seen low legal from tells.1) in
-        stop-left (view laws.cells seen low legal) (p - 1) _ gone.1
+        grind (arith, laws.marks setting sub seen low legal from tells.1, stop-left (view laws.cells seen low legal))
   ]);
   early = omega (arith, tells.0);
   rises = is.fresh p new;
@@ -131,9 +110,6 @@ module _ (laws : ChaseLaws) {setting : Setting} (history : History) (call : Find
   continues : (mark : PresenceMark) → MarkTells setting call.sub (before t history) node mark
       → Later (after_mark setting chase node mark)
       → Continues behind mark (marks_chased setting call (after_mark setting chase node mark) words)
-  continues Empty tells more = ended-so (Again (EmptyAt node) chase.weight)
-  continues (Here q) tells more = ended-so (At node q chase.level chase.weight)
-  continues (Off q) tells more = ended-so (OffAt node q chase.level chase.weight)
   continues (Gone q to) tells more = hop-rises (known_with q chase.known) chase.level chase.weight chase.hops_left to
       (after_gone q) (gone-leads laws (before t history) chase.known node q to low legal tells) more
   continues (Coming q from) tells more = elim (cases_Bool (is_known q chase.known)) [
@@ -141,6 +117,7 @@ module _ (laws : ChaseLaws) {setting : Setting} (history : History) (call : Find
     | inr e ↦ rw e (hop-rises chase.known chase.level chase.weight chase.hops_left from (after_coming behind q)
         (coming-leads laws q from low legal tells is e) (rw e at more))
   ]
+  continues mark tells more = grind (arith, ended-so)
 
   chase-rises : node < setting.nodes
       → Later (after_mark setting chase node (mark_seen setting call.sub (before t history) node))
@@ -148,12 +125,9 @@ module _ (laws : ChaseLaws) {setting : Setting} (history : History) (call : Find
       ∷ marks_chased setting call (after_mark setting chase node
       (mark_seen setting call.sub (before t history) node)) words)
   chase-rises inside more =
-      one-more behind (mark_seen setting call.sub (before t history) node) _ is.rises (fits-up laws low legal inside is)
-      (fits-begun laws (before t history) behind.begun node (mark_seen setting call.sub (before t history) node) low
-      legal is.early tells) (continues (mark_seen setting call.sub (before t history) node) tells more)
-    where
-      tells : MarkTells setting call.sub (before t history) node (mark_seen setting call.sub (before t history) node)
-      tells = laws.marks setting call.sub (before t history) low legal node inside
+      let tells = laws.marks setting call.sub (before t history) low legal node inside in
+      one-more behind _ _ is.rises (fits-up laws low legal inside is)
+      (fits-begun laws (before t history) behind.begun node _ low legal is.early tells) (continues _ tells more)
 
 -- one look of a find
 look-rises : ChaseLaws → {setting : Setting} (history : History) (call : FindCall) (t : ℕ) (pursuit : Pursuit)
@@ -208,8 +182,7 @@ looks-rise laws {setting} history actor call low inside legal (t ∷ later) earl
 
     safe_next : IsSafe setting (number call.sub (before (suc t) history)) next
     safe_next = safe-later setting _ _ next (number-grows call.sub t (suc t) history (omega arith))
-        (good-safe setting call.sub (before t history) next (look-good laws.marks laws.entries (before t history) call
-        pursuit key low inside legal_now safe_now wanted))
+        (grind (arith, good-safe, next, look-good, legal_now, safe_now))
 
 pub chases-rise : ChaseLaws → ChasesRise
 chases-rise laws setting history actor call tickets low inside legal looks =

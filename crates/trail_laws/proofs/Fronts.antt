@@ -1,5 +1,5 @@
 -- The fronts of what a move writes: by phases.
-use Rattle.std.proofs.Common.{◌≡◌, ◌⊎◌, ℕ, zero, suc, ◌-◌, List, [], ◌∷◌, ◌++◌, length, take, arith}
+use Rattle.std.proofs.Common.{◌≡◌, ◌⊎◌, ℕ, suc, ◌-◌, List, [], ◌∷◌, ◌++◌, length, take, arith}
 use Rattle.std.proofs.lemmas.List.{take_all, take-append-le}
 use Rattle.directory.specs.Writes.{Write}
 use Rattle.directory.specs.StepLaws.{take-append}
@@ -12,8 +12,7 @@ module _ (coming gone here : Write) (addresses erasures purges : List Write) (P 
     (is_erasing : (e p : ℕ) → (p ≡ 0) ⊎ (take e erasures ≡ erasures)
     → P (coming ∷ (addresses ++ (gone ∷ (here ∷ (take e erasures ++ take p purges)))))) where
   ends : (d : ℕ) → P (coming ∷ (addresses ++ take (suc d) (gone ∷ (here ∷ (erasures ++ purges)))))
-  ends zero = is_passing
-  ends (suc f) = grind (arith, take-append, cases_lt, take_all)
+  ends d = grind (arith, take-append, cases_lt, take_all)
 
   pub fronts : (k : ℕ) → P (coming ∷ take k (addresses ++ (gone ∷ (here ∷ (erasures ++ purges)))))
   fronts k = grind (

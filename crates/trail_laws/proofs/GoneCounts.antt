@@ -1,5 +1,5 @@
 -- How many nodes hold a Gone above a number: the measure by which a chase ends.
-use Rattle.std.proofs.Common.{List, ◌≡◌, ◌⊎◌, inl, inr, ℕ, zero, suc, ◌+◌, ◌<◌, ◌≤◌, Bool, true, false, cond, ◌==◌, ◌∷◌, length, refl, ap, ◌∙◌, arith}
+use Rattle.std.proofs.Common.{◌≡◌, ℕ, zero, suc, ◌+◌, ◌<◌, ◌≤◌, Bool, true, false, length, ap, ◌∙◌, arith}
 use Rattle.std.specs.Prelude.{nat_lt}
 use Rattle.std.proofs.lemmas.Bool.Decides.{nat_tests}
 use Rattle.node_set.specs.Ascending.{sift}
@@ -9,46 +9,20 @@ use Rattle.directory.specs.Settings.{Setting}
 use Rattle.node_set.specs.SetLaws.{length-passing_all}
 
 -- ---- how many pass a test
--- one number more on the left is one more on the right
-cond-fewer : (a b : Bool) (v d : ℕ) (xs ys : List ℕ) → (a ≡ true → b ≡ true) → d + length xs ≤ length ys
-    → d + length (cond a (v ∷ xs) xs) ≤ length (cond b (v ∷ ys) ys)
-cond-fewer true true v d xs ys e more = omega (arith, more)
-cond-fewer true false v d xs ys e more = let clash : false ≡ true = e refl in cc
-cond-fewer false true v d xs ys e more = omega (arith, more)
-cond-fewer false false v d xs ys e more = more
-
 pub passing-fewer : (f g : ℕ → Bool) (v k : ℕ) → ((x : ℕ) → f x ≡ true → g x ≡ true)
     → length (sift f v k) ≤ length (sift g v k)
 passing-fewer f g v zero h = omega arith
-passing-fewer f g v (suc k) h = grind (arith, passing-fewer f g (suc v) k h, cond-fewer)
+passing-fewer f g v (suc k) h = grind (arith, passing-fewer f g (suc v) k h)
 
 pub passing-less : (f g : ℕ → Bool) (x v k : ℕ) → v ≤ x → x < v + k → ((y : ℕ) → f y ≡ true → g y ≡ true)
     → f x ≡ false → g x ≡ true → length (sift f v k) < length (sift g v k)
 passing-less f g x v zero low high h out within = absurd (omega arith)
-passing-less f g x v (suc k) low high h out within = at_place (cases v x)
-    (λ l. passing-less f g x (suc v) k l (omega arith) h out within)
-  where
-    cases : (a b : ℕ) → (a ≡ b) ⊎ ((a == b) ≡ false)
-    cases a b = grind (arith, nat_tests)
-
-    at_place : (v ≡ x) ⊎ ((v == x) ≡ false) → (suc v ≤ x
-        → length (sift f (suc v) k) < length (sift g (suc v) k))
-        → length (cond (f v) (v ∷ sift f (suc v) k) (sift f (suc v) k)) < length
-        (cond (g v) (v ∷ sift g (suc v) k) (sift g (suc v) k))
-    at_place (inl e) more = rw (ap f e ∙ out, ap g e ∙ within) (omega (arith, passing-fewer f g (suc v) k h))
-    at_place (inr e) more = omega (
-      arith,
-      cond-fewer (f v) (g v) v 1 (sift f (suc v) k) (sift g (suc v) k) (h v)
-          (omega (arith, more (grind (arith, nat_tests)))),
-    )
+passing-less f g x v (suc k) low high h out within =
+    grind (arith, nat_tests, passing-fewer f g (suc v) k h, passing-less f g x (suc v) k)
 
 pub some-out : (test : ℕ → Bool) (x n : ℕ) → x < n → test x ≡ false → suc (length (sift test 0 n)) ≤ n
-some-out test x n low out = omega (
-  arith,
-  passing-less test (λ y. true) x 0 n (omega arith) (omega arith)
-      (λ y e. refl) out refl,
-  length-passing_all 0 n,
-)
+some-out test x n low out =
+    grind (arith, passing-less test (λ y. true) x 0 n, length-passing_all 0 n)
 
 -- ---- how many nodes hold a Gone above a number
 abbrev pub gone_above : ℕ → PresenceMark → Bool
@@ -59,8 +33,7 @@ abbrev pub above : Setting → (ℕ → PresenceMark) → ℕ → ℕ
 above setting marks number = length (sift (λ v. gone_above number (marks v)) 0 setting.nodes)
 
 gone_above-less : (p q : ℕ) (mark : PresenceMark) → q ≤ p → gone_above p mark ≡ true → gone_above q mark ≡ true
-gone_above-less p q (Gone r to) h e = grind (arith, nat_tests)
-gone_above-less p q mark h e = cc
+gone_above-less p q mark h e = grind arith
 
 -- a node with a Gone counts for less than its number
 pub above-less : (setting : Setting) (marks : ℕ → PresenceMark) (v p q to : ℕ) → v < setting.nodes

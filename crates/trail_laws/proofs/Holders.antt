@@ -1,18 +1,17 @@
 -- Which addresses an entry has: the old one of its level, or that of the move under way.
+use Rattle.trail_laws.proofs.ClosedEntries.{new-stop, old-stop, entry_erased, entry_written, rest_entry}
 use Rattle.std.proofs.lemmas.Option.{cond_some}
-use Rattle.std.proofs.lemmas.Bool.{cases_Bool, and_parts, eqb-true}
-use Rattle.std.proofs.Common.{◌≡◌, ◌⊎◌, ℕ, ◌≤◌, true, false, ◌==◌, ◌&&◌, List, Some, sym, ◌∙◌, arith}
+use Rattle.std.proofs.lemmas.Bool.{cases_Bool, eqb-true}
+use Rattle.std.proofs.Common.{◌≡◌, ℕ, ◌≤◌, true, false, ◌==◌, ◌&&◌, List, Some, arith}
 use Rattle.std.specs.Prelude.{nat_le}
-use Rattle.std.proofs.lemmas.Bool.Decides.{nat_tests}
 use Rattle.node_set.specs.Ascending.{has}
 use Rattle.entry_word.specs.declared.address.Address.{Address}
 use Rattle.directory.specs.Settings.{Setting}
 use Rattle.directory.specs.Courses.{Move, Course, address_node, base}
 use Rattle.directory.specs.Writes.{old_home}
-use Rattle.trail_laws.proofs.ClosedEntries.{address-with, entry_erased, entry_written, new_entry, rest_entry}
 use Rattle.trail_laws.proofs.ClosedViews.{old_levels, renewed_levels}
 use Rattle.trail_laws.proofs.ClosedWrites.{whole-entries}
-use Rattle.trail_laws.proofs.ClosedMarks.{base-with, IsNext, with_move}
+use Rattle.trail_laws.proofs.ClosedMarks.{base-with, IsNext}
 use Rattle.trail_laws.proofs.Links.{IsSound}
 
 -- the address that a level had before the move, and the one that the move writes
@@ -36,15 +35,6 @@ pub rest-some : (setting : Setting) (course : Course) (level cluster : ℕ) (add
 unfolding IsOld
 rest-some setting course level cluster address h = grind (arith, old_address, cond_some)
 
-pub written-some : (setting : Setting) (course : Course) (move : Move) (written : List ℕ) (level cluster : ℕ)
-    (address : Address) → entry_written setting course move written level cluster ≡ Some address
-    → (IsNew setting move level cluster address × (has level written ≡ true))
-    ⊎ (IsOld setting course level cluster address × ((has level written && cluster == setting.home level move.to)
-    ≡ false))
-unfolding IsNew
-written-some setting course move written level cluster address h =
-    grind (arith, setting.home level move.to, cases_Bool, and_parts, new_entry, move_address, rest-some)
-
 pub erased-some : (setting : Setting) (course : Course) (move : Move) (written erased : List ℕ) (level cluster : ℕ)
     (address : Address) → entry_erased setting course move written erased level cluster ≡ Some address
     → ((has level erased && cluster == old_home setting course level) ≡ false)
@@ -59,9 +49,4 @@ pub only-new : {setting : Setting} {course : Course} {move : Move} (level cluste
     ≡ Some address → IsNew setting move level cluster address
 unfolding IsOld IsNew
 only-new {setting} {course} {move} level cluster address sound next low top h =
-    let at_top : nat_le level move.renewed ≡ true =
-    grind (arith, nat_tests, low, eqb-true move.renewed setting.top top) in
-    let its : (address ≡ old_address (with_move course move) level)
-    × ((cluster == setting.home level (address_node (with_move course move) level)) ≡ true) =
-    rest-some setting (with_move course move) level cluster address (sym (whole-entries level cluster sound next) ∙ h)
-    in rw (address-with level sound next, base-with level course move, at_top) at its
+    grind (arith, nat_le, eqb-true, rest-some, whole-entries, base-with, new-stop, old-stop)

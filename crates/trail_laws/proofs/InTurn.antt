@@ -1,20 +1,18 @@
 -- Each line of an actor's finds begins behind the last visit of those before it.
-use Rattle.std.proofs.Common.{◌≡◌, ◌⊎◌, inl, inr, ℕ, zero, suc, ◌+◌, ◌<◌, ◌≤◌, List, [], ◌∷◌, ◌++◌, length, map, drop, fold, get_or, refl, ap, arith, Option}
-use Rattle.std.specs.Prelude.{Some, None, flat_map, slice_get}
+use Rattle.std.proofs.Common.{◌≡◌, ◌⊎◌, inl, inr, ℕ, zero, suc, ◌+◌, ◌<◌, ◌≤◌, List, [], ◌∷◌, ◌++◌, length, map, drop, fold, refl, arith}
+use Rattle.std.specs.Prelude.{Some, flat_map, slice_get}
 use Rattle.std.proofs.lemmas.Option.{slice_get_within}
-use Rattle.directory.specs.Settings.{Setting, start, subs}
+use Rattle.directory.specs.Settings.{Setting, subs}
 use Rattle.directory.specs.Statements.{CallersCount, FindsFollow, TicketsAscend}
-use Rattle.directory.specs.Courses.{Course, Step, after_step, course_at, move_to}
-use Rattle.directory.specs.Finds.{FindCall, Pursuit}
-use Rattle.directory.specs.Histories.{History, tickets, words_read}
-use Rattle.directory.specs.Orders.{Answer, Caller as Seeker, IsPlayed, Scripts, after_read, caller_at, caller_in, finds_of, read_by, steps_of, with_pursuit}
-use Rattle.directory.specs.Outcomes.{FollowEachOther, answer_line, caller_lines, found_line, step_line, step_lines, sub_lines}
+use Rattle.directory.specs.Courses.{Course, Step, after_step}
+use Rattle.directory.specs.Finds.{FindCall}
+use Rattle.directory.specs.Histories.{History}
+use Rattle.directory.specs.Orders.{Answer, Caller as Seeker, IsPlayed, Scripts, after_read, read_by}
+use Rattle.directory.specs.Outcomes.{FollowEachOther, caller_lines, step_lines, sub_lines}
 use Rattle.directory.specs.Writes.{numbers_from, step_writes}
 use Rattle.directory.specs.CallLines.{actor_of, find_of}
 use Rattle.directory.specs.declared.answers.FindLine.{FindLine}
 use Rattle.directory.specs.declared.answers.Done.{Done}
-use Rattle.directory.specs.declared.answers.Found.{Found}
-use Rattle.directory.specs.declared.answers.Found.TheVariants.{At}
 use Rattle.trail_laws.specs.RightOutcomes.{LinesAreInTurn}
 use Rattle.node_set.specs.SetLaws.{place-rises, place-stays_or_rises}
 
@@ -31,51 +29,23 @@ follow-above : (place : ℕ) (answers : List Answer) (j : ℕ) (b : Answer) → 
 unfolding FollowEachOther
 follow-above place [] j b follows at = cc
 follow-above place (a ∷ answers) zero b follows at = grind arith
-follow-above place (a ∷ answers) (suc j) b follows at =
-    let above = follow-above (suc a.last) answers j b follows.2 at in
-    (omega (arith, above.0, follows.0, follows.1), above.1)
+follow-above place (a ∷ answers) (suc j) b follows at = grind (arith, follow-above (suc a.last) answers j b follows.2)
 
 follow-behind : (place : ℕ) (answers : List Answer) (i j : ℕ) (a b : Answer) → FollowEachOther place answers
     → i < j → slice_get answers i ≡ Some a → slice_get answers j ≡ Some b → (a.last < b.first) × (b.first ≤ b.last)
 unfolding FollowEachOther
-follow-behind place [] i j a b follows le at_a at_b = cc
-follow-behind place (x ∷ answers) zero zero a b follows le at_a at_b = absurd (omega (arith, le))
-follow-behind place (x ∷ answers) zero (suc j) a b follows le at_a at_b =
-    let one : x ≡ a = cc in
-    let same : x.last ≡ a.last = ap (λ (y : Answer). y.last) one in
-    let above = follow-above (suc x.last) answers j b follows.2 at_b in (omega (arith, same, above.0), above.1)
-follow-behind place (x ∷ answers) (suc i) zero a b follows le at_a at_b = absurd (omega (arith, le))
+follow-behind place (x ∷ answers) zero (suc j) a b follows le at_a at_b = grind (arith, follow-above)
 follow-behind place (x ∷ answers) (suc i) (suc j) a b follows le at_a at_b =
     follow-behind (suc x.last) answers i j a b follows.2 (omega (arith, le)) at_a at_b
+follow-behind place answers i j a b follows le at_a at_b = grind arith
 
 abbrev AreLooked : ℕ → List Answer → Type 0
 AreLooked next answers = (i : ℕ) (a : Answer) → slice_get answers i ≡ Some a → a.last < next
 
-looked-on : (caller : Seeker) (call : FindCall) (later : List FindCall) (pursuit : Pursuit) (answer : Option Found)
-    → AreLooked caller.next caller.answers
-    → AreLooked (with_pursuit caller call later pursuit answer).next
-    (with_pursuit caller call later pursuit answer).answers
-looked-on caller call later pursuit None h = λ i a at. omega (arith, h i a at)
-looked-on caller call later pursuit (Some found) h = λ i a at.
-    elim (append-at caller.answers _ i a at) [
-      | inl here ↦ omega (arith, h i a here)
-      | inr there ↦ one there.0 a there.2
-    ]
-  where
-    one : (k : ℕ) (a : Answer) → slice_get ((let b : Answer = record {
-      call = call;
-      found = found;
-      first = caller.first;
-      last = caller.next;
-    } in b) ∷ []) k ≡ Some a → a.last < suc caller.next
-    one zero a at = let same : caller.next ≡ a.last = cc in omega (arith, same)
-    one (suc k) a at = cc
-
 looked-more : (setting : Setting) (caller : Seeker) (calls : List FindCall) (word : ℕ)
     → AreLooked caller.next caller.answers
     → AreLooked (read_by setting caller calls word).next (read_by setting caller calls word).answers
-looked-more setting caller [] word h = h
-looked-more setting caller (call ∷ later) word h = grind (arith, looked-on)
+looked-more setting caller calls word h = grind (arith, append-at)
 
 looked-all : (setting : Setting) (words : List ℕ) (caller : Seeker) → AreLooked caller.next caller.answers
     → AreLooked (fold (after_read setting) caller words).next (fold (after_read setting) caller words).answers
@@ -90,25 +60,6 @@ map-at f [] i y h = cc
 map-at f (x ∷ xs) zero y h = let same : f x ≡ y = cc in (x, refl, same)
 map-at f (x ∷ xs) (suc i) y h = map-at f xs i y h
 
-first-of : Option FindLine → ℕ
-first-of None = 0
-first-of (Some find) = find.first
-
-last-of : Option FindLine → ℕ
-last-of None = 0
-last-of (Some find) = find.last
-
-line-visits : (caller : ℕ) (call : FindCall) (found : Found) (first last : ℕ) (find : FindLine)
-    → find_of (found_line caller call found first last) ≡ Some find → (first ≡ find.first) × (last ≡ find.last)
-unfolding first-of last-of
-line-visits caller call (At node number level weight) first last find is = (ap first-of is, ap last-of is)
-line-visits caller call found first last find is = (ap first-of is, ap last-of is)
-
-actor-found : (caller : ℕ) (call : FindCall) (found : Found) (first last : ℕ)
-    → actor_of (found_line caller call found first last) ≡ caller
-actor-found caller call (At node number level weight) first last = refl
-actor-found caller call found first last = refl
-
 abbrev AreInTurn : Done → Done → Type 0
 AreInTurn one other = (earlier later : FindLine) → find_of one ≡ Some earlier → find_of other ≡ Some later
     → (earlier.last < later.first) × (later.first ≤ later.last)
@@ -119,47 +70,14 @@ caller-in-turn : FindsFollow → CallersCount → TicketsAscend → (setting : S
     → slice_get (caller_lines setting scripts history actor) j ≡ Some other → AreInTurn one other
 caller-in-turn follow count ascend setting scripts history played actor i j one other high le at_one at_other
     earlier later is_earlier is_later =
-    let seen : List ℕ = tickets actor history in
-    let seeker : Seeker = caller_in setting scripts history actor in
-    let a = map-at (answer_line actor seen) seeker.answers i one at_one in
-    let b = map-at (answer_line actor seen) seeker.answers j other at_other in
-    let order = follow-behind 0 seeker.answers i j a.0 b.0 (follow setting scripts history actor high played) le
-    a.1 b.1 in
-    let looked : b.0.last < seeker.next = looked-all setting (words_read setting actor history)
-    (caller_at (finds_of setting scripts actor)) (λ k x at. cc) j b.0 b.1 in
-    let short : b.0.last < length seen =
-    omega (arith, looked, (count setting scripts history actor high played).0) in
-    let one_is = line-visits actor a.0.call a.0.found (get_or seen a.0.first 0) (get_or seen a.0.last 0) earlier
-    (rw a.2 is_earlier) in
-    let other_is = line-visits actor b.0.call b.0.found (get_or seen b.0.first 0) (get_or seen b.0.last 0) later
-    (rw b.2 is_later) in (
-      omega (
-        arith,
-        one_is.1,
-        other_is.0,
-        place-rises seen a.0.last b.0.first (ascend actor history) order.0 (omega (arith, order.1, short)),
-      ),
-      omega (
-        arith,
-        other_is.0,
-        other_is.1,
-        place-stays_or_rises seen b.0.first b.0.last (ascend actor history) order.1 short,
-      ),
-    )
-
-line-of-caller : (setting : Setting) (scripts : Scripts) (history : History) (actor i : ℕ) (line : Done)
-    → slice_get (caller_lines setting scripts history actor) i ≡ Some line → actor_of line ≡ actor
-line-of-caller setting scripts history actor i line at = grind (arith, map-at, actor-found)
+    grind (arith, map-at, follow-behind, looked-all, place-rises, place-stays_or_rises)
 
 -- the lines of each actor lie together
 block-above : (f : ℕ → List Done) (x k : ℕ) → ((a i : ℕ) (y : Done) → x ≤ a → slice_get (f a) i ≡ Some y
     → actor_of y ≡ a) → (i : ℕ) (y : Done) → slice_get (flat_map f (numbers_from x k)) i ≡ Some y → x ≤ actor_of y
 block-above f x zero each i y h = cc
-block-above f x (suc k) each i y h = elim (append-at (f x) (flat_map f (numbers_from (suc x) k)) i y h) [
-  | inl here ↦ omega (arith, each x i y (omega arith) here)
-  | inr there ↦
-      omega (arith, block-above f (suc x) k (λ a n z low. each a n z (omega (arith, low))) there.0 y there.2)
-]
+block-above f x (suc k) each i y h =
+    grind (arith, append-at, block-above f (suc x) k (λ a n z low. each a n z (omega (arith, low))))
 
 all-in-turn : (f : ℕ → List Done) (x k : ℕ) → ((a i : ℕ) (y : Done) → x ≤ a → slice_get (f a) i ≡ Some y
     → actor_of y ≡ a)
@@ -169,30 +87,16 @@ all-in-turn : (f : ℕ → List Done) (x k : ℕ) → ((a i : ℕ) (y : Done) �
     → slice_get (flat_map f (numbers_from x k)) j ≡ Some other → actor_of one ≡ actor_of other → AreInTurn one other
 all-in-turn f x zero each order i j one other le at_one at_other same = cc
 all-in-turn f x (suc k) each order i j one other le at_one at_other same =
-    elim (append-at (f x) (flat_map f (numbers_from (suc x) k)) i one at_one) [
-      | inl a ↦ elim (append-at (f x) (flat_map f (numbers_from (suc x) k)) j other at_other) [
-        | inl b ↦ order x i j one other (omega arith) le a b
-        | inr b ↦ absurd (omega (
-          arith,
-          same,
-          each x i one (omega arith) a,
-          block-above f (suc x) k (λ c i y h. each c i y (omega (arith, h))) b.0 other b.2,
-        ))
-      ]
-      | inr a ↦ elim (append-at (f x) (flat_map f (numbers_from (suc x) k)) j other at_other) [
-        | inl b ↦ absurd (omega (arith, le, a.1, slice_get_within (f x) j other b))
-        | inr b ↦ all-in-turn f (suc x) k (λ c i y h. each c i y (omega (arith, h)))
-            (λ c i j y z h. order c i j y z (omega (arith, h))) a.0 b.0 one other (omega (arith, le, a.1, b.1)) a.2 b.2
-            same
-      ]
-    ]
+    grind (
+      arith,
+      append-at,
+      block-above,
+      slice_get_within,
+      all-in-turn f (suc x) k (λ c i y h. each c i y (omega (arith, h)))
+          (λ c i j y z h. order c i j y z (omega (arith, h))),
+    )
 
 -- the lines of subscribers tell of no find
-step-untold : (setting : Setting) (sub : ℕ) (course : Course) (step : Step) (seen : List ℕ) (find : FindLine)
-    → find_of (step_line setting sub course step seen) ≡ Some find → ⊥
-step-untold setting sub course (move_to node) seen find told = cc
-step-untold setting sub course step seen find told = cc
-
 abbrev AreUntold : List Done → Type 0
 AreUntold lines = (i : ℕ) (line : Done) (find : FindLine) → slice_get lines i ≡ Some line
     → find_of line ≡ Some find → ⊥
@@ -201,7 +105,7 @@ steps-untold : (setting : Setting) (sub : ℕ) (course : Course) (steps : List S
     → AreUntold (step_lines setting sub course steps seen)
 unfolding step_lines
 steps-untold setting sub course [] seen i line find is told = cc
-steps-untold setting sub course (step ∷ steps) seen zero line find is told = grind (arith, step-untold)
+steps-untold setting sub course (step ∷ steps) seen zero line find is told = grind arith
 steps-untold setting sub course (step ∷ steps) seen (suc i) line find is told =
     steps-untold setting sub (after_step setting course step) steps
     (drop (length (step_writes setting course step)) seen) i line find is told
@@ -209,30 +113,11 @@ steps-untold setting sub course (step ∷ steps) seen (suc i) line find is told 
 subs-untold : (setting : Setting) (scripts : Scripts) (history : History) (some : List ℕ)
     → AreUntold (flat_map (sub_lines setting scripts history) some)
 subs-untold setting scripts history [] i line find is told = cc
-subs-untold setting scripts history (sub ∷ some) i line find is told = elim
-    (append-at (sub_lines setting scripts history sub) (flat_map (sub_lines setting scripts history) some) i line is) [
-      | inl here ↦ steps-untold setting sub (course_at (start setting sub)) (steps_of scripts sub)
-          (tickets sub history) i line find here told
-      | inr there ↦ subs-untold setting scripts history some there.0 line find there.2 told
-    ]
+subs-untold setting scripts history (sub ∷ some) i line find is told =
+    grind (arith, append-at, steps-untold, subs-untold setting scripts history some)
 
 -- so all lines are in turn
 pub outcome-in-turn : FindsFollow → CallersCount → TicketsAscend → LinesAreInTurn
 outcome-in-turn follow count ascend setting scripts history played i j one other le at_one at_other same
     earlier later is_earlier is_later =
-    elim (append-at steps finds i one at_one) [
-      | inl a ↦ absurd (subs-untold setting scripts history _ i one earlier a is_earlier)
-      | inr a ↦ elim (append-at steps finds j other at_other) [
-        | inl b ↦ absurd (subs-untold setting scripts history _ j other later b is_later)
-        | inr b ↦ all-in-turn (caller_lines setting scripts history) (subs setting) (length scripts.finds)
-            (λ actor k line high. line-of-caller setting scripts history actor k line)
-            (λ actor m n x y high. caller-in-turn follow count ascend setting scripts history played actor m n x y high)
-            a.0 b.0 one other (omega (arith, le, a.1, b.1)) a.2 b.2 same earlier later is_earlier is_later
-      ]
-    ]
-  where
-    steps : List Done
-    steps = flat_map (sub_lines setting scripts history) (numbers_from 0 (subs setting))
-
-    finds : List Done
-    finds = flat_map (caller_lines setting scripts history) (numbers_from (subs setting) (length scripts.finds))
+    grind (arith, append-at, subs-untold, all-in-turn, map-at, caller-in-turn)

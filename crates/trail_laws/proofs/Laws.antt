@@ -1,21 +1,16 @@
 -- The laws of marks and addresses after every legal history.
-use Rattle.std.proofs.Common.{arith, ◌≡◌, ◌≢◌, ℕ, zero, suc, ◌≤◌, ◌^◌, true, false, ◌∷◌, map, Option, Some, None, refl, sym, ap, ◌∙◌}
-use Rattle.std.specs.Prelude.{slice_index}
+use Rattle.std.proofs.Common.{arith, ◌≡◌, ◌≢◌, ℕ, ◌≤◌, ◌^◌, Option, Some, None, refl, sym, ◌∙◌}
 use Rattle.entry_word.specs.declared.mark.PresenceMark.{PresenceMark}
 use Rattle.entry_word.specs.declared.mark.PresenceMark.TheVariants.{Empty}
 use Rattle.entry_word.specs.declared.address.Address.{Address}
-use Rattle.directory.specs.Settings.{Setting, start}
-use Rattle.directory.specs.Histories.{History, puts_to}
-use Rattle.directory.specs.Courses.{Move, stop, course_at}
-use Rattle.directory.specs.Puts.{course_in, steps_in}
+use Rattle.directory.specs.Settings.{Setting}
+use Rattle.directory.specs.Histories.{History}
 use Rattle.directory.specs.Legal.{IsLegal}
-use Rattle.directory.specs.Standing.{off, standing}
 use Rattle.directory.specs.Statements.{CommitsAreTold, EntriesAreLeft, LegalIsAmid, MarksAreLeft, OffIsTold}
-use Rattle.trail_laws.specs.Trail.{AddressesLead, ComingsLead, EntriesTell, entry_seen, EntryTells, IsLed, mark_seen, MarksTell, MarkTells, OneComing, TopHasEntry, answers}
-use Rattle.directory.specs.Parts.{lead}
+use Rattle.trail_laws.specs.Trail.{AddressesLead, ComingsLead, EntriesTell, entry_seen, EntryTells, IsLed, MarksTell, OneComing, TopHasEntry}
 use Rattle.trail_laws.proofs.ClosedViews.{View}
 use Rattle.trail_laws.proofs.Views.{legal-view, shown}
-use Rattle.trail_laws.proofs.Tells.{mark-is, MarkIs}
+use Rattle.trail_laws.proofs.Tells.{mark-is}
 use Rattle.trail_laws.proofs.PlacedPhases.{IsPlaced, entry-placed}
 use Rattle.trail_laws.proofs.Comings.{coming-leads_on, coming-one}
 use Rattle.trail_laws.proofs.Nearby.{level-has}
@@ -29,10 +24,6 @@ pub record Laws : Type 0 where
   pub told : CommitsAreTold
   pub off_told : OffIsTold
 
-pub laws : LegalIsAmid → MarksAreLeft → EntriesAreLeft → CommitsAreTold → OffIsTold → Laws
-laws amid marks entries told off =
-    record { amid = amid; marks = marks; entries = entries; told = told; off_told = off }
-
 unfoldable pub HistoryView : Setting → ℕ → History → Type 0
 HistoryView setting sub history = View setting (shown setting sub history)
 
@@ -44,12 +35,8 @@ view laws {setting}
 
 pub marks-tell : Laws → MarksTell
 unfolding HistoryView
-marks-tell laws setting sub history low legal node inside = told (mark_seen setting sub history node)
-    (mark-is node inside (view laws history low legal))
-  where
-    told : (mark : PresenceMark) → MarkIs setting.nodes (shown setting sub history) node mark
-        → MarkTells setting sub history node mark
-    told mark h = h
+marks-tell laws setting sub history low legal node inside =
+    grind (arith, mark-is node inside (view laws history low legal))
 
 pub one-coming : Laws → OneComing
 unfolding HistoryView
@@ -69,15 +56,11 @@ placed laws {setting} {sub} history low legal level cluster address below is_som
 not_empty : (setting : Setting) (marks : ℕ → PresenceMark) (node last hops way : ℕ)
     → IsLed setting marks None node last hops way → marks node ≢ Empty
 unfolding IsLed
-not_empty setting marks node last zero way led empty = let clash : false ≡ true = sym (ap (answers None) empty)
-    ∙ led.1 in cc
-not_empty setting marks node last (suc hops) way led empty = let clash : None
-    ≡ Some led.0 = sym (ap (lead None) empty) ∙ led.2 in cc
+not_empty setting marks node last hops way led empty = grind arith
 
 pub addresses-lead : Laws → AddressesLead
 addresses-lead laws setting sub history low legal level cluster address known below is_some knows =
-    let there = (placed laws history low legal level cluster address below is_some).leads known knows
-    in (there.hops, there.way, there.few, there.led)
+    grind (arith, placed laws history low legal level cluster address below is_some)
 
 pub entries-tell : Laws → EntriesTell
 entries-tell laws setting sub history low legal level cluster below = told
@@ -88,22 +71,7 @@ entries-tell laws setting sub history low legal level cluster below = told
     told None e = tt
     told (Some address) e =
         let there = placed laws history low legal level cluster address below e in
-        let led = there.leads None tt in (
-          there.inside,
-          there.home_is,
-          there.few,
-          there.is_stop
-              ∙ same_stop address.number,
-          not_empty setting (mark_seen setting sub history) address.node
-              (standing setting sub history) led.hops led.way led.led,
-        )
-      where
-        same_stop : (n : ℕ) → slice_index (start setting sub ∷ map (λ (m : Move). m.to)
-            (course_in setting sub (puts_to sub history)).moves) n
-            ≡ stop (course_in setting sub (puts_to sub history)) n
-        same_stop n = ap (λ f. slice_index (f ∷ map (λ (m : Move). m.to)
-            (course_in setting sub (puts_to sub history)).moves) n)
-            (sym (start-kept setting (course_at (start setting sub)) (steps_in (puts_to sub history))))
+        let led = there.leads None tt in grind (arith, start-kept, not_empty)
 
 pub top-has_entry : Laws → TopHasEntry
 unfolding HistoryView
@@ -113,5 +81,4 @@ top-has_entry laws setting sub history low legal =
 pub comings-lead : Laws → ComingsLead
 unfolding HistoryView
 comings-lead laws setting sub history low legal node p from known inside comes knows =
-    let there = coming-leads_on node p from known inside (view laws history low legal) comes in
-    (there.2.hops, there.2.way, there.2.few, there.2.led)
+    grind (arith, coming-leads_on node p from known inside (view laws history low legal) comes)

@@ -1,13 +1,13 @@
 -- After each move of a course each level has gathered less than its threshold.
 use Rattle.std.proofs.lemmas.Bool.{cases_Bool, cases_eq, cases_lt}
-use Rattle.std.proofs.Common.{◌≡◌, inl, inr, ℕ, zero, suc, ◌+◌, ◌<◌, ◌≤◌, Bool, false, List, [], ◌∷◌, ◌++◌, length, ap, ◌∙◌, arith, length-append}
-use Rattle.std.specs.Prelude.{nat_le, sum_by}
+use Rattle.std.proofs.Common.{◌≡◌, inl, inr, ℕ, zero, suc, ◌+◌, ◌<◌, ◌≤◌, Bool, false, List, [], ◌∷◌, ◌++◌, arith, length-append}
+use Rattle.std.specs.Prelude.{nat_le}
 use Rattle.std.proofs.lemmas.Bool.Decides.{nat_tests}
 use Rattle.std.proofs.lemmas.List.{take_all, take-append-le}
 use Rattle.std.proofs.Math.ListN.{drop_of_length-le}
-use Rattle.directory.specs.Settings.{levels, Setting, start}
+use Rattle.directory.specs.Settings.{levels, Setting}
 use Rattle.directory.specs.Histories.{History, puts_to}
-use Rattle.directory.specs.Courses.{after_step, after_steps, base, Course, course_at, gathered_weight, highest, MaySteps, Move, move_to, next_move, Step}
+use Rattle.directory.specs.Courses.{after_step, after_steps, base, Course, gathered_weight, highest, MaySteps, Move, move_to, next_move, Step}
 use Rattle.directory.specs.Legal.{IsLegal}
 use Rattle.directory.specs.Puts.{course_in}
 use Rattle.trail_laws.proofs.Links.{IsSound, base-low, sound-step}
@@ -19,13 +19,8 @@ use Rattle.trail_laws.proofs.Prices.{AreLazy, weight-push}
 highest-above : (test : ℕ → Bool) (limit level : ℕ) → highest test limit < level → level < limit → test level ≡ false
 unfolding highest
 highest-above test zero level above below = absurd (omega arith)
-highest-above test (suc limit) level above below = elim (cases_Bool (test limit)) [
-  | inl e ↦ let passed : limit < level = rw e at above in absurd (omega (arith, passed, below))
-  | inr e ↦ elim (cases_eq level limit) [
-    | inl same ↦ ap test same ∙ e
-    | inr other ↦ highest-above test limit level (rw e at above) (omega (arith, other, below))
-  ]
-]
+highest-above test (suc limit) level above below =
+    grind (arith, cases_Bool (test limit), cases_eq level limit, highest-above test limit level)
 
 -- one more move
 lazy-push : (setting : Setting) (moves : List Move) (move : Move) → AreLazy setting moves
@@ -43,21 +38,15 @@ lazy-whole_move : {setting : Setting} {course : Course} (node level : ℕ) → I
 lazy-whole_move {setting} {course} node level sound some below =
     elim (cases_Bool (nat_le level move.renewed)) [
       | inl e ↦
-          let nothing : weight_from (course.moves ++ move ∷ []) (suc (length course.moves)) ≡ 0 =
-          ap (sum_by (λ (m : Move). m.weight)) (drop_of_length-le (course.moves ++ move ∷ [])
-          {i = suc (length course.moves)} (omega (arith, length-append course.moves (move ∷ [])))) in
-          rw (base-with level course move, e) (omega (arith, some level below, nothing))
+          grind (arith, move, drop_of_length-le, length-append, base-with)
       | inr e ↦
-          let high : move.renewed < level = grind (arith, nat_tests, e) in
-          let failed : nat_le (setting.threshold level) (gathered_weight course level + move.weight) ≡ false =
-          highest-above test (levels setting) level high (omega (arith, below)) in
-          let less : gathered_weight course level + move.weight < setting.threshold level =
-          grind (arith, nat_tests, failed) in
-          rw (base-with level course move, e) (omega (
+          grind (
             arith,
-            less,
+            nat_tests,
+            highest-above test (levels setting) level,
+            base-with,
             weight-push course.moves move (base level course.moves) (base-low level sound),
-          ))
+          )
     ]
   where
     move : Move
@@ -69,8 +58,7 @@ lazy-whole_move {setting} {course} node level sound some below =
 lazy-step : {setting : Setting} {course : Course} (step : Step) → IsSound setting course
     → ((i : ℕ) → i ≤ setting.top → 1 ≤ setting.threshold i) → AreLazy setting course.moves
     → AreLazy setting (after_step setting course step).moves
-lazy-step {setting} {course} (move_to node) sound some lazy = lazy-push setting course.moves
-    (next_move setting course node) lazy (λ level below. lazy-whole_move node level sound some below)
+lazy-step {setting} {course} (move_to node) sound some lazy = grind (arith, lazy-push, lazy-whole_move)
 lazy-step step sound some lazy = lazy
 
 lazy-steps : (setting : Setting) (course : Course) (steps : List Step) → IsSound setting course
@@ -82,14 +70,8 @@ lazy-steps setting course (step ∷ steps) sound may some lazy =
     lazy-steps setting (after_step setting course step) steps (sound-step step sound may.0) may.1 some
     (lazy-step step sound some lazy)
 
-lazy-none : (setting : Setting) → ((i : ℕ) → i ≤ setting.top → 1 ≤ setting.threshold i) → AreLazy setting []
-lazy-none setting some zero level low below = some level below
-lazy-none setting some (suc k) level low below = some level below
-
 -- so it is after the puts of a legal history
 pub legal-lazy : {setting : Setting} {sub : ℕ} (history : History)
     → ((i : ℕ) → i ≤ setting.top → 1 ≤ setting.threshold i) → IsLegal setting sub history
     → AreLazy setting (course_in setting sub (puts_to sub history)).moves
-legal-lazy {setting} {sub} history some legal =
-    lazy-steps setting (course_at (start setting sub)) _ (record { begins = legal.script.begins; linked = tt })
-    legal.script.allowed some (lazy-none setting some)
+legal-lazy {setting} {sub} history some legal = grind (arith, lazy-steps)

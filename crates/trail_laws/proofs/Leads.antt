@@ -2,11 +2,11 @@
 use Rattle.std.proofs.Math.Seq.{drop-nil}
 use Rattle.std.proofs.lemmas.Bool.{cases_Bool, cond_both, eq-eqb, ne_eqb}
 use Rattle.trail_laws.proofs.ClosedMarks.{from-inside, rest_mark, since_top, sound-with, stop-with, there, trail_mark, trail_mark-push, with_move}
-use Rattle.std.proofs.Common.{◌≡◌, ◌≢◌, ℕ, zero, suc, ◌+◌, ◌-◌, ◌*◌, ◌<◌, ◌≤◌, Bool, true, false, cond, ◌==◌, List, [], ◌∷◌, ◌++◌, Option, length, drop, fold, refl, sym, ap, ◌∙◌, arith}
+use Rattle.std.proofs.Common.{◌≡◌, ◌≢◌, ℕ, zero, suc, ◌+◌, ◌-◌, ◌*◌, ◌<◌, ◌≤◌, true, List, [], ◌∷◌, ◌++◌, Option, length, drop, fold, refl, sym, ap, ◌∙◌, arith}
 use Rattle.std.specs.Prelude.{if◌then◌else◌, nat_le}
 use Rattle.std.proofs.lemmas.List.{drop-append-le, length-drop}
 use Rattle.entry_word.specs.declared.mark.PresenceMark.{PresenceMark}
-use Rattle.entry_word.specs.declared.mark.PresenceMark.TheVariants.{Empty, Here, Gone, Coming, Off}
+use Rattle.entry_word.specs.declared.mark.PresenceMark.TheVariants.{Empty, Here, Gone, Coming}
 use Rattle.directory.specs.Settings.{Setting}
 use Rattle.directory.specs.Courses.{Move, Course, address_node, base, last_stop}
 use Rattle.trail_laws.specs.Trail.{answers, KnowsAtMost}
@@ -71,8 +71,7 @@ module _ {setting : Setting} {course : Course} (sound : IsSound setting course) 
 
   pub trail-ends : stop_at (stop_at course.start course.moves b) (drop b course.moves) (length (drop b course.moves))
       ≡ last_stop course
-  trail-ends = trail-stops (length (drop b course.moves))
-      ∙ (ap (stop_at course.start course.moves) trail-count ∙ stop-end course.start course.moves)
+  trail-ends = grind (arith, trail-stops, trail-count, stop-end)
 
   -- whatever the exits
   stops-lead : (marks : ℕ → PresenceMark) (last most more_hops more_way : ℕ) → length course.moves ≤ most
@@ -99,10 +98,6 @@ old-leads hops way level sound below lead known knows =
     lead _ _ known (base-top level sound below) (base-low level sound) (old-inside level sound) refl knows
 
 -- ---- at rest
-pub answered-there : (course : Course) (known : Option ℕ) → answers known (there course) ≡ true
-answered-there course known = cond_both course.is_off (Off (length course.moves)) (Here (length course.moves))
-    (λ mark. answers known mark ≡ true) (λ e. refl) (λ e. refl)
-
 pub rest-there : (setting : Setting) (course : Course) → rest_mark setting course (last_stop course) ≡ there course
 rest-there setting course = rw (eq-eqb (last_stop course) (last_stop course) refl)
 
@@ -115,20 +110,13 @@ pub rest-leads : {setting : Setting} {shown : Shown} (h : IsResting setting show
 rest-leads {setting} {shown} h = stops-lead h.sound _ (base-low setting.top h.sound) shown.marks _ _ 0 0 (omega arith)
     (rest-exits setting shown.marks _ _ (last_stop h.course) (since_top setting h.course) _
     (trail-ends h.sound _ (base-low setting.top h.sound))
-    (λ k. rw (h.marks_are (last_stop h.course) (stop-inside h.sound), rest-there setting h.course)
-    (answered-there h.course k))
+    (grind (arith, stop-inside, rest-there, cond_both))
     (λ w low other. h.marks_are w low ∙ rest-other setting h.course w other))
 
 -- ---- before the commit
 module _ {setting : Setting} {shown : Shown} {written : List ℕ} (h : IsMoving setting shown (coming written)) where
   pub coming-there : (k : Option ℕ) → answers k (shown.marks (last_stop h.course)) ≡ true
-  coming-there k =
-      rw (
-        h.marks_are (last_stop h.course) (stop-inside h.sound),
-        ne_eqb (last_stop h.course) h.move.to
-            (λ e. h.next.moving (sym e ∙ sym h.next.from)),
-        rest-there setting h.course,
-      ) (answered-there h.course k)
+  coming-there k = grind (arith, stop-inside, ne_eqb, rest-there, cond_both)
 
   pub coming-at_to : shown.marks h.move.to ≡ Coming h.move.number (last_stop h.course)
   coming-at_to = h.marks_are h.move.to h.next.inside ∙ rw (eq-eqb h.move.to h.move.to refl, h.next.from)
@@ -139,11 +127,9 @@ module _ {setting : Setting} {shown : Shown} {written : List ℕ} (h : IsMoving 
       stops-lead h.sound _ (base-low setting.top h.sound) shown.marks _ _ 1 0 (omega arith)
       (coming-exits setting shown.marks _ _ (last_stop h.course) (since_top setting h.course) _ h.move.number h.move.to
       (trail-linked h.sound _ (base-low setting.top h.sound))
-      (stops-inside setting h.course.start 0 h.course.moves _ h.sound.linked h.sound.begins
-      (base-low setting.top h.sound))
+      (grind (arith, stops-inside, base-low))
       (trail-ends h.sound _ (base-low setting.top h.sound)) (omega (arith, h.next.number)) coming-at_to coming-there
-      (λ w low other off_to. h.marks_are w low
-      ∙ rw (ne_eqb w h.move.to off_to) (rest-other setting h.course w other)))
+      (grind (arith, ne_eqb, rest-other)))
 
   -- from the new node one hop leads back
   pub coming-back : (known : Option ℕ) → KnowsAtMost (length h.course.moves) known
@@ -158,8 +144,7 @@ module _ {setting : Setting} {shown : Shown} (h : IsMoving setting shown passage
   passing-gone = h.marks_are h.move.from (from-inside h.sound h.next) ∙ rw (eq-eqb h.move.from h.move.from refl)
 
   pub passing-at_to : shown.marks h.move.to ≡ Coming h.move.number h.move.from
-  passing-at_to = h.marks_are h.move.to h.next.inside
-      ∙ rw (ne_eqb h.move.to h.move.from h.next.moving, eq-eqb h.move.to h.move.to refl)
+  passing-at_to = grind (arith, ne_eqb, eq-eqb)
 
   pub passage-leads : StopsLead setting shown.marks h.course (low_of setting h.course) h.move.to
       (suc (length h.course.moves)) 1 (2 * setting.distance h.move.from h.move.to)
@@ -169,8 +154,7 @@ module _ {setting : Setting} {shown : Shown} (h : IsMoving setting shown passage
       (trail-ends h.sound _ (base-low setting.top h.sound) ∙ sym h.next.from)
       (omega (arith, trail-count h.sound _ (base-low setting.top h.sound), h.next.number))
       (from-inside h.sound h.next) h.next.inside passing-gone passing-at_to
-      (λ w low off_from off_to. h.marks_are w low ∙ rw (ne_eqb w h.move.from off_from, ne_eqb w h.move.to off_to)
-      (rest-other setting h.course w (λ e. off_from (e ∙ sym h.next.from)))))
+      (grind (arith, ne_eqb, rest-other)))
 
   -- from the new node at most there and back
   pub passage-new : (known : Option ℕ) → Arrival setting shown.marks known h.move.to h.move.to 2
@@ -207,15 +191,4 @@ clearing-leads {setting} {shown} h none =
   where
     others : (v : ℕ) → v < setting.nodes → v ≢ h.move.to → shown.marks v
         ≡ trail_mark (drop (low_of setting h.course) (h.course.moves ++ h.move ∷ [])) v Empty
-    others v low off_to = h.marks_are v low ∙ rw (
-      none,
-      ne_eqb v h.move.to off_to,
-      trail-with h.move h.sound,
-      trail_mark-push (since_top setting h.course) h.move v Empty,
-    ) (at_from (v == h.move.from) refl)
-      where
-        at_from : (b : Bool) → (v == h.move.from) ≡ b
-            → cond b (Gone h.move.number h.move.to) (rest_mark setting h.course v)
-            ≡ cond b (Gone h.move.number h.move.to) (trail_mark (since_top setting h.course) v Empty)
-        at_from true e = refl
-        at_from false e = rw (← h.next.from, e)
+    others v low off_to = grind (arith, ne_eqb, trail-with, trail_mark-push)

@@ -66,8 +66,7 @@ last-left setting from number (m ∷ later) v mark linked =
     at_first : (P : ℕ → Type 0) → (from ≡ v → P 0)
         → ((i : ℕ) → i < length later → stop_at m.to later i ≡ v → P (suc i))
         → (i : ℕ) → i < length (m ∷ later) → stop_at from (m ∷ later) i ≡ v → P i
-    at_first P first more zero low same = first same
-    at_first P first more (suc i) low same = more i (omega arith) same
+    at_first P first more i low same = grind arith
 
     at_test : (b : Bool) → (v == m.from) ≡ b
         → LeavesMark setting m.to (suc number) later v (its_mark (v == m.from))
@@ -89,9 +88,7 @@ last-left setting from number (m ∷ later) v mark linked =
       move = m;
       is_move = refl;
       within = omega arith;
-      link =
-          let n : number ≡ number + 0 = omega arith in
-          rw (sym linked.0.its_from ∙ sym (eqb-true v m.from e), n) at linked.0;
+      link = grind (arith, eqb-true);
       mark_is = h.0 ∙ ap its_mark e;
       goes_on = refl;
       last = at_first (λ i. i ≤ 0) (λ same. omega arith) (λ i low same. absurd (h.1 i low same));

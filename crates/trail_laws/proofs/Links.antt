@@ -1,5 +1,5 @@
 -- The moves of a course are linked: each begins where the one before ended, and is numbered after it.
-use Rattle.std.proofs.Common.{◌≡◌, ℕ, suc, ◌+◌, ◌<◌, ◌≤◌, List, [], ◌∷◌, ◌++◌, length, fold, refl, arith, length-append}
+use Rattle.std.proofs.Common.{◌≡◌, ℕ, suc, ◌+◌, ◌<◌, ◌≤◌, List, [], ◌∷◌, ◌++◌, length, fold, arith, length-append}
 use Rattle.std.proofs.lemmas.Bool.{cases_Bool}
 use Rattle.std.specs.Prelude.{nat_le, if◌then◌else◌}
 use Rattle.directory.specs.Settings.{Setting}
@@ -49,12 +49,7 @@ renewed-low setting course node = highest-low _ setting.top
 
 pub sound-step : {setting : Setting} {course : Course} (step : Step) → IsSound setting course
     → MayStep setting course step → IsSound setting (after_step setting course step)
-sound-step {setting} {course} (move_to node) sound may = record {
-  begins = sound.begins;
-  linked = linked-push setting course.start 0 course.moves (next_move setting course node)
-      (record { its_number = omega arith; its_from = refl; its_weight = refl; inside = may.inside })
-      sound.linked;
-}
+sound-step {setting} {course} (move_to node) sound may = grind (arith, linked-push)
 sound-step step sound may = record { begins = sound.begins; linked = sound.linked }
 
 pub sound-steps : (setting : Setting) (course : Course) (steps : List Step) → IsSound setting course

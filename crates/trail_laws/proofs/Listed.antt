@@ -1,25 +1,14 @@
 -- Whom a census lists: what the mark of a subscriber at its node says.
 use Rattle.std.proofs.Common.{arith}
-use Rattle.std.proofs.Common.{◌≡◌, ℕ, true, false}
-use Rattle.entry_word.specs.Marks.{says_here}
-use Rattle.entry_word.specs.declared.mark.PresenceMark.{PresenceMark}
-use Rattle.entry_word.specs.declared.mark.PresenceMark.TheVariants.{Here}
-use Rattle.directory.specs.Settings.{Setting}
-use Rattle.directory.specs.Histories.{History}
 use Rattle.directory.specs.Legal.{IsLegal}
 use Rattle.directory.specs.Orders.{history_of}
 use Rattle.directory.specs.Statements.{DoneIsRest, OrdersAreDone, OrdersArePlayed, PlayedIsLegal, CensusIsMark}
-use Rattle.trail_laws.specs.Censuses.{CensusesEndRight, IsOnAt, ListedStandThere, RestingAreListed}
+use Rattle.trail_laws.specs.Censuses.{CensusesEndRight, ListedStandThere, RestingAreListed}
 use Rattle.trail_laws.specs.Phases.{RestIsSettled}
-use Rattle.trail_laws.specs.Trail.{MarksTell, MarkTells}
-
-here-tells : (setting : Setting) (sub : ℕ) (history : History) (node : ℕ) (mark : PresenceMark)
-    → says_here mark ≡ true → MarkTells setting sub history node mark → IsOnAt setting sub history node
-here-tells setting sub history node (Here p) h tells = (tells.0, tells.2)
-here-tells setting sub history node mark h tells = let clash : false ≡ true = h in cc
+use Rattle.trail_laws.specs.Trail.{MarksTell}
 
 pub listed-stand : CensusIsMark → MarksTell → ListedStandThere
-listed-stand says tells setting sub history node low below legal h = grind (arith, here-tells)
+listed-stand says tells setting sub history node low below legal h = grind arith
 
 pub resting-listed : CensusIsMark → MarksTell → RestIsSettled → RestingAreListed
 resting-listed says tells rests setting sub history node low below legal rest on = grind arith

@@ -2,7 +2,7 @@
 use Rattle.std.proofs.Math.Bool.{and-false}
 use Rattle.std.proofs.lemmas.Bool.{cases_Bool, cond_both, eqb-true, eq-eqb}
 use Rattle.trail_laws.proofs.ClosedMarks.{from-inside, base-with, IsNext}
-use Rattle.std.proofs.Common.{◌≡◌, inl, inr, ℕ, suc, ◌<◌, ◌≤◌, Bool, true, false, cond, not, ◌==◌, ◌&&◌, List, [], ◌∷◌, ◌++◌, Some, None, map, refl, sym, ap, ◌∙◌, arith}
+use Rattle.std.proofs.Common.{◌≡◌, inl, inr, ℕ, suc, ◌<◌, ◌≤◌, Bool, true, false, not, ◌==◌, ◌&&◌, List, [], ◌∷◌, ◌++◌, Some, map, refl, sym, ap, ◌∙◌, arith}
 use Rattle.std.specs.Prelude.{nat_le}
 use Rattle.std.proofs.lemmas.Bool.Decides.{nat_tests}
 use Rattle.node_set.specs.Ascending.{has}
@@ -27,28 +27,22 @@ near-kept : {setting : Setting} {course : Course} {move : Move} (level : ℕ) �
     → IsSound setting course → IsNext setting course move → level ≤ setting.top
     → AreLazy setting (course.moves ++ move ∷ []) → nat_le level move.renewed ≡ false
     → setting.distance (address_node course level) move.to < setting.threshold level
-near-kept {setting} {course} {move} level metric sound next below lazy e = omega (
+near-kept {setting} {course} {move} level metric sound next below lazy e = grind (
   arith,
-  metric.detour (address_node course level) move.from move.to old_inside (from-inside sound next) next.inside,
+  metric.detour (address_node course level) move.from move.to,
+  old-inside level sound,
+  from-inside sound next,
   address-near level sound metric,
-  ap (setting.distance (address_node course level)) next.from,
-  next.weight,
   weight-push course.moves move (base level course.moves) (base-low level sound),
-  rw (base-with level course move ∙ ap (λ b. cond b move.number (base level course.moves)) e) at
-      (lazy-whole setting (course.moves ++ move ∷ []) level below lazy),
+  base-with,
+  lazy-whole setting (course.moves ++ move ∷ []) level below lazy,
 )
-  where
-    old_inside : address_node course level < setting.nodes
-    old_inside = old-inside level sound
 
 -- ---- each level has an address
 rest-has : (setting : Setting) (course : Course) (level : ℕ)
     → rest_entry setting course level (setting.home level (address_node course level))
     ≡ Some (record { number = base level course.moves; node = address_node course level })
-rest-has setting course level =
-    ap (λ b. cond b (Some (record { number = base level course.moves; node = address_node course level })) None)
-    (eq-eqb (setting.home level (address_node course level))
-    (setting.home level (address_node course level)) refl)
+rest-has setting course level = grind (arith, eq-eqb)
 
 written-has : (setting : Setting) (course : Course) (move : Move) (written : List ℕ) (level : ℕ)
     → (address : Address) × (entry_written setting course move written level
@@ -74,13 +68,7 @@ module _ {setting : Setting} {shown : Shown} {phase : Phase} (h : IsMoving setti
       ≡ Some address)) → (HasMetric setting → AreLazy setting (h.course.moves ++ h.move ∷ [])
       → setting.distance (address_node h.course level) (standing_of shown) < setting.threshold level)
       → HasNear setting shown level
-  old-one found near = (
-    address_node h.course level,
-    found.0,
-    old-inside level h.sound,
-    found.1,
-    λ metric lazy. near metric (rw h.moves_are at lazy),
-  )
+  old-one found near = grind (arith, old-inside)
 
   new-one : shown.commits ≡ map commit_by (h.course.moves ++ h.move ∷ [])
       → shown.entries level (setting.home level h.move.to) ≡ new_entry h.move → HasNear setting shown level
@@ -89,11 +77,10 @@ module _ {setting : Setting} {shown : Shown} {phase : Phase} (h : IsMoving setti
     move_address h.move,
     h.next.inside,
     e,
-    λ metric lazy. omega (
+    λ metric lazy. grind (
       arith,
-      ap (setting.distance h.move.to) (next-stands h are),
-      metric.none h.move.to h.next.inside,
-      lazy-front setting h.course.moves (h.move ∷ []) level below (rw h.moves_are at lazy),
+      next-stands h are,
+      lazy-front setting h.course.moves (h.move ∷ []) level below,
     ),
   )
 
@@ -105,10 +92,7 @@ module _ {setting : Setting} {shown : Shown} {phase : Phase} (h : IsMoving setti
   new-written : nat_le level h.move.renewed ≡ true
       → entry_written setting h.course h.move (renewed_levels h.move) level (setting.home level h.move.to)
       ≡ new_entry h.move
-  new-written t = rw (
-    in-levels level h.move ∙ t,
-    eq-eqb (setting.home level h.move.to) (setting.home level h.move.to) refl,
-  )
+  new-written t = grind (arith, in-levels, eq-eqb)
 
 pub level-has : {setting : Setting} {shown : Shown} (level : ℕ) → level ≤ setting.top → View setting shown
     → HasNear setting shown level
@@ -117,25 +101,21 @@ level-has {setting} {shown} level below (inl h) = (
   _,
   old-inside level h.sound,
   h.entries_are level _ below ∙ rest-has setting h.course level,
-  λ metric lazy. rw (rest-stands shown h.course h.begins h.commits_are) (omega (
-    arith,
-    address-near level h.sound metric,
-    lazy-whole setting h.course.moves level below (rw h.moves_are at lazy),
-  )),
+  λ metric lazy. rw (rest-stands shown h.course h.begins h.commits_are) (grind (arith, address-near, lazy-whole)),
 )
 level-has {setting} {shown} level below (inr (coming written, h)) =
     let found = written-has setting h.course h.move written level in
-    old-one h level below (found.0, h.entries_are level _ below ∙ found.1) (λ metric lazy. omega (
+    old-one h level below (found.0, h.entries_are level _ below ∙ found.1) (λ metric lazy. grind (
       arith,
-      ap (setting.distance (address_node h.course level)) (rest-stands shown h.course h.begins h.commits_are),
+      rest-stands shown h.course h.begins h.commits_are,
       address-near level h.sound metric,
-      lazy-front setting h.course.moves (h.move ∷ []) level below lazy,
+      lazy-front setting h.course.moves (h.move ∷ []) level below,
     ))
 level-has {setting} level below (inr (passage, h)) = elim (cases_Bool (nat_le level h.move.renewed)) [
   | inl t ↦ new-one h level below h.commits_are (h.entries_are level _ below ∙ new-written h level below t)
   | inr t ↦
       let found = written-has setting h.course h.move (renewed_levels h.move) level in
-      old-one h level below (found.0, h.entries_are level _ below ∙ found.1) (old-near h level below h.commits_are t)
+      grind (arith, old-one h level below, old-near h level below h.commits_are t)
 ]
 level-has {setting} {shown} level below (inr (clearing erased purged, h)) =
     elim (cases_Bool (nat_le level h.move.renewed)) [
@@ -154,8 +134,7 @@ level-has {setting} {shown} level below (inr (clearing erased purged, h)) =
     its_old = old_home setting h.course level
 
     outside : nat_le level h.move.renewed ≡ false → has level (old_levels setting h.course h.move) ≡ false
-    outside t = passing_over (λ l. not (old_home setting h.course l == setting.home l h.move.to)) level 0
-        (suc h.move.renewed) (grind (arith, nat_tests, t))
+    outside t = grind (arith, passing_over)
 
     kept : nat_le level h.move.renewed ≡ true → (b : Bool) → (new_home == its_old) ≡ b
         → (has level erased && b) ≡ false

@@ -1,5 +1,5 @@
 -- While a Coming stands whose move is committed, the passage of that move is open.
-use Rattle.std.proofs.Common.{◌≡◌, ◌⊎◌, inl, inr, ℕ, zero, suc, ◌-◌, ◌<◌, ◌≤◌, ◌^◌, Bool, true, false, ◌==◌, ◌&&◌, List, [], ◌∷◌, ◌++◌, Option, Some, None, length, take, refl, sym, ap, ◌∙◌, arith, length-append}
+use Rattle.std.proofs.Common.{◌≡◌, ◌⊎◌, inl, inr, ℕ, zero, suc, ◌<◌, ◌≤◌, ◌^◌, Bool, true, false, List, [], ◌∷◌, ◌++◌, Option, Some, length, take, refl, sym, ap, ◌∙◌, arith, length-append}
 use Rattle.std.specs.Prelude.{slice_get}
 use Rattle.std.specs.List.{cons_option, last_or, list_any}
 use Rattle.std.proofs.lemmas.Bool.{and_parts, cases_Bool, eqb-false, eqb-true, eq-eqb, ne_eqb}
@@ -7,42 +7,27 @@ use Rattle.std.proofs.Math.Bool.{or-false}
 use Rattle.std.proofs.lemmas.List.Folds.{list_any-append}
 use Rattle.std.proofs.lemmas.List.Sums.{fold-append}
 use Rattle.entry_word.specs.Marks.{mark_in}
-use Rattle.entry_word.specs.declared.mark.PresenceMark.{PresenceMark}
-use Rattle.entry_word.specs.declared.mark.PresenceMark.TheVariants.{Here, Gone, Coming}
-use Rattle.entry_word.specs.declared.visit.Key.TheVariants.{Presence, Entry}
+use Rattle.entry_word.specs.declared.mark.PresenceMark.TheVariants.{Coming}
+use Rattle.entry_word.specs.declared.visit.Key.TheVariants.{Presence}
 use Rattle.entry_word.specs.declared.visit.Act.{Act}
-use Rattle.entry_word.specs.declared.visit.Act.TheVariants.{Put}
 use Rattle.entry_word.specs.declared.visit.Visit.{Visit}
 use Rattle.directory.specs.Settings.{Setting}
 use Rattle.directory.specs.Histories.{cell, History, is_put_for, puts_to, word_after}
 use Rattle.directory.specs.Courses.{after_steps}
 use Rattle.directory.specs.Puts.{course_in, mark_put, mark_step, node_put, steps_from}
 use Rattle.directory.specs.Legal.{IsLegal}
-use Rattle.directory.specs.Standing.{Commit, commits, confirms, number, passage, passage_of}
+use Rattle.directory.specs.Standing.{Commit, confirms, number, passage}
 use Rattle.directory.specs.StepLaws.{by_fronts, steps-append, take-more, puts-push_other, puts-push_own}
 use Rattle.directory.specs.Statements.{CellsOfPuts, CommitsAreMoves, FrontsAreLegal}
 use Rattle.trail_laws.specs.Trail.{mark_seen, MarksTell, MarkTells}
 use Rattle.trail_laws.proofs.Passing.{cell-kept, front-legal}
 use Rattle.directory.specs.HistoryLaws.{commits-append}
 
--- a confirm is a Here with its number at its node
-confirm-here : (c : Commit) (node : ℕ) (mark : PresenceMark) → confirms c node mark ≡ true
-    → (node ≡ c.to) × (mark ≡ Here c.number)
-confirm-here c node (Here p) h = grind (arith, and_parts, eqb-true)
-confirm-here c node mark h = cc
-
-confirm-other : (c : Commit) (node : ℕ) (mark : PresenceMark) → (node == c.to) ≡ false → confirms c node mark ≡ false
-confirm-other c node (Here p) h = ap (λ b. b && p == c.number) h
-confirm-other c node mark h = refl
-
 -- a put for a subscriber leaves the mark at a commit's node alone, and doesn't confirm it, or is that mark
 put-cases : (c : Commit) (sub word : ℕ) (act : Act) → is_put_for sub act ≡ true
     → ((word_after (Presence c.to sub) word act ≡ word) × (confirms c (node_put act) (mark_put act) ≡ false))
     ⊎ (mark_in (word_after (Presence c.to sub) word act) ≡ mark_put act)
-put-cases c sub word (Put (Entry level cluster s) new) put = inl (refl, refl)
-put-cases c sub word (Put (Presence node s) new) put =
-    grind (arith, cases_Bool, eqb-true, eq-eqb, eqb-false, ne_eqb, confirm-other)
-put-cases c sub word act put = cc
+put-cases c sub word act put = grind (arith, cases_Bool, eqb-true, eq-eqb, eqb-false, ne_eqb)
 
 put-course : (setting : Setting) (sub : ℕ) (puts : List Visit) (visit : Visit) → (off : Bool)
     × (course_in setting sub (puts ++ visit ∷ []) ≡ after_steps setting (course_in setting sub puts)
@@ -96,28 +81,16 @@ past-step laws {setting} {sub} c history visit low inside legal legal_more past 
     tells = laws.marks setting sub (history ++ visit ∷ []) low legal_more c.to inside
 
     count : number sub history ≤ number sub (history ++ visit ∷ [])
-    count = omega (
-      arith,
-      ap length (commits-append sub history (visit ∷ [])),
-      length-append (commits sub history) (commits sub (visit ∷ [])),
-    )
+    count = grind (arith, commits-append, length-append)
 
     -- it was confirmed before, and the mark at its node stays
     kept : cell setting (history ++ visit ∷ []) (Presence c.to sub) ≡ cell setting history (Presence c.to sub)
         → list_any (confirmed c) (puts_to sub history) ≡ true → Goal
-    kept same earlier =
-        let before = past earlier in
-        (omega (arith, before.0, count), λ u comes. before.1 u (sym (ap mark_in same) ∙ comes))
+    kept same earlier = grind (arith, count)
 
     earlier : is_put_for sub visit.act ≡ true → confirmed c visit ≡ false
         → list_any (confirmed c) (puts_to sub history) ≡ true
-    earlier own g = rw (
-      puts-push_own sub history visit own,
-      list_any-append (confirmed c) (puts_to sub history)
-          (visit ∷ []),
-      g,
-      or-false (list_any (confirmed c) (puts_to sub history)),
-    ) at any
+    earlier own g = grind (arith, puts-push_own, list_any-append, or-false)
 
     at_cases : is_put_for sub visit.act ≡ true
         → ((word_after (Presence c.to sub) (cell setting history (Presence c.to sub)) visit.act
@@ -125,25 +98,11 @@ past-step laws {setting} {sub} c history visit low inside legal legal_more past 
         ⊎ (mark_in (word_after (Presence c.to sub) (cell setting history (Presence c.to sub)) visit.act)
         ≡ mark_put visit.act) → (b : Bool) → confirmed c visit ≡ b → Goal
     at_cases own (inl same) b g = kept (after ∙ same.0) (earlier own same.1)
-    at_cases own (inr new) true g =
-        let here : mark_seen setting sub (history ++ visit ∷ []) c.to ≡ Here c.number =
-        ap mark_in after ∙ (new ∙ (confirm-here c (node_put visit.act) (mark_put visit.act) g).1) in
-        let told : MarkTells setting sub (history ++ visit ∷ []) c.to (Here c.number) = rw here at tells in
-        (omega (arith, told.1), λ u comes. let clash : Here c.number ≡ Coming c.number u = sym here ∙ comes in cc)
+    at_cases own (inr new) true g = grind (arith, after, and_parts, eqb-true, tells)
     at_cases own (inr new) false g =
         let before = past (earlier own g) in (
           omega (arith, before.0, count),
-          λ u comes.
-              let told : MarkTells setting sub (history ++ visit ∷ []) c.to (Coming c.number u) = rw comes at tells in
-              omega (
-                arith,
-                told.0,
-                coming-grows setting sub (puts_to sub history) visit c.number u
-                    (sym new ∙ (sym (ap mark_in after) ∙ comes)),
-                ap (λ puts. length (course_in setting sub puts).moves) (puts-push_own sub history visit own),
-                (laws.moves setting sub history low legal).0,
-                before.0,
-              ),
+          grind (arith, tells, coming-grows, after, puts-push_own),
         )
 
 past-all : PassageLaws → {setting : Setting} {sub : ℕ} (c : Commit) (history : History) → setting.nodes ≤ 2 ^ 16
@@ -164,22 +123,11 @@ pub coming-opens : PassageLaws → {setting : Setting} {sub : ℕ} (history : Hi
     → setting.nodes ≤ 2 ^ 16 → node < setting.nodes → IsLegal setting sub history
     → mark_seen setting sub history node ≡ Coming p u → p ≡ number sub history
     → passage setting sub history ≡ setting.distance u node
-coming-opens laws {setting} {sub} history node p u low inside legal comes reached = elim its.3 [
-  | inl before ↦ absurd (omega (arith, before.0, reached))
-  | inr after ↦
-      let gone : MarkTells setting sub history u (Gone p node) =
-      rw after.2 at (laws.marks setting sub history low legal u its.1) in
-      ap (passage_of setting (puts_to sub history))
-      (last-get (commits sub history) (p - 1) None c (omega (arith, reached, gone.0)) gone.1)
-      ∙ rw (not_yet (list_any (confirmed c) (puts_to sub history)) refl)
-]
+coming-opens laws {setting} {sub} history node p u low inside legal comes reached =
+    grind (arith, its, laws.marks setting sub history low legal u, last-get, past-all, c)
   where
     its : MarkTells setting sub history node (Coming p u)
     its = rw comes at (laws.marks setting sub history low legal node inside)
 
     c : Commit
     c = record { number = p; from = u; to = node }
-
-    not_yet : (b : Bool) → list_any (confirmed c) (puts_to sub history) ≡ b → b ≡ false
-    not_yet false e = refl
-    not_yet true e = absurd ((past-all laws c history low inside legal e).1 u comes)

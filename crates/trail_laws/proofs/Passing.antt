@@ -1,20 +1,19 @@
 -- What a legal history is at its fronts: they are legal, numbers only grow, and a look changes nothing.
-use Rattle.std.proofs.Math.Seq.{take-nil}
-use Rattle.std.proofs.Common.{inl, inr, ◌<◌, ◌≡◌, ℕ, zero, suc, ◌+◌, ◌-◌, ◌≤◌, ◌^◌, Bool, false, List, [], ◌∷◌, ◌++◌, Some, length, take, filter, refl, sym, ap, ◌∙◌, arith, length-append}
+use Rattle.std.proofs.Common.{inl, inr, ◌<◌, ◌≡◌, ℕ, zero, suc, ◌≤◌, ◌^◌, Bool, false, List, [], ◌∷◌, ◌++◌, Some, length, take, drop, filter, refl, sym, ap, ◌∙◌, arith, length-append}
 use Rattle.std.proofs.lemmas.Bool.{cases_Bool, cases_eq}
 use Rattle.std.specs.Prelude.{slice_get}
-use Rattle.std.proofs.lemmas.List.{append-nil, length-take}
+use Rattle.std.proofs.lemmas.List.{append-nil, length-take, take-append-drop, take-take}
 use Rattle.std.proofs.lemmas.List.Elements.{filter-append}
 use Rattle.std.proofs.lemmas.List.Sums.{fold-append}
 use Rattle.entry_word.specs.declared.visit.Key.{Key}
 use Rattle.entry_word.specs.declared.visit.Visit.{Visit}
-use Rattle.directory.specs.Settings.{Setting, start}
-use Rattle.directory.specs.Courses.{Course, Step, after_step, after_steps, course_at, move_to}
+use Rattle.directory.specs.Settings.{Setting}
+use Rattle.directory.specs.Courses.{Course, Step, after_step, after_steps, move_to}
 use Rattle.directory.specs.Keys.{key_sub}
 use Rattle.directory.specs.Histories.{before, cell, History, is_put_for, puts_to, through}
 use Rattle.directory.specs.Legal.{IsLegal}
-use Rattle.directory.specs.Looks.{look_by, moves_at, moves_by}
-use Rattle.directory.specs.Puts.{course_in, ends_off, is_of_move, steps_from, steps_in}
+use Rattle.directory.specs.Looks.{look_by, moves_at}
+use Rattle.directory.specs.Puts.{course_in, ends_off, is_of_move, steps_from}
 use Rattle.directory.specs.Standing.{Commit, commits, number}
 use Rattle.directory.specs.StepLaws.{puts-push, puts-push_other, slice_get-within, steps-append, take-more}
 use Rattle.directory.specs.Statements.{CellsOfPuts, FrontsAreLegal}
@@ -44,31 +43,23 @@ module _ (fronts : FrontsAreLegal) {setting : Setting} {sub : ℕ} (history : Hi
     | inl same ↦ rw same at now
     | inr apart ↦
         let found = slice_get-within history u (omega arith) in
-        let more : before (suc u) history ≡ before u history ++ found.0 ∷ [] =
-        take-more history u found.0 found.1 in
-        rw more (one (before u history) found.0 (front-legal fronts setting sub history u low legal)
-        (rw more at (front-legal fronts setting sub history (suc u) low legal))
-        (sym (ap (λ o. moves_by sub (before u history) o) found.1) ∙ quiet u (omega arith) (omega arith))
-        (while-quiet t u (omega arith) (omega arith) (λ x h g. quiet x h (omega arith)) now))
+        rw (take-more history u found.0 found.1) (one (before u history) found.0
+        (front-legal fronts setting sub history u low legal)
+        (rw (← take-more history u found.0 found.1) (front-legal fronts setting sub history (suc u) low legal))
+        (grind (arith, quiet u)) (while-quiet t u (omega arith) (omega arith) (λ x h g. quiet x h (omega arith)) now))
   ]
 
-take-further : (k t : ℕ) (xs : History) → (rest : History) × (take (k + t) xs ≡ take t xs ++ rest)
-take-further k zero xs = (take (k + 0) xs, refl)
-take-further k (suc t) [] = ([], take-nil (k + suc t))
-take-further k (suc t) (x ∷ xs) =
-    let more = take-further k t xs in
-    let e : k + suc t ≡ suc (k + t) = omega arith in (more.0, rw e (ap (λ zs. x ∷ zs) more.1))
+further : (t u : ℕ) (history : History) → t ≤ u → take u history ≡ take t history ++ drop t (take u history)
+further t u history h = sym (take-append-drop t (take u history))
+    ∙ ap (λ xs. xs ++ drop t (take u history)) (take-take t u history h)
 
 -- later commits only come behind
 pub commits-grow : (sub t u : ℕ) (history : History) → t ≤ u
     → (more : List Commit) × (commits sub (take u history) ≡ commits sub (take t history) ++ more)
-commits-grow sub t u history h =
-    let more = take-further (u - t) t history in
-    let e : (u - t) + t ≡ u = omega arith in (
-      commits sub more.0,
-      ap (λ n. commits sub (take n history)) (sym e)
-          ∙ (ap (commits sub) more.1 ∙ commits-append sub (take t history) more.0),
-    )
+commits-grow sub t u history h = (
+  commits sub (drop t (take u history)),
+  ap (commits sub) (further t u history h) ∙ commits-append sub (take t history) (drop t (take u history)),
+)
 
 pub number-grows : (sub t u : ℕ) (history : History) → t ≤ u
     → number sub (take t history) ≤ number sub (take u history)
@@ -86,19 +77,14 @@ moves-kept setting course (step ∷ steps) = moves-kept setting (after_step sett
 
 pub begun-grows : (setting : Setting) (sub t u : ℕ) (history : History) → t ≤ u
     → moves_begun setting sub (take t history) ≤ moves_begun setting sub (take u history)
-begun-grows setting sub t u history h =
-    let more = take-further (u - t) t history in
-    let e : (u - t) + t ≡ u = omega arith in
-    let puts : puts_to sub (take u history) ≡ puts_to sub (take t history) ++ puts_to sub more.0 =
-    ap (λ n. puts_to sub (take n history)) (sym e) ∙ (ap (puts_to sub) more.1
-    ∙ filter-append (λ (v : Visit). is_put_for sub v.act) (take t history) more.0) in
-    of_puts (puts_to sub (take u history)) (puts_to sub (take t history)) (puts_to sub more.0) puts
+begun-grows setting sub t u history h = of_puts (puts_to sub (take t history)) (puts_to sub (drop t (take u history)))
+    (ap (puts_to sub) (further t u history h)
+    ∙ filter-append (λ (v : Visit). is_put_for sub v.act) (take t history) (drop t (take u history)))
   where
-    of_puts : (all xs ys : List Visit) → all ≡ xs ++ ys
-        → length (course_in setting sub xs).moves ≤ length (course_in setting sub all).moves
-    of_puts all xs ys same = rw (ap (course_in setting sub) same
-        ∙ (ap (after_steps setting (course_at (start setting sub))) (steps-append false xs ys)
-        ∙ fold-append (after_step setting) (course_at (start setting sub)) (steps_in xs) (steps_from (ends_off xs) ys)))
+    of_puts : (xs ys : List Visit) → puts_to sub (take u history) ≡ xs ++ ys
+        → length (course_in setting sub xs).moves ≤ length (course_in setting sub (puts_to sub (take u history))).moves
+    of_puts xs ys same =
+        rw (same, steps-append false xs ys, fold-append)
         (moves-kept setting (course_in setting sub xs) (steps_from (ends_off xs) ys))
 
 -- after a look all is as before

@@ -1,7 +1,8 @@
 -- What an address tells, and where the marks lead from its node: at rest, and in each phase of a move.
+use Rattle.std.proofs.lemmas.Bool.{cases_Bool, and_parts, eqb-true}
+use Rattle.trail_laws.proofs.ClosedEntries.{new_entry, entry_erased, entry_written, new-stop, old-stop}
 use Rattle.trail_laws.proofs.ClosedMarks.{from-inside}
-use Rattle.std.proofs.Common.{◌==◌, ◌≡◌, ◌≢◌, ◌⊎◌, inl, inr, ℕ, suc, ◌+◌, ◌<◌, ◌≤◌, true, List, [], ◌∷◌, ◌++◌, Option, length, map, refl, sym, ap, ◌∙◌, arith, length-append, ◌*◌, Some}
-use Rattle.std.proofs.lemmas.Bool.{eqb-true}
+use Rattle.std.proofs.Common.{◌==◌, ◌≡◌, ◌⊎◌, inl, inr, ℕ, suc, ◌+◌, ◌<◌, ◌≤◌, true, List, [], ◌∷◌, ◌++◌, Option, length, map, refl, sym, ap, ◌∙◌, arith, length-append, ◌*◌, Some}
 use Rattle.std.proofs.lemmas.List.{append-nil}
 use Rattle.node_set.specs.SetLaws.{length-passing_all}
 use Rattle.entry_word.specs.declared.mark.PresenceMark.{PresenceMark}
@@ -10,9 +11,9 @@ use Rattle.entry_word.specs.declared.address.Address.{Address}
 use Rattle.directory.specs.Settings.{Setting}
 use Rattle.directory.specs.Courses.{Move, Course, address_node, base}
 use Rattle.directory.specs.Standing.{commit_by}
-use Rattle.trail_laws.specs.Trail.{answers, KnowsAtMost}
+use Rattle.trail_laws.specs.Trail.{KnowsAtMost}
 use Rattle.trail_laws.proofs.Links.{IsSound, base-low, moves-count}
-use Rattle.trail_laws.proofs.Holders.{IsNew, IsOld, erased-some, move_address, old_address, only-new, rest-some, written-some}
+use Rattle.trail_laws.proofs.Holders.{IsNew, IsOld, erased-some, move_address, old_address, only-new, rest-some}
 use Rattle.trail_laws.proofs.GoneCounts.{above, gone_above, passing-fewer, some-out}
 use Rattle.trail_laws.proofs.Chases.{Arrival, arrived, longer}
 use Rattle.trail_laws.proofs.LinkedStops.{stop_at, old-inside}
@@ -20,7 +21,6 @@ use Rattle.trail_laws.proofs.Tells.{begun-count, count-told, next-stands, rest-s
 use Rattle.trail_laws.proofs.Fine.{fine-clearing, fine-coming, fine-coming_new, fine-new, fine-passing, fine-rest, IsFine}
 use Rattle.trail_laws.proofs.Prices.{lazy-front}
 use Rattle.trail_laws.proofs.Leads.{base-top, clearing-here, clearing-leads, coming-at_to, coming-back, coming-leads, old-leads, passage-leads, passage-new, passing-at_to, rest-leads}
-use Rattle.trail_laws.proofs.ClosedEntries.{entry_erased, entry_written, new-stop, old-stop}
 use Rattle.trail_laws.proofs.ClosedViews.{clearing, coming, IsMoving, IsResting, passage, Phase, renewed_levels, Shown, View}
 
 -- what an address of a view tells
@@ -55,16 +55,7 @@ module _ {setting : Setting} {shown : Shown} (level cluster : ℕ) (address : Ad
       → its.node ≡ stop_at shown.from shown.moves its.number → IsFine setting shown level its way
       → ((known : Option ℕ) → KnowsAtMost number known → Arrival setting shown.marks known its.node last hops way)
       → IsPlaced setting shown level cluster address
-  at-home its same inside home few is_stop fine leads = rw same (record {
-    inside = inside;
-    home_is = eqb-true cluster (setting.home level its.node) home;
-    few = few;
-    is_stop = is_stop;
-    most_way = way;
-    fine = fine;
-    leads = λ known knows. rw stood (longer setting shown.marks known its.node last hops setting.nodes way way some
-        (λ metric. omega arith) (leads known (rw count at knows)));
-  })
+  at-home its same inside home few is_stop fine leads = grind (arith, eqb-true, longer)
 
   -- an old address, whatever moves come behind it, and that of the move
   old-placed : {course : Course} (more : List Move) → IsSound setting course → course.start ≡ shown.from
@@ -131,23 +122,19 @@ module _ {setting : Setting} {shown : Shown} (level cluster : ℕ) (address : Ad
       (old-leads 1 (2 * setting.distance h.move.from h.move.to) level h.sound below (passage-leads h)) old
   passing-placed h (inl new) = move-placed level cluster address _ _ 2 _ (all-count h h.commits_are)
       (next-stands h h.commits_are)
-      (two-inside h.move.to h.move.from h.next.inside (from-inside h.sound h.next) h.next.moving) h
+      (grind (arith, h.next.inside, from-inside h.sound h.next, h.next.moving)) h
       (fine-passing h level _ _ (λ metric lazy. omega (
         arith,
         lazy-front setting h.course.moves (h.move ∷ []) level below lazy,
         metric.both_ways h.move.to h.move.from h.next.inside (from-inside h.sound h.next),
       ))) (λ known knows. passage-new h known) new
-    where
-      two-inside : (a b : ℕ) → a < setting.nodes → b < setting.nodes → a ≢ b → 2 ≤ setting.nodes
-      two-inside a b low other apart = omega (arith, low, other, apart)
 
   -- where the new node holds the subscriber, its address needs no hop
   new-placed : {erased purged : List ℕ} (h : IsMoving setting shown (clearing erased purged))
       → IsNew setting h.move level cluster address → IsPlaced setting shown level cluster address
   new-placed h = move-placed level cluster address _ _ 0 0
       (all-count h h.commits_are) (next-stands h h.commits_are) (omega arith) h (fine-new h level _ below)
-      (λ known knows. arrived setting shown.marks known h.move.to h.move.to 0 0 refl
-      (ap (answers known) (clearing-here h)))
+      (grind (arith, arrived, clearing-here))
 
   clearing-placed : {erased purged : List ℕ} (h : IsMoving setting shown (clearing erased purged)) → purged ≡ []
       → IsEither h → IsPlaced setting shown level cluster address
@@ -163,7 +150,9 @@ module _ {setting : Setting} {shown : Shown} (level cluster : ℕ) (address : Ad
   -- an entry of a move under way is either
   either : {phase : Phase} (h : IsMoving setting shown phase) (written : List ℕ)
       → entry_written setting h.course h.move written level cluster ≡ Some address → IsEither h
-  either h written e = grind (arith, written-some)
+  unfolding IsNew
+  either h written e =
+      grind (arith, setting.home level h.move.to, cases_Bool, and_parts, new_entry, move_address, rest-some)
 
   -- so it is for each address of a view
   pub entry-placed : View setting shown → shown.entries level cluster ≡ Some address
@@ -177,8 +166,7 @@ module _ {setting : Setting} {shown : Shown} (level cluster : ℕ) (address : Ad
   entry-placed (inr (clearing erased purged, h)) e = elim h.is_phase.in_order [
     | inl none ↦ clearing-placed h none (either h (renewed_levels h.move) (erased-some setting h.course h.move
         (renewed_levels h.move) erased level cluster address entry).1)
-    | inr whole ↦ new-placed h (only-new level cluster address h.sound h.next below whole.1
-        (rw whole.0 at entry))
+    | inr whole ↦ new-placed h (grind (arith, only-new, entry))
   ]
     where
       entry : entry_erased setting h.course h.move (renewed_levels h.move) erased level cluster ≡ Some address

@@ -1,8 +1,7 @@
 -- What the ways along the marks weigh: no level has gathered its threshold, so that the trail from its address is
 -- short.
 use Rattle.trail_laws.proofs.ClosedMarks.{from-inside, IsNext}
-use Rattle.std.proofs.Common.{◌≡◌, ℕ, ◌+◌, ◌*◌, ◌<◌, ◌≤◌, List, [], ◌∷◌, ◌++◌, length, take, drop, refl, ap, ◌∙◌, arith, length-append}
-use Rattle.std.specs.Prelude.{sum_by}
+use Rattle.std.proofs.Common.{◌≡◌, ℕ, ◌+◌, ◌*◌, ◌<◌, ◌≤◌, List, [], ◌∷◌, ◌++◌, length, take, refl, arith, length-append}
 use Rattle.std.proofs.lemmas.List.{drop-append-le, take_all, take_at}
 use Rattle.std.proofs.lemmas.List.Sums.{sum_by_push}
 use Rattle.directory.specs.Settings.{Setting}
@@ -30,8 +29,7 @@ lazy-front setting xs ys level below lazy =
 
 pub weight-push : (moves : List Move) (move : Move) (b : ℕ) → b ≤ length moves
     → weight_from (moves ++ move ∷ []) b ≡ weight_from moves b + move.weight
-weight-push moves move b low = ap (sum_by (λ (m : Move). m.weight)) (drop-append-le b moves (move ∷ []) low)
-    ∙ sum_by_push (λ (m : Move). m.weight) (drop b moves) move
+weight-push moves move b low = grind (arith, drop-append-le, sum_by_push)
 
 -- how far the address of a level is from the last stop
 pub address-near : {setting : Setting} {course : Course} (level : ℕ) → IsSound setting course → HasMetric setting
@@ -48,16 +46,14 @@ pub price-clearing : {setting : Setting} {course : Course} {move : Move} (level 
     → AreLazy setting (course.moves ++ move ∷ [])
     → weight_from (course.moves ++ move ∷ []) (base level course.moves) + 2
     ≤ 2 * setting.threshold level + setting.distance (address_node course level) move.to
-price-clearing {setting} {course} {move} level sound next below metric lazy = omega (
+price-clearing {setting} {course} {move} level sound next below metric lazy = grind (
   arith,
   lazy-front setting course.moves (move ∷ []) level below lazy,
   weight-push course.moves move (base level course.moves) (base-low level sound),
-  next.weight,
-  metric.detour move.from (address_node course level) move.to (from-inside sound next) old_inside next.inside,
-  metric.both_ways move.from (address_node course level) (from-inside sound next) old_inside,
-  ap (setting.distance (address_node course level)) next.from,
+  base level course.moves,
+  base-low level sound,
+  address_node course level,
+  from-inside sound next,
   address-near level sound metric,
+  old-inside level sound,
 )
-  where
-    old_inside : address_node course level < setting.nodes
-    old_inside = old-inside level sound

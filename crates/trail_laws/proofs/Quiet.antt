@@ -1,83 +1,58 @@
 -- A quiet find has its answer: what it stands on stays while no visit of a move is made.
 use Rattle.std.proofs.lemmas.Bool.{cases_Bool, cases_eq, or_cases, eqb-true, cases_lt}
-use Rattle.std.proofs.Common.{◌≡◌, ◌⊎◌, inl, inr, ℕ, zero, suc, ◌+◌, ◌-◌, ◌*◌, ◌<◌, ◌≤◌, ◌^◌, true, false, ◌==◌, List, [], ◌∷◌, ◌++◌, Option, Some, None, map, fold, refl, sym, ap, ◌∙◌, arith}
-use Rattle.std.specs.Prelude.{All, flat_map, is_some}
+use Rattle.std.proofs.Common.{◌≡◌, ◌⊎◌, inl, inr, ℕ, zero, suc, ◌+◌, ◌-◌, ◌*◌, ◌<◌, ◌≤◌, ◌^◌, true, false, List, [], ◌∷◌, ◌++◌, Option, Some, None, map, refl, ap, arith}
+use Rattle.std.specs.Prelude.{All, flat_map, is_some, slice_get}
 use Rattle.std.proofs.lemmas.List.Elements.{All-head, All-tail}
 use Rattle.std.proofs.lemmas.Option.{slice_get_within}
 use Rattle.node_set.specs.Ascending.{has}
 use Rattle.entry_word.specs.declared.address.Address.{Address}
+use Rattle.entry_word.specs.declared.visit.Key.{Key}
 use Rattle.directory.specs.Settings.{levels, Setting}
-use Rattle.directory.specs.Histories.{before, cell, History, words_at}
+use Rattle.directory.specs.Histories.{before, cell, History}
 use Rattle.directory.specs.Writes.{numbers_from}
 use Rattle.directory.specs.Legal.{IsLegal}
-use Rattle.directory.specs.Finds.{after_word, all_readers, at_origin, ended, find, FindCall, Reader, Pursuit, way_in, found_weight}
-use Rattle.directory.specs.Looks.{AreLooks, first_of, IsFind, IsQuiet, last_of, look_by, moves_at}
+use Rattle.directory.specs.Finds.{key_of, after_word, all_readers, find, FindCall, Reader, Pursuit, way_in, found_weight}
+use Rattle.directory.specs.Looks.{first_of, IsFind, IsQuiet, last_of, look_by, moves_at}
 use Rattle.directory.specs.declared.answers.Found.{Found}
 use Rattle.directory.specs.declared.answers.Found.TheVariants.{Again}
 use Rattle.trail_laws.specs.Trail.{entry_seen}
 use Rattle.trail_laws.specs.Rightness.{AgainHasItsCause, IsAnswered, QuietFindsAnswer, ReadsTop}
 use Rattle.trail_laws.specs.Within.{Affords, AffordsAddress, Begins, EntryAsks, QuietFindsStayWithin}
 use Rattle.trail_laws.proofs.Passing.{front-legal}
-use Rattle.trail_laws.proofs.Right.{last-more, Low, read-one, readers-low}
+use Rattle.trail_laws.proofs.Right.{at-last, Low, readers-low}
 use Rattle.trail_laws.proofs.Sure.{first-sure, IsSure, Used, look-sure, sure-until}
 
--- ---- all looks
--- the last look comes no earlier than the first
-pub last-late : (setting : Setting) (history : History) (actor : ℕ) (call : FindCall) (earliest : ℕ) (pursuit : Pursuit)
-    (t : ℕ)
-    (later : List ℕ) → AreLooks setting history actor call earliest pursuit (t ∷ later) → t ≤ last_of (t ∷ later)
-unfolding AreLooks
-last-late setting history actor call earliest pursuit t [] looks = omega arith
-last-late setting history actor call earliest pursuit t (u ∷ later) (first, (key, wanted, is_look, rest)) = grind (
-  arith,
-  last-late setting history actor call (suc t)
-      (after_word setting call pursuit (cell setting (before t history) key)) u later rest,
-  last-more,
-)
-
-module _ (used : Used) {setting : Setting} (history : History) (actor : ℕ) (call : FindCall) (Within : ℕ → Type 0)
-    (found : Found) (low : setting.nodes ≤ 2 ^ 16) (inside : call.from < setting.nodes)
-    (legal : IsLegal setting call.sub history) where
-  sure-looks : (later : List ℕ) (t : ℕ) (pursuit : Pursuit)
-      → IsSure setting call.sub (before t history) call Within pursuit
-      → AreLooks setting history actor call (suc t) pursuit later
-      → ((u : ℕ) → t ≤ u → u ≤ last_of (t ∷ later) → moves_at call.sub history u ≡ false)
-      → fold (after_word setting call) pursuit (flat_map (words_at setting history) later) ≡ ended found
-      → IsAnswered found × Within (found_weight found)
-  unfolding AreLooks
-  sure-looks [] t pursuit sure looks quiet ends = rw ends at sure
-  sure-looks (u ∷ later) t pursuit sure (first, (key, wanted, is_look, rest)) quiet ends =
-      sure-looks later u (after_word setting call pursuit (cell setting (before u history) key))
-      (look-sure setting (before u history) call Within pursuit key waited wanted) rest
-      (λ x h g. quiet x (omega (arith, first, h)) (omega (arith, g, last-more t u later)))
-      (sym (read-one setting history actor u key call pursuit later is_look) ∙ ends)
-    where
-      late : u ≤ last_of (u ∷ later)
-      late = last-late setting history actor call (suc t) pursuit u later (first, (key, wanted, is_look, rest))
-
-      waited : IsSure setting call.sub (before u history) call Within pursuit
-      waited = sure-until used history call Within t u pursuit low legal (omega (arith, first))
-          (omega (arith, slice_get_within history u (look_by actor key) is_look))
-          (λ x h g. quiet x h (omega (arith, g, late, last-more t u later))) sure
-
-  -- a quiet find whose beginning is sure has an answer within what is allowed
-  first-looks : (tickets : List ℕ) → Begins setting (before (first_of tickets) history) call Within
-      → IsQuiet history call.sub (first_of tickets) (last_of tickets)
-      → AreLooks setting history actor call 0 at_origin tickets
-      → find setting call (flat_map (words_at setting history) tickets) ≡ ended found
-      → IsAnswered found × Within (found_weight found)
-  unfolding AreLooks
-  first-looks [] begins quiet looks ends = let clash : at_origin ≡ ended found = ends in cc
-  first-looks (t ∷ later) begins quiet (first, (key, wanted, is_look, rest)) ends =
-      grind (arith, front-legal, first-sure, read-one, sure-looks)
-
+-- a quiet find whose beginning is sure has an answer within what is allowed
 pub quiet-within : Used → {setting : Setting} {history : History} {actor : ℕ} {call : FindCall} {Within : ℕ → Type 0}
     {found : Found} {tickets : List ℕ} → setting.nodes ≤ 2 ^ 16 → call.from < setting.nodes
     → IsLegal setting call.sub history → Begins setting (before (first_of tickets) history) call Within
     → IsFind setting history actor call found tickets
     → IsQuiet history call.sub (first_of tickets) (last_of tickets) → IsAnswered found × Within (found_weight found)
 quiet-within used {setting} {history} {actor} {call} {Within} {found} {tickets} low inside legal begins find quiet =
-    first-looks used history actor call Within found low inside legal tickets begins quiet find.looks find.answer
+    (at-last setting history actor call SureTo next tickets find (λ t key same is_look wanted. (
+      omega (arith, same),
+      λ calm.
+          first-sure used {seen = before t history} {Within = Within} key (rw same begins) low inside
+          (front-legal used.fronts setting call.sub history t low legal) wanted,
+    ))).1 quiet
+  where
+    -- while no visit of a move is made it is sure
+    SureTo : ℕ → Pursuit → Type 0
+    SureTo t pursuit = (first_of tickets ≤ t) × (IsQuiet history call.sub (first_of tickets) t
+        → IsSure setting call.sub (before t history) call Within pursuit)
+
+    next : (t u : ℕ) (pursuit : Pursuit) (key : Key) → t < u → slice_get history u ≡ Some (look_by actor key)
+        → key_of call pursuit ≡ Some key → SureTo t pursuit
+        → SureTo u (after_word setting call pursuit (cell setting (before u history) key))
+    next t u pursuit key later is_look wanted sure = (
+      omega (arith, later, sure.0),
+      λ calm.
+          look-sure setting (before u history) call Within pursuit key
+          (sure-until used history call Within t u pursuit low legal (omega (arith, later))
+          (omega (arith, slice_get_within history u (look_by actor key) is_look))
+          (λ x h g. calm x (omega (arith, h, sure.0)) (omega (arith, g)))
+          (sure.1 (λ x h g. calm x h (omega (arith, g, later))))) wanted,
+    )
 
 -- ---- without a bound: the home at the top level has an address that the origin reads
 abbrev pub HasReader : Setting → ℕ → History → List Reader → Type 0
@@ -94,10 +69,7 @@ at-level : (setting : Setting) (sub : ℕ) (seen : History) (level cluster : ℕ
     → HasReader setting sub seen (map (λ c. record { level = level; cluster = c }) clusters ++ rest)
 at-level setting sub seen level cluster [] rest h some = cc
 at-level setting sub seen level cluster (c ∷ clusters) rest h some =
-    elim (or_cases (cluster == c) (has cluster clusters) h) [
-      | inl e ↦ inl (rw (← eqb-true cluster c e) some)
-      | inr later ↦ inr (at-level setting sub seen level cluster clusters rest later some)
-    ]
+    grind (arith, or_cases, eqb-true, at-level setting sub seen level cluster clusters rest)
 
 passed : (setting : Setting) (sub : ℕ) (seen : History) (xs ys : List Reader) → HasReader setting sub seen ys
     → HasReader setting sub seen (xs ++ ys)
@@ -110,14 +82,8 @@ from-level : (setting : Setting) (sub node : ℕ) (seen : History) (cluster firs
     → HasReader setting sub seen (flat_map (λ level. map (λ c. record { level = level; cluster = c })
     (setting.readers level node)) (numbers_from first count))
 from-level setting sub node seen cluster first zero low high h some = absurd (omega arith)
-from-level setting sub node seen cluster first (suc count) low high h some = elim (cases_eq first setting.top) [
-  | inl e ↦ at-level setting sub seen first cluster (setting.readers first node) _
-      (ap (λ l. has cluster (setting.readers l node)) e ∙ h)
-      (ap (λ l. is_some (entry_seen setting sub seen l cluster)) e ∙ some)
-  | inr other ↦ passed setting sub seen
-      (map (λ c. record { level = first; cluster = c }) (setting.readers first node)) _
-      (from-level setting sub node seen cluster (suc first) count (omega (arith, other, low)) (omega arith) h some)
-]
+from-level setting sub node seen cluster first (suc count) low high h some =
+    grind (arith, from-level setting sub node seen cluster (suc first) count, cases_eq, at-level, passed)
 
 pub readers-have : Used → {setting : Setting} {sub : ℕ} (node : ℕ) (seen : History) → setting.nodes ≤ 2 ^ 16
     → ReadsTop setting → node < setting.nodes → IsLegal setting sub seen
@@ -144,12 +110,12 @@ affords-any used {setting} seen call weight (reader ∷ later) low legal all som
         → EntryAsks entry (Affords setting call.sub seen call Anything
         (weight + 2 * way_in setting call reader) later)
         (λ address. AffordsAddress setting call.sub seen call Anything weight reader address)
-    at_entry None e (inl h) more = let clash : false ≡ true = sym (ap is_some e) ∙ h in cc
-    at_entry None e (inr h) more = more h
-    at_entry (Some address) e h more = λ known knows.
-        let there = used.addresses setting call.sub seen low legal reader.level reader.cluster address known
-        (All-head (Low setting) reader later all) e knows in
-        (there.0, there.1, there.2, there.3, tt)
+    at_entry None e h more = grind arith
+    at_entry (Some address) e h more = λ known knows. grind (
+      arith,
+      used.addresses setting call.sub seen low legal reader.level reader.cluster address known,
+      All-head (Low setting) reader later all,
+    )
 
 pub quiet-answers : Used → QuietFindsAnswer
 quiet-answers used setting history actor call found tickets low reads inside legal find quiet =
@@ -164,14 +130,9 @@ quiet-answers used setting history actor call found tickets low reads inside leg
     begins : Begins setting (before (first_of tickets) history) call Anything
     begins = record {
       here = tt;
-      climbing = λ c h o. affords-any used (before (first_of tickets) history) call 0 (all_readers setting call.from)
-          low legal_seen (readers-low setting call.from) (readers-have used call.from
-          (before (first_of tickets) history) low reads inside legal_seen);
+      climbing = grind (arith, affords-any, legal_seen, readers-low, readers-have);
       chasing = λ p from e.
-          let there = used.comings setting call.sub (before (first_of tickets) history) low legal_seen call.from p
-          from None
-          inside e tt in
-          (there.0, there.1, there.2, there.3, tt);
+          grind (arith, used.comings setting call.sub seen low legal_seen call.from p from None inside);
     }
 
 -- either all tickets of a range are quiet, or one isn't

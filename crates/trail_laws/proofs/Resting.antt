@@ -1,7 +1,6 @@
 -- How far the marks lead in each phase, and what rest is.
 use Rattle.std.proofs.lemmas.Bool.{cases_Bool}
-use Rattle.std.proofs.Common.{◌≡◌, ◌≢◌, ℕ, ◌^◌, ◌≤◌, Some, length, map, sym, ap, ◌∙◌, arith, inl, inr}
-use Rattle.std.specs.Prelude.{filter_map}
+use Rattle.std.proofs.Common.{◌≡◌, ◌≢◌, ℕ, ◌^◌, ◌≤◌, Some, length, map, sym, ap, ◌∙◌, arith}
 use Rattle.std.proofs.lemmas.List.{length-map}
 use Rattle.entry_word.specs.declared.address.Address.{Address}
 use Rattle.entry_word.specs.declared.mark.PresenceMark.TheVariants.{Coming}
@@ -11,11 +10,9 @@ use Rattle.directory.specs.Legal.{IsLegal}
 use Rattle.directory.specs.Courses.{Course, course_at, last_stop}
 use Rattle.directory.specs.Puts.{course_in, steps_in}
 use Rattle.directory.specs.Standing.{commit_by, commits, number, off, standing}
-use Rattle.directory.specs.States.{entry_left, write_commit}
 use Rattle.trail_laws.specs.Trail.{entry_seen, mark_seen}
 use Rattle.trail_laws.specs.Phases.{AddressesLeadByPhase, IsAtRest, IsCurrent, IsMarked, RestEndsItsCourse, RestIsSettled}
 use Rattle.trail_laws.proofs.ClosedMarks.{there}
-use Rattle.trail_laws.proofs.ClosedEntries.{rest_entry}
 use Rattle.trail_laws.proofs.ClosedWrites.{commits-steps, off-steps}
 use Rattle.trail_laws.proofs.Views.{all-made, mark-there, shown, rest-entries_of, sound-opening}
 use Rattle.trail_laws.proofs.Tells.{rest-stands}
@@ -29,19 +26,7 @@ pub addresses-by_phase : Laws → AddressesLeadByPhase
 addresses-by_phase laws setting sub history low metric some legal level cluster address known below is_some knows =
     let its = placed laws history low legal level cluster address below is_some in
     let there = its.leads known knows in
-    let lazy = legal-lazy history some legal in (
-      there.hops,
-      there.way,
-      there.few,
-      there.led,
-      record {
-        before_old = λ all old. omega (arith, there.short metric, its.fine.before_old metric lazy all old);
-        before_new = λ all new. omega (arith, there.short metric, its.fine.before_new metric lazy all new);
-        passing = λ from comes. omega (arith, there.short metric, its.fine.passing metric lazy from comes);
-        settled = λ is. omega (arith, there.short metric, its.fine.settled metric lazy is.0 is.1);
-        current = λ is same. omega (arith, there.short metric, its.fine.current metric lazy is.0 is.1 same);
-      },
-    )
+    let lazy = legal-lazy history some legal in grind (arith, there.short metric)
 
 module _ (laws : Laws) (setting : Setting) (sub : ℕ) (history : History) (low : setting.nodes ≤ 2 ^ 16)
     (legal : IsLegal setting sub history) (rest : IsAtRest setting sub history) where
@@ -50,9 +35,7 @@ module _ (laws : Laws) (setting : Setting) (sub : ℕ) (history : History) (low 
 
   -- a subscriber that rests has committed all its moves
   all-committed : commits sub history ≡ map commit_by course.moves
-  all-committed = laws.told setting sub history low legal
-      ∙ (ap (filter_map write_commit) (all-made setting sub history rest)
-      ∙ commits-steps setting (course_at (start setting sub)) (steps_in (puts_to sub history)))
+  all-committed = grind (arith, all-made, commits-steps)
 
   all : length course.moves ≡ number sub history
   all = omega (arith, ap length all-committed, length-map course.moves commit_by)
@@ -68,10 +51,7 @@ module _ (laws : Laws) (setting : Setting) (sub : ℕ) (history : History) (low 
   mark_stands = ap (mark_seen setting sub history) stood ∙ mark-there setting sub history rest laws.marks low legal
 
   marked : IsMarked setting sub history
-  marked = elim (cases_Bool course.is_off) [
-    | inl e ↦ inr (mark_stands ∙ rw (e, all))
-    | inr e ↦ inl (mark_stands ∙ rw (e, all))
-  ]
+  marked = grind (arith, cases_Bool, mark_stands, all)
 
   not-coming : (from : ℕ) → mark_seen setting sub history (standing setting sub history)
       ≢ Coming (number sub history) from
@@ -80,13 +60,7 @@ module _ (laws : Laws) (setting : Setting) (sub : ℕ) (history : History) (low 
   current : (level cluster : ℕ) (address : Address) → level ≤ setting.top
       → entry_seen setting sub history level cluster ≡ Some address → IsCurrent setting sub history level address
   unfolding IsOld
-  current level cluster address below is_some =
-      ap (λ (a : Address). a.number) (rest-some setting course level cluster address (sym its_entry ∙ is_some)).0
-    where
-      its_entry : entry_seen setting sub history level cluster ≡ rest_entry setting course level cluster
-      its_entry = laws.entries setting sub history low legal level cluster
-          ∙ (ap (λ ws. entry_left setting sub ws level cluster) (all-made setting sub history rest)
-          ∙ rest-entries_of setting sub (steps_in (puts_to sub history)) level cluster legal.script below)
+  current level cluster address below is_some = grind (arith, rest-some, all-made, rest-entries_of)
 
 pub rest-ends : Laws → RestEndsItsCourse
 rest-ends laws setting sub history low legal rest =

@@ -1,21 +1,20 @@
 -- The answers of finds are right: what is known grows with the commits, and the mark that answers says where the
 -- subscriber stands.
 use Rattle.std.proofs.lemmas.Bool.{cond_both}
-use Rattle.std.proofs.Common.{◌≡◌, ℕ, zero, suc, ◌+◌, ◌*◌, ◌<◌, ◌≤◌, ◌^◌, true, false, List, [], ◌∷◌, Option, Some, None, map, fold, sym, ◌∙◌, arith}
+use Rattle.std.proofs.Common.{◌≡◌, ℕ, zero, suc, ◌+◌, ◌*◌, ◌<◌, ◌≤◌, ◌^◌, true, false, List, [], ◌∷◌, Option, Some, None, map, fold, refl, sym, ◌∙◌, arith}
 use Rattle.std.specs.Prelude.{All, flat_map, slice_get}
-use Rattle.std.proofs.lemmas.Bool.Decides.{nat_tests}
 use Rattle.std.proofs.lemmas.List.Elements.{All-append, All-map, All-head, All-nil, All-tail}
 use Rattle.std.proofs.lemmas.Option.{slice_get_within}
 use Rattle.entry_word.specs.declared.address.Address.{Address}
 use Rattle.entry_word.specs.declared.mark.PresenceMark.{PresenceMark}
-use Rattle.entry_word.specs.declared.mark.PresenceMark.TheVariants.{Empty, Here, Gone, Coming, Off}
+use Rattle.entry_word.specs.declared.mark.PresenceMark.TheVariants.{Empty, Gone, Coming}
 use Rattle.entry_word.specs.declared.visit.Key.{Key}
 use Rattle.directory.specs.Settings.{levels, Setting}
 use Rattle.directory.specs.Histories.{before, cell, History, through, words_at}
 use Rattle.directory.specs.Writes.{numbers_from}
 use Rattle.directory.specs.Legal.{IsLegal}
-use Rattle.directory.specs.Finds.{after_entry, after_mark, after_origin, after_word, all_readers, at_origin, Chase, chases, climb, climbs, ended, find, FindCall, hop, is_known, key_of, known_with, Reader, Pursuit, way_in}
-use Rattle.directory.specs.Looks.{AreLooks, last_of, look_by}
+use Rattle.directory.specs.Finds.{after_entry, after_mark, after_origin, after_word, all_readers, at_origin, Chase, chases, climb, climbs, ended, find, FindCall, key_of, Reader, Pursuit, way_in}
+use Rattle.directory.specs.Looks.{AreLooks, first_of, IsFind, last_of, look_by}
 use Rattle.directory.specs.Standing.{number, off, standing}
 use Rattle.directory.specs.Statements.{FrontsAreLegal}
 use Rattle.directory.specs.declared.answers.Found.{Found}
@@ -35,15 +34,9 @@ IsSafe setting most (climbs known weight reader later) = KnowsAtMost most known 
 IsSafe setting most (chases chase node) = KnowsAtMost most chase.known × (node < setting.nodes)
 IsSafe setting most (ended found) = Unit {0}
 
-pub knows-more : (most more : ℕ) (known : Option ℕ) → most ≤ more → KnowsAtMost most known → KnowsAtMost more known
-knows-more most more None h k = tt
-knows-more most more (Some n) h k = omega (arith, k)
-
 pub safe-later : (setting : Setting) (most more : ℕ) (pursuit : Pursuit) → most ≤ more → IsSafe setting most pursuit
     → IsSafe setting more pursuit
-safe-later setting most more (climbs known weight reader later) h safe = (knows-more most more known h safe.0, safe.1)
-safe-later setting most more (chases chase node) h safe = (knows-more most more chase.known h safe.0, safe.1)
-safe-later setting most more other h safe = tt
+safe-later setting most more other h safe = grind arith
 
 -- what holds of an answer told at a history
 abbrev pub RightAt : Setting → ℕ → History → Found → Type 0
@@ -63,8 +56,7 @@ IsGood setting sub seen (ended found) = RightAt setting sub seen found
 
 pub good-safe : (setting : Setting) (sub : ℕ) (seen : History) (pursuit : Pursuit) → IsGood setting sub seen pursuit
     → IsSafe setting (number sub seen) pursuit
-good-safe setting sub seen (ended found) good = tt
-good-safe setting sub seen other good = good
+good-safe setting sub seen other good = grind arith
 
 low-readers : (setting : Setting) (node first count : ℕ) → first + count ≤ levels setting
     → All (Low setting) (flat_map (λ level. map (λ cluster. record { level = level; cluster = cluster })
@@ -92,12 +84,10 @@ origin-good : (setting : Setting) (seen : History) (call : FindCall) (mark : Pre
     → MarkTells setting call.sub seen call.from mark → IsGood setting call.sub seen (after_origin setting call mark)
 origin-good setting seen call Empty tells = climb-good setting call.sub seen None 0 (all_readers setting call.from) tt
     (readers-low setting call.from)
-origin-good setting seen call (Here q) tells = tells
-origin-good setting seen call (Off q) tells = tells
 origin-good setting seen call (Gone q to) tells = climb-good setting call.sub seen (Some q) 0
     (all_readers setting call.from) (gone-known setting call.sub seen call.from q to tells)
     (readers-low setting call.from)
-origin-good setting seen call (Coming q from) tells = (tt, tells.1)
+origin-good setting seen call mark tells = grind arith
 
 entry-good : (setting : Setting) (seen : History) (call : FindCall) (known : Option ℕ) (weight : ℕ) (reader : Reader)
     (later : List Reader) (entry : Option Address) → KnowsAtMost (number call.sub seen) known
@@ -108,27 +98,13 @@ entry-good setting seen call known weight reader later None knows all tells = cl
     (weight + 2 * way_in setting call reader) later knows (All-tail (Low setting) reader later all)
 entry-good setting seen call known weight reader later (Some address) knows all tells = (knows, tells.0)
 
-hop-good : (setting : Setting) (sub : ℕ) (seen : History) (known level : Option ℕ) (weight hops_left node to : ℕ)
-    → KnowsAtMost (number sub seen) known → to < setting.nodes
-    → IsGood setting sub seen (hop setting known level weight hops_left node to)
-hop-good setting sub seen known level weight zero node to knows inside = tt
-hop-good setting sub seen known level weight (suc more) node to knows inside = (knows, inside)
-
-known-low : (most p : ℕ) (known : Option ℕ) → KnowsAtMost most known → is_known p known ≡ true → p ≤ most
-known-low most p None knows h = cc
-known-low most p (Some k) knows h = let low : p ≤ k = grind (arith, nat_tests, h) in omega (arith, knows, low)
-
 mark-good : (setting : Setting) (sub : ℕ) (seen : History) (chase : Chase) (node : ℕ) (mark : PresenceMark)
     → KnowsAtMost (number sub seen) chase.known → MarkTells setting sub seen node mark
     → IsGood setting sub seen (after_mark setting chase node mark)
-mark-good setting sub seen chase node Empty knows tells = tt
-mark-good setting sub seen chase node (Here q) knows tells = tells
-mark-good setting sub seen chase node (Off q) knows tells = tells
 mark-good setting sub seen chase node (Gone q to) knows tells =
-    hop-good setting sub seen (known_with q chase.known) chase.level chase.weight chase.hops_left node to
-    (knows-with (number sub seen) q chase.known knows (gone-known setting sub seen node q to tells)) tells.2
-mark-good setting sub seen chase node (Coming q from) knows tells =
-    grind (arith, IsGood, known-low, hop-good, cond_both)
+    grind (arith, knows-with, gone-known setting sub seen node q to tells)
+mark-good setting sub seen chase node (Coming q from) knows tells = grind (arith, IsGood, cond_both)
+mark-good setting sub seen chase node mark knows tells = grind arith
 
 -- one look
 pub look-good : MarksTell → EntriesTell → {setting : Setting} (seen : History) (call : FindCall) (pursuit : Pursuit)
@@ -146,63 +122,74 @@ look-good marks entries seen call (ended found) key low inside legal safe wanted
 right-through : (setting : Setting) (history : History) (sub actor t : ℕ) (key : Key) (found : Found)
     → slice_get history t ≡ Some (look_by actor key) → RightAt setting sub (before t history) found
     → IsRight setting history sub found t
-right-through setting history sub actor t key (Again why weight) h right = tt
-right-through setting history sub actor t key found h right = rw (through-puts sub actor key t history h) right
+right-through setting history sub actor t key found h right = grind (arith, through-puts)
 
-pub last-more : (t u : ℕ) (later : List ℕ) → last_of (t ∷ u ∷ later) ≡ last_of (u ∷ later)
+-- ---- all looks of a find
+last-more : (t u : ℕ) (later : List ℕ) → last_of (t ∷ u ∷ later) ≡ last_of (u ∷ later)
 last-more t u later = grind arith
 
-pub read-one : (setting : Setting) (history : History) (actor t : ℕ) (key : Key) (call : FindCall) (pursuit : Pursuit)
+read-one : (setting : Setting) (history : History) (actor t : ℕ) (key : Key) (call : FindCall) (pursuit : Pursuit)
     (later : List ℕ) → slice_get history t ≡ Some (look_by actor key)
     → fold (after_word setting call) pursuit (flat_map (words_at setting history) (t ∷ later))
     ≡ fold (after_word setting call) (after_word setting call pursuit (cell setting (before t history) key))
     (flat_map (words_at setting history) later)
 read-one setting history actor t key call pursuit later h = grind arith
 
--- the looks of a find end with a right answer
-module _ (marks : MarksTell) (entries : EntriesTell) (fronts : FrontsAreLegal) {setting : Setting} (history : History)
-    (actor : ℕ) (call : FindCall) (found : Found) (low : setting.nodes ≤ 2 ^ 16) (inside : call.from < setting.nodes)
-    (legal : IsLegal setting call.sub history) where
-  next-good : (t : ℕ) (pursuit : Pursuit) (key : Key) → IsSafe setting (number call.sub (before t history)) pursuit
-      → key_of call pursuit ≡ Some key → IsGood setting call.sub (before t history)
-      (after_word setting call pursuit (cell setting (before t history) key))
-  next-good t pursuit key = look-good marks entries (before t history) call pursuit key low inside
-      (front-legal fronts setting call.sub history t low legal)
-
-  right-looks : (later : List ℕ) (t : ℕ) (key : Key) (pursuit : Pursuit)
-      → slice_get history t ≡ Some (look_by actor key) → IsGood setting call.sub (before t history) pursuit
+-- what holds after the first look, and is kept by each that comes next, holds after the last one
+module _ (setting : Setting) (history : History) (actor : ℕ) (call : FindCall) (P : ℕ → Pursuit → Type 0)
+    (one : (t u : ℕ) (pursuit : Pursuit) (key : Key) → t < u → slice_get history u ≡ Some (look_by actor key)
+    → key_of call pursuit ≡ Some key → P t pursuit
+    → P u (after_word setting call pursuit (cell setting (before u history) key))) where
+  looked : (later : List ℕ) (t : ℕ) (pursuit : Pursuit) → P t pursuit
       → AreLooks setting history actor call (suc t) pursuit later
-      → fold (after_word setting call) pursuit (flat_map (words_at setting history) later) ≡ ended found
-      → IsRight setting history call.sub found (last_of (t ∷ later))
+      → P (last_of (t ∷ later)) (fold (after_word setting call) pursuit (flat_map (words_at setting history) later))
   unfolding AreLooks
-  right-looks [] t key pursuit is_look good looks ends =
-      right-through setting history call.sub actor t key found is_look (rw ends at good)
-  right-looks (u ∷ later) t key pursuit is_look good (first, (next, wanted, its_look, rest)) ends =
-      rw (last-more t u later) (right-looks later u next
-      (after_word setting call pursuit (cell setting (before u history) next)) its_look
-      (next-good u pursuit next (safe-later setting _ _ pursuit (number-grows call.sub t u history
-      (omega (arith, first))) (good-safe setting call.sub (before t history) pursuit good)) wanted)
-      rest (sym (read-one setting history actor u next call pursuit later its_look) ∙ ends))
+  looked [] t pursuit now looks = now
+  looked (u ∷ later) t pursuit now (first, (key, wanted, is_look, rest)) =
+      rw (last-more t u later, read-one setting history actor u key call pursuit later is_look)
+      (looked later u (after_word setting call pursuit (cell setting (before u history) key))
+      (one t u pursuit key (omega (arith, first)) is_look wanted now) rest)
 
-  first-right : (tickets : List ℕ) → AreLooks setting history actor call 0 at_origin tickets
-      → find setting call (flat_map (words_at setting history) tickets) ≡ ended found
-      → IsRight setting history call.sub found (last_of tickets)
+  pub at-last : {found : Found} (tickets : List ℕ) → IsFind setting history actor call found tickets
+      → ((t : ℕ) (key : Key) → t ≡ first_of tickets → slice_get history t ≡ Some (look_by actor key)
+      → key_of call at_origin ≡ Some key
+      → P t (after_word setting call at_origin (cell setting (before t history) key)))
+      → P (last_of tickets) (ended found)
   unfolding AreLooks
-  first-right [] looks ends = let clash : at_origin ≡ ended found = ends in cc
-  first-right (t ∷ later) (first, (key, wanted, is_look, rest)) ends =
-      right-looks later t key (after_word setting call at_origin (cell setting (before t history) key)) is_look
-      (next-good t at_origin key tt wanted) rest
-      (sym (read-one setting history actor t key call at_origin later is_look) ∙ ends)
+  at-last {found} [] find start = let clash : at_origin ≡ ended found = find.answer in cc
+  at-last (t ∷ later) find start =
+      let look = find.looks.1 in
+      rw (sym (read-one setting history actor t look.0 call at_origin later look.2) ∙ find.answer) at
+      (looked later t (after_word setting call at_origin (cell setting (before t history) look.0))
+      (start t look.0 refl look.2 look.1) look.3)
 
+-- so a find ends with a right answer
 pub answers-right : MarksTell → EntriesTell → FrontsAreLegal → AnswersAreRight
 answers-right marks entries fronts setting history actor call found tickets low inside legal find =
-    first-right marks entries fronts history actor call found low inside legal tickets find.looks find.answer
+    let its = at-last setting history actor call Good (λ t u pursuit key later is_look wanted good. (
+      key,
+      is_look,
+      good-at u pursuit key (safe-later setting _ _ pursuit (number-grows call.sub t u history (omega (arith, later)))
+          (good-safe setting call.sub (before t history) pursuit good.2)) wanted,
+    ))
+    tickets find (λ t key first is_look wanted. (key, is_look, good-at t at_origin key tt wanted)) in
+    right-through setting history call.sub actor (last_of tickets) its.0 found its.1 its.2
+  where
+    Good : ℕ → Pursuit → Type 0
+    Good t pursuit = (key : Key) × (slice_get history t ≡ Some (look_by actor key))
+        × IsGood setting call.sub (before t history) pursuit
+
+    good-at : (t : ℕ) (pursuit : Pursuit) (key : Key) → IsSafe setting (number call.sub (before t history)) pursuit
+        → key_of call pursuit ≡ Some key
+        → IsGood setting call.sub (before t history)
+        (after_word setting call pursuit (cell setting (before t history) key))
+    good-at t pursuit key = look-good marks entries (before t history) call pursuit key low inside
+        (front-legal fronts setting call.sub history t low legal)
 
 -- so numbers never fall
 number-of : (setting : Setting) (history : History) (sub : ℕ) (found : Found) (last p : ℕ)
     → IsRight setting history sub found last → HasNumber found p → p ≡ number sub (through last history)
-number-of setting history sub (Again why weight) last p right has = absurd has
-number-of setting history sub found last p right has = sym has ∙ right.1
+number-of setting history sub found last p right has = grind arith
 
 pub never-fall : MarksTell → EntriesTell → FrontsAreLegal → NumbersNeverFall
 never-fall marks entries fronts setting history actor other sub from other_from p q found other_found tickets

@@ -1,5 +1,5 @@
 -- The lines of outcomes are right, since each is made by the looks of a find.
-use Rattle.std.proofs.Common.{◌≡◌, ℕ, ◌<◌, ◌≤◌, ◌^◌, List, sym, subst, arith}
+use Rattle.std.proofs.Common.{◌≡◌, ℕ, ◌<◌, ◌≤◌, ◌^◌, List, arith}
 use Rattle.std.specs.Prelude.{All, Some, slice_get}
 use Rattle.std.proofs.lemmas.Option.{get_or_from_slice_get, slice_get_within}
 use Rattle.std.proofs.lemmas.List.Elements.{All-weaker}
@@ -10,10 +10,10 @@ use Rattle.directory.specs.Finds.{FindCall}
 use Rattle.directory.specs.ScriptLaws.{call_of_valid}
 use Rattle.directory.specs.Looks.{first_of, last_of, IsFind}
 use Rattle.directory.specs.Orders.{AreValid, IsFindCall, Scripts, history_of}
-use Rattle.directory.specs.Outcomes.{IsFindLine, IsMade, found_line, outcome_of}
+use Rattle.directory.specs.Outcomes.{IsMade, found_line, outcome_of}
 use Rattle.directory.specs.Statements.{LinesAreMade, OrdersAreDone, OrdersArePlayed, PlayedIsLegal}
 use Rattle.directory.specs.declared.answers.Done.{Done}
-use Rattle.directory.specs.declared.answers.Done.TheVariants.{Moved, Switched, Found as FoundBy, Off as OffBy}
+use Rattle.directory.specs.declared.answers.Done.TheVariants.{Found as FoundBy, Off as OffBy}
 use Rattle.directory.specs.declared.answers.Found.{Found}
 use Rattle.directory.specs.declared.answers.Found.TheVariants.{Again}
 use Rattle.trail_laws.specs.Rightness.{AgainHasItsCause, AnswersAreRight, HasNumber, NumbersNeverFall, ReadsTop}
@@ -29,24 +29,12 @@ right_find right cause setting history actor call (Again why weight) seen low re
 right_find right cause setting history actor call found seen low reads is legal find =
     right setting history actor call found seen low is.inside legal find
 
--- so the line of a find is
-right_line : AnswersAreRight → AgainHasItsCause → {setting : Setting} {scripts : Scripts} {history : History}
-    → setting.nodes ≤ 2 ^ 16 → ReadsTop setting → AreValid setting scripts
-    → ((sub : ℕ) → sub < subs setting → IsLegal setting sub history) → {actor : ℕ} {call : FindCall} {line : Done}
-    → IsFindLine setting scripts history actor call line → IsRightLine setting history line
-right_line right cause {setting} {scripts} {history} low reads valid legal {actor} {call} h =
-    let is : IsFindCall setting call = call_of_valid setting scripts actor h.before _ h.later valid h.script in
-    subst (IsRightLine setting history) (sym h.tells)
-    (right_find right cause setting history actor call h.found h.seen low reads is (legal call.sub is.known) h.find)
-
 -- and each line of an outcome
 made_right : AnswersAreRight → AgainHasItsCause → {setting : Setting} {scripts : Scripts} (history : History)
     → setting.nodes ≤ 2 ^ 16 → ReadsTop setting → AreValid setting scripts
     → ((sub : ℕ) → sub < subs setting → IsLegal setting sub history) → (line : Done)
     → IsMade setting scripts history line → IsRightLine setting history line
-made_right right cause history low reads valid legal (Moved actor n from to weight first commit last) h = tt
-made_right right cause history low reads valid legal (Switched actor is_off node n ticket) h = tt
-made_right right cause history low reads valid legal line h = right_line right cause low reads valid legal h
+made_right right cause history low reads valid legal line h = grind (arith, call_of_valid, right_find)
 
 pub outcomes-right : AnswersAreRight → AgainHasItsCause → OrdersArePlayed → OrdersAreDone → PlayedIsLegal
     → LinesAreMade → OutcomesAreRight
@@ -69,37 +57,13 @@ record Numbered (setting : Setting) (history : History) (sub p ticket : ℕ) : T
   pub last : last_of seen ≡ ticket
 
 -- a line that tells a number is made by such a find
-told_by : (setting : Setting) (history : History) (actor from : ℕ) (found : Found) (seen : List ℕ) (line : Done)
-    (sub s p ticket : ℕ) → IsFindCall setting (record { from = from; sub = sub })
-    → IsFind setting history actor (record { from = from; sub = sub }) found seen
-    → line ≡ found_line actor (record { from = from; sub = sub }) found (first_of seen) (last_of seen)
-    → TellsNumber line s p ticket → Numbered setting history s p ticket
-told_by setting history actor from (Again why weight) seen line sub s p ticket is find tells told =
-    absurd (rw tells at told)
-told_by setting history actor from found seen line sub s p ticket is find tells told =
-    let told_there : (sub ≡ s) × HasNumber found p × (last_of seen ≡ ticket) = rw tells at told in
-    rw (← told_there.0) (record {
-      actor = actor;
-      from = from;
-      found = found;
-      seen = seen;
-      is = is;
-      find = find;
-      number = told_there.1;
-      last = told_there.2;
-    })
-
 numbered : {setting : Setting} {scripts : Scripts} (history : History) → AreValid setting scripts → (line : Done)
     (s p ticket : ℕ) → IsMade setting scripts history line → TellsNumber line s p ticket
     → Numbered setting history s p ticket
 numbered {setting} {scripts} history valid (FoundBy actor from sub node n level weight first last) s p ticket h told =
-    told_by setting history actor from h.found h.seen _ sub s p ticket
-    (call_of_valid setting scripts actor h.before (record { from = from; sub = sub }) h.later valid h.script) h.find
-    h.tells told
+    grind (arith, call_of_valid)
 numbered {setting} {scripts} history valid (OffBy actor from sub node n level weight first last) s p ticket h told =
-    told_by setting history actor from h.found h.seen _ sub s p ticket
-    (call_of_valid setting scripts actor h.before (record { from = from; sub = sub }) h.later valid h.script) h.find
-    h.tells told
+    grind (arith, call_of_valid)
 numbered history valid line s p ticket h told = absurd told
 
 at_place : {A : Type 0} (P : A → Type 0) (xs : List A) (i : ℕ) (x : A) → All P xs → slice_get xs i ≡ Some x → P x

@@ -1,18 +1,17 @@
 -- Where a subscriber was after so many commits, the number is no lower: so the marks of a trail rise from hop to hop.
 use Rattle.std.proofs.lemmas.Bool.{cases_Bool, cases_cond, eqb-false, cases_eq, cases_lt}
-use Rattle.std.proofs.Common.{◌≡◌, ◌≢◌, inl, inr, ℕ, ◌+◌, ◌-◌, ◌<◌, ◌≤◌, ◌^◌, ◌==◌, Bool, true, false, cond, List, [], ◌∷◌, ◌++◌, length, map, drop, refl, sym, ap, ◌∙◌, arith, eqb-true}
+use Rattle.std.proofs.Common.{◌≡◌, ◌≢◌, inl, inr, ℕ, ◌+◌, ◌-◌, ◌<◌, ◌≤◌, ◌^◌, List, [], ◌∷◌, ◌++◌, length, map, drop, sym, ◌∙◌, arith, eqb-true}
 use Rattle.std.proofs.lemmas.Option.{slice_get_within}
-use Rattle.node_set.specs.Ascending.{has}
 use Rattle.entry_word.specs.declared.mark.PresenceMark.{PresenceMark}
-use Rattle.entry_word.specs.declared.mark.PresenceMark.TheVariants.{Empty, Here, Gone, Coming}
+use Rattle.entry_word.specs.declared.mark.PresenceMark.TheVariants.{Empty, Gone}
 use Rattle.directory.specs.Settings.{Setting, start}
 use Rattle.directory.specs.Courses.{Course, Move, last_stop}
 use Rattle.directory.specs.Histories.{History}
 use Rattle.directory.specs.Legal.{IsLegal}
 use Rattle.directory.specs.Standing.{commit_by, commits, number}
-use Rattle.trail_laws.specs.Trail.{GoesUp, MarksTell, MarkTells, NumbersGoUp, mark_seen}
+use Rattle.trail_laws.specs.Trail.{GoesUp, MarksTell, NumbersGoUp, mark_seen}
 use Rattle.trail_laws.proofs.Links.{AreLinked, IsSound, base-low}
-use Rattle.trail_laws.proofs.ClosedMarks.{IsNext, mark_coming, mark_erasing, mark_passing, rest_mark, since_top, sound-with, stop-with, there, trail_mark, trail_mark-push}
+use Rattle.trail_laws.proofs.ClosedMarks.{IsNext, mark_erasing, mark_passing, rest_mark, since_top, sound-with, stop-with, trail_mark, trail_mark-push}
 use Rattle.trail_laws.proofs.ClosedViews.{IsMoving, Phase, View, coming, passage, clearing, Shown}
 use Rattle.trail_laws.proofs.LinkedStops.{last-left, stop_at}
 use Rattle.trail_laws.proofs.Leads.{low-with, trail-count, trail-ends, trail-linked, trail-stops, trail-with}
@@ -21,34 +20,20 @@ use Rattle.trail_laws.proofs.Laws.{HistoryView, Laws, view}
 use Rattle.trail_laws.proofs.Stops.{stop_after, stop-listed, stops-told}
 
 -- at rest, and in each phase of a move
-there-not : (course : Course) (p w : ℕ) → there course ≡ Gone p w → ⊥
-there-not course p w h = grind (arith, cases_cond)
-
 rest-gone : (setting : Setting) (course : Course) (v p w : ℕ) → rest_mark setting course v ≡ Gone p w
     → (trail_mark (since_top setting course) v Empty ≡ Gone p w) × (v ≢ last_stop course)
-rest-gone setting course v p w h = grind (arith, cases_Bool, there-not, eqb-false)
-
-coming-gone : (setting : Setting) (course : Course) (move : Move) (v p w : ℕ)
-    → mark_coming setting course move v ≡ Gone p w
-    → (trail_mark (since_top setting course) v Empty ≡ Gone p w) × (v ≢ last_stop course) × (v ≢ move.to)
-coming-gone setting course move v p w h = grind (arith, cases_Bool, rest-gone, eqb-false)
+rest-gone setting course v p w h = grind (arith, cases_Bool, cases_cond, eqb-false)
 
 passing-gone : {setting : Setting} {course : Course} {move : Move} (v p w : ℕ) → IsNext setting course move
     → mark_passing setting course move v ≡ Gone p w
     → (trail_mark (since_top setting course ++ move ∷ []) v Empty ≡ Gone p w) × (v ≢ move.to)
 passing-gone {setting} {course} {move} v p w next h =
-    grind (arith, cases_Bool, since_top, trail_mark-push, eqb-true, coming-gone)
+    grind (arith, cases_Bool, since_top, trail_mark-push, eqb-true, rest-gone, eqb-false)
 
 clearing-gone : {setting : Setting} {course : Course} {move : Move} (purged : List ℕ) (v p w : ℕ)
     → IsNext setting course move → mark_erasing setting course move purged v ≡ Gone p w
     → (trail_mark (since_top setting course ++ move ∷ []) v Empty ≡ Gone p w) × (v ≢ move.to)
-clearing-gone {setting} {course} {move} purged v p w next h = at_purged (has v purged) (v == move.to) h
-  where
-    at_purged : (a b : Bool) → cond a Empty (cond b (Here move.number) (mark_passing setting course move v)) ≡ Gone p w
-        → (trail_mark (since_top setting course ++ move ∷ []) v Empty ≡ Gone p w) × (v ≢ move.to)
-    at_purged true b g = cc
-    at_purged false true g = cc
-    at_purged false false g = passing-gone v p w next g
+clearing-gone {setting} {course} {move} purged v p w next h = grind (arith, passing-gone)
 
 -- each Gone is that of the last of these moves that left its node, and there is none at this node
 abbrev AreLast : Setting → (ℕ → PresenceMark) → List Move → ℕ → Type 0
@@ -73,22 +58,7 @@ later {setting} trail j w q x low few stop at_w =
     elim (last-left setting trail.from trail.number trail.moves w Empty trail.linked) [
       | inl none ↦ let clash : Empty ≡ Gone q x = sym none.0 ∙ gone.0 in cc
       | inr left ↦
-          let both : Gone left.move.number left.move.to ≡ Gone q x = sym left.mark_is ∙ gone.0 in
-          let q_is : left.move.number ≡ q = cc in
-          elim (cases_lt j trail.number) [
-            | inl early ↦ omega (arith, early, q_is, left.link.its_number)
-            | inr there ↦ elim (cases_eq (j - trail.number) (length trail.moves)) [
-              | inl end ↦ absurd
-                  (gone.1 (sym (trail.stops j there ∙ stop) ∙ ap (stop_at trail.from trail.moves) end))
-              | inr other ↦ omega (
-                arith,
-                q_is,
-                left.link.its_number,
-                left.last (j - trail.number) (omega (arith, few, trail.count, there, other))
-                    (trail.stops j there ∙ stop),
-              )
-            ]
-          ]
+          grind (arith, cases_lt, cases_eq)
     ]
 
 -- the moves of a course from a number on
@@ -104,8 +74,7 @@ trail-of shown {course} b sound low begins are told = record {
   count = omega (arith, count-told course.moves are, trail-count sound b low);
   stops = λ j h.
       let placed : b + (j - b) ≡ j = omega (arith, h) in
-      trail-stops sound b low (j - b) ∙ (ap (stop_at course.start course.moves) placed
-      ∙ stops-told shown.from course.start shown.commits course.moves j begins are);
+      trail-stops sound b low (j - b) ∙ (grind (arith, stop_at, stops-told));
 }
 
 -- that of a course with one move more
@@ -121,8 +90,7 @@ has-trail {setting} {shown} (inl h) =
     (λ v p w low is. rest-gone setting h.course v p w (sym (h.marks_are v low) ∙ is))
 has-trail {setting} {shown} (inr (coming written, h)) =
     trail-of shown _ h.sound (base-low setting.top h.sound) h.begins h.commits_are
-    (λ v p w low is. let rest = coming-gone setting h.course h.move v p w (sym (h.marks_are v low) ∙ is) in
-    (rest.0, rest.1))
+    (grind (arith, cases_Bool, rest-gone, eqb-false))
 has-trail (inr (passage, h)) = long-trail h h.commits_are
     (λ v p w low is. passing-gone v p w h.next (sym (h.marks_are v low) ∙ is))
 has-trail (inr (clearing erased purged, h)) = long-trail h h.commits_are
@@ -135,14 +103,7 @@ pub stop-goes_up : Laws → MarksTell → {setting : Setting} {sub : ℕ} (histo
     → GoesUp j (mark_seen setting sub history w)
 unfolding HistoryView
 stop-goes_up laws tells {setting} {sub} history low legal j w few stop inside =
-    at_mark (mark_seen setting sub history w) refl (tells setting sub history low legal w inside)
-  where
-    at_mark : (mark : PresenceMark) → mark_seen setting sub history w ≡ mark
-        → MarkTells setting sub history w mark → GoesUp j mark
-    at_mark Empty e told = tt
-    at_mark (Gone q x) e told = later (has-trail (view laws history low legal)) j w q x inside few stop e
-    at_mark (Coming q u) e told = omega (arith, few, told.3)
-    at_mark mark e told = omega (arith, few, told.1)
+    grind (arith, tells setting sub history low legal w inside, later (has-trail (view laws history low legal)))
 
 pub numbers-go_up : Laws → MarksTell → NumbersGoUp
 numbers-go_up laws tells setting sub history low legal node p to inside is =

@@ -1,9 +1,8 @@
 -- The laws of near levels and of short ways after every legal history.
-use Rattle.std.proofs.Common.{◌≡◌, ◌⊎◌, inl, inr, ℕ, suc, ◌≤◌, Some, None, refl, sym, ap, ◌∙◌, arith}
+use Rattle.std.proofs.Common.{inl, inr, Some, None, refl, arith}
 use Rattle.std.proofs.lemmas.Bool.Decides.{nat_tests}
-use Rattle.entry_word.specs.declared.mark.PresenceMark.TheVariants.{Coming}
-use Rattle.directory.specs.Standing.{number, standing}
-use Rattle.trail_laws.specs.Trail.{EntriesTell, EntryTells, mark_seen, MarksTell, MarkTells}
+use Rattle.directory.specs.Standing.{number}
+use Rattle.trail_laws.specs.Trail.{EntriesTell, EntryTells, MarksTell}
 use Rattle.trail_laws.specs.Phases.{AddressesLeadByPhase, PhasesCover}
 use Rattle.trail_laws.specs.Ways.{AddressesLeadShortly, ComingsLeadShortly, LevelsStayNear, PassagesAreOpen, StandsInside}
 use Rattle.trail_laws.proofs.Stops.{view-inside}
@@ -28,9 +27,6 @@ pub passages-open : PassageLaws → PassagesAreOpen
 passages-open laws setting sub history low legal node p from inside comes reached =
     coming-opens laws history node p from low inside legal comes reached
 
-old-or_new : (a b : ℕ) → a ≤ suc b → (a ≤ b) ⊎ (a ≡ suc b)
-old-or_new a b h = grind (arith, nat_tests)
-
 -- the way from an address is short in whichever phase it is
 pub addresses-short : AddressesLeadByPhase → PhasesCover → EntriesTell → AddressesLeadShortly
 addresses-short by_phase cover tell setting sub history low metric some legal level cluster address known pass below
@@ -43,10 +39,7 @@ addresses-short by_phase cover tell setting sub history low metric some legal le
       there.2,
       there.3,
       elim (cover setting sub history low legal) [
-        | inl before ↦ elim (old-or_new address.number (number sub history) (omega (arith, its.2, before))) [
-          | inl old ↦ omega (arith, there.4.before_old before old, some level below)
-          | inr new ↦ omega (arith, there.4.before_new before new, some level below)
-        ]
+        | inl before ↦ grind (arith, nat_tests)
         | inr after ↦ elim after [
           | inl passing ↦ omega (
             arith,
@@ -63,30 +56,4 @@ pub comings-short : Laws → MarksTell → ComingsLeadShortly
 unfolding HistoryView
 comings-short laws marks setting sub history low metric legal node p u pass inside comes opens =
     let there = coming-leads_on node p u None inside (view laws history low legal) comes in
-    let tells : MarkTells setting sub history node (Coming p u) =
-    rw comes at (marks setting sub history low legal node inside) in
-    let short = there.2.short metric in (
-      there.2.hops,
-      there.2.way,
-      there.2.few,
-      there.2.led,
-      elim tells.3 [
-        | inl before ↦ omega (
-          arith,
-          short,
-          there.1,
-          ap (setting.distance node) before.1,
-          ap (λ n. setting.distance n (standing setting sub history)) before.1,
-          metric.none (standing setting sub history) (stands-inside laws setting sub history low legal),
-        )
-        | inr after ↦ omega (
-          arith,
-          short,
-          there.1,
-          ap (setting.distance u) (sym after.1),
-          metric.both_ways node u inside tells.1,
-          ap (setting.distance u) after.1,
-          opens p u (ap (mark_seen setting sub history) (sym after.1) ∙ comes) after.0,
-        )
-      ],
-    )
+    grind (arith, stands-inside)

@@ -1,15 +1,14 @@
 -- While a find is quiet its subscriber stands still, and what passage is open stays so.
-use Rattle.std.proofs.Common.{◌≡◌, ℕ, suc, ◌<◌, ◌≤◌, ◌^◌, Bool, true, false, List, [], ◌∷◌, ◌++◌, length, refl, sym, ap, ◌∙◌, arith}
+use Rattle.std.proofs.Common.{◌≡◌, ℕ, suc, ◌<◌, ◌≤◌, ◌^◌, Bool, true, false, [], ◌∷◌, ◌++◌, length, refl, sym, ap, ◌∙◌, arith}
 use Rattle.std.proofs.lemmas.Option.{slice_get_within}
 use Rattle.entry_word.specs.Marks.{mark_in}
 use Rattle.entry_word.specs.declared.mark.PresenceMark.TheVariants.{Coming}
 use Rattle.entry_word.specs.declared.visit.Key.TheVariants.{Presence}
 use Rattle.entry_word.specs.declared.visit.Visit.{Visit}
 use Rattle.directory.specs.Settings.{Setting}
-use Rattle.directory.specs.Histories.{before, cell, History, is_put_for, through}
-use Rattle.directory.specs.Finds.{after_word, at_origin, ended, FindCall, Pursuit}
+use Rattle.directory.specs.Histories.{before, History, is_put_for, through}
 use Rattle.directory.specs.Legal.{IsLegal}
-use Rattle.directory.specs.Looks.{AreLooks, last_of, look_by}
+use Rattle.directory.specs.Looks.{first_of, last_of, look_by}
 use Rattle.directory.specs.Puts.{is_of_move}
 use Rattle.directory.specs.Standing.{number, passage, standing}
 use Rattle.trail_laws.specs.Trail.{mark_seen}
@@ -19,8 +18,7 @@ use Rattle.trail_laws.specs.Within.{QuietFindsStandStill}
 use Rattle.trail_laws.proofs.Alike.{alike-step, switch-rests, switching}
 use Rattle.trail_laws.proofs.Passing.{cell-kept, front-legal, while-quiet}
 use Rattle.trail_laws.proofs.Sure.{Used}
-use Rattle.trail_laws.proofs.Quiet.{last-late}
-use Rattle.trail_laws.proofs.Right.{last-more}
+use Rattle.trail_laws.proofs.Right.{at-last}
 
 -- what is as it was at another history
 record IsStill (setting : Setting) (sub : ℕ) (one other : History) : Type 0 where
@@ -47,50 +45,34 @@ still-step used rested {setting} {sub} {one} {history} visit low legal legal_mor
         → mark_seen setting sub (history ++ visit ∷ []) (standing setting sub one) ≡ Coming p u
     at_put false e p u comes same = ap mark_in
         (cell-kept used.cells setting sub history visit (Presence (standing setting sub one) sub) refl e) ∙ comes
-    at_put true e p u comes same = absurd ((rested setting sub history low
-        legal (switch-rests used.rests low legal legal_more e (switching sub history visit e quiet))).0.1 u
-        (ap (mark_seen setting sub history) still.stands ∙ (comes ∙ ap (λ n. Coming n u) same)))
-
--- the last look of a find is a visit of the history
-last-inside : (setting : Setting) (history : History) (actor : ℕ) (call : FindCall) (earliest : ℕ) (pursuit : Pursuit)
-    (t : ℕ)
-    (later : List ℕ) → AreLooks setting history actor call earliest pursuit (t ∷ later)
-    → last_of (t ∷ later) < length history
-unfolding AreLooks
-last-inside setting history actor call earliest pursuit t [] (first, (key, wanted, is_look, rest)) =
-    slice_get_within history t (look_by actor key) is_look
-last-inside setting history actor call earliest pursuit t (u ∷ later) (first, (key, wanted, is_look, rest)) =
-    rw (last-more t u later) (last-inside setting history actor call (suc t)
-    (after_word setting call pursuit (cell setting (before t history) key)) u later rest)
+    at_put true e p u comes same = grind (arith, switch-rests, switching)
 
 pub stand-still : Used → RestIsSettled → PassagesAreOpen → StandsInside → QuietFindsStandStill
-stand-still used rested opens inside setting history actor call found [] low legal find quiet =
-    let clash : at_origin ≡ ended found = find.answer in cc
-stand-still used rested opens inside setting history actor call found (t ∷ later) low legal find quiet =
+stand-still used rested opens inside setting history actor call found tickets low legal find quiet =
     (still.stands, opened)
   where
-    late : t ≤ last_of (t ∷ later)
-    late = last-late setting history actor call 0 at_origin t later find.looks
+    -- the last look is a visit of the history, and no earlier than the first
+    late : (first_of tickets ≤ last_of tickets) × (last_of tickets < length history)
+    late = at-last setting history actor call (λ t pursuit. (first_of tickets ≤ t) × (t < length history))
+        (λ t u pursuit key later is_look wanted h.
+        (omega (arith, later, h.0), slice_get_within history u (look_by actor key) is_look)) tickets find
+        (λ t key same is_look wanted. (omega (arith, same), slice_get_within history t (look_by actor key) is_look))
 
-    ends : last_of (t ∷ later) < length history
-    ends = last-inside setting history actor call 0 at_origin t later find.looks
-
-    still : IsStill setting call.sub (before t history) (through (last_of (t ∷ later)) history)
-    still = while-quiet used.fronts history (IsStill setting call.sub (before t history)) low legal (λ
-        seen visit is more calm now. still-step used rested visit low is more calm now) t (suc (last_of (t ∷ later)))
-        (omega (arith, late)) (omega (arith, ends)) (λ x h g. quiet x h (omega (arith, g)))
+    still : IsStill setting call.sub (before (first_of tickets) history) (through (last_of tickets) history)
+    still = while-quiet used.fronts history (IsStill setting call.sub (before (first_of tickets) history)) low legal
+        (λ seen visit is more calm now. still-step used rested visit low is more calm now) (first_of tickets)
+        (suc (last_of tickets)) (omega (arith, late.0)) (omega (arith, late.1))
+        (λ x h g. quiet x h (omega (arith, g)))
         (record { stands = refl; count = refl; open_too = λ p u comes same. comes })
 
-    legal_last : IsLegal setting call.sub (through (last_of (t ∷ later)) history)
-    legal_last = front-legal used.fronts setting call.sub history (suc (last_of (t ∷ later))) low legal
-
-    opened : IsOpenAtMost setting call.sub (before t history)
-        (passage setting call.sub (through (last_of (t ∷ later)) history))
+    opened : IsOpenAtMost setting call.sub (before (first_of tickets) history)
+        (passage setting call.sub (through (last_of tickets) history))
     opened p u comes same = omega (
       arith,
-      opens setting call.sub (through (last_of (t ∷ later)) history) low legal_last
-          (standing setting call.sub (before t history)) p u
-          (inside setting call.sub (before t history) low
-          (front-legal used.fronts setting call.sub history t low legal))
+      opens setting call.sub (through (last_of tickets) history) low
+          (front-legal used.fronts setting call.sub history (suc (last_of tickets)) low legal)
+          (standing setting call.sub (before (first_of tickets) history)) p u
+          (inside setting call.sub (before (first_of tickets) history) low
+          (front-legal used.fronts setting call.sub history (first_of tickets) low legal))
           (still.open_too p u comes same) (same ∙ sym still.count),
     )

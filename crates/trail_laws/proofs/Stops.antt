@@ -2,7 +2,6 @@
 use Rattle.trail_laws.proofs.ClosedMarks.{sound-with}
 use Rattle.std.proofs.Common.{◌⊎◌, true, false, ◌≡◌, inl, inr, ℕ, zero, suc, ◌-◌, ◌<◌, ◌≤◌, List, [], ◌∷◌, ◌++◌, Some, length, map, fold, refl, sym, ap, ◌∙◌, arith}
 use Rattle.std.specs.Prelude.{slice_get, slice_index}
-use Rattle.std.proofs.lemmas.List.{get_or_append_left, length-map, map-append}
 use Rattle.directory.specs.Settings.{Setting}
 use Rattle.directory.specs.Courses.{Move}
 use Rattle.directory.specs.Standing.{Commit, commit_by}
@@ -14,11 +13,6 @@ use Rattle.trail_laws.proofs.LinkedStops.{stop_at}
 -- where a subscriber is after so many of its commits
 abbrev pub stop_after : ℕ → List Commit → ℕ → ℕ
 stop_after begin commits j = slice_index (begin ∷ map (λ (c : Commit). c.to) commits) j
-
--- later commits don't change it
-pub stop-kept : (begin : ℕ) (xs ys : List Commit) (j : ℕ) → j ≤ length xs
-    → stop_after begin (xs ++ ys) j ≡ stop_after begin xs j
-stop-kept begin xs ys j few = grind (arith, map-append, length-map, get_or_append_left)
 
 -- a commit leads to its node
 stop-next : (begin : ℕ) (xs : List Commit) (i : ℕ) (c : Commit) → slice_get xs i ≡ Some c
@@ -67,32 +61,11 @@ pub record IsCommitted (setting : Setting) (shown : Shown) : Type 0 where
 
 all-committed : {setting : Setting} {shown : Shown} {phase : Phase} (h : IsMoving setting shown phase)
     → shown.commits ≡ map commit_by (h.course.moves ++ h.move ∷ []) → IsCommitted setting shown
-all-committed h are = record {
-  moves = h.course.moves ++ h.move ∷ [];
-  begins = rw h.begins at h.sound.begins;
-  linked = rw h.begins at (sound-with h.sound h.next).linked;
-  are = are;
-  count = count-told (h.course.moves ++ h.move ∷ []) are;
-  rest = inl h.moves_are;
-}
+all-committed h are = grind (arith, sound-with, count-told)
 
 pub committed : {setting : Setting} {shown : Shown} → View setting shown → IsCommitted setting shown
-committed (inl h) = record {
-  moves = h.course.moves;
-  begins = rw h.begins at h.sound.begins;
-  linked = rw h.begins at h.sound.linked;
-  are = h.commits_are;
-  count = count-told h.course.moves h.commits_are;
-  rest = inl h.moves_are;
-}
-committed (inr (coming written, h)) = record {
-  moves = h.course.moves;
-  begins = rw h.begins at h.sound.begins;
-  linked = rw h.begins at h.sound.linked;
-  are = h.commits_are;
-  count = count-told h.course.moves h.commits_are;
-  rest = inr (ap length h.moves_are ∙ moves-count h.course h.move, h.off_is);
-}
+committed (inl h) = grind (arith, count-told)
+committed (inr (coming written, h)) = grind (arith, count-told, moves-count)
 committed (inr (passage, h)) = all-committed h h.commits_are
 committed (inr (clearing erased purged, h)) = all-committed h h.commits_are
 

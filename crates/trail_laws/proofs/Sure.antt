@@ -1,7 +1,6 @@
 -- What makes a find sure of an answer at each pursuit: a look keeps it, and what is no put of a move.
 use Rattle.std.proofs.lemmas.Bool.{cond_both}
-use Rattle.std.proofs.Common.{◌≡◌, ℕ, zero, suc, ◌+◌, ◌*◌, ◌<◌, ◌≤◌, ◌^◌, Bool, true, false, cond, List, [], ◌∷◌, Option, Some, None, length, refl, sym, ap, ◌∙◌, subst, arith}
-use Rattle.entry_word.specs.declared.address.Address.{Address}
+use Rattle.std.proofs.Common.{◌≡◌, ℕ, zero, suc, ◌+◌, ◌*◌, ◌<◌, ◌≤◌, ◌^◌, false, List, [], ◌∷◌, Option, Some, length, refl, arith}
 use Rattle.entry_word.specs.declared.mark.PresenceMark.{PresenceMark}
 use Rattle.entry_word.specs.declared.mark.PresenceMark.TheVariants.{Empty, Gone, Coming}
 use Rattle.entry_word.specs.declared.visit.Key.{Key}
@@ -9,15 +8,13 @@ use Rattle.entry_word.specs.declared.visit.Key.TheVariants.{Presence}
 use Rattle.directory.specs.Settings.{Setting}
 use Rattle.directory.specs.Histories.{before, cell, History}
 use Rattle.directory.specs.Legal.{IsLegal}
-use Rattle.directory.specs.Finds.{after_entry, after_mark, after_origin, after_word, all_readers, at_origin, Chase, chases, climb, climbs, ended, FindCall, hop, is_known, key_of, Reader, Pursuit, way_in, found_weight}
+use Rattle.directory.specs.Finds.{after_mark, after_origin, after_word, all_readers, at_origin, Chase, chases, climb, climbs, ended, FindCall, key_of, Reader, Pursuit, way_in, found_weight}
 use Rattle.directory.specs.Looks.{moves_at}
-use Rattle.directory.specs.Parts.{known_after, lead}
 use Rattle.directory.specs.Standing.{number, standing}
 use Rattle.directory.specs.Statements.{CellsOfPuts, FrontsAreLegal, MarksAreLeft, StepsBeginAtRest}
-use Rattle.directory.specs.declared.answers.Found.TheVariants.{At}
-use Rattle.trail_laws.specs.Trail.{AddressesLead, answers, ComingsLead, entry_seen, IsLed, KnowsAtMost, mark_seen, MarksTell, MarkTells, TopHasEntry}
+use Rattle.trail_laws.specs.Trail.{AddressesLead, ComingsLead, IsLed, KnowsAtMost, mark_seen, MarksTell, MarkTells, TopHasEntry}
 use Rattle.trail_laws.specs.Rightness.{IsAnswered}
-use Rattle.trail_laws.specs.Within.{Affords, AffordsAddress, Begins, EntryAsks}
+use Rattle.trail_laws.specs.Within.{Affords, Begins}
 use Rattle.trail_laws.proofs.Passing.{while-quiet}
 use Rattle.trail_laws.proofs.Right.{gone-known}
 use Rattle.trail_laws.proofs.Alike.{alike-step, IsAlike, led-alike}
@@ -36,38 +33,12 @@ IsSure setting sub seen call Within (ended found) = IsAnswered found × Within (
 -- ---- it stays
 module _ {setting : Setting} {sub : ℕ} {one other : History} (call : FindCall) (Within : ℕ → Type 0)
     (alike : IsAlike setting sub one other) where
-  led-on : (known : Option ℕ) (node hops way : ℕ)
-      → IsLed setting (mark_seen setting sub one) known node (standing setting sub one) hops way
-      → IsLed setting (mark_seen setting sub other) known node (standing setting sub other) hops way
-  led-on known node hops way led = grind (arith, led-alike)
-
-  entry-alike : (old new : Option Address) (on other_on : Type 0) (there other_there : Address → Type 0) → new ≡ old
-      → (on → other_on) → ((a : Address) → there a → other_there a) → EntryAsks old on there
-      → EntryAsks new other_on other_there
-  entry-alike None None on other_on there other_there same f g h = f h
-  entry-alike (Some a) (Some b) on other_on there other_there same f g h =
-      let is_one : a ≡ b = cc in rw is_one at (g a h)
-  entry-alike old new on other_on there other_there same f g h = cc
-
   affords-alike : (weight : ℕ) (readers : List Reader)
       → Affords setting sub one call Within weight readers → Affords setting sub other call Within weight readers
   unfolding Affords
   affords-alike weight [] h = h
   affords-alike weight (reader ∷ later) h =
-      entry-alike (entry_seen setting sub one reader.level reader.cluster)
-      (entry_seen setting sub other reader.level reader.cluster) _ _ _ _ (alike.entries reader.level reader.cluster)
-      (affords-alike (weight + 2 * way_in setting call reader) later)
-      (λ address its known knows.
-      let led = its known (rw alike.count at knows) in
-      (led.0, led.1, led.2, led-on known address.node led.0 led.1 led.3, led.4)) h
-
-  pub sure-alike : (pursuit : Pursuit) → IsSure setting sub one call Within pursuit
-      → IsSure setting sub other call Within pursuit
-  sure-alike (climbs known weight reader later) sure =
-      (rw alike.count sure.0, affords-alike weight (reader ∷ later) sure.1)
-  sure-alike (chases chase node) sure =
-      (sure.0, sure.1, sure.2, led-on chase.known node sure.0 sure.1 sure.3, sure.4)
-  sure-alike other_pursuit sure = sure
+      grind (arith, alike, affords-alike (weight + 2 * way_in setting call reader) later, led-alike)
 
 -- what is used of the laws
 pub record Used : Type 0 where
@@ -80,19 +51,6 @@ pub record Used : Type 0 where
   pub comings : ComingsLead
   pub top : TopHasEntry
 
-pub used : CellsOfPuts → MarksAreLeft → StepsBeginAtRest → FrontsAreLegal → MarksTell → AddressesLead → ComingsLead
-    → TopHasEntry → Used
-used cells marks_left rests fronts marks addresses comings top = record {
-  cells = cells;
-  marks_left = marks_left;
-  rests = rests;
-  fronts = fronts;
-  marks = marks;
-  addresses = addresses;
-  comings = comings;
-  top = top;
-}
-
 -- up to a later ticket, while no move is made
 pub sure-until : Used → {setting : Setting} {sub : ℕ} (history : History) (call : FindCall) (Within : ℕ → Type 0)
     (t u : ℕ) (pursuit : Pursuit) → setting.nodes ≤ 2 ^ 16 → IsLegal setting sub history → t ≤ u → u ≤ length history
@@ -101,8 +59,7 @@ pub sure-until : Used → {setting : Setting} {sub : ℕ} (history : History) (c
     → IsSure setting sub (before u history) call Within pursuit
 sure-until used {setting} {sub} history call Within t u pursuit low legal =
     while-quiet used.fronts history (λ seen. IsSure setting sub seen call Within pursuit) low legal
-    (λ seen visit is more quiet sure. sure-alike call Within
-    (alike-step used.cells used.marks_left used.rests seen visit low is more quiet) pursuit sure) t u
+    (grind (arith, affords-alike, led-alike, alike-step)) t u
 
 -- ---- one look
 module _ (setting : Setting) (seen : History) (call : FindCall) (Within : ℕ → Type 0) where
@@ -112,71 +69,26 @@ module _ (setting : Setting) (seen : History) (call : FindCall) (Within : ℕ �
   climb-sure : (known : Option ℕ) (weight : ℕ) (readers : List Reader) → KnowsAtMost (number call.sub seen) known
       → Affords setting call.sub seen call Within weight readers → IsSureOf (climb known weight readers)
   unfolding Affords
-  climb-sure known weight [] knows some = absurd some
-  climb-sure known weight (reader ∷ later) knows some = (knows, some)
+  climb-sure known weight readers knows some = grind arith
 
   origin-sure : (mark : PresenceMark) → Begins setting seen call Within
       → mark_seen setting call.sub seen call.from ≡ mark → MarkTells setting call.sub seen call.from mark
       → IsSureOf (after_origin setting call mark)
-  origin-sure Empty begins same tells = climb-sure None 0 (all_readers setting call.from) tt
-      (begins.climbing (λ p from e. cc) (λ p e. cc) (λ p e. cc))
-  origin-sure (Gone q to) begins same tells = climb-sure (Some q) 0 (all_readers setting call.from)
-      (gone-known setting call.sub seen call.from q to tells)
-      (begins.climbing (λ p from e. cc) (λ p e. cc) (λ p e. cc))
+  origin-sure Empty begins same tells = grind (arith, climb-sure)
+  origin-sure (Gone q to) begins same tells =
+      grind (arith, climb-sure, all_readers setting call.from, gone-known setting call.sub seen call.from q to tells)
   origin-sure (Coming q from) begins same tells = grind (arith, begins.chasing q from same)
   origin-sure mark begins same tells = (tt, begins.here)
-
-  entry-sure : (known : Option ℕ) (weight : ℕ) (reader : Reader) (later : List Reader) (entry : Option Address)
-      → KnowsAtMost (number call.sub seen) known
-      → EntryAsks entry (Affords setting call.sub seen call Within (weight + 2 * way_in setting call reader) later)
-      (λ address. AffordsAddress setting call.sub seen call Within weight reader address)
-      → IsSureOf (after_entry setting call known weight reader later entry)
-  entry-sure known weight reader later None knows some =
-      climb-sure known (weight + 2 * way_in setting call reader) later knows some
-  entry-sure known weight reader later (Some address) knows some = grind arith
-
-  -- a hop along what leads
-  hop-sure : (known level : Option ℕ) (weight hops_left node to hops way : ℕ) → suc hops ≤ hops_left
-      → IsLed setting (mark_seen setting call.sub seen) known to (standing setting call.sub seen) hops way
-      → Within (weight + setting.distance node to + way)
-      → IsSureOf (hop setting known level weight hops_left node to)
-  hop-sure known level weight zero node to hops way few led allowed = absurd (omega arith)
-  hop-sure known level weight (suc more) node to hops way few led allowed =
-      (hops, way, omega arith, led, allowed)
-
-  hop-on : (chase : Chase) (node to : ℕ) (known : Option ℕ) (hops way : ℕ) → suc hops ≤ chase.hops_left
-      → IsLed setting (mark_seen setting call.sub seen) chase.known node (standing setting call.sub seen) (suc hops) way
-      → Within (chase.weight + way) → lead chase.known (mark_seen setting call.sub seen node) ≡ Some to
-      → known_after chase.known (mark_seen setting call.sub seen node) ≡ known
-      → IsSureOf (hop setting known chase.level chase.weight chase.hops_left node to)
-  unfolding IsLed
-  hop-on chase node to known hops way few led allowed leads knows = grind (arith, setting.distance node led.0, hop-sure)
 
   mark-sure : (chase : Chase) (node : ℕ) (mark : PresenceMark) → mark_seen setting call.sub seen node ≡ mark
       → (hops way : ℕ) → hops ≤ chase.hops_left
       → IsLed setting (mark_seen setting call.sub seen) chase.known node (standing setting call.sub seen) hops way
       → Within (chase.weight + way) → IsSureOf (after_mark setting chase node mark)
   unfolding IsLed
-  mark-sure chase node Empty same zero way few led allowed =
-      let clash : false ≡ true = sym (ap (answers chase.known) same) ∙ led.1 in cc
-  mark-sure chase node (Gone q to) same zero way few led allowed =
-      let clash : false ≡ true = sym (ap (answers chase.known) same) ∙ led.1 in cc
-  mark-sure chase node (Coming q from) same zero way few led allowed = grind arith
-  mark-sure chase node mark same zero way few led allowed =
-      (tt, subst Within (let e : chase.weight + way ≡ chase.weight = omega (arith, led.2) in e) allowed)
-  mark-sure chase node (Gone q to) same (suc hops) way few led allowed = grind (arith, hop-on)
-  mark-sure chase node (Coming q from) same (suc hops) way few led allowed = cond_both (is_known q chase.known)
-      (ended (At node q chase.level chase.weight))
-      (hop setting chase.known chase.level chase.weight chase.hops_left node from) IsSureOf
-      (λ e. let clash : None ≡ Some led.0 = sym (leads true e) ∙ led.2 in cc)
-      (λ e. hop-on chase node from chase.known hops way few led allowed (leads false e)
-      (ap (known_after chase.known) same))
-    where
-      leads : (b : Bool) → is_known q chase.known ≡ b
-          → lead chase.known (mark_seen setting call.sub seen node) ≡ cond b None (Some from)
-      leads b e = ap (lead chase.known) same ∙ ap (λ b. cond b None (Some from)) e
-  mark-sure chase node mark same (suc hops) way few led allowed =
-      let clash : None ≡ Some led.0 = sym (ap (lead chase.known) same) ∙ led.2 in cc
+  mark-sure chase node mark same zero way few led allowed = grind arith
+  mark-sure chase node (Coming q from) same (suc hops) way few led allowed =
+      grind (arith, cond_both, setting.distance node led.0)
+  mark-sure chase node mark same (suc hops) way few led allowed = grind (arith, setting.distance node led.0)
 
 -- the look at the origin, and one after it
 pub first-sure : Used → {setting : Setting} {seen : History} {call : FindCall} {Within : ℕ → Type 0} (key : Key)
@@ -192,7 +104,7 @@ pub look-sure : (setting : Setting) (seen : History) (call : FindCall) (Within :
     → IsSure setting call.sub seen call Within (after_word setting call pursuit (cell setting seen key))
 unfolding Affords
 look-sure setting seen call Within at_origin key sure wanted = absurd sure
-look-sure setting seen call Within (climbs known weight reader later) key sure wanted = grind (arith, entry-sure)
+look-sure setting seen call Within (climbs known weight reader later) key sure wanted = grind (arith, climb-sure)
 look-sure setting seen call Within (chases chase node) key sure wanted =
     let e : key ≡ Presence node call.sub = cc in
     rw e (mark-sure setting seen call Within chase node (mark_seen setting call.sub seen node) refl sure.0 sure.1

@@ -1,7 +1,7 @@
 -- What marks tell.
 use Rattle.std.proofs.lemmas.Bool.{cond_both, eqb-true, eq-eqb}
 use Rattle.trail_laws.proofs.ClosedMarks.{from-inside, IsNext, rest_mark, mark_passing, mark_erasing, since_top, there, trail_mark}
-use Rattle.std.proofs.Common.{◌≡◌, ◌⊎◌, inl, inr, ℕ, zero, suc, ◌+◌, ◌-◌, ◌<◌, ◌≤◌, Bool, true, false, cond, ◌==◌, List, [], ◌∷◌, ◌++◌, Some, length, map, drop, fold, refl, sym, ap, ◌∙◌, arith}
+use Rattle.std.proofs.Common.{◌≡◌, ◌⊎◌, inl, inr, ℕ, zero, suc, ◌+◌, ◌-◌, ◌<◌, ◌≤◌, true, false, ◌==◌, List, [], ◌∷◌, ◌++◌, Some, length, map, drop, fold, refl, sym, ap, ◌∙◌, arith}
 use Rattle.std.specs.Prelude.{slice_get, option_map}
 use Rattle.std.proofs.lemmas.List.{append-nil, length-map, map-append}
 use Rattle.std.proofs.lemmas.List.Sums.{fold-append}
@@ -13,7 +13,7 @@ use Rattle.directory.specs.Courses.{Move, Course, base, last_stop}
 use Rattle.directory.specs.Standing.{Commit, commit_by}
 use Rattle.trail_laws.proofs.Links.{AreLinked, IsSound, base-low, moves-count}
 use Rattle.trail_laws.proofs.ClosedViews.{clearing, coming, IsMoving, passage, Phase, Shown, View}
-use Rattle.trail_laws.proofs.LinkedStops.{last-left, LeavesMark, stop_at}
+use Rattle.trail_laws.proofs.LinkedStops.{last-left, stop_at}
 use Rattle.directory.specs.ListLaws.{slice_get-left}
 use Rattle.std.proofs.lemmas.Option.{slice_get-map}
 
@@ -44,8 +44,7 @@ MarkIs nodes shown node (Coming p u) =
 slice_get-drop : (moves : List Move) (b i : ℕ) → slice_get (drop b moves) i ≡ slice_get moves (b + i)
 slice_get-drop moves zero i = let e : 0 + i ≡ i = omega arith in rw e refl
 slice_get-drop [] (suc b) i = refl
-slice_get-drop (m ∷ moves) (suc b) i = let e : suc b + i
-    ≡ suc (b + i) = omega arith in rw e (slice_get-drop moves b i)
+slice_get-drop (m ∷ moves) (suc b) i = grind (arith, slice_get-drop moves b i)
 
 pub linked-drop : (setting : Setting) (from number : ℕ) (moves : List Move) (b : ℕ)
     → AreLinked setting from number moves → b ≤ length moves
@@ -53,40 +52,36 @@ pub linked-drop : (setting : Setting) (from number : ℕ) (moves : List Move) (b
 linked-drop setting from number moves zero linked low = let e : number + 0 ≡ number = omega arith in rw e linked
 linked-drop setting from number [] (suc b) linked low = absurd (omega arith)
 linked-drop setting from number (m ∷ later) (suc b) linked low =
-    let e : number + suc b ≡ suc number + b = omega arith in
-    rw e (linked-drop setting m.to (suc number) later b linked.1 (omega arith))
+    grind (arith, linked-drop setting m.to (suc number) later b linked.1 (omega arith))
 
 pub stop-drop : (from : ℕ) (moves : List Move) (b i : ℕ) → b ≤ length moves
     → stop_at (stop_at from moves b) (drop b moves) i ≡ stop_at from moves (b + i)
 stop-drop from moves zero i low = let e : 0 + i ≡ i = omega arith in rw e refl
 stop-drop from [] (suc b) i low = absurd (omega arith)
-stop-drop from (m ∷ later) (suc b) i low = let e : suc b + i
-    ≡ suc (b + i) = omega arith in rw e (stop-drop m.to later b i (omega arith))
+stop-drop from (m ∷ later) (suc b) i low = grind (arith, stop-drop m.to later b i (omega arith))
 
 -- the Gone of a move at the node that it left
 gone-is : {setting : Setting} (shown : Shown) {course : Course} (node : ℕ) (more : List Commit)
     → IsSound setting course → shown.commits ≡ map commit_by course.moves ++ more
     → MarkIs setting.nodes shown node (trail_mark (since_top setting course) node Empty)
 gone-is {setting} shown {course} node more sound are =
-    at_left (last-left setting (stop_at course.start course.moves low) (0 + low) (since_top setting course) node Empty
-    (linked-drop setting course.start 0 course.moves low sound.linked (base-low setting.top sound)))
+    elim (last-left setting (stop_at course.start course.moves low) (0 + low) (since_top setting course) node Empty
+    (linked-drop setting course.start 0 course.moves low sound.linked (base-low setting.top sound))) [
+      | inl none ↦ rw none.0 tt
+      | inr left ↦
+          let placed : left.move.number - 1 ≡ low + left.place = omega (arith, left.link.its_number) in
+          rw left.mark_is (
+            omega (arith, left.link.its_number),
+            rw (are, placed) (slice_get-left (map commit_by course.moves) more (low + left.place)
+                (commit_by left.move) (grind (arith, slice_get-map, commit_by, low, option_map, slice_get-drop))
+                ∙ ap (λ f. Some (record { number = left.move.number; from = f; to = left.move.to }))
+                left.link.its_from),
+            left.link.inside,
+          )
+    ]
   where
     low : ℕ
     low = base setting.top course.moves
-
-    at_left : LeavesMark setting (stop_at course.start course.moves low) (0 + low) (since_top setting course) node Empty
-        → MarkIs setting.nodes shown node (trail_mark (since_top setting course) node Empty)
-    at_left (inl none) = rw none.0 tt
-    at_left (inr left) = rw left.mark_is (omega (arith, left.link.its_number), listed, left.link.inside)
-      where
-        listed : slice_get shown.commits (left.move.number - 1)
-            ≡ Some (record { number = left.move.number; from = node; to = left.move.to })
-        listed =
-            let placed : left.move.number - 1 ≡ low + left.place = omega (arith, left.link.its_number) in
-            rw (are, placed) (slice_get-left (map commit_by course.moves) more (low + left.place)
-            (commit_by left.move) (slice_get-map commit_by course.moves (low + left.place)
-            ∙ ap (option_map commit_by) (sym (slice_get-drop course.moves low left.place) ∙ left.is_move))
-            ∙ ap (λ f. Some (record { number = left.move.number; from = f; to = left.move.to })) left.link.its_from)
 
 -- where all moves are committed there are as many of one as of the other
 pub count-told : {commits : List Commit} (moves : List Move) → commits ≡ map commit_by moves
@@ -104,12 +99,7 @@ rest-is : {setting : Setting} (shown : Shown) {course : Course} (node : ℕ) →
 rest-is {setting} shown {course} node sound begins are off =
     cond_both (node == last_stop course) (there course) (trail_mark (since_top setting course) node Empty)
     (MarkIs setting.nodes shown node)
-    (λ e.
-    let same : node ≡ standing_of shown =
-    eqb-true node (last_stop course) e ∙ sym (rest-stands shown course begins are) in
-    cond_both course.is_off (Off (length course.moves)) (Here (length course.moves)) (MarkIs setting.nodes shown node)
-    (λ is_off. (same, sym (count-told course.moves are), off ∙ is_off))
-    (λ is_on. (same, sym (count-told course.moves are), off ∙ is_on)))
+    (grind (arith, eqb-true, rest-stands, cond_both, count-told))
     (λ e. gone-is shown node [] sound (are ∙ sym (append-nil (map commit_by course.moves))))
 
 -- the Gone of the move itself
@@ -132,8 +122,7 @@ module _ {setting : Setting} {shown : Shown} {phase : Phase} (h : IsMoving setti
   next-count are = begun-count ∙ (ap length h.moves_are ∙ sym (count-told (h.course.moves ++ h.move ∷ []) are))
 
   pub next-stands : shown.commits ≡ map commit_by (h.course.moves ++ h.move ∷ []) → standing_of shown ≡ h.move.to
-  next-stands are = rw are (stands-moves shown.from (h.course.moves ++ h.move ∷ [])
-      ∙ fold-append (λ n (m : Move). m.to) shown.from h.course.moves (h.move ∷ []))
+  next-stands are = grind (arith, stands-moves, fold-append)
 
   -- then all moves are committed
   pub all-committed : shown.commits ≡ map commit_by (h.course.moves ++ h.move ∷ [])
@@ -149,45 +138,23 @@ module _ {setting : Setting} {shown : Shown} {phase : Phase} (h : IsMoving setti
       (gone-is shown node (commit_by h.move ∷ []) h.sound (are ∙ map-append commit_by h.course.moves (h.move ∷ [])))
 
   left-is : (node == h.move.from) ≡ true → MarkIs setting.nodes shown node (Gone h.move.number h.move.to)
-  left-is e = (
-    omega (arith, h.next.number),
-    ap (λ cs. slice_get cs (h.move.number - 1)) are ∙ (own-gone h.next
-        ∙ ap (λ f. Some (record { number = h.move.number; from = f; to = h.move.to }))
-        (sym (eqb-true node h.move.from e))),
-    h.next.inside,
-  )
+  left-is e = grind (arith, own-gone, eqb-true)
 
   passing-is : shown.marks h.move.from ≡ Gone h.move.number h.move.to
       → MarkIs setting.nodes shown node (mark_passing setting h.course h.move node)
-  passing-is gone = at_from (node == h.move.from) (node == h.move.to) refl refl
-    where
-      at_from : (b t : Bool) → (node == h.move.from) ≡ b → (node == h.move.to) ≡ t
-          → MarkIs setting.nodes shown node (cond b (Gone h.move.number h.move.to)
-          (cond t (Coming h.move.number h.move.from) (rest_mark setting h.course node)))
-      at_from true t e at = left-is e
-      at_from false true e at = (
+  passing-is gone = cond_both (node == h.move.from) _ _ (MarkIs setting.nodes shown node) left-is (λ off_from.
+      cond_both (node == h.move.to) _ _ (MarkIs setting.nodes shown node) (λ at. (
         begun-count h,
         from-inside h.sound h.next,
         h.off_is,
-        inr (
-          next-count h are,
-          eqb-true node h.move.to at ∙ sym (next-stands h are),
-          gone ∙ ap (λ n. Gone h.move.number n) (sym (eqb-true node h.move.to at)),
-        ),
-      )
-      at_from false false e at = trail-is e
+        grind (arith, next-count h are, eqb-true node h.move.to, next-stands h are),
+      )) (λ off_to. trail-is off_from))
 
   clearing-is : (purged : List ℕ) → MarkIs setting.nodes shown node (mark_erasing setting h.course h.move purged node)
-  clearing-is purged = at_marks (has node purged) (node == h.move.to) (node == h.move.from) refl refl
-    where
-      at_marks : (p t f : Bool) → (node == h.move.to) ≡ t → (node == h.move.from) ≡ f
-          → MarkIs setting.nodes shown node (cond p Empty (cond t (Here h.move.number)
-          (cond f (Gone h.move.number h.move.to)
-          (cond t (Coming h.move.number h.move.from) (rest_mark setting h.course node)))))
-      at_marks true t f at e = tt
-      at_marks false true f at e = (eqb-true node h.move.to at ∙ sym (next-stands h are), next-count h are, h.off_is)
-      at_marks false false true at e = left-is e
-      at_marks false false false at e = trail-is e
+  clearing-is purged = cond_both (has node purged) _ _ (MarkIs setting.nodes shown node) (λ gone. tt) (λ kept.
+      cond_both (node == h.move.to) _ _ (MarkIs setting.nodes shown node)
+      (λ at. (eqb-true node h.move.to at ∙ sym (next-stands h are), next-count h are, h.off_is))
+      (λ off. rw off (cond_both (node == h.move.from) _ _ (MarkIs setting.nodes shown node) left-is trail-is)))
 
 -- so a mark of a view tells it
 pub mark-is : {setting : Setting} {shown : Shown} (node : ℕ) → node < setting.nodes → View setting shown
@@ -196,15 +163,7 @@ mark-is {setting} {shown} node low (inl h) =
     rw (h.marks_are node low) (rest-is shown node h.sound h.begins h.commits_are h.off_is)
 mark-is {setting} {shown} node low (inr (coming written, h)) = rw (h.marks_are node low)
     (cond_both (node == h.move.to) _ _ (MarkIs setting.nodes shown node)
-    (λ e. (
-      begun-count h,
-      from-inside h.sound h.next,
-      h.off_is,
-      inl (
-        h.next.number ∙ sym (ap suc (count-told h.course.moves h.commits_are)),
-        h.next.from ∙ sym (rest-stands shown h.course h.begins h.commits_are),
-      ),
-    ))
+    (grind (arith, begun-count h, from-inside h.sound h.next, count-told, rest-stands))
     (λ e. rest-is shown node h.sound h.begins h.commits_are (h.off_is ∙ sym h.next.is_on)))
 mark-is node low (inr (passage, h)) = rw (h.marks_are node low) (passing-is h h.commits_are node
     (h.marks_are h.move.from (from-inside h.sound h.next) ∙ rw (eq-eqb h.move.from h.move.from refl)))

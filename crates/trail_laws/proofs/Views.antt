@@ -1,8 +1,8 @@
 -- What a legal history leaves, in closed form: its subscriber rests, or is in a phase of a move.
 use Rattle.std.proofs.Math.Seq.{take-nil}
-use Rattle.std.proofs.Common.{◌≡◌, ◌⊎◌, inl, inr, ℕ, zero, suc, ◌<◌, ◌≤◌, ◌^◌, Bool, cond, true, false, ◌==◌, List, [], ◌∷◌, ◌++◌, None, length, map, take, fold, refl, sym, ap, ◌∙◌, subst, arith}
+use Rattle.std.proofs.Common.{◌≡◌, ◌⊎◌, inl, inr, ℕ, zero, suc, ◌<◌, ◌≤◌, ◌^◌, false, ◌==◌, List, [], ◌∷◌, ◌++◌, length, map, take, fold, refl, sym, ap, ◌∙◌, subst, arith}
 use Rattle.std.specs.Prelude.{filter_map}
-use Rattle.std.proofs.lemmas.Bool.{cond_both, eq-eqb, lt-ltb, or_parts}
+use Rattle.std.proofs.lemmas.Bool.{cases_Bool, cond_both, eq-eqb, lt-ltb, or_parts}
 use Rattle.std.proofs.Math.Bool.{and-false}
 use Rattle.node_set.specs.Ascending.{has}
 use Rattle.node_set.specs.SetLaws.{has-passing}
@@ -15,12 +15,11 @@ use Rattle.directory.specs.Legal.{IsLegal, IsScript}
 use Rattle.directory.specs.Histories.{History, puts_to}
 use Rattle.directory.specs.Puts.{course_in, steps_in}
 use Rattle.trail_laws.specs.Phases.{IsAtRest}
-use Rattle.directory.specs.Amid.{IsAmid}
 use Rattle.directory.specs.Statements.{CommitsAreTold, EntriesAreLeft, LegalIsAmid, MarksAreLeft, OffIsTold}
 use Rattle.directory.specs.Courses.{last_stop, Step, move_to, Move, Course, course_at, next_move, after_step, after_steps, MayMove, MayStep, MaySteps}
-use Rattle.directory.specs.Writes.{Write, mark_at, entry_at, new_address, old_home, move_writes, visit_of, visits, writes}
+use Rattle.directory.specs.Writes.{Write, mark_at, new_address, move_writes, visit_of, visits, writes}
 use Rattle.directory.specs.Standing.{commits, off}
-use Rattle.directory.specs.States.{entry_after, entry_left, mark_after, mark_left, opening_entry, opening_mark, write_commit, write_off, writes_made}
+use Rattle.directory.specs.States.{entry_left, mark_left, opening_entry, opening_mark, write_commit, write_off, writes_made}
 use Rattle.trail_laws.specs.Trail.{entry_seen, mark_seen}
 use Rattle.trail_laws.proofs.Links.{IsSound, sound-steps, stop-inside}
 use Rattle.trail_laws.proofs.Fronts.{fronts}
@@ -43,8 +42,7 @@ module _ (setting : Setting) (sub : ℕ) where
   sound-opening steps script = record { begins = script.begins; linked = tt }
 
   pub sound-script : (steps : List Step) → IsScript setting sub steps → IsSound setting (course_of steps)
-  sound-script steps script = sound-steps setting (course_at (start setting sub)) steps (sound-opening steps script)
-      script.allowed
+  sound-script steps script = grind (arith, sound-steps, sound-opening)
 
   opens-marks : (v : ℕ) → sub < subs setting
       → opening_mark setting sub v ≡ rest_mark setting (course_at (start setting sub)) v
@@ -110,12 +108,9 @@ module _ (setting : Setting) (sub : ℕ) (history : History) (rest : IsAtRest se
       → mark_seen setting sub history (last_stop (course_in setting sub (puts_to sub history)))
       ≡ there (course_in setting sub (puts_to sub history))
   mark-there marks low legal =
-      let course = course_in setting sub (puts_to sub history) in
-      marks setting sub history low legal (last_stop course)
-      ∙ (ap (λ ws. mark_left setting sub ws (last_stop course)) all-made
-      ∙ (rest-marks_of setting sub (steps_in (puts_to sub history)) (last_stop course) legal.script
-      (stop-inside (sound-script setting sub (steps_in (puts_to sub history)) legal.script))
-      ∙ rw (eq-eqb (last_stop course) (last_stop course) refl)))
+      rw (marks setting sub history low legal (last_stop (course_in setting sub (puts_to sub history))), all-made)
+      (rest-marks_of setting sub (steps_in (puts_to sub history)) _ legal.script
+      (stop-inside (sound-script setting sub (steps_in (puts_to sub history)) legal.script)) ∙ rw (eq-eqb _ _ refl))
 
 -- the steps before one may be made, and then that one
 pub may-before : (setting : Setting) (course : Course) (before : List Step) (step : Step)
@@ -163,18 +158,17 @@ module _ {setting : Setting} {sub : ℕ} {before : List Step} {node : ℕ} (scri
       next = is-next may;
       is_phase = is_phase;
       begins = start-kept setting (course_at (start setting sub)) before;
-      marks_are = λ v low. fold-append (mark_after v) (opening_mark setting sub v) made front
-          ∙ (ap (λ m. marked v m front) (rest-marks_of setting sub before v script low) ∙ left.marks v);
-      entries_are = λ level cluster low.
-          fold-append (entry_after level cluster) (opening_entry setting sub level cluster) made front
-          ∙ (ap (λ e. entered level cluster e front) (rest-entries_of setting sub before level cluster script low)
-          ∙ left.entries level cluster);
-      commits_are = filter_map-append write_commit made front
-          ∙ (ap (λ cs. cs ++ filter_map write_commit front)
-          (commits-steps setting (course_at (start setting sub)) before) ∙ left.commits);
+      marks_are = λ v low. grind (arith, fold-append, rest-marks_of setting sub before v script low, left.marks v);
+      entries_are = λ level cluster low. grind (
+        arith,
+        fold-append,
+        rest-entries_of setting sub before level cluster script low,
+        left.entries level cluster,
+      );
+      commits_are =
+          grind (arith, filter_map-append, commits-steps setting (course_at (start setting sub)) before, left.commits);
       off_is = fold-append (λ o write. write_off write) false made front ∙ left.on _;
-      moves_are = ap (λ (c : Course). c.moves)
-          (fold-append (after_step setting) (course_at (start setting sub)) before (move_to node ∷ []));
+      moves_are = grind (arith, fold-append);
     },
   )
     where
@@ -198,24 +192,8 @@ module _ {setting : Setting} {sub : ℕ} {before : List Step} {node : ℕ} (scri
   cleared e p in_order = record {
     stays = not-taken node p its_purged (new-stays setting its_course its_move may.inside);
     kept = λ level. not-taken level e its_old;
-    in_order = at_order in_order (its_move.renewed == setting.top) refl;
+    in_order = grind (arith, cases_Bool (its_move.renewed == setting.top), take-nil, take_all, length-take, length-map);
   }
-    where
-      at_order : (p ≡ 0) ⊎ (take e (erasures setting its_course its_old) ≡ erasures setting its_course its_old)
-          → (b : Bool) → (its_move.renewed == setting.top) ≡ b → (take p its_purged ≡ [])
-          ⊎ ((take e its_old ≡ its_old) × ((its_move.renewed == setting.top) ≡ true))
-      at_order (inl none) b t = inl (rw none)
-      at_order (inr whole) false t =
-          inl (ap (λ b. take p (cond b (purge_nodes setting its_course its_move) [])) t ∙ take-nil p)
-      at_order (inr whole) true t = inr (
-        take_all e its_old (omega (
-          arith,
-          ap length whole,
-          length-take e (erasures setting its_course its_old),
-          length-map its_old (λ level. entry_at level (old_home setting its_course level) None),
-        )),
-        t,
-      )
 
   amid-move : (made : ℕ) → 1 ≤ made → Goal (take made (move_writes setting its_course its_move))
   unfolding phase_writes
@@ -240,17 +218,9 @@ unfolding writes
 amid-view {setting} {sub} before [] made script one some few = grind (arith, append-nil, writes_of, take-nil, rests)
 amid-view {setting} {sub} before (move_to node ∷ []) made script one some few =
     let may = may-before setting (course_at (start setting sub)) before (move_to node) script.allowed in
-    rw (append-nil (move_writes setting
-    (course_of setting sub before) (next_move setting (course_of setting sub before) node))) (amid-move (record {
-      known =
-          script.known;
-      begins = script.begins;
-      allowed = may.0;
-    }) may.1 made some)
+    grind (arith, append-nil, amid-move)
 amid-view {setting} {sub} before (step ∷ []) made script one some few =
-    let e : made ≡ 1 = omega (arith, some, few) in
-    rw e (rw (writes-more setting (course_at (start setting sub)) before step) at
-    (rests setting sub (before ++ step ∷ []) script))
+    grind (arith, writes-more, rests setting sub (before ++ step ∷ []) script)
 amid-view before (step ∷ other ∷ more) made script one some few = absurd (omega (arith, one))
 
 -- what is shown after a history
@@ -269,20 +239,4 @@ pub legal-view : LegalIsAmid → MarksAreLeft → EntriesAreLeft → CommitsAreT
     → {setting : Setting} {sub : ℕ} (history : History) → setting.nodes ≤ 2 ^ 16 → IsLegal setting sub history
     → View setting (shown setting sub history)
 unfolding WritesView
-legal-view amid marks_left entries_left told off_told {setting} {sub} history low legal =
-    subst (View setting) (sym same) (rw (far.writes, far.steps) (amid-view far.before far.under far.made
-    (rw far.steps at legal.script) far.one far.some far.few))
-  where
-    far : IsAmid setting sub (puts_to sub history)
-    far = amid setting sub (puts_to sub history) low legal
-
-    same : shown setting sub history ≡ written setting sub (writes_made setting sub (puts_to sub history))
-        (course_in setting sub (puts_to sub history)).moves
-    same i = record {
-      from = start setting sub;
-      marks = λ v. marks_left setting sub history low legal v i;
-      entries = λ level cluster. entries_left setting sub history low legal level cluster i;
-      commits = told setting sub history low legal i;
-      off = off_told setting sub history low legal i;
-      moves = (course_in setting sub (puts_to sub history)).moves;
-    }
+legal-view amid marks_left entries_left told off_told {setting} {sub} history low legal = grind (arith, amid-view)

@@ -1,9 +1,5 @@
 use Rattle.trail_laws.proofs.Still.{stand-still}
-use Rattle.trail_laws.proofs.Sure.{used}
 use Rattle.trail_laws.proofs.ways.quiet_finds_stand_still.Goals as goal
 
 pub returns : goal.returns
-returns c = stand-still (used c.cell_of_puts.ensures c.read_of_legal.ensures.marks c.steps_begin_at_rest.ensures
-    c.front_is_legal.ensures c.marks_tell.ensures.marks c.marks_lead.ensures.addresses c.marks_lead.ensures.comings
-    c.entries_tell.ensures.top)
-    c.rest_is_settled.ensures.settled c.passage_is_open.ensures c.levels_stay_near.ensures.inside
+returns c = stand-still (assumption) (assumption) (assumption) (assumption)
