@@ -4,9 +4,9 @@ use Rattle.std.proofs.Math.Seq.{drop-length}
 use Rattle.std.proofs.lemmas.List.{map-append, take_all}
 use Rattle.entry_word.specs.Marks.{MarksUnpack}
 use Rattle.entry_word.specs.declared.visit.Visit.{Visit}
-use Rattle.directory.specs.Settings.{Setting, start, subs}
+use Rattle.directory.specs.Settings.{Setting, subs}
 use Rattle.directory.specs.Histories.{History, puts_to}
-use Rattle.directory.specs.Courses.{Course, course_at, Step, after_step, MaySteps}
+use Rattle.directory.specs.Courses.{Course, Step, after_step, MaySteps}
 use Rattle.directory.specs.Writes.{step_writes, visit_of, writes}
 use Rattle.directory.specs.Puts.{steps_from, steps_in}
 use Rattle.directory.specs.Orders.{AreValid, IsDone, IsPlayed, script_visits, Scripts, steps_of}
@@ -49,14 +49,11 @@ all-put setting scripts history sub known played done =
 script-shown : MarksUnpack → {setting : Setting} {scripts : Scripts} (sub : ℕ) → setting.nodes ≤ 2 ^ 16
     → AreValid setting scripts → sub < subs setting
     → steps_in (script_visits setting scripts sub) ≡ steps_of scripts sub
-script-shown unpacks {setting} {scripts} sub low valid known =
-    all-shown unpacks setting sub (course_at (start setting sub)) (steps_of scripts sub)
-    (record { low = low; inside = (valid.steps sub known).begins; few = omega arith }) (valid.steps sub known).allowed
+script-shown unpacks {setting} {scripts} sub low valid known = grind (arith, all-shown)
 
 pub done-rests : MarksUnpack → DoneIsRest
 done-rests unpacks setting scripts history sub low valid known played done =
     grind (arith, all-put, script-shown, drop-length)
 
 pub done-shows : MarksUnpack → DoneShowsScript
-done-shows unpacks setting scripts history sub low valid known played done =
-    ap steps_in (all-put setting scripts history sub known played done) ∙ script-shown unpacks sub low valid known
+done-shows unpacks setting scripts history sub low valid known played done = grind (arith, all-put, script-shown)

@@ -8,22 +8,19 @@ use Rattle.std.proofs.lemmas.List.{append-nil}
 use Rattle.std.proofs.lemmas.List.Elements.{filter_map-append}
 use Rattle.entry_word.specs.declared.visit.Visit.{Visit}
 use Rattle.directory.specs.Settings.{Setting}
-use Rattle.directory.specs.Keys.{opening}
 use Rattle.directory.specs.StepLaws.{puts-push}
-use Rattle.directory.specs.Histories.{History, word_after, is_put_for, words_of, words_after, words_read}
+use Rattle.directory.specs.Histories.{History, is_put_for, words_of, words_after, words_read}
 use Rattle.directory.specs.Courses.{Move, base}
 use Rattle.directory.specs.Puts.{node_put, mark_put}
 use Rattle.directory.specs.Standing.{commit_of, commits}
 use Rattle.directory.specs.Statements.{CellAfter}
 
 pub cell-after : CellAfter
-cell-after setting history visit key = fold-append (λ word (v : Visit). word_after key word v.act)
-    (opening setting key) history (visit ∷ [])
+cell-after setting history visit key = grind (arith, fold-append)
 
 pub base-after : (level : ℕ) (moves : List Move) (move : Move)
     → base level (moves ++ move ∷ []) ≡ if nat_le level move.renewed then move.number else base level moves
-base-after level moves move = fold-append (λ last (m : Move). if nat_le level m.renewed then m.number else last) 0
-    moves (move ∷ [])
+base-after level moves move = grind (arith, fold-append)
 
 words_after-push : (setting : Setting) (actor : ℕ) (seen history : History) (visit : Visit)
     → words_after setting actor seen (history ++ visit ∷ [])

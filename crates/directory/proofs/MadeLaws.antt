@@ -2,7 +2,7 @@
 use Rattle.std.proofs.Common.{◌≡◌, ℕ, zero, suc, ◌+◌, ◌-◌, ◌<◌, ◌≤◌, List, [], ◌∷◌, ◌++◌, length, map, take, drop, sym, ap, ◌∙◌, arith, append_assoc}
 use Rattle.std.specs.Prelude.{slice_index, flat_map, All}
 use Rattle.std.proofs.lemmas.List.{length-drop, length-take-le, get_or-drop, get_or-take}
-use Rattle.std.proofs.lemmas.List.Elements.{All-cons, All-nil, All-append, All-head, All-tail}
+use Rattle.std.proofs.lemmas.List.Elements.{All-nil, All-append, All-head, All-tail}
 use Rattle.directory.specs.Settings.{Setting, subs}
 use Rattle.directory.specs.Histories.{History, tickets}
 use Rattle.directory.specs.Writes.{numbers_from}
@@ -40,13 +40,13 @@ answers_made : (setting : Setting) (scripts : Scripts) (history : History) (acto
     → All (IsMade setting scripts history) (map (answer_line actor ticketed) answers)
 answers_made setting scripts history actor ticketed done [] left script all = All-nil (IsMade setting scripts history)
 answers_made setting scripts history actor ticketed done (answer ∷ answers) left script all =
-    All-cons (IsMade setting scripts history) _ _
-    (find_made setting scripts history actor (slice_index ticketed answer.first)
-    (slice_index ticketed answer.last) answer.call answer.found
-    (line (All-head (IsAnswered setting history actor ticketed) answer answers all)))
-    (answers_made setting scripts history actor ticketed (done ++ answer.call ∷ []) answers left
-    (script ∙ sym (append_assoc done (answer.call ∷ []) (map (λ (a : Answer). a.call) answers ++ left)))
-    (All-tail (IsAnswered setting history actor ticketed) answer answers all))
+    grind (
+      arith,
+      find_made,
+      line (All-head (IsAnswered setting history actor ticketed) answer answers all),
+      answers_made setting scripts history actor ticketed (done ++ answer.call ∷ []) answers left
+          (rw append_assoc script) (All-tail (IsAnswered setting history actor ticketed) answer answers all),
+    )
   where
     line : IsAnswered setting history actor ticketed answer
         → IsFindLine setting scripts history actor answer.call (answer_line actor ticketed answer)

@@ -1,5 +1,5 @@
 -- The next visits of actors, and histories in which each visit was its actor's next one.
-use Rattle.std.proofs.Common.{◌≡◌, ℕ, ◌+◌, ◌<◌, Bool, true, false, ◌==◌, List, [], ◌∷◌, ◌++◌, Option, Some, None, length, take, map, refl, sym, ap, ◌∙◌, subst, arith, inl, inr}
+use Rattle.std.proofs.Common.{◌≡◌, ℕ, ◌+◌, ◌<◌, Bool, true, false, ◌==◌, List, [], ◌∷◌, ◌++◌, Some, length, take, map, refl, sym, ap, ◌∙◌, subst, arith, inl, inr}
 use Rattle.std.specs.Prelude.{slice_get, option_to_list, All}
 use Rattle.std.proofs.lemmas.Bool.{eqb-true, ne_eqb, cases_lt}
 use Rattle.std.proofs.lemmas.List.{append-nil, take_all, take-append-le, length_push}
@@ -48,12 +48,7 @@ turn-some setting scripts history actor visit h = ap (λ v. history ++ option_to
 kept_by_turn : (setting : Setting) (scripts : Scripts) (P : History → Type 0) (history : History) (actor : ℕ)
     → ((visit : Visit) → next setting scripts history actor ≡ Some visit → P (history ++ visit ∷ [])) → P history
     → P (after_turn setting scripts history actor)
-kept_by_turn setting scripts P history actor more now = at_next (next setting scripts history actor) refl
-  where
-    at_next : (n : Option Visit) → next setting scripts history actor ≡ n
-        → P (after_turn setting scripts history actor)
-    at_next None e = rw (turn-none setting scripts history actor e) now
-    at_next (Some visit) e = rw (turn-some setting scripts history actor visit e) (more visit e)
+kept_by_turn setting scripts P history actor more now = grind (arith, turn-none, turn-some)
 
 pub kept_by_play : (setting : Setting) (scripts : Scripts) (P : History → Type 0)
     → ((history : History) (actor : ℕ) (visit : Visit) → next setting scripts history actor ≡ Some visit → P history

@@ -27,8 +27,7 @@ use Rattle.directory.specs.ListLaws.{last_or-push}
 pub move-may : (setting : Setting) (course : Course) (node : ℕ) → node < setting.nodes → node ≢ last_stop course
     → course.is_off ≡ false → length course.moves < 4294967295
     → MayStep setting course (move_to node)
-move-may setting course node low moving on few = record
-    { inside = low; moving = moving; is_on = on; few = omega (arith, few) }
+move-may setting course node low moving on few = grind arith
 
 pub move-still : (setting : Setting) (course : Course) → MayStep setting course (move_to (last_stop course)) → ⊥
 move-still setting course may = may.moving refl
@@ -72,8 +71,7 @@ pub passage-last : (setting : Setting) (sub : ℕ) (history : History) (earlier 
     → commits sub history ≡ earlier ++ last ∷ []
     → passage setting sub history ≡ cond (list_any (λ (visit : Visit). confirms last (node_put visit.act)
     (mark_put visit.act)) (puts_to sub history)) 0 (setting.distance last.from last.to)
-passage-last setting sub history earlier last h = ap (passage_of setting (puts_to sub history))
-    (ap (last_or None) h ∙ last_or-push None earlier last)
+passage-last setting sub history earlier last h = grind (arith, last_or-push)
 
 -- a find has no look more than its pursuit leaves
 pub looks-short : (setting : Setting) (history : History) (actor : ℕ) (call : FindCall) (earliest : ℕ)

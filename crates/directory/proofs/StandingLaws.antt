@@ -109,9 +109,8 @@ under-listed setting course (move_to node ∷ []) k one =
       | inl none ↦ (0, omega arith, none)
       | inr its ↦ (1, omega arith, its)
     ])
-under-listed setting course (step ∷ []) k one = (
-  0,
-  omega arith,
+under-listed setting course (step ∷ []) k one = grind (
+  arith,
   none-listed (take k (step_writes setting course step))
       (All-take IsNoCommit k _ (All-cons IsNoCommit _ [] refl (All-nil IsNoCommit))),
 )
@@ -165,8 +164,10 @@ last-stop start (suc count) (move ∷ moves) few = last-stop move.to count moves
 pub standing-is_stop : MarksUnpack → StandsAtStop
 standing-is_stop unpacks setting sub history low legal =
     let made = commits-are_moves unpacks setting sub history low legal in
-    let course : Course = course_in setting sub (puts_to sub history) in
-    ap (fold (λ node (commit : Commit). commit.to) (start setting sub)) made.1
-    ∙ (last-stop (start setting sub) (number sub history) course.moves made.0
-    ∙ ap (λ node. slice_index (node ∷ map (λ (move : Move). move.to) course.moves) (number sub history))
-    (sym (start-kept setting (course_at (start setting sub)) (steps_in (puts_to sub history)))))
+    grind (
+      arith,
+      made,
+      last-stop (start setting sub) (number sub history)
+          (course_in setting sub (puts_to sub history)).moves made.0,
+      start-kept,
+    )

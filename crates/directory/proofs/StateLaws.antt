@@ -1,5 +1,5 @@
 -- A cell after a legal history holds what the writes that are made have left; and these fit into their words.
-use Rattle.std.proofs.Common.{◌≡◌, ℕ, ◌<◌, ◌≤◌, ◌^◌, Bool, false, ◌==◌, ◌&&◌, List, [], ◌∷◌, Option, None, length, map, fold, refl, ap, ◌∙◌, arith}
+use Rattle.std.proofs.Common.{◌≡◌, ℕ, ◌<◌, ◌≤◌, ◌^◌, Bool, false, ◌==◌, List, [], ◌∷◌, Option, None, length, map, fold, refl, ap, ◌∙◌, arith}
 use Rattle.std.specs.Prelude.{unwrap_or, filter_map, All}
 use Rattle.std.proofs.lemmas.List.Elements.{All-append, All-cons, All-head, All-nil, All-tail, All-take}
 use Rattle.directory.proofs.Tests.{both_ways}
@@ -44,14 +44,12 @@ writes-left : {A : Type 0} (f : ℕ → Visit → ℕ) (after : A → Write → 
     → ((a : A) (write : Write) → f (word a) (visit_of sub write) ≡ word (after a write)) → (a : A) (ws : List Write)
     → fold f (word a) (map (visit_of sub) ws) ≡ word (fold after a ws)
 writes-left f after word sub one a [] = refl
-writes-left f after word sub one a (write ∷ ws) = ap (λ w. fold f w (map (visit_of sub) ws)) (one a write)
-    ∙ writes-left f after word sub one (after a write) ws
+writes-left f after word sub one a (write ∷ ws) = grind (arith, writes-left f after word sub one (after a write) ws)
 
 -- the puts of a legal history are the visits of the writes that are made
 pub puts-made : (setting : Setting) (sub : ℕ) (history : History) → IsLegal setting sub history
     → puts_to sub history ≡ map (visit_of sub) (writes_made setting sub (puts_to sub history))
-puts-made setting sub history legal = legal.front ∙ take-map (visit_of sub) (length (puts_to sub history))
-    (writes setting (course_at (start setting sub)) (steps_in (puts_to sub history)))
+puts-made setting sub history legal = grind (arith, take-map)
 
 pub mark-word_left : (setting : Setting) (sub : ℕ) (history : History) → IsLegal setting sub history → (node : ℕ)
     → cell setting history (Presence node sub) ≡ mark_word
@@ -122,8 +120,7 @@ small-mark_after node mark (entry_at level cluster address) small fits = small
 small-entry_after : (level cluster : ℕ) (address : Option Address) (write : Write) → IsSmallAddress address
     → IsSmallWrite write → IsSmallAddress (entry_after level cluster address write)
 small-entry_after level cluster address (mark_at node mark) small fits = small
-small-entry_after level cluster address (entry_at other c new) small fits =
-    both_ways IsSmallAddress (level == other && cluster == c) fits small
+small-entry_after level cluster address (entry_at other c new) small fits = grind (arith, both_ways)
 
 -- so what is read of a legal history is what its writes have left
 pub mark-read : MarksUnpack → MarksAreLeft
@@ -162,8 +159,7 @@ off-of_visits : MarksUnpack → (sub : ℕ) (off : Bool) (ws : List Write) → A
 unfolding AreSmall
 off-of_visits unpacks sub off [] small = refl
 off-of_visits unpacks sub off (mark_at node mark ∷ ws) small =
-    ap (λ m. fold (λ o (v : Visit). says_off (mark_put v.act)) (says_off m) (map (visit_of sub) ws))
-    (read-mark unpacks mark small.0) ∙ off-of_visits unpacks sub (says_off mark) ws small.1
+    grind (arith, read-mark, off-of_visits unpacks sub (says_off mark) ws small.1)
 off-of_visits unpacks sub off (entry_at level cluster address ∷ ws) small = off-of_visits unpacks sub false ws small.1
 
 pub commits-told : MarksUnpack → CommitsAreTold

@@ -1,5 +1,5 @@
 -- Steps: more of them add writes at the end, puts show which were begun, and a front of legal puts is legal.
-use Rattle.std.proofs.Common.{◌≡◌, ℕ, zero, suc, ◌+◌, ◌-◌, ◌<◌, ◌≤◌, ◌^◌, false, List, [], ◌∷◌, ◌++◌, Some, None, length, map, take, fold, refl, sym, ap, ◌∙◌, subst, arith, length-append, ◌==◌, append_assoc, inl, inr}
+use Rattle.std.proofs.Common.{◌≡◌, ℕ, zero, suc, ◌-◌, ◌<◌, ◌≤◌, ◌^◌, false, List, [], ◌∷◌, ◌++◌, Some, None, length, map, take, fold, refl, sym, ap, ◌∙◌, subst, arith, length-append, ◌==◌, append_assoc, inl, inr}
 use Rattle.std.specs.Prelude.{slice_get, All}
 use Rattle.std.proofs.Math.Seq.{take-nil}
 use Rattle.std.proofs.lemmas.Bool.{cases_lt}
@@ -9,7 +9,7 @@ use Rattle.std.proofs.lemmas.List.{append-nil, length-map, map-append, take-appe
 use Rattle.std.proofs.lemmas.List.Sums.{fold-append}
 use Rattle.entry_word.specs.Marks.{says_off, IsSmallMark, MarksUnpack}
 use Rattle.entry_word.specs.declared.mark.PresenceMark.{PresenceMark}
-use Rattle.entry_word.specs.declared.mark.PresenceMark.TheVariants.{Empty, Here, Gone, Coming, Off}
+use Rattle.entry_word.specs.declared.mark.PresenceMark.TheVariants.{Empty, Here, Gone, Coming}
 use Rattle.entry_word.specs.declared.visit.Visit.{Visit}
 use Rattle.directory.specs.Settings.{Setting, start}
 use Rattle.directory.specs.Courses.{Step, move_to, switch_off, switch_on, Move, Course, course_at, last_stop, next_move, after_step, after_steps, MayStep, MaySteps}
@@ -35,11 +35,7 @@ plain-skipped (x ∷ xs) ys all =
 
 plain-mark : MarksUnpack → (sub node : ℕ) (mark : PresenceMark) → IsSmallMark mark → mark_step false node mark ≡ None
     → says_off mark ≡ false → IsPlain (visit_of sub (mark_at node mark))
-plain-mark unpacks sub node mark small none on = (
-  ap (mark_step false node) (read-mark unpacks mark small)
-      ∙ none,
-  ap says_off (read-mark unpacks mark small) ∙ on,
-)
+plain-mark unpacks sub node mark small none on = grind (arith, read-mark)
 
 -- what a move puts after its Coming
 abbrev pub after_coming : Setting → Course → Move → List Write
@@ -92,16 +88,7 @@ place-after course move = fold-append (λ node (m : Move). m.to) course.start co
 
 pub course-after : (setting : Setting) (course : Course) (step : Step) → IsCourse setting course
     → MayStep setting course step → IsCourse setting (after_step setting course step)
-course-after setting course (move_to node) sound may =
-    let there : fold (λ n (m : Move). m.to) course.start (course.moves ++ next_move setting course node ∷ [])
-    ≡ node = place-after course (next_move setting course node) in
-    let more : length (course.moves ++ next_move setting course node ∷ [])
-    ≡ length course.moves + 1 = length-append course.moves (next_move setting course node ∷ []) in
-    record {
-      low = sound.low;
-      inside = subst (λ p. p < setting.nodes) (sym there) may.inside;
-      few = omega (arith, more, may.few);
-    }
+course-after setting course (move_to node) sound may = grind (arith, place-after, length-append)
 course-after setting course _ sound may = record { low = sound.low; inside = sound.inside; few = sound.few }
 
 -- the first visits of a step, with others after them when it is done
@@ -118,10 +105,8 @@ one-begun unpacks setting sub course (move_to node) k later sound may =
     rw (read-mark unpacks (Coming (suc (length course.moves)) (last_stop course)) (few, from), may.is_on)
     (ap (λ xs. move_to node ∷ xs) (plain-skipped (take k rest) later
     (All-take IsPlain k rest (plain-after unpacks setting sub course (next_move setting course node) few low))))
-one-begun unpacks setting sub course switch_off k later sound may =
-    rw (take-nil {A = Visit} k, read-mark unpacks (Off (length course.moves)) sound.few)
-one-begun unpacks setting sub course switch_on k later sound may =
-    rw (take-nil {A = Visit} k, read-mark unpacks (Here (length course.moves)) sound.few, may)
+one-begun unpacks setting sub course switch_off k later sound may = grind (arith, take-nil, read-mark)
+one-begun unpacks setting sub course switch_on k later sound may = grind (arith, take-nil, read-mark)
 
 -- how far the first visits of steps are
 pub record AreAmid (setting : Setting) (sub : ℕ) (course : Course) (steps : List Step) (k : ℕ) : Type 0 where
@@ -218,6 +203,12 @@ amid unpacks setting sub course steps k sound may = record {
   front = take-nil k;
 }
 
+-- so far are the first visits of a script
+pub amid-script : MarksUnpack → (setting : Setting) (sub : ℕ) (steps : List Step) (k : ℕ) → setting.nodes ≤ 2 ^ 16
+    → IsScript setting sub steps → AreAmid setting sub (course_at (start setting sub)) steps k
+amid-script unpacks setting sub steps k low script = amid unpacks setting sub (course_at (start setting sub)) steps k
+    (record { low = low; inside = script.begins; few = omega arith }) script.allowed
+
 -- a front has as many as it has
 front-taken : {A : Type 0} (n : ℕ) (ys : List A) → take n ys ≡ take (length (take n ys)) ys
 front-taken zero ys = refl
@@ -233,23 +224,11 @@ take-both (suc m) (suc n) (x ∷ xs) h = ap (λ zs. x ∷ zs) (take-both m n xs 
 -- the first visits of steps that a subscriber may make are legal
 pub script-legal : MarksUnpack → ScriptsAreLegal
 script-legal unpacks setting sub steps k low script =
-    let course = course_at (start setting sub) in
-    let far = amid unpacks setting sub course steps k
-    (record { low = low; inside = script.begins; few = omega arith }) script.allowed in
-    let shown : List Step = far.before ++ far.under in
-    let taken : take (length shown) steps ≡ shown =
-    ap (take (length shown)) far.whole ∙ take_at shown far.later (length shown) refl in
-    let same : take k (visits setting sub steps) ≡ take k (visits setting sub shown) =
-    take-map (visit_of sub) k (writes setting course steps) ∙ (ap (map (visit_of sub)) (sym far.enough)
-    ∙ sym (take-map (visit_of sub) k (writes setting course shown))) in
-    record {
-      script = record {
-        known = script.known;
-        begins = script.begins;
-        allowed = rw (far.shown, ← taken) (may-take setting course steps (length shown) script.allowed);
-      };
-      front = rw (far.shown, same) (front-taken k (visits setting sub shown));
-    }
+    let far = amid-script unpacks setting sub steps k low script in
+    let taken : take (length (far.before ++ far.under)) steps ≡ far.before ++ far.under =
+    grind (arith, far, take_at) in
+    let whole = front-taken k (visits setting sub (far.before ++ far.under)) in
+    grind (arith, far, taken, whole, take-map, may-take)
 
 -- a front of legal puts is legal
 pub front-legal : MarksUnpack → FrontsAreLegal
@@ -265,18 +244,11 @@ next-of-front : (xs ys zs : List Visit) (visit : Visit)
 next-of-front [] [] zs visit h few = absurd (omega arith)
 next-of-front [] (y ∷ ys) zs visit h few = cc
 next-of-front (x ∷ xs) [] zs visit h few = absurd (omega arith)
-next-of-front (x ∷ xs) (y ∷ ys) zs visit h few =
-    let tails : xs ++ visit ∷ [] ≡ take (length (xs ++ visit ∷ []))
-    (ys ++ zs) = cc in next-of-front xs ys zs visit tails (omega arith)
+next-of-front (x ∷ xs) (y ∷ ys) zs visit h few = grind (arith, next-of-front xs ys zs visit (cc) (omega arith))
 
 -- while a step isn't done, the puts so far decide on the next one
 pub next-decided : NextIsDecided
-next-decided setting sub puts visit left legal =
-    let longer : visits setting sub (steps_in (puts ++ visit ∷ [])) ≡ visits setting sub (steps_in puts) ++ _ =
-    ap (visits setting sub) (steps-append false puts (visit ∷ []))
-    ∙ visits-append setting sub (course_at (start setting sub)) (steps_in puts) _ in
-    next-of-front puts (visits setting sub (steps_in puts)) _ visit
-    (legal.front ∙ ap (take (length (puts ++ visit ∷ []))) longer) left
+next-decided setting sub puts visit left legal = grind (arith, steps-append, visits-append, next-of-front)
 
 -- the next put of the step under way keeps puts legal
 pub due-legal : MarksUnpack → DueIsLegal
@@ -301,9 +273,7 @@ grown (v ∷ vs) more visit first = ap (λ ws. v ∷ ws) (grown vs more visit fi
 -- and so does the first put of a further step, where no step is under way
 pub begin-legal : MarksUnpack → BeginningIsLegal
 unfolding MaySteps
-begin-legal unpacks setting sub puts step visit low legal rest may first =
-    subst (ArePuts setting sub) (sym same) (script-legal unpacks setting sub (steps_in puts ++ step ∷ [])
-    (suc (length puts)) low longer)
+begin-legal unpacks setting sub puts step visit low legal rest may first = search (same, script-legal, longer)
   where
     longer : IsScript setting sub (steps_in puts ++ step ∷ [])
     longer = record {

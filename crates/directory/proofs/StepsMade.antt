@@ -1,11 +1,11 @@
 -- The lines of a subscriber are made by its visits: each step's by all the writes of the step.
-use Rattle.std.proofs.Common.{◌≡◌, ℕ, ◌<◌, List, [], ◌∷◌, ◌++◌, Option, Some, length, map, take, drop, refl, sym, ap, ◌∙◌, append_assoc}
+use Rattle.std.proofs.Common.{arith}
+use Rattle.std.proofs.Common.{◌≡◌, ℕ, ◌<◌, List, [], ◌∷◌, ◌++◌, Some, length, map, take, drop, refl, sym, ap, ◌∙◌, append_assoc}
 use Rattle.std.specs.Prelude.{slice_get, All}
 use Rattle.std.proofs.lemmas.List.{take_at, drop_at, take-map, drop-map, length-map, map-append, take_all}
 use Rattle.std.proofs.lemmas.List.Sums.{fold-append}
 use Rattle.std.proofs.lemmas.List.Elements.{All-cons, All-nil}
 use Rattle.node_set.specs.Ascending.{IsAscending}
-use Rattle.entry_word.specs.declared.visit.Visit.{Visit}
 use Rattle.directory.specs.Settings.{Setting, subs, start}
 use Rattle.directory.specs.Histories.{History, own, tickets}
 use Rattle.directory.specs.Courses.{Step, move_to, Course, course_at, after_step, after_steps}
@@ -23,18 +23,16 @@ parted : (history : History) (sub : ℕ) (seen : List ℕ) (xs ys : List Write)
     → map (slice_get history) seen ≡ map (λ write. Some (visit_of sub write)) (xs ++ ys)
     → (map (slice_get history) (take (length xs) seen) ≡ map (λ write. Some (visit_of sub write)) xs)
     × (map (slice_get history) (drop (length xs) seen) ≡ map (λ write. Some (visit_of sub write)) ys)
-parted history sub seen xs ys h = (
-  sym (take-map (slice_get history) (length xs) seen) ∙ (ap (take (length xs)) whole
-      ∙ take_at (map told xs) (map told ys) (length xs) (length-map xs told)),
-  sym (drop-map (slice_get history) (length xs) seen) ∙ (ap (drop (length xs)) whole
-      ∙ drop_at (map told xs) (map told ys) (length xs) (length-map xs told)),
-)
-  where
-    told : Write → Option Visit
-    told write = Some (visit_of sub write)
-
-    whole : map (slice_get history) seen ≡ map told xs ++ map told ys
-    whole = h ∙ map-append told xs ys
+parted history sub seen xs ys h =
+    grind (
+      arith,
+      take-map (slice_get history) (length xs) seen,
+      take_at,
+      length-map,
+      drop-map (slice_get history) (length xs) seen,
+      drop_at,
+      map-append,
+    )
 
 -- the lines of a subscriber
 step_made : (setting : Setting) (scripts : Scripts) (history : History) (sub : ℕ) (course : Course) (step : Step)

@@ -1,5 +1,5 @@
 -- Tickets: which visits they are of, and that they ascend.
-use Rattle.std.proofs.Common.{◌≡◌, ℕ, zero, suc, ◌+◌, Bool, true, false, cond, ◌==◌, List, [], ◌∷◌, ◌++◌, Some, length, map, take, drop, refl, sym, ap, ◌∙◌, subst, arith, append_assoc}
+use Rattle.std.proofs.Common.{◌≡◌, ℕ, zero, suc, ◌+◌, cond, ◌==◌, List, [], ◌∷◌, ◌++◌, Some, length, map, take, drop, refl, ◌∙◌, arith, append_assoc}
 use Rattle.std.specs.Prelude.{slice_get}
 use Rattle.std.proofs.lemmas.List.{length_push}
 use Rattle.node_set.specs.Ascending.{IsBelowAll, IsAscending}
@@ -18,24 +18,13 @@ tell_from : (actor : ℕ) (seen later history : History) → seen ++ later ≡ h
     → map (slice_get history) (tickets_from actor (length seen) later) ≡ map Some (own actor later)
 unfolding tickets_from
 tell_from actor seen [] history whole = refl
-tell_from actor seen (visit ∷ later) history whole =
-    at_test (visit.actor == actor) (subst (λ n. map (slice_get history) (tickets_from actor n later)
-    ≡ map Some (own actor later)) count
-    (tell_from actor (seen ++ visit ∷ []) later history (append_assoc seen (visit ∷ []) later ∙ whole)))
-  where
-    count : length (seen ++ visit ∷ []) ≡ suc (length seen)
-    count = omega (arith, length_push seen visit)
-
-    here : slice_get history (length seen) ≡ Some visit
-    here = ap (λ h. slice_get h (length seen)) (sym whole) ∙ get-after seen visit later
-
-    at_test : (b : Bool) → map (slice_get history) (tickets_from actor (suc (length seen)) later)
-        ≡ map Some (own actor later)
-        → map (slice_get history) (cond b (length seen ∷ tickets_from actor (suc (length seen)) later)
-        (tickets_from actor (suc (length seen)) later))
-        ≡ map Some (cond b (visit ∷ own actor later) (own actor later))
-    at_test true h = rw here (ap (λ vs. Some visit ∷ vs) h)
-    at_test false h = h
+tell_from actor seen (visit ∷ later) history whole = grind (
+  arith,
+  append_assoc,
+  length_push,
+  get-after,
+  tell_from actor (seen ++ visit ∷ []) later history (append_assoc seen (visit ∷ []) later ∙ whole),
+)
 
 pub tickets-tell : TicketsAreOwn
 tickets-tell actor history = tell_from actor [] history history refl
@@ -44,25 +33,8 @@ ascend_from : (actor ticket : ℕ) (history : History) → IsBelowAll ticket (ti
     × IsAscending (tickets_from actor ticket history)
 unfolding tickets_from
 ascend_from actor ticket [] = (tt, tt)
-ascend_from actor ticket (visit ∷ later) = at_test (visit.actor == actor) (ascend_from actor ticket later)
-    (ascend_from actor (suc ticket) later)
-  where
-    rest : ℕ → List ℕ
-    rest n = tickets_from actor n later
-
-    at_test : (b : Bool) → IsBelowAll ticket (rest (suc ticket)) × IsAscending (rest ticket)
-        → IsBelowAll (suc ticket) (rest (suc (suc ticket))) × IsAscending (rest (suc ticket))
-        → IsBelowAll ticket (cond b (suc ticket ∷ rest (suc (suc ticket))) (rest (suc (suc ticket))))
-        × IsAscending (cond b (ticket ∷ rest (suc ticket)) (rest (suc ticket)))
-    at_test true one two = (
-      (
-        omega arith,
-        below_weaker ticket (suc ticket) (rest (suc (suc ticket)))
-            (omega arith) two.0,
-      ),
-      (one.0, two.1),
-    )
-    at_test false one two = (below_weaker ticket (suc ticket) (rest (suc (suc ticket))) (omega arith) two.0, two.1)
+ascend_from actor ticket (visit ∷ later) =
+    grind (arith, below_weaker, ascend_from actor ticket later, ascend_from actor (suc ticket) later)
 
 pub tickets-ascend : TicketsAscend
 tickets-ascend actor history = (ascend_from actor 0 history).1
@@ -88,19 +60,8 @@ push_from : (actor ticket : ℕ) (history : History) (visit : Visit)
     → tickets_from actor ticket (history ++ visit ∷ [])
     ≡ tickets_from actor ticket history ++ cond (visit.actor == actor) ((ticket + length history) ∷ []) []
 unfolding tickets_from
-push_from actor ticket [] visit = ap (λ n. cond (visit.actor == actor) (n ∷ []) [])
-    (let e : ticket ≡ ticket + 0 = omega arith in e)
-push_from actor ticket (first ∷ later) visit =
-    let e : suc ticket + length later ≡ ticket + suc (length later) = omega arith in
-    rw (push_from actor (suc ticket) later visit, e) (elim (first.actor == actor)
-    as (λ b. cond b (ticket ∷ (rest ++ one)) (rest ++ one) ≡ cond b (ticket ∷ rest) rest ++ one)
-    [ true ↦ refl | false ↦ refl ])
-  where
-    rest : List ℕ
-    rest = tickets_from actor (suc ticket) later
-
-    one : List ℕ
-    one = cond (visit.actor == actor) ((ticket + suc (length later)) ∷ []) []
+push_from actor ticket [] visit = grind arith
+push_from actor ticket (first ∷ later) visit = grind (arith, push_from actor (suc ticket) later visit)
 
 pub tickets-push : TicketsGrow
 tickets-push actor history visit = grind (arith, push_from)

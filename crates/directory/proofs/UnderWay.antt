@@ -7,7 +7,7 @@ use Rattle.std.proofs.lemmas.Grind.{flat_map-append}
 use Rattle.std.proofs.lemmas.List.{append-nil, map-append, length_push, length-drop, length-take-le, take_all, take-append-le, drop-append-le}
 use Rattle.std.proofs.lemmas.List.Sums.{fold-append}
 use Rattle.std.proofs.Math.ListN.{drop_of_length-le}
-use Rattle.std.proofs.lemmas.List.Elements.{All-cons, All-nil, All-append, All-weaker}
+use Rattle.std.proofs.lemmas.List.Elements.{All-cons, All-nil, All-append}
 use Rattle.std.proofs.lemmas.Option.{slice_get_within}
 use Rattle.entry_word.specs.declared.visit.Key.{Key}
 use Rattle.entry_word.specs.declared.visit.Visit.{Visit}
@@ -44,19 +44,14 @@ looks-push : (setting : Setting) (history : History) (actor : ℕ) (call : FindC
     → slice_get history ticket ≡ Some (look_by actor key)
     → AreLooks setting history actor call earliest pursuit (sofar ++ ticket ∷ [])
 unfolding AreLooks
-looks-push setting history actor call [] earliest pursuit ticket key looks low wanted is_look =
-    (low, (key, wanted, is_look, tt))
+looks-push setting history actor call [] earliest pursuit ticket key looks low wanted is_look = grind arith
 looks-push setting history actor call (t ∷ sofar) earliest pursuit ticket key
-    (first, (k, is_wanted, its_look, rest)) low wanted is_look = (
-      first,
-      (
-        k,
-        is_wanted,
-        its_look,
-        looks-push setting history actor call sofar (suc t)
-            (after_word setting call pursuit (cell setting (before t history) k)) ticket key rest low
-            (rw (pursuit-step setting history actor call pursuit t k sofar its_look) at wanted) is_look,
-      ),
+    (first, (k, is_wanted, its_look, rest)) low wanted is_look = grind (
+      arith,
+      pursuit-step,
+      looks-push setting history
+          actor call sofar (suc t) (after_word setting call pursuit (cell setting (before t history) k)) ticket key rest low
+          (rw (pursuit-step setting history actor call pursuit t k sofar its_look) at wanted) is_look,
     )
 
 after_last-push : (earliest : ℕ) (sofar : List ℕ) (ticket : ℕ)
@@ -126,13 +121,7 @@ seen-more ticketed more answer order within = grind (arith, drop-append-le, leng
 answered-more : (setting : Setting) (history : History) (actor : ℕ) (ticketed more : List ℕ) (answers : List Answer)
     → All (IsAnswered setting history actor ticketed) answers
     → All (IsAnswered setting history actor (ticketed ++ more)) answers
-answered-more setting history actor ticketed more answers =
-    All-weaker (IsAnswered setting history actor ticketed) (IsAnswered setting history actor (ticketed ++ more))
-    (λ answer h. record {
-      within = omega (arith, h.within, length-append ticketed more);
-      order = h.order;
-      find = rw (seen-more ticketed more answer h.order h.within) h.find;
-    }) answers
+answered-more setting history actor ticketed more answers = grind (arith, length-append, seen-more)
 
 -- one look more of a caller
 look_more : (setting : Setting) (history : History) (actor : ℕ) (finds : List FindCall) (ticketed : List ℕ) (now : ℕ)
@@ -248,21 +237,8 @@ pub under_way : (setting : Setting) (scripts : Scripts) (history : History) (act
     → IsUnderWay setting history actor (finds_of setting scripts actor) (tickets actor history) (length history)
     (caller_in setting scripts history actor)
 unfolding words_after tickets_from AreLooks FollowEachOther
-under_way setting scripts history actor high played =
-    by_fronts (λ front. Under front) history
-    (record {
-      count = refl;
-      low = omega arith;
-      few = omega (arith, left_at_origin setting (finds_of setting scripts actor));
-      done = All-nil
-          (IsAnswered setting history actor []);
-      script = refl;
-      current = λ call later same. record
-          { looks = tt; reads = refl; low = omega arith };
-      follow = tt;
-      ends = omega arith;
-    })
-    (λ t visit h far. step t visit h far (visit.actor == actor) refl)
+under_way setting scripts history actor high played = by_fronts (λ front. Under front) history
+    (grind (arith, left_at_origin)) (λ t visit h far. step t visit h far (visit.actor == actor) refl)
   where
     Under : History → Type 0
     Under front = IsUnderWay setting history actor (finds_of setting scripts actor) (tickets actor front)
