@@ -1,9 +1,7 @@
 -- How far legal puts are with the steps that they begin.
-use Rattle.std.proofs.Common.{suc, false, [], ◌∷◌, ◌++◌, length, arith}
+use Rattle.std.proofs.Common.{suc, false, [], ◌∷◌, length, arith}
 use Rattle.std.proofs.lemmas.List.{length_push, length-take, length-append}
 use Rattle.entry_word.specs.Marks.{MarksUnpack}
-use Rattle.directory.specs.Settings.{start}
-use Rattle.directory.specs.Courses.{course_at}
 use Rattle.directory.specs.Writes.{visits}
 use Rattle.directory.specs.Puts.{steps_from, steps_in}
 use Rattle.directory.specs.Statements.{LegalIsAmid, StepsBeginAtRest}

@@ -1,5 +1,5 @@
 -- A subscriber whose script is done has nothing left to put.
-use Rattle.std.proofs.Common.{◌≡◌, ◌≤◌, ◌<◌, ◌^◌, ◌++◌, ◌∷◌, ℕ, suc, [], List, length, map, take, refl, sym, ap, ◌∙◌, arith}
+use Rattle.std.proofs.Common.{◌≡◌, ◌≤◌, ◌<◌, ◌^◌, ◌++◌, ◌∷◌, ℕ, suc, [], List, length, map, take, refl, ap, ◌∙◌, arith}
 use Rattle.std.proofs.Math.Seq.{drop-length}
 use Rattle.std.proofs.lemmas.List.{map-append, take_all}
 use Rattle.entry_word.specs.Marks.{MarksUnpack}
@@ -35,8 +35,7 @@ all-shown unpacks setting sub course (step ∷ steps) sound may =
     rest = visits_in setting sub (after_step setting course step) steps
 
     whole : visits_in setting sub course (step ∷ steps) ≡ take (suc (length mine)) mine ++ rest
-    whole = map-append (visit_of sub) (step_writes setting course step) _
-        ∙ ap (λ vs. vs ++ rest) (sym (take_all (suc (length mine)) mine (omega arith)))
+    whole = grind (arith, map-append, rest, take_all, mine)
 
 -- all visits of a script are made
 all-put : (setting : Setting) (scripts : Scripts) (history : History) (sub : ℕ) → sub < subs setting

@@ -60,11 +60,7 @@ step_lines-push setting sub course (one ∷ done) step seen more count size =
     size_one = length (step_writes setting course one)
 
     within : size_one ≤ length seen
-    within = omega (
-      arith,
-      count,
-      length-append (step_writes setting course one) (writes setting (after_step setting course one) done),
-    )
+    within = grind (arith, length-append)
 
     front : take size_one (seen ++ more) ≡ take size_one seen
     front = take-append-le size_one seen more within

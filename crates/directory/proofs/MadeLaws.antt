@@ -1,5 +1,5 @@
 -- The lines of an outcome are made by visits: each step's by all its writes, each find's by all its looks.
-use Rattle.std.proofs.Common.{◌≡◌, ℕ, zero, suc, ◌+◌, ◌-◌, ◌<◌, ◌≤◌, List, [], ◌∷◌, ◌++◌, length, map, take, drop, sym, ap, ◌∙◌, arith, append_assoc}
+use Rattle.std.proofs.Common.{◌≡◌, ℕ, zero, suc, ◌+◌, ◌-◌, ◌<◌, ◌≤◌, List, [], ◌∷◌, ◌++◌, length, map, take, drop, arith, append_assoc}
 use Rattle.std.specs.Prelude.{slice_index, flat_map, All}
 use Rattle.std.proofs.lemmas.List.{length-drop, length-take-le, get_or-drop, get_or-take}
 use Rattle.std.proofs.lemmas.List.Elements.{All-nil, All-append, All-head, All-tail}
@@ -7,7 +7,6 @@ use Rattle.directory.specs.Settings.{Setting, subs}
 use Rattle.directory.specs.Histories.{History, tickets}
 use Rattle.directory.specs.Writes.{numbers_from}
 use Rattle.directory.specs.Finds.{FindCall}
-use Rattle.directory.specs.Looks.{last_of}
 use Rattle.directory.specs.Orders.{Scripts, finds_of, Answer, caller_in, IsPlayed}
 use Rattle.directory.specs.Outcomes.{sub_lines, found_line, answer_line, caller_lines, IsFindLine, IsMade}
 use Rattle.directory.specs.declared.answers.Found.{Found}
@@ -50,18 +49,7 @@ answers_made setting scripts history actor ticketed done (answer ∷ answers) le
   where
     line : IsAnswered setting history actor ticketed answer
         → IsFindLine setting scripts history actor answer.call (answer_line actor ticketed answer)
-    line h = record {
-      before = done;
-      later = map (λ (a : Answer). a.call) answers ++ left;
-      found = answer.found;
-      seen = seen_of ticketed answer;
-      script = script;
-      find = h.find;
-      tells = sym (ap (λ n. found_line actor answer.call answer.found n (last_of (seen_of ticketed answer)))
-          (index-first ticketed answer.first (suc answer.last - answer.first) (omega (arith, h.order)))
-          ∙ ap (λ n. found_line actor answer.call answer.found (slice_index ticketed answer.first) n)
-          (index-last ticketed answer.first answer.last h.order h.within));
-    }
+    line h = grind (arith, seen_of, index-first, index-last)
 
 caller_made : (setting : Setting) (scripts : Scripts) (history : History) (actor : ℕ) → subs setting ≤ actor
     → IsPlayed setting scripts history → All (IsMade setting scripts history)

@@ -68,8 +68,7 @@ played-push setting scripts history actor visit e played ticket found h =
           rw (take-append-le ticket history (visit ∷ []) (omega arith)) (played ticket found
           (here.1 ∙ (sym (slice_get-left history (visit ∷ []) ticket here.0 here.1) ∙ h)))
       | inr high ↦
-          let within : ticket < length (history ++ visit ∷ []) =
-          slice_get_within (history ++ visit ∷ []) ticket found h in
+          let within : ticket < length (history ++ visit ∷ []) = grind (arith, slice_get_within) in
           let same : ticket ≡ length history + 0 = omega (arith, length_push history visit) in
           let is_found : visit ≡ found = same_some (sym (slice_get-right history (visit ∷ []) ticket 0 same) ∙ h) in
           rw (
@@ -118,13 +117,8 @@ played-own setting scripts history sub below played =
         → own sub (take t history) ≡ take (length (own sub (take t history))) (script_visits setting scripts sub)
         → (b : Bool) → (visit.actor == sub) ≡ b → own sub (take t history ++ visit ∷ [])
         ≡ take (length (own sub (take t history ++ visit ∷ []))) (script_visits setting scripts sub)
-    step t visit h so_far true e = rw (own-push sub (take t history) visit, e)
-        (front-push (script_visits setting scripts sub) (own sub (take t history)) visit
-        (sym (next-sub setting scripts (take t history) sub below)
-        ∙ (ap (λ a. next setting scripts (take t history) a) (sym (eqb-true visit.actor sub e)) ∙ played t visit h))
-        so_far)
-    step t visit h so_far false e =
-        rw (own-push sub (take t history) visit, e, append-nil (own sub (take t history))) so_far
+    step t visit h so_far true e = grind (arith, own-push, front-push, next-sub, eqb-true)
+    step t visit h so_far false e = grind (arith, own-push, append-nil)
 
 -- so it is legal for each subscriber
 pub played-legal : MarksUnpack → PlayedIsLegal

@@ -97,8 +97,7 @@ done-each setting scripts actor (first ∷ others) history inside played =
     rw (after_turns-append setting scripts history (replicate (most_turns setting scripts first) first)
     (turns_of setting scripts others))
     (elim (or_cases (actor == first) (has actor others) inside) [
-      | inl e ↦ done-kept setting scripts actor (turns_of setting scripts others) _
-          (rw (← eqb-true actor first e) (done-after setting scripts actor history played))
+      | inl e ↦ grind (arith, done-kept, eqb-true, done-after)
       | inr later ↦ done-each setting scripts actor others _ later
           (played-kept setting scripts (replicate (most_turns setting scripts first) first) history played)
     ])

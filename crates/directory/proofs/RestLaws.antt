@@ -1,14 +1,13 @@
 -- Where nobody moves; what the last commit tells; and that finds are short.
-use Rattle.std.proofs.Common.{◌≡◌, ◌≢◌, false, ℕ, suc, ◌<◌, ◌≤◌, cond, List, [], ◌∷◌, ◌++◌, Some, None, length, take, fold, refl, sym, ap, ◌∙◌, arith, inl, inr, ◌⊎◌}
-use Rattle.std.specs.Prelude.{slice_get}
+use Rattle.std.proofs.Common.{◌≡◌, ◌≢◌, false, ℕ, suc, ◌<◌, ◌≤◌, cond, List, [], ◌∷◌, ◌++◌, Some, None, length, take, fold, refl, ap, ◌∙◌, arith, inl, inr, ◌⊎◌}
 use Rattle.std.specs.List.{last_or, list_any}
 use Rattle.std.proofs.lemmas.List.Sums.{fold-append}
 use Rattle.entry_word.specs.declared.visit.Visit.{Visit}
 use Rattle.directory.specs.Settings.{Setting, subs, start}
 use Rattle.directory.specs.Keys.{opening}
 use Rattle.directory.specs.Courses.{Course, last_stop, MayStep, move_to}
-use Rattle.directory.specs.Histories.{History, word_after, cell, before, puts_to, own}
-use Rattle.directory.specs.Writes.{writes, visits}
+use Rattle.directory.specs.Histories.{History, word_after, cell, before, puts_to}
+use Rattle.directory.specs.Writes.{writes}
 use Rattle.directory.specs.Puts.{node_put, mark_put}
 use Rattle.directory.specs.Standing.{Commit, commits, confirms, standing, passage_of, passage}
 use Rattle.directory.specs.Finds.{FindCall, Pursuit, after_word, looks_left}
@@ -48,11 +47,8 @@ rest-keeps setting scripts history key still played =
     a_look : (front : History) (visit : Visit) → (visit.actor < subs setting) ⊎ (subs setting ≤ visit.actor)
         → next setting scripts front visit.actor ≡ Some visit
         → word_after key (opening setting key) visit.act ≡ opening setting key
-    a_look front visit (inl low) h =
-        let none : slice_get (visits setting visit.actor []) (length (own visit.actor front)) ≡ Some visit =
-        rw (still visit.actor) at (sym (next-sub setting scripts front visit.actor low) ∙ h) in cc
-    a_look front visit (inr high) h = ap (λ (v : Visit). word_after key (opening setting key) v.act)
-        (caller-look setting scripts front visit.actor visit high h).2
+    a_look front visit (inl low) h = grind (arith, next-sub)
+    a_look front visit (inr high) h = grind (arith, caller-look)
 
 -- what the last commit tells
 pub stands-at_last : (setting : Setting) (sub : ℕ) (history : History) (earlier : List Commit) (last : Commit)

@@ -11,7 +11,7 @@ use Rattle.directory.specs.Settings.{Setting, start}
 use Rattle.directory.specs.Histories.{puts_to}
 use Rattle.directory.specs.Courses.{Step, move_to, Move, Course, course_at, next_move, after_step, after_steps}
 use Rattle.directory.specs.Writes.{Write, mark_at, numbers_from, new_address, erasure_writes, purge_writes, move_writes, step_writes, writes}
-use Rattle.directory.specs.Puts.{steps_in, course_in}
+use Rattle.directory.specs.Puts.{course_in}
 use Rattle.directory.specs.Standing.{Commit, commit_by, commits, number}
 use Rattle.directory.specs.States.{write_commit}
 use Rattle.directory.proofs.StateLaws.{commits-told}
@@ -81,8 +81,7 @@ move-listed setting course move k = (
         (All-map IsNoCommit (new_address setting move) numbers (λ i d h. refl))
 
     none_last : All IsNoCommit last
-    none_last = All-cons IsNoCommit _ (erasure_writes setting course move ++ purge_writes setting course move) refl
-        (all-ends IsNoCommit setting course move (λ level cluster. refl) (λ node. refl))
+    none_last = grind (arith, all-ends IsNoCommit setting course move (λ level cluster. refl) (λ node. refl))
 
 -- the writes of steps commit to the moves that they add, and a front of those of one step to its first
 steps-listed : (setting : Setting) (course : Course) (steps : List Step)
@@ -132,21 +131,14 @@ commits-are_moves unpacks setting sub history low legal =
     let under = added setting (after_steps setting first far.before) far.under in
     let last = under-listed setting (after_steps setting first far.before) far.under far.made far.one in
     let moves : (course_in setting sub (puts_to sub history)).moves ≡ before ++ under =
-    moves-added setting first (steps_in (puts_to sub history))
-    ∙ (ap (added setting first) far.steps ∙ added-append setting first far.before far.under) in
+    grind (arith, moves-added, added-append) in
     let listed : commits sub history ≡ map commit_by (before ++ take last.0 under) =
     commits-told unpacks setting sub history low legal ∙ (ap (filter_map write_commit) far.writes
     ∙ (filter_map-append write_commit (writes setting first far.before) _
     ∙ (ap (λ cs. cs ++ filter_map write_commit (take far.made
     (writes setting (after_steps setting first far.before) far.under))) (steps-listed setting first far.before)
     ∙ (ap (λ cs. map commit_by before ++ cs) last.2 ∙ sym (map-append commit_by before (take last.0 under)))))) in
-    let count : number sub history ≡ length before + last.0 = omega (
-      arith,
-      ap length listed,
-      length-map (before ++ take last.0 under) commit_by,
-      length-append before (take last.0 under),
-      length-take-le last.0 under last.1,
-    ) in (
+    let count : number sub history ≡ length before + last.0 = grind (arith, length-map, length-append, length-take-le) in (
       omega (arith, count, last.1, ap length moves, length-append before under),
       listed ∙ ap (map commit_by) (sym (take-append-add before under last.0)
           ∙ (ap (λ n. take n (before ++ under)) (sym count) ∙ ap (take (number sub history)) (sym moves))),

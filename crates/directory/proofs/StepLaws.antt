@@ -14,7 +14,7 @@ use Rattle.entry_word.specs.declared.visit.Visit.{Visit}
 use Rattle.directory.specs.Settings.{Setting, start}
 use Rattle.directory.specs.Courses.{Step, move_to, switch_off, switch_on, Move, Course, course_at, last_stop, next_move, after_step, after_steps, MayStep, MaySteps}
 use Rattle.directory.specs.Writes.{Write, mark_at, entry_at, visit_of, numbers_from, new_address, erasure_writes, purge_writes, step_writes, writes, visits}
-use Rattle.directory.specs.Puts.{node_put, mark_put, mark_step, steps_from, steps_in, course_in}
+use Rattle.directory.specs.Puts.{node_put, mark_put, mark_step, steps_from, steps_in}
 use Rattle.directory.specs.Legal.{IsScript, ArePuts}
 use Rattle.directory.specs.Statements.{FrontsAreLegal, ScriptsAreLegal, DueIsLegal, BeginningIsLegal, NextIsDecided}
 use Rattle.directory.specs.StepLaws.{steps-append, take-append, visits-append, visits_in, take-more, may-take}
@@ -132,9 +132,7 @@ amid unpacks setting sub course (step ∷ steps) (suc k) sound may = elim (cases
     before = [];
     under = step ∷ [];
     made = suc k;
-    shown = shows ∙ ap (λ n. step ∷ steps_from (after_step setting course step).is_off
-        (take n (visits_in setting sub (after_step setting course step) steps)))
-        (let e : suc k - length mine ≡ 0 = omega arith in e);
+    shown = grind (arith, shows, visits_in);
     one = omega arith;
     some = omega arith;
     few = omega (arith, length-append mine (writes setting (after_step setting course step) []));
@@ -184,8 +182,7 @@ amid unpacks setting sub course (step ∷ steps) (suc k) sound may = elim (cases
     shows : steps_from course.is_off (take (suc k) (visits_in setting sub course (step ∷ steps)))
         ≡ step ∷ steps_from (after_step setting course step).is_off
         (take (suc k - length mine) (visits_in setting sub (after_step setting course step) steps))
-    shows = ap (steps_from course.is_off) parted ∙ one-begun unpacks setting sub course step k
-        (take (suc k - length mine) (map (visit_of sub) rest)) sound may.0
+    shows = grind (arith, parted, one-begun, mine, rest)
 
     cut : suc k ≤ length mine → take (suc k) (mine ++ rest) ≡ take (suc k) (mine ++ [])
     cut low = take-append-le (suc k) mine rest low ∙ ap (take (suc k)) (sym (append-nil mine))
@@ -225,8 +222,7 @@ take-both (suc m) (suc n) (x ∷ xs) h = ap (λ zs. x ∷ zs) (take-both m n xs 
 pub script-legal : MarksUnpack → ScriptsAreLegal
 script-legal unpacks setting sub steps k low script =
     let far = amid-script unpacks setting sub steps k low script in
-    let taken : take (length (far.before ++ far.under)) steps ≡ far.before ++ far.under =
-    grind (arith, far, take_at) in
+    let taken : take (length (far.before ++ far.under)) steps ≡ far.before ++ far.under = grind (arith, take_at) in
     let whole = front-taken k (visits setting sub (far.before ++ far.under)) in
     grind (arith, far, taken, whole, take-map, may-take)
 
@@ -276,18 +272,10 @@ unfolding MaySteps
 begin-legal unpacks setting sub puts step visit low legal rest may first = search (same, script-legal, longer)
   where
     longer : IsScript setting sub (steps_in puts ++ step ∷ [])
-    longer = record {
-      known = legal.script.known;
-      begins = legal.script.begins;
-      allowed = may-append setting (course_at (start setting sub)) (steps_in puts) (step ∷ []) legal.script.allowed
-          (may, tt);
-    }
+    longer = grind (arith, may-append)
 
     all : puts ≡ visits setting sub (steps_in puts)
     all = legal.front ∙ take_all (length puts) (visits setting sub (steps_in puts)) (omega (arith, rest))
 
     same : puts ++ visit ∷ [] ≡ take (suc (length puts)) (visits setting sub (steps_in puts ++ step ∷ []))
-    same = ap (λ xs. xs ++ visit ∷ []) all
-        ∙ (grown (visits setting sub (steps_in puts)) (visits_in setting sub (course_in setting sub puts) (step ∷ []))
-        visit first
-        ∙ rw (rest, visits-append setting sub (course_at (start setting sub)) (steps_in puts) (step ∷ [])))
+    same = grind (arith, all, grown, visits_in, visits-append)

@@ -16,7 +16,7 @@ use Rattle.directory.specs.Histories.{History, before, cell, tickets_from, ticke
 use Rattle.directory.specs.Finds.{FindCall, Pursuit, at_origin, after_word, key_of, answer_of, most_looks}
 use Rattle.directory.proofs.FindLaws.{looks-fall}
 use Rattle.directory.specs.Looks.{look_by, AreLooks, IsFind}
-use Rattle.directory.specs.Orders.{Scripts, finds_of, Answer, Caller, with_pursuit, read_by, caller_in, key_in, next_key, next, IsPlayed}
+use Rattle.directory.specs.Orders.{Scripts, finds_of, Answer, Caller, with_pursuit, read_by, caller_in, key_in, next_key, IsPlayed}
 use Rattle.directory.specs.Outcomes.{FollowEachOther}
 use Rattle.directory.specs.declared.answers.Found.{Found}
 use Rattle.directory.proofs.HistoryLaws.{words-push}
@@ -148,8 +148,7 @@ look_more setting history actor finds ticketed now caller call later key far cal
 
     pushed : IsAt setting history actor call (suc now) pursuit (drop caller.first ticketed ++ now ∷ [])
     pushed = record {
-      looks = looks-push setting history actor call (drop caller.first ticketed) 0 at_origin now key so_far.looks
-          so_far.low (rw so_far.reads wanted) is_look;
+      looks = grind (arith, looks-push);
       reads = pursuit-push setting history actor call at_origin (drop caller.first ticketed) now key is_look
           ∙ ap (λ s. after_word setting call s (cell setting (before now history) key)) so_far.reads;
       low = omega (arith, after_last-push 0 (drop caller.first ticketed) now);
@@ -165,43 +164,25 @@ look_more setting history actor finds ticketed now caller call later key far cal
     at_answer : (o : Option Found) → answer_of pursuit ≡ o
         → IsUnderWay setting history actor finds (ticketed ++ now ∷ []) (suc now)
         (with_pursuit caller call later pursuit o)
-    at_answer None e = record {
-      count = counted;
-      low = omega (arith, far.low);
-      few = rw calls (omega (
-        arith,
-        far.few,
-        fewer,
-        length_push ticketed now,
-        looks-fall setting call caller.pursuit
-            (cell setting (before now history) key) key wanted,
-      ));
-      done = answered-more setting history actor ticketed (now ∷ []) caller.answers far.done;
-      script = far.script;
-      current = λ c l same. let its : call ∷ later ≡ c ∷ l = sym calls ∙ same in let is_call : call ≡ c = cc in
-          rw (longer, ← is_call) pushed;
-      follow = far.follow;
-      ends = far.ends;
-    }
+    at_answer None e = grind (
+      arith,
+      counted,
+      fewer,
+      length_push ticketed now,
+      looks-fall setting call caller.pursuit (cell setting (before now history) key) key wanted,
+      answered-more setting history actor ticketed (now ∷ []) caller.answers far.done,
+      longer,
+      pushed,
+    )
     at_answer (Some found) e = record {
       count = counted;
       low = omega arith;
-      few = omega (
-        arith,
-        far.few,
-        fewer,
-        length_push ticketed now,
-        left_at_origin setting later,
-        looks-fall setting
-            call caller.pursuit (cell setting (before now history) key) key wanted,
-      );
+      few = grind (arith, fewer, length_push, left_at_origin, looks-fall);
       done = All-append (IsAnswered setting history actor (ticketed ++ now ∷ [])) caller.answers (mine ∷ [])
           (answered-more setting history actor ticketed (now ∷ []) caller.answers far.done)
           (All-cons (IsAnswered setting history actor (ticketed ++ now ∷ [])) mine [] is_mine
           (All-nil (IsAnswered setting history actor (ticketed ++ now ∷ []))));
-      script = far.script ∙ (ap (λ cs. map (λ (a : Answer). a.call) caller.answers ++ cs) calls
-          ∙ (sym (append_assoc (map (λ (a : Answer). a.call) caller.answers) (call ∷ []) later)
-          ∙ ap (λ cs. cs ++ later) (sym (map-append (λ (a : Answer). a.call) caller.answers (mine ∷ [])))));
+      script = grind (arith, append_assoc, map-append);
       current = λ c l same. rw none_left (record { looks = tt; reads = refl; low = omega arith });
       follow = follow-push 0 caller.answers mine far.follow far.ends far.low;
       ends = omega (arith, end_place-push 0 caller.answers mine);
@@ -211,15 +192,7 @@ look_more setting history actor finds ticketed now caller call later key far cal
         mine = record { call = call; found = found; first = caller.first; last = caller.next }
 
         all_seen : seen_of (ticketed ++ now ∷ []) mine ≡ drop caller.first ticketed ++ now ∷ []
-        all_seen = ap (take (suc caller.next - caller.first)) longer
-            ∙ take_all (suc caller.next - caller.first) (drop caller.first ticketed ++ now ∷ [])
-            (omega (
-              arith,
-              far.low,
-              far.count,
-              length_push (drop caller.first ticketed) now,
-              length-drop caller.first ticketed,
-            ))
+        all_seen = grind (arith, longer, take_all, length_push, length-drop)
 
         is_mine : IsAnswered setting history actor (ticketed ++ now ∷ []) mine
         is_mine = record {
@@ -260,8 +233,7 @@ under_way setting scripts history actor high played = by_fronts (λ front. Under
           follow = far.follow;
           ends = far.ends;
         }))
-    step t visit h far true e = at_look (caller-look setting scripts (take t history) actor visit high
-        (ap (λ a. next setting scripts (take t history) a) (sym (eqb-true visit.actor actor e)) ∙ played t visit h))
+    step t visit h far true e = grind (arith, at_look, caller-look, eqb-true)
       where
         here : length (take t history) ≡ t
         here = length-take-le t history (omega (arith, slice_get_within history t visit h))
@@ -275,17 +247,7 @@ under_way setting scripts history actor high played = by_fronts (λ front. Under
         at_look : (key : Key) × (next_key caller ≡ Some key) × (visit ≡ look_by actor key)
             → Under (take t history ++ visit ∷ [])
         at_look (key, wanted, is_look) =
-            rw (
-              words-push setting actor (take t history) visit,
-              tickets-push actor (take t history) visit,
-              e,
-              read,
-              grown,
-              here,
-              caller-push setting (finds_of setting scripts actor)
-                  (words_read setting actor (take t history)) (cell setting (take t history) key),
-            )
-            (at_calls caller.calls refl wanted)
+            grind (arith, words-push, tickets-push, read, grown, here, caller-push, at_calls)
           where
             read : words_of setting (take t history) visit.act ≡ cell setting (take t history) key ∷ []
             read = ap (λ (v : Visit). words_of setting (take t history) v.act) is_look
