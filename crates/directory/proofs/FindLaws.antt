@@ -53,13 +53,12 @@ pub chase-hops : (setting : Setting) (call : FindCall) (known last_known level :
     ≡ chases (record { known = last_known; level = level; weight = weight + way; hops_left = hops }) last
 unfolding LeadOn
 chase-hops setting call known last_known level weight way hops node last [] leads = grind arith
-chase-hops setting call known last_known level weight way hops node last (word ∷ words) leads =
-    grind (
-      arith,
-      hop-once,
-      chase-hops setting call (known_after known (mark_in word)) last_known level
-          (weight + setting.distance node leads.0) leads.1 hops leads.0 last words leads.4,
-    )
+chase-hops setting call known last_known level weight way hops node last (word ∷ words) leads = grind (
+  arith,
+  hop-once,
+  chase-hops setting call (known_after known (mark_in word)) last_known level (weight + setting.distance node
+      leads.0) leads.1 hops leads.0 last words leads.4,
+)
 
 -- each look leaves fewer
 climb-left : (setting : Setting) (call : FindCall) (known : Option ℕ) (weight : ℕ) (readers : List Reader)

@@ -13,8 +13,7 @@ use Rattle.directory.specs.Orders.{Scripts, finds_of, Answer, Caller, with_pursu
 use Rattle.directory.specs.Outcomes.{step_lines, found_line, answer_line}
 use Rattle.directory.specs.declared.answers.Found.{Found}
 use Rattle.directory.specs.Statements.{TurnsEndAlike, StepLinesGrow, CallersRead, CallerLinesGrow, CallersKept, CallersCount}
-use Rattle.directory.proofs.HistoryLaws.{words-push}
-use Rattle.directory.proofs.TicketLaws.{tickets-push}
+use Rattle.directory.proofs.HistoryLaws.{words-push, tickets-push}
 use Rattle.directory.proofs.NextLaws.{after_turns-done}
 use Rattle.directory.proofs.CallerLaws.{caller-push}
 use Rattle.directory.proofs.OrderLaws.{after_turns-append, done-after}
@@ -41,20 +40,20 @@ turns-end setting scripts history actor k played done = grind (arith, cases_lt, 
 pub step_lines-push : StepLinesGrow
 unfolding step_lines writes
 step_lines-push setting sub course [] step seen more count size = grind (arith, seen, nil_from_length, take_all)
-step_lines-push setting sub course (one ∷ done) step seen more count size =
-    grind (
-      arith,
-      front,
-      back,
-      step_lines-push setting sub (after_step setting course one) done step
-          (drop size_one seen) more (omega (
-            arith,
-            count,
-            length-drop size_one seen,
-            length-append
-                (step_writes setting course one) (writes setting (after_step setting course one) done),
-          )) size,
-    )
+step_lines-push setting sub course (one ∷ done) step seen more count size = grind (
+  arith,
+  front,
+  back,
+  length-drop,
+  length-append,
+  step_lines-push setting sub (after_step setting course one) done step (drop size_one seen) more (omega (
+    arith,
+    count,
+    length-drop size_one seen,
+    length-append (step_writes setting course one) (writes setting (after_step
+        setting course one) done),
+  )) size,
+)
   where
     size_one : ℕ
     size_one = length (step_writes setting course one)

@@ -50,15 +50,8 @@ pub gathered-after : (setting : Setting) (course : Course) (node level : ℕ) �
     → gathered_weight (after_step setting course (move_to node)) level
     ≡ cond (nat_le level (next_move setting course node).renewed) 0
     (gathered_weight course level + setting.distance (fold (λ n (m : Move). m.to) course.start course.moves) node)
-gathered-after setting course node level numbered = grind (
-  arith,
-  base-after,
-  drop_of_length-le,
-  length-append,
-  drop-append-le,
-  base-few,
-  sum_by_push,
-)
+gathered-after setting course node level numbered =
+    grind (arith, base-after, drop_of_length-le, length-append, drop-append-le, base-few, sum_by_push)
 
 pub address-after : (setting : Setting) (course : Course) (node level : ℕ) → AreNumbered 0 course.moves
     → address_node (after_step setting course (move_to node)) level

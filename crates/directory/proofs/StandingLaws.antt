@@ -3,7 +3,6 @@ use Rattle.std.proofs.Common.{◌≡◌, ℕ, zero, suc, ◌≤◌, List, [], �
 use Rattle.std.specs.Prelude.{slice_index, filter_map, All}
 use Rattle.std.specs.List.{cons_option}
 use Rattle.std.proofs.Math.Seq.{take-append-add, take-nil}
-use Rattle.directory.proofs.AmidLaws.{legal-amid}
 use Rattle.std.proofs.lemmas.List.{append-nil, length-take-le, length-map, map-append}
 use Rattle.std.proofs.lemmas.List.Elements.{All-cons, All-head, All-map, All-nil, All-tail, All-take, filter_map-append}
 use Rattle.entry_word.specs.declared.mark.PresenceMark.TheVariants.{Here, Gone, Coming}
@@ -15,7 +14,7 @@ use Rattle.directory.specs.Puts.{course_in}
 use Rattle.directory.specs.Standing.{Commit, commit_by, commits, number}
 use Rattle.directory.specs.States.{write_commit}
 use Rattle.directory.proofs.StateLaws.{commits-told}
-use Rattle.directory.proofs.StepLaws.{all-ends}
+use Rattle.directory.proofs.StepLaws.{all-ends, legal-amid}
 use Rattle.entry_word.specs.Marks.{MarksUnpack}
 use Rattle.directory.specs.Statements.{CommitsAreMoves, StandsAtStop}
 use Rattle.directory.specs.StepLaws.{start-kept}

@@ -21,7 +21,7 @@ use Rattle.directory.specs.Puts.{mark_put, node_put, steps_in}
 use Rattle.directory.specs.Standing.{commit_of, off}
 use Rattle.directory.specs.Legal.{IsLegal}
 use Rattle.directory.specs.States.{AreSmall, IsSmallWrite, opening_mark, opening_entry, mark_after, entry_after, mark_left, entry_left, write_commit, write_off, writes_made}
-use Rattle.directory.proofs.CellLaws.{cell-of_puts}
+use Rattle.directory.proofs.HistoryLaws.{cell-of_puts}
 use Rattle.directory.proofs.StepLaws.{IsCourse, after_coming, all-after, course-after}
 use Rattle.directory.specs.Statements.{MarksAreLeft, EntriesAreLeft, CommitsAreTold, OffIsTold}
 use Rattle.entry_word.specs.MarkLaws.{read-mark}

@@ -1,11 +1,12 @@
--- Steps: more of them add writes at the end, puts show which were begun, and a front of legal puts is legal.
+-- Steps: more of them add writes at the end, puts show which were begun and how far these are, and a front of legal
+-- puts is legal.
 use Rattle.std.proofs.Common.{◌≡◌, ℕ, zero, suc, ◌-◌, ◌<◌, ◌≤◌, ◌^◌, false, List, [], ◌∷◌, ◌++◌, Some, None, length, map, take, fold, refl, sym, ap, ◌∙◌, subst, arith, length-append, ◌==◌, append_assoc, inl, inr}
 use Rattle.std.specs.Prelude.{slice_get, All}
 use Rattle.std.proofs.Math.Seq.{take-nil}
 use Rattle.std.proofs.lemmas.Bool.{cases_lt}
 use Rattle.std.proofs.lemmas.List.Elements.{All-append, All-cons, All-head, All-map, All-nil, All-tail, All-take}
 use Rattle.directory.proofs.Tests.{both_ways}
-use Rattle.std.proofs.lemmas.List.{append-nil, length-map, map-append, take-append-le, take-map, take_all, take_at}
+use Rattle.std.proofs.lemmas.List.{append-nil, length-map, map-append, take-append-le, take-map, take_all, take_at, length_push, length-take, length-append}
 use Rattle.std.proofs.lemmas.List.Sums.{fold-append}
 use Rattle.entry_word.specs.Marks.{says_off, IsSmallMark, MarksUnpack}
 use Rattle.entry_word.specs.declared.mark.PresenceMark.{PresenceMark}
@@ -16,7 +17,7 @@ use Rattle.directory.specs.Courses.{Step, move_to, switch_off, switch_on, Move, 
 use Rattle.directory.specs.Writes.{Write, mark_at, entry_at, visit_of, numbers_from, new_address, erasure_writes, purge_writes, step_writes, writes, visits}
 use Rattle.directory.specs.Puts.{node_put, mark_put, mark_step, steps_from, steps_in}
 use Rattle.directory.specs.Legal.{IsScript, ArePuts}
-use Rattle.directory.specs.Statements.{FrontsAreLegal, ScriptsAreLegal, DueIsLegal, BeginningIsLegal, NextIsDecided}
+use Rattle.directory.specs.Statements.{FrontsAreLegal, ScriptsAreLegal, DueIsLegal, BeginningIsLegal, NextIsDecided, LegalIsAmid, StepsBeginAtRest}
 use Rattle.directory.specs.StepLaws.{steps-append, take-append, visits-append, visits_in, take-more, may-take}
 use Rattle.entry_word.specs.MarkLaws.{read-mark}
 
@@ -203,8 +204,7 @@ amid unpacks setting sub course steps k sound may = record {
 -- so far are the first visits of a script
 pub amid-script : MarksUnpack → (setting : Setting) (sub : ℕ) (steps : List Step) (k : ℕ) → setting.nodes ≤ 2 ^ 16
     → IsScript setting sub steps → AreAmid setting sub (course_at (start setting sub)) steps k
-amid-script unpacks setting sub steps k low script = amid unpacks setting sub (course_at (start setting sub)) steps k
-    (record { low = low; inside = script.begins; few = omega arith }) script.allowed
+amid-script unpacks setting sub steps k low script = grind (arith, amid)
 
 -- a front has as many as it has
 front-taken : {A : Type 0} (n : ℕ) (ys : List A) → take n ys ≡ take (length (take n ys)) ys
@@ -279,3 +279,22 @@ begin-legal unpacks setting sub puts step visit low legal rest may first = searc
 
     same : puts ++ visit ∷ [] ≡ take (suc (length puts)) (visits setting sub (steps_in puts ++ step ∷ []))
     same = grind (arith, all, grown, visits_in, visits-append)
+
+pub legal-amid : MarksUnpack → LegalIsAmid
+legal-amid unpacks setting sub puts low legal =
+    let far = amid-script unpacks setting sub (steps_in puts) (length puts) low legal.script in grind (arith, far)
+
+-- a put that begins a step comes where the steps before are done
+pub begins-at_rest : MarksUnpack → StepsBeginAtRest
+unfolding steps_from
+begins-at_rest unpacks setting sub puts visit step low legal legal_more begins = grind (
+  arith,
+  amid-script unpacks setting sub (steps_in puts) (suc (length puts)) low legal.script,
+  cases_lt (length puts) (length (visits setting sub (steps_in puts))),
+  length-take (length puts) (visits setting sub (steps_in puts)),
+  steps-append false puts (visit ∷ []),
+  take-more,
+  next-decided,
+  length_push (steps_in puts) step,
+  length-append,
+)

@@ -19,9 +19,8 @@ use Rattle.directory.specs.Looks.{look_by, AreLooks, IsFind}
 use Rattle.directory.specs.Orders.{Scripts, finds_of, Answer, Caller, with_pursuit, read_by, caller_in, key_in, next_key, IsPlayed}
 use Rattle.directory.specs.Outcomes.{FollowEachOther}
 use Rattle.directory.specs.declared.answers.Found.{Found}
-use Rattle.directory.proofs.HistoryLaws.{words-push}
+use Rattle.directory.proofs.HistoryLaws.{words-push, tickets-push}
 use Rattle.directory.proofs.CallerLaws.{caller-look, caller-push, left_at_origin, left_of}
-use Rattle.directory.proofs.TicketLaws.{tickets-push}
 use Rattle.directory.specs.StepLaws.{by_fronts}
 use Rattle.directory.specs.LookLaws.{pursuit_after, pursuit-step, answer-ends}
 
@@ -220,19 +219,10 @@ under_way setting scripts history actor high played = by_fronts (λ front. Under
     step : (t : ℕ) (visit : Visit) → slice_get history t ≡ Some visit → Under (take t history) → (b : Bool)
         → (visit.actor == actor) ≡ b → Under (take t history ++ visit ∷ [])
     step t visit h far false e =
+        let more : length (take t history) ≤ length (take t history ++ visit ∷ []) = grind (arith, length_push) in
         rw (words-push setting actor (take t history) visit, tickets-push actor (take t history) visit, e)
         (rw (append-nil (words_read setting actor (take t history)), append-nil (tickets actor (take t history)))
-        (record {
-          count = far.count;
-          low = far.low;
-          few = far.few;
-          done = far.done;
-          script = far.script;
-          current = λ call later same. later_than (omega (arith, length_push (take t history) visit))
-              (far.current call later same);
-          follow = far.follow;
-          ends = far.ends;
-        }))
+        (search (later_than, far.current)))
     step t visit h far true e = grind (arith, at_look, caller-look, eqb-true)
       where
         here : length (take t history) ≡ t
