@@ -1,5 +1,5 @@
--- Cells, histories, courses and commits: which keys are the same, that the puts for a subscriber alone tell of its cells,
--- and what one more at the end changes.
+-- Cells, histories, courses, commits and tickets: which keys are the same, that the puts for a subscriber alone tell of
+-- its cells, which visits tickets are of, and what one more at the end changes.
 use Rattle.std.proofs.Common.{arith, ◌≡◌, ℕ, cond, ◌==◌, List, [], ◌∷◌, ◌++◌, append_assoc, true, false, fold, refl, zero, suc, ◌+◌, Some, length, map, take, drop, ◌∙◌}
 use Rattle.std.specs.Prelude.{nat_le, if◌then◌else◌, slice_get}
 use Rattle.std.specs.List.{cons_option}

@@ -5,7 +5,6 @@ use Rattle.std.proofs.lemmas.List.Sums.{sum_by_push}
 use Rattle.std.proofs.Math.ListN.{drop_of_length-le}
 use Rattle.std.proofs.lemmas.List.{drop-append-le, get_or_append_left, get_or_at, length-map, map-append}
 use Rattle.directory.specs.Settings.{Setting}
-use Rattle.directory.specs.Writes.{purge_writes}
 use Rattle.directory.specs.Courses.{Step, move_to, Move, Course, course_at, base, address_node, gathered_weight, next_move, after_step, after_steps}
 use Rattle.directory.proofs.HistoryLaws.{base-after}
 use Rattle.directory.specs.StepLaws.{highest-low}
@@ -45,21 +44,7 @@ base-few : (level : ℕ) (course : Course) → AreNumbered 0 course.moves
     → base level course.moves ≤ length course.moves
 base-few level course numbered = grind (arith, base-low level 0 0 course.moves (omega arith) numbered)
 
--- what a move does to a level
-pub gathered-after : (setting : Setting) (course : Course) (node level : ℕ) → AreNumbered 0 course.moves
-    → gathered_weight (after_step setting course (move_to node)) level
-    ≡ cond (nat_le level (next_move setting course node).renewed) 0
-    (gathered_weight course level + setting.distance (fold (λ n (m : Move). m.to) course.start course.moves) node)
-gathered-after setting course node level numbered =
-    grind (arith, base-after, drop_of_length-le, length-append, drop-append-le, base-few, sum_by_push)
-
-pub address-after : (setting : Setting) (course : Course) (node level : ℕ) → AreNumbered 0 course.moves
-    → address_node (after_step setting course (move_to node)) level
-    ≡ cond (nat_le level (next_move setting course node).renewed) node (address_node course level)
-address-after setting course node level numbered =
-    grind (arith, base-after, map-append, length-map, get_or_at, get_or_append_left, base-few)
-
--- the same of a course that steps lead to
+-- what a move does to a level, in a course that steps lead to
 abbrev pub course_of : Setting → ℕ → List Step → Course
 course_of setting node steps = after_steps setting (course_at node) steps
 
@@ -69,17 +54,15 @@ pub gathered_by_move : (setting : Setting) (first : ℕ) (steps : List Step) (no
     (gathered_weight (course_of setting first steps) level + setting.distance
     (fold (λ n (m : Move). m.to) (course_of setting first steps).start (course_of setting first steps).moves)
     node)
-gathered_by_move setting first steps node level = grind (arith, gathered-after, numbered-steps)
+gathered_by_move setting first steps node level =
+    grind (arith, base-after, drop_of_length-le, length-append, drop-append-le, base-few, sum_by_push, numbered-steps)
 
 pub address_by_move : (setting : Setting) (first : ℕ) (steps : List Step) (node level : ℕ)
     → address_node (after_step setting (course_of setting first steps) (move_to node)) level
     ≡ cond (nat_le level (next_move setting (course_of setting first steps) node).renewed) node
     (address_node (course_of setting first steps) level)
-address_by_move setting first steps node level = grind (arith, address-after, numbered-steps)
-
-purging-short : (setting : Setting) (course : Course) (move : Move)
-    → length (purge_writes setting course move) ≤ setting.nodes
-purging-short setting course move = grind (arith, length-map, length-passing-le, both_ways)
+address_by_move setting first steps node level =
+    grind (arith, base-after, map-append, length-map, get_or_at, get_or_append_left, base-few, numbered-steps)
 
 pub move-short : MovesAreShort
-move-short setting course node = grind (arith, highest-low, length-map, length-passing-le, purging-short, length-append)
+move-short setting course node = grind (arith, highest-low, length-map, length-passing-le, both_ways, length-append)

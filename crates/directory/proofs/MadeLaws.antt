@@ -1,6 +1,6 @@
 -- The lines of an outcome are made by visits: each step's by all its writes, each find's by all its looks.
-use Rattle.std.proofs.Common.{◌≡◌, ℕ, zero, suc, ◌+◌, ◌-◌, ◌<◌, ◌≤◌, List, [], ◌∷◌, ◌++◌, length, map, take, drop, arith, append_assoc}
-use Rattle.std.specs.Prelude.{slice_index, flat_map, All}
+use Rattle.std.proofs.Common.{◌≡◌, ℕ, zero, suc, ◌+◌, ◌<◌, ◌≤◌, List, [], ◌∷◌, ◌++◌, length, map, arith, append_assoc}
+use Rattle.std.specs.Prelude.{flat_map, All}
 use Rattle.std.proofs.lemmas.List.{length-drop, length-take-le, get_or-drop, get_or-take}
 use Rattle.std.proofs.lemmas.List.Elements.{All-nil, All-append, All-head, All-tail}
 use Rattle.directory.specs.Settings.{Setting, subs}
@@ -16,15 +16,6 @@ use Rattle.directory.proofs.StepsMade.{sub_made}
 use Rattle.directory.proofs.UnderWay.{IsAnswered, seen_of, under_way}
 
 -- the lines of a caller
-index-first : (ticketed : List ℕ) (first count : ℕ) → 1 ≤ count
-    → slice_index (take count (drop first ticketed)) 0 ≡ slice_index ticketed first
-index-first ticketed first count some = grind (arith, get_or-take, get_or-drop)
-
-index-last : (ticketed : List ℕ) (first last : ℕ) → first ≤ last → last < length ticketed
-    → slice_index (take (suc last - first) (drop first ticketed))
-    (length (take (suc last - first) (drop first ticketed)) - 1) ≡ slice_index ticketed last
-index-last ticketed first last order within = grind (arith, get_or-take, get_or-drop, length-drop, length-take-le)
-
 find_made : (setting : Setting) (scripts : Scripts) (history : History) (actor first last : ℕ) (call : FindCall)
     (found : Found)
     → IsFindLine setting scripts history actor call (found_line actor call found first last)
@@ -49,7 +40,7 @@ answers_made setting scripts history actor ticketed done (answer ∷ answers) le
   where
     line : IsAnswered setting history actor ticketed answer
         → IsFindLine setting scripts history actor answer.call (answer_line actor ticketed answer)
-    line h = grind (arith, seen_of, index-first, index-last)
+    line h = grind (arith, seen_of, get_or-take, get_or-drop, length-drop, length-take-le)
 
 caller_made : (setting : Setting) (scripts : Scripts) (history : History) (actor : ℕ) → subs setting ≤ actor
     → IsPlayed setting scripts history → All (IsMade setting scripts history)

@@ -1,5 +1,5 @@
 -- The next visits of actors, and histories in which each visit was its actor's next one.
-use Rattle.std.proofs.Common.{◌≡◌, ℕ, ◌+◌, ◌<◌, Bool, true, false, ◌==◌, List, [], ◌∷◌, ◌++◌, Some, length, take, map, refl, sym, ap, ◌∙◌, subst, arith, inl, inr}
+use Rattle.std.proofs.Common.{◌≡◌, ℕ, ◌+◌, ◌<◌, Bool, true, false, ◌==◌, List, [], ◌∷◌, ◌++◌, Some, length, take, refl, sym, ap, ◌∙◌, subst, arith, inl, inr}
 use Rattle.std.specs.Prelude.{slice_get, option_to_list, All}
 use Rattle.std.proofs.lemmas.Bool.{eqb-true, ne_eqb, cases_lt}
 use Rattle.std.proofs.lemmas.List.{append-nil, take_all, take-append-le, length_push}
@@ -23,17 +23,12 @@ write-puts : (sub s : ℕ) (write : Write) → is_put_for s (visit_of sub write)
 write-puts sub s (mark_at node mark) = refl
 write-puts sub s (entry_at level cluster address) = refl
 
-own-write : (sub : ℕ) (writes : List Write) (i : ℕ) (visit : Visit)
-    → slice_get (map (visit_of sub) writes) i ≡ Some visit
-    → (visit.actor ≡ sub) × ((s : ℕ) → is_put_for s visit.act ≡ (sub == s))
-own-write sub writes i visit h = grind (arith, slice_get-map, option_map-some, write-puts)
-
 -- the next visit of an actor is its own, and a put into a cell of a subscriber just where that is the actor
 next-own : (setting : Setting) (scripts : Scripts) (history : History) (actor : ℕ) (visit : Visit)
     → next setting scripts history actor ≡ Some visit → (visit.actor ≡ actor)
     × ((s : ℕ) → s < subs setting → is_put_for s visit.act ≡ (actor == s))
 next-own setting scripts history actor visit h =
-    grind (arith, cases_lt, next-sub, own-write, next-caller, option_map-some, ne_eqb)
+    grind (arith, cases_lt, next-sub, slice_get-map, write-puts, next-caller, option_map-some, ne_eqb)
 
 pub next-actor : (setting : Setting) (scripts : Scripts) (history : History) (actor : ℕ) (visit : Visit)
     → next setting scripts history actor ≡ Some visit → visit.actor ≡ actor

@@ -137,11 +137,9 @@ commits-are_moves unpacks setting sub history low legal =
     ∙ (ap (λ cs. cs ++ filter_map write_commit (take far.made
     (writes setting (after_steps setting first far.before) far.under))) (steps-listed setting first far.before)
     ∙ (ap (λ cs. map commit_by before ++ cs) last.2 ∙ sym (map-append commit_by before (take last.0 under)))))) in
-    let count : number sub history ≡ length before + last.0 = grind (arith, length-map, length-append, length-take-le) in (
-      omega (arith, count, last.1, ap length moves, length-append before under),
-      listed ∙ ap (map commit_by) (sym (take-append-add before under last.0)
-          ∙ (ap (λ n. take n (before ++ under)) (sym count) ∙ ap (take (number sub history)) (sym moves))),
-    )
+    let count : number sub history ≡ length before + last.0 =
+    grind (arith, length-map, length-append, length-take-le) in
+    grind (arith, count, last, moves, listed, length-append, take-append-add)
 
 -- the node after the first moves of a list
 last-stop : (start count : ℕ) (moves : List Move) → count ≤ length moves

@@ -1,6 +1,6 @@
 -- The lines of a subscriber are made by its visits: each step's by all the writes of the step. One whose script is done
 -- has nothing left to put.
-use Rattle.std.proofs.Common.{arith, ◌≡◌, ℕ, ◌<◌, List, [], ◌∷◌, ◌++◌, Some, length, map, take, drop, refl, sym, ap, ◌∙◌, append_assoc, ◌≤◌, ◌^◌, suc}
+use Rattle.std.proofs.Common.{arith, ◌≡◌, ℕ, ◌<◌, List, [], ◌∷◌, ◌++◌, Some, length, map, take, drop, refl, sym, ap, ◌∙◌, append_assoc, suc}
 use Rattle.std.specs.Prelude.{slice_get, All}
 use Rattle.std.proofs.lemmas.List.{take_at, drop_at, take-map, drop-map, length-map, map-append, take_all}
 use Rattle.std.proofs.lemmas.List.Sums.{fold-append}
@@ -10,7 +10,7 @@ use Rattle.directory.specs.Settings.{Setting, subs, start}
 use Rattle.directory.specs.Histories.{History, own, tickets, puts_to}
 use Rattle.directory.specs.Courses.{Step, move_to, Course, course_at, after_step, after_steps, MaySteps}
 use Rattle.directory.specs.Writes.{Write, step_writes, visit_of, writes}
-use Rattle.directory.specs.Orders.{Scripts, steps_of, script_visits, IsPlayed, IsDone, AreValid}
+use Rattle.directory.specs.Orders.{Scripts, steps_of, script_visits, IsPlayed, IsDone}
 use Rattle.directory.specs.Outcomes.{step_line, step_lines, sub_lines, IsStepLine, IsMade}
 use Rattle.directory.proofs.NextLaws.{played-own, played-puts}
 use Rattle.directory.proofs.HistoryLaws.{tickets-tell, tickets-ascend, ascending_take, ascending_drop}
@@ -20,7 +20,7 @@ use Rattle.std.proofs.lemmas.Simd.{map-map}
 use Rattle.std.proofs.Math.Seq.{drop-length}
 use Rattle.entry_word.specs.Marks.{MarksUnpack}
 use Rattle.entry_word.specs.declared.visit.Visit.{Visit}
-use Rattle.directory.specs.Puts.{steps_from, steps_in}
+use Rattle.directory.specs.Puts.{steps_from}
 use Rattle.directory.specs.Statements.{DoneIsRest, DoneShowsScript}
 use Rattle.directory.proofs.StepLaws.{IsCourse, course-after, one-begun}
 
@@ -134,15 +134,10 @@ all-put : (setting : Setting) (scripts : Scripts) (history : History) (sub : ℕ
 all-put setting scripts history sub known played done =
     played-puts setting scripts history sub known played ∙ own-all setting scripts history sub known played done
 
--- and show its steps
-script-shown : MarksUnpack → {setting : Setting} {scripts : Scripts} (sub : ℕ) → setting.nodes ≤ 2 ^ 16
-    → AreValid setting scripts → sub < subs setting
-    → steps_in (script_visits setting scripts sub) ≡ steps_of scripts sub
-script-shown unpacks {setting} {scripts} sub low valid known = grind (arith, all-shown)
-
+-- so nothing is left to put, and its puts show its steps
 pub done-rests : MarksUnpack → DoneIsRest
 done-rests unpacks setting scripts history sub low valid known played done =
-    grind (arith, all-put, script-shown, drop-length)
+    grind (arith, all-put, all-shown, drop-length)
 
 pub done-shows : MarksUnpack → DoneShowsScript
-done-shows unpacks setting scripts history sub low valid known played done = grind (arith, all-put, script-shown)
+done-shows unpacks setting scripts history sub low valid known played done = grind (arith, all-put, all-shown)

@@ -48,8 +48,8 @@ looks-push setting history actor call (t ∷ sofar) earliest pursuit ticket key
     (first, (k, is_wanted, its_look, rest)) low wanted is_look = grind (
       arith,
       pursuit-step,
-      looks-push setting history
-          actor call sofar (suc t) (after_word setting call pursuit (cell setting (before t history) k)) ticket key rest low
+      looks-push setting history actor call sofar (suc t)
+          (after_word setting call pursuit (cell setting (before t history) k)) ticket key rest low
           (rw (pursuit-step setting history actor call pursuit t k sofar its_look) at wanted) is_look,
     )
 
@@ -113,14 +113,11 @@ later_than : {setting : Setting} {history : History} {actor : ℕ} {call : FindC
 later_than h far = record { looks = far.looks; reads = far.reads; low = omega (arith, h, far.low) }
 
 -- the tickets of a find that was answered stay
-seen-more : (ticketed more : List ℕ) (answer : Answer) → answer.first ≤ answer.last → answer.last < length ticketed
-    → seen_of (ticketed ++ more) answer ≡ seen_of ticketed answer
-seen-more ticketed more answer order within = grind (arith, drop-append-le, length-drop, take-append-le)
-
 answered-more : (setting : Setting) (history : History) (actor : ℕ) (ticketed more : List ℕ) (answers : List Answer)
     → All (IsAnswered setting history actor ticketed) answers
     → All (IsAnswered setting history actor (ticketed ++ more)) answers
-answered-more setting history actor ticketed more answers = grind (arith, length-append, seen-more)
+answered-more setting history actor ticketed more answers =
+    grind (arith, length-append, drop-append-le, length-drop, take-append-le)
 
 -- one look more of a caller
 look_more : (setting : Setting) (history : History) (actor : ℕ) (finds : List FindCall) (ticketed : List ℕ) (now : ℕ)
