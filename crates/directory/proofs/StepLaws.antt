@@ -1,6 +1,9 @@
 -- Steps: more of them add writes at the end, puts show which were begun and how far these are, and a front of legal
 -- puts is legal.
-use Rattle.std.proofs.Common.{◌≡◌, ℕ, zero, suc, ◌-◌, ◌<◌, ◌≤◌, ◌^◌, false, List, [], ◌∷◌, ◌++◌, Some, None, length, map, take, fold, refl, sym, ap, ◌∙◌, subst, arith, length-append, ◌==◌, append_assoc, inl, inr}
+use Rattle.std.proofs.lemmas.List.{take-append-drop}
+use Rattle.std.proofs.lemmas.List.{length-take, take_min}
+use Rattle.std.proofs.Common.{drop}
+use Rattle.std.proofs.Common.{◌≡◌, ℕ, suc, ◌-◌, ◌<◌, ◌≤◌, ◌^◌, false, List, [], ◌∷◌, ◌++◌, Some, None, length, map, take, fold, refl, sym, ap, ◌∙◌, subst, arith, length-append, ◌==◌, append_assoc, inl, inr}
 use Rattle.std.specs.Prelude.{slice_get, All}
 use Rattle.std.proofs.Math.Seq.{take-nil}
 use Rattle.std.proofs.lemmas.Bool.{cases_lt}
@@ -155,14 +158,8 @@ amid unpacks setting sub course (step ∷ steps) (suc k) sound may = elim (cases
         few = far.few;
         later = far.later;
         whole = ap (λ xs. step ∷ xs) far.whole;
-        enough = take-append (suc k) mine _
-            ∙ (ap (λ ws. take (suc k) mine ++ ws) far.enough ∙ sym (take-append (suc k) mine rest));
-        front = take-append (suc k) mine rest
-            ∙ (ap (λ ws. ws ++ take (suc k - length mine) rest) (take_all (suc k) mine (omega (arith, high)))
-            ∙ (ap (λ ws. mine ++ ws) far.front ∙ sym (append_assoc mine
-            (writes setting (after_step setting course step) far.before)
-            (take far.made (writes setting (after_steps setting (after_step setting course step) far.before)
-            far.under)))));
+        enough = rw (take-append (suc k) mine, take-append (suc k) mine rest, far.enough);
+        front = rw (take-append (suc k) mine rest, take_all (suc k) mine (omega (arith, high)), far.front, append_assoc);
       }
 ]
   where
@@ -206,32 +203,22 @@ pub amid-script : MarksUnpack → (setting : Setting) (sub : ℕ) (steps : List 
     → IsScript setting sub steps → AreAmid setting sub (course_at (start setting sub)) steps k
 amid-script unpacks setting sub steps k low script = grind (arith, amid)
 
--- a front has as many as it has
-front-taken : {A : Type 0} (n : ℕ) (ys : List A) → take n ys ≡ take (length (take n ys)) ys
-front-taken zero ys = refl
-front-taken (suc n) [] = refl
-front-taken (suc n) (y ∷ ys) = ap (λ zs. y ∷ zs) (front-taken n ys)
-
-take-both : {A : Type 0} (m n : ℕ) (xs : List A) → m ≤ n → take m (take n xs) ≡ take m xs
-take-both zero n xs h = refl
-take-both (suc m) zero xs h = absurd (omega arith)
-take-both (suc m) (suc n) [] h = refl
-take-both (suc m) (suc n) (x ∷ xs) h = ap (λ zs. x ∷ zs) (take-both m n xs (omega arith))
-
 -- the first visits of steps that a subscriber may make are legal
 pub script-legal : MarksUnpack → ScriptsAreLegal
 script-legal unpacks setting sub steps k low script =
     let far = amid-script unpacks setting sub steps k low script in
     let taken : take (length (far.before ++ far.under)) steps ≡ far.before ++ far.under = grind (arith, take_at) in
-    let whole = front-taken k (visits setting sub (far.before ++ far.under)) in
+    let front = visits setting sub (far.before ++ far.under) in
+    let whole : take k front ≡ take (length (take k front)) front = grind (arith, length-take k front, take_min k front) in
     grind (arith, far, taken, whole, take-map, may-take)
 
 -- a front of legal puts is legal
 pub front-legal : MarksUnpack → FrontsAreLegal
 front-legal unpacks setting sub puts k low within legal =
-    subst (ArePuts setting sub) (sym (ap (take k) legal.front
-    ∙ take-both k (length puts) (visits setting sub (steps_in puts)) within))
-    (script-legal unpacks setting sub (steps_in puts) k low legal.script)
+    let whole = visits setting sub (steps_in puts) in
+    let same : take k whole ≡ take k puts =
+    grind (arith, take-append-drop (length puts) whole, take-append-le k puts (drop (length puts) whole)) in
+    rw (← same) (script-legal unpacks setting sub (steps_in puts) k low legal.script)
 
 -- the next of a longer front
 next-of-front : (xs ys zs : List Visit) (visit : Visit)
