@@ -1,5 +1,5 @@
 -- The next visits of actors, and histories in which each visit was its actor's next one.
-use Rattle.std.proofs.Common.{◌≡◌, ℕ, ◌+◌, ◌<◌, Bool, true, false, ◌==◌, List, [], ◌∷◌, ◌++◌, Some, length, take, refl, sym, ap, ◌∙◌, subst, arith, inl, inr}
+use Rattle.std.proofs.Common.{◌≡◌, ℕ, ◌+◌, ◌<◌, ◌==◌, List, [], ◌∷◌, ◌++◌, Some, length, take, refl, sym, ap, ◌∙◌, subst, arith, inl, inr}
 use Rattle.std.specs.Prelude.{slice_get, option_to_list, All}
 use Rattle.std.proofs.lemmas.Bool.{eqb-true, ne_eqb, cases_lt}
 use Rattle.std.proofs.lemmas.List.{append-nil, take_all, take-append-le, length_push}
@@ -105,15 +105,7 @@ front-push whole made visit next_one so_far = grind (arith, length_push, take-mo
 pub played-own : ScriptsInOrder
 played-own setting scripts history sub below played =
     by_fronts (λ front. own sub front ≡ take (length (own sub front)) (script_visits setting scripts sub)) history
-    refl
-    (λ t visit h so_far. step t visit h so_far (visit.actor == sub) refl)
-  where
-    step : (t : ℕ) (visit : Visit) → slice_get history t ≡ Some visit
-        → own sub (take t history) ≡ take (length (own sub (take t history))) (script_visits setting scripts sub)
-        → (b : Bool) → (visit.actor == sub) ≡ b → own sub (take t history ++ visit ∷ [])
-        ≡ take (length (own sub (take t history ++ visit ∷ []))) (script_visits setting scripts sub)
-    step t visit h so_far true e = grind (arith, own-push, front-push, next-sub, eqb-true)
-    step t visit h so_far false e = grind (arith, own-push, append-nil)
+    refl (λ t visit h so_far. grind (arith, own-push, front-push, next-sub, eqb-true, append-nil))
 
 -- so it is legal for each subscriber
 pub played-legal : MarksUnpack → PlayedIsLegal

@@ -159,7 +159,7 @@ amid unpacks setting sub course (step ∷ steps) (suc k) sound may = elim (cases
         later = far.later;
         whole = ap (λ xs. step ∷ xs) far.whole;
         enough = rw (take-append (suc k) mine, take-append (suc k) mine rest, far.enough);
-        front = rw (take-append (suc k) mine rest, take_all (suc k) mine (omega (arith, high)), far.front, append_assoc);
+        front = rw (take-append (suc k) mine rest, take_all (suc k) mine (omega arith), far.front, append_assoc);
       }
 ]
   where
@@ -209,7 +209,8 @@ script-legal unpacks setting sub steps k low script =
     let far = amid-script unpacks setting sub steps k low script in
     let taken : take (length (far.before ++ far.under)) steps ≡ far.before ++ far.under = grind (arith, take_at) in
     let front = visits setting sub (far.before ++ far.under) in
-    let whole : take k front ≡ take (length (take k front)) front = grind (arith, length-take k front, take_min k front) in
+    let whole : take k front ≡ take (length (take k front)) front =
+    grind (arith, length-take k front, take_min k front) in
     grind (arith, far, taken, whole, take-map, may-take)
 
 -- a front of legal puts is legal
