@@ -1,18 +1,14 @@
 -- Cells, histories, courses, commits and tickets: which keys are the same, that the puts for a subscriber alone tell of
 -- its cells, which visits tickets are of, and what one more at the end changes.
+use Rattle.directory.specs.ListLaws.{slice_get-right}
 use Rattle.std.proofs.Common.{arith, ◌≡◌, ℕ, cond, ◌==◌, List, [], ◌∷◌, ◌++◌, append_assoc, true, false, fold, refl, zero, suc, ◌+◌, Some, length, map, take, drop, ◌∙◌}
 use Rattle.std.specs.Prelude.{nat_le, if◌then◌else◌, slice_get}
-use Rattle.std.specs.List.{cons_option}
 use Rattle.std.proofs.lemmas.List.Sums.{fold-append}
 use Rattle.std.proofs.lemmas.List.{append-nil, length_push}
-use Rattle.std.proofs.lemmas.List.Elements.{filter_map-append}
 use Rattle.entry_word.specs.declared.visit.Visit.{Visit}
 use Rattle.directory.specs.Settings.{Setting}
-use Rattle.directory.specs.StepLaws.{puts-push}
 use Rattle.directory.specs.Histories.{History, is_put_for, words_of, words_after, words_read, word_after, puts_to, own, tickets_from}
 use Rattle.directory.specs.Courses.{Move, base}
-use Rattle.directory.specs.Puts.{node_put, mark_put}
-use Rattle.directory.specs.Standing.{commit_of, commits}
 use Rattle.directory.specs.Statements.{CellAfter, CellsOfPuts, SameKey, TicketsGrow, TicketsAreOwn, TicketsAscend}
 use Rattle.std.proofs.lemmas.Bool.{and_parts, and_from, eqb-true, eq-eqb}
 use Rattle.entry_word.specs.declared.visit.Key.{Key}
@@ -44,12 +40,6 @@ pub words-push : (setting : Setting) (actor : ℕ) (history : History) (visit : 
     ≡ words_read setting actor history ++ cond (visit.actor == actor) (words_of setting history visit.act) []
 words-push setting actor history visit = words_after-push setting actor [] history visit
 
--- a commit is listed, and nothing else is
-pub commits-after : (sub : ℕ) (history : History) (visit : Visit) → commits sub (history ++ visit ∷ [])
-    ≡ commits sub history ++ cond (is_put_for sub visit.act)
-    (cons_option (commit_of (node_put visit.act) (mark_put visit.act)) []) []
-commits-after sub history visit = grind (arith, puts-push, filter_map-append)
-
 -- two keys are the same just where the test says so
 same_key-true : (one other : Key) → same_key one other ≡ true → one ≡ other
 same_key-true (Presence v s) (Presence w t) h = grind (arith, and_parts, eqb-true)
@@ -78,11 +68,6 @@ puts-enough key word (visit ∷ later) = grind (arith, act-kept, puts-enough key
 pub cell-of_puts : CellsOfPuts
 cell-of_puts setting history key = puts-enough key (opening setting key) history
 
-pub get-after : (seen : History) (visit : Visit) (later : History)
-    → slice_get (seen ++ visit ∷ later) (length seen) ≡ Some visit
-get-after [] visit later = refl
-get-after (v ∷ seen) visit later = get-after seen visit later
-
 -- the visits with an actor's tickets are its own
 tell_from : (actor : ℕ) (seen later history : History) → seen ++ later ≡ history
     → map (slice_get history) (tickets_from actor (length seen) later) ≡ map Some (own actor later)
@@ -92,7 +77,7 @@ tell_from actor seen (visit ∷ later) history whole = grind (
   arith,
   append_assoc,
   length_push,
-  get-after,
+  slice_get-right seen (visit ∷ later) (length seen) 0,
   tell_from actor (seen ++ visit ∷ []) later history (append_assoc seen (visit ∷ []) later ∙ whole),
 )
 

@@ -1,12 +1,9 @@
 -- What a move does to the levels: those that it renews have its node and have gathered nothing, the others go on.
 use Rattle.std.proofs.Common.{◌≡◌, ℕ, suc, ◌+◌, ◌≤◌, cond, List, [], ◌∷◌, ◌++◌, length, fold, ◌∙◌, arith, length-append}
 use Rattle.std.specs.Prelude.{nat_le}
-use Rattle.std.proofs.lemmas.List.Sums.{sum_by_push}
-use Rattle.std.proofs.Math.ListN.{drop_of_length-le}
-use Rattle.std.proofs.lemmas.List.{drop-append-le, get_or_append_left, get_or_at, length-map, map-append}
+use Rattle.std.proofs.lemmas.List.{length-map}
 use Rattle.directory.specs.Settings.{Setting}
-use Rattle.directory.specs.Courses.{Step, move_to, Move, Course, course_at, base, address_node, gathered_weight, next_move, after_step, after_steps}
-use Rattle.directory.proofs.HistoryLaws.{base-after}
+use Rattle.directory.specs.Courses.{Step, move_to, Move, Course, base, next_move, after_step, after_steps}
 use Rattle.directory.specs.StepLaws.{highest-low}
 use Rattle.node_set.specs.SetLaws.{length-passing-le}
 use Rattle.directory.specs.Statements.{MovesAreShort}
@@ -22,7 +19,7 @@ numbered-append : (n : ℕ) (moves : List Move) (move : Move) → move.number �
 numbered-append n [] move h f = (h ∙ (let e : suc (n + 0) ≡ suc n = omega arith in e), tt)
 numbered-append n (first ∷ later) move h f = (f.0, numbered-append (suc n) later move (omega arith) f.1)
 
-numbered-steps : (setting : Setting) (course : Course) (steps : List Step) → AreNumbered 0 course.moves
+pub numbered-steps : (setting : Setting) (course : Course) (steps : List Step) → AreNumbered 0 course.moves
     → AreNumbered 0 (after_steps setting course steps).moves
 numbered-steps setting course [] f = f
 numbered-steps setting course (move_to node ∷ steps) f = numbered-steps setting
@@ -40,29 +37,9 @@ base-low level n low (move ∷ later) h f =
     (both_ways (λ k. k ≤ suc n) (nat_le level move.renewed) (omega (arith, f.0)) (omega (arith, h))) f.1 in
     omega (arith, step)
 
-base-few : (level : ℕ) (course : Course) → AreNumbered 0 course.moves
+pub base-few : (level : ℕ) (course : Course) → AreNumbered 0 course.moves
     → base level course.moves ≤ length course.moves
 base-few level course numbered = grind (arith, base-low level 0 0 course.moves (omega arith) numbered)
-
--- what a move does to a level, in a course that steps lead to
-abbrev pub course_of : Setting → ℕ → List Step → Course
-course_of setting node steps = after_steps setting (course_at node) steps
-
-pub gathered_by_move : (setting : Setting) (first : ℕ) (steps : List Step) (node level : ℕ)
-    → gathered_weight (after_step setting (course_of setting first steps) (move_to node)) level
-    ≡ cond (nat_le level (next_move setting (course_of setting first steps) node).renewed) 0
-    (gathered_weight (course_of setting first steps) level + setting.distance
-    (fold (λ n (m : Move). m.to) (course_of setting first steps).start (course_of setting first steps).moves)
-    node)
-gathered_by_move setting first steps node level =
-    grind (arith, base-after, drop_of_length-le, length-append, drop-append-le, base-few, sum_by_push, numbered-steps)
-
-pub address_by_move : (setting : Setting) (first : ℕ) (steps : List Step) (node level : ℕ)
-    → address_node (after_step setting (course_of setting first steps) (move_to node)) level
-    ≡ cond (nat_le level (next_move setting (course_of setting first steps) node).renewed) node
-    (address_node (course_of setting first steps) level)
-address_by_move setting first steps node level =
-    grind (arith, base-after, map-append, length-map, get_or_at, get_or_append_left, base-few, numbered-steps)
 
 pub move-short : MovesAreShort
 move-short setting course node = grind (arith, highest-low, length-map, length-passing-le, both_ways, length-append)

@@ -3,14 +3,13 @@
 use Rattle.std.proofs.lemmas.List.{take-append-drop}
 use Rattle.std.proofs.lemmas.List.{length-take, take_min}
 use Rattle.std.proofs.Common.{drop}
-use Rattle.std.proofs.Common.{◌≡◌, ℕ, suc, ◌-◌, ◌<◌, ◌≤◌, ◌^◌, false, List, [], ◌∷◌, ◌++◌, Some, None, length, map, take, fold, refl, sym, ap, ◌∙◌, subst, arith, length-append, ◌==◌, append_assoc, inl, inr}
+use Rattle.std.proofs.Common.{◌≡◌, ℕ, suc, ◌-◌, ◌<◌, ◌≤◌, ◌^◌, false, List, [], ◌∷◌, ◌++◌, Some, None, length, map, take, refl, sym, ap, ◌∙◌, subst, arith, length-append, ◌==◌, append_assoc, inl, inr}
 use Rattle.std.specs.Prelude.{slice_get, All}
 use Rattle.std.proofs.Math.Seq.{take-nil}
 use Rattle.std.proofs.lemmas.Bool.{cases_lt}
 use Rattle.std.proofs.lemmas.List.Elements.{All-append, All-cons, All-head, All-map, All-nil, All-tail, All-take}
 use Rattle.directory.proofs.Tests.{both_ways}
 use Rattle.std.proofs.lemmas.List.{append-nil, length-map, map-append, take-append-le, take-map, take_all, take_at, length_push, length-take, length-append}
-use Rattle.std.proofs.lemmas.List.Sums.{fold-append}
 use Rattle.entry_word.specs.Marks.{says_off, IsSmallMark, MarksUnpack}
 use Rattle.entry_word.specs.declared.mark.PresenceMark.{PresenceMark}
 use Rattle.entry_word.specs.declared.mark.PresenceMark.TheVariants.{Empty, Here, Gone, Coming}
@@ -21,7 +20,7 @@ use Rattle.directory.specs.Writes.{Write, mark_at, entry_at, visit_of, numbers_f
 use Rattle.directory.specs.Puts.{node_put, mark_put, mark_step, steps_from, steps_in}
 use Rattle.directory.specs.Legal.{IsScript, ArePuts}
 use Rattle.directory.specs.Statements.{FrontsAreLegal, ScriptsAreLegal, DueIsLegal, BeginningIsLegal, NextIsDecided, LegalIsAmid, StepsBeginAtRest}
-use Rattle.directory.specs.StepLaws.{steps-append, take-append, visits-append, visits_in, take-more, may-take}
+use Rattle.directory.specs.StepLaws.{steps-append, take-append, visits-append, visits_in, take-more, may-take, last_stop-moved}
 use Rattle.entry_word.specs.MarkLaws.{read-mark}
 
 -- a put that begins no step, when no Off was put before it, and is none itself
@@ -86,13 +85,9 @@ pub record IsCourse (setting : Setting) (course : Course) : Type 0 where
   pub inside : last_stop course < setting.nodes
   pub few : length course.moves < 2 ^ 32
 
-place-after : (course : Course) (move : Move) → fold (λ node (m : Move). m.to) course.start
-    (course.moves ++ move ∷ []) ≡ move.to
-place-after course move = fold-append (λ node (m : Move). m.to) course.start course.moves (move ∷ [])
-
 pub course-after : (setting : Setting) (course : Course) (step : Step) → IsCourse setting course
     → MayStep setting course step → IsCourse setting (after_step setting course step)
-course-after setting course (move_to node) sound may = grind (arith, place-after, length-append)
+course-after setting course (move_to node) sound may = grind (arith, last_stop-moved, length-append)
 course-after setting course _ sound may = record { low = sound.low; inside = sound.inside; few = sound.few }
 
 -- the first visits of a step, with others after them when it is done
