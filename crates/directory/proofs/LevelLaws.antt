@@ -3,7 +3,7 @@ use Rattle.std.proofs.Common.{◌≡◌, ℕ, suc, ◌+◌, ◌≤◌, cond, Lis
 use Rattle.std.specs.Prelude.{nat_le}
 use Rattle.std.proofs.lemmas.List.{length-map}
 use Rattle.directory.specs.Settings.{Setting}
-use Rattle.directory.specs.Courses.{Step, move_to, Move, Course, base, next_move, after_step, after_steps}
+use Rattle.directory.specs.Courses.{Step, move_to, Move, Course, base, after_step, after_steps}
 use Rattle.directory.specs.StepLaws.{highest-low}
 use Rattle.node_set.specs.SetLaws.{length-passing-le}
 use Rattle.directory.specs.Statements.{MovesAreShort}
@@ -23,8 +23,7 @@ pub numbered-steps : (setting : Setting) (course : Course) (steps : List Step) �
     → AreNumbered 0 (after_steps setting course steps).moves
 numbered-steps setting course [] f = f
 numbered-steps setting course (move_to node ∷ steps) f = numbered-steps setting
-    (after_step setting course (move_to node)) steps (numbered-append 0 course.moves (next_move setting course node)
-    (let e : suc (length course.moves) ≡ suc (0 + length course.moves) = omega arith in e) f)
+    (after_step setting course (move_to node)) steps (grind (arith, numbered-append))
 numbered-steps setting course (step ∷ steps) f = numbered-steps setting (after_step setting course step) steps f
 
 base-low : (level n low : ℕ) (moves : List Move) → low ≤ n → AreNumbered n moves

@@ -60,8 +60,7 @@ played-push setting scripts history actor visit e played ticket found h =
     elim (cases_lt ticket (length history)) [
       | inl low ↦
           let here = slice_get-within history ticket low in
-          rw (take-append-le ticket history (visit ∷ []) (omega arith)) (played ticket found
-          (here.1 ∙ (sym (slice_get-left history (visit ∷ []) ticket here.0 here.1) ∙ h)))
+          rw (take-append-le ticket history (visit ∷ []) (omega arith)) (grind (arith, slice_get-left))
       | inr high ↦
           let within : ticket < length (history ++ visit ∷ []) = grind (arith, slice_get_within) in
           let same : ticket ≡ length history + 0 = omega (arith, length_push history visit) in

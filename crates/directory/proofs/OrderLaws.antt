@@ -1,5 +1,5 @@
 -- The histories of orders: turns of actors until they are done, and orders of the actors of histories.
-use Rattle.std.proofs.Common.{◌≡◌, ℕ, zero, suc, ◌+◌, ◌≤◌, true, false, ◌==◌, List, [], ◌∷◌, ◌++◌, Some, None, length, take, map, fold, refl, sym, ap, ◌∙◌, arith, inl, inr, ◌⊎◌}
+use Rattle.std.proofs.Common.{◌≡◌, ℕ, zero, suc, ◌+◌, ◌≤◌, true, ◌==◌, List, [], ◌∷◌, ◌++◌, None, length, map, fold, refl, ap, ◌∙◌, arith, inl, inr, ◌⊎◌}
 use Rattle.std.specs.Prelude.{flat_map, replicate, option_map}
 use Rattle.std.proofs.lemmas.Bool.{eqb-true, or_cases, lt-ltb, le-ltb, ne_eqb, eq-eqb, cases_lt}
 use Rattle.std.proofs.lemmas.List.{append-nil, length_push, get_or_past, map-append}
@@ -11,7 +11,7 @@ use Rattle.entry_word.specs.declared.visit.Visit.{Visit}
 use Rattle.directory.specs.Settings.{Setting}
 use Rattle.directory.specs.Histories.{History, own}
 use Rattle.directory.specs.Looks.{look_by}
-use Rattle.directory.specs.Orders.{actors, Scripts, caller_at, after_read, caller_after, next_key, next, after_turn, after_turns, most_turns, last_turns, history_of, IsPlayed, IsDone}
+use Rattle.directory.specs.Orders.{actors, Scripts, caller_at, after_read, caller_after, next_key, after_turn, after_turns, most_turns, last_turns, history_of, IsPlayed, IsDone}
 use Rattle.directory.proofs.HistoryLaws.{words-push}
 use Rattle.directory.specs.Statements.{OrdersAreDone, HistoriesAreOrdered, OrdersAreOwn, TurnsAreFew}
 use Rattle.directory.specs.StepLaws.{by_fronts, own-push}
@@ -35,20 +35,12 @@ next-few setting scripts history actor visit played h = grind (
   read_left,
 )
 
--- the visits of others don't change an actor's next visit
-next-kept : (setting : Setting) (scripts : Scripts) (history : History) (actor : ℕ) (visit : Visit)
-    → (visit.actor == actor) ≡ false → next setting scripts (history ++ visit ∷ []) actor
-    ≡ next setting scripts history actor
-next-kept setting scripts history actor visit e = grind (arith, own-push, words-push, append-nil)
-
--- an actor that is done stays done
+-- the visits of others don't change an actor's next visit, so an actor that is done stays done
 pub done-kept : (setting : Setting) (scripts : Scripts) (actor : ℕ) (order : List ℕ) (history : History)
     → IsDone setting scripts history actor → IsDone setting scripts (after_turns setting scripts history order) actor
 done-kept setting scripts actor order history done = kept_by_play setting scripts
-    (λ h. IsDone setting scripts h actor) (λ h other visit e now.
-    next-kept setting scripts h actor visit (ne_eqb visit.actor actor (λ same.
-    let its : other ≡ actor = sym (next-actor setting scripts h other visit e) ∙ same in
-    let both : Some visit ≡ None = sym e ∙ (ap (next setting scripts h) its ∙ now) in cc)) ∙ now) order history done
+    (λ h. IsDone setting scripts h actor)
+    (λ h other visit e now. grind (arith, own-push, words-push, append-nil, ne_eqb, next-actor)) order history done
 
 -- after so many turns an actor is done, or has made a visit at each
 abbrev IsCounted : Setting → Scripts → ℕ → ℕ → History → History → Type 0
@@ -130,12 +122,7 @@ own-order : (setting : Setting) (scripts : Scripts) (history : History) → IsPl
 own-order setting scripts history played =
     by_fronts (λ front. after_turns setting scripts [] (map (λ (visit : Visit). visit.actor) front) ≡ front) history
     refl
-    (λ t visit h same. rw (
-      map-append (λ (v : Visit). v.actor) (take t history) (visit ∷ []),
-      after_turns-append setting scripts [] (map (λ (v : Visit). v.actor) (take t history)) (visit.actor ∷ []),
-      same,
-    )
-    (turn-some setting scripts (take t history) visit.actor visit (played t visit h)))
+    (λ t visit h same. grind (arith, map-append, after_turns-append, turn-some))
 
 -- a played history, whoever made it, becomes the history of the order of its actors
 pub completed : HistoriesAreOrdered

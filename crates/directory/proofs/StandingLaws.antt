@@ -132,11 +132,7 @@ commits-are_moves unpacks setting sub history low legal =
     let moves : (course_in setting sub (puts_to sub history)).moves ≡ before ++ under =
     grind (arith, moves-added, added-append) in
     let listed : commits sub history ≡ map commit_by (before ++ take last.0 under) =
-    commits-told unpacks setting sub history low legal ∙ (ap (filter_map write_commit) far.writes
-    ∙ (filter_map-append write_commit (writes setting first far.before) _
-    ∙ (ap (λ cs. cs ++ filter_map write_commit (take far.made
-    (writes setting (after_steps setting first far.before) far.under))) (steps-listed setting first far.before)
-    ∙ (ap (λ cs. map commit_by before ++ cs) last.2 ∙ sym (map-append commit_by before (take last.0 under)))))) in
+    commits-told unpacks setting sub history low legal ∙ grind (arith, filter_map-append, steps-listed, map-append) in
     let count : number sub history ≡ length before + last.0 =
     grind (arith, length-map, length-append, length-take-le) in
     grind (arith, count, last, moves, listed, length-append, take-append-add)

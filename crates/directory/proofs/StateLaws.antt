@@ -12,12 +12,12 @@ use Rattle.entry_word.specs.declared.mark.PresenceMark.TheVariants.{Empty}
 use Rattle.entry_word.specs.declared.address.Address.{Address}
 use Rattle.entry_word.specs.declared.visit.Key.TheVariants.{Presence, Entry}
 use Rattle.entry_word.specs.declared.visit.Visit.{Visit}
-use Rattle.directory.specs.Settings.{Setting, start}
-use Rattle.directory.specs.Keys.{is_start, is_start_home}
+use Rattle.directory.specs.Settings.{Setting}
+use Rattle.directory.specs.Keys.{is_start}
 use Rattle.directory.specs.Histories.{History, word_after, cell, puts_to}
-use Rattle.directory.specs.Courses.{Step, move_to, Course, course_at, last_stop, next_move, after_step, MayStep, MaySteps}
+use Rattle.directory.specs.Courses.{Step, move_to, Course, last_stop, next_move, after_step, MayStep, MaySteps}
 use Rattle.directory.specs.Writes.{Write, mark_at, entry_at, visit_of, step_writes, writes}
-use Rattle.directory.specs.Puts.{mark_put, node_put, steps_in}
+use Rattle.directory.specs.Puts.{mark_put, node_put}
 use Rattle.directory.specs.Standing.{commit_of, off}
 use Rattle.directory.specs.Legal.{IsLegal}
 use Rattle.directory.specs.States.{AreSmall, IsSmallWrite, opening_mark, opening_entry, mark_after, entry_after, mark_left, entry_left, write_commit, write_off, writes_made}
@@ -86,8 +86,7 @@ small-writes setting course (step ∷ steps) sound may =
         let to : node < 2 ^ 16 = omega (arith, sound.low, h.inside) in
         let move = next_move setting course node in
         All-cons IsSmallWrite _ (after_coming setting course move) (h.few, from)
-        (all-after IsSmallWrite setting course move (λ level. (h.few, to)) (h.few, to) h.few (λ level cluster. tt)
-        (λ node. tt))
+        (search all-after)
     at_step _ h = All-cons IsSmallWrite _ [] sound.few (All-nil IsSmallWrite)
 
 small-each : (ws : List Write) → All IsSmallWrite ws → AreSmall ws
@@ -100,8 +99,7 @@ pub small-made : (setting : Setting) (sub : ℕ) (history : History) → setting
     → IsLegal setting sub history → AreSmall (writes_made setting sub (puts_to sub history))
 small-made setting sub history low legal =
     small-each _ (All-take IsSmallWrite (length (puts_to sub history)) _
-    (small-writes setting (course_at (start setting sub)) (steps_in (puts_to sub history))
-    (record { low = low; inside = legal.script.begins; few = omega arith }) legal.script.allowed))
+    (grind (arith, small-writes)))
 
 -- what is left fits into its word
 small-left : {A : Type 0} (IsSmall : A → Type 0) (after : A → Write → A)
@@ -139,8 +137,7 @@ entry-read unpacks setting sub history low legal level cluster =
     (writes_made setting sub (puts_to sub history)) level cluster)
     (small-left IsSmallAddress (entry_after level cluster) (small-entry_after level cluster)
     (opening_entry setting sub level cluster) _
-    (both_ways IsSmallAddress (is_start_home setting level cluster sub)
-    (omega arith, omega (arith, legal.script.begins, low)) tt)
+    (grind (arith, both_ways))
     (small-made setting sub history low legal)))
 
 -- the writes tell the commits, and whether the subscriber is off

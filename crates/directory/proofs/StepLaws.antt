@@ -7,7 +7,7 @@ use Rattle.std.proofs.Common.{◌≡◌, ℕ, suc, ◌-◌, ◌<◌, ◌≤◌, 
 use Rattle.std.specs.Prelude.{slice_get, All}
 use Rattle.std.proofs.Math.Seq.{take-nil}
 use Rattle.std.proofs.lemmas.Bool.{cases_lt}
-use Rattle.std.proofs.lemmas.List.Elements.{All-append, All-cons, All-head, All-map, All-nil, All-tail, All-take}
+use Rattle.std.proofs.lemmas.List.Elements.{All-append, All-head, All-map, All-nil, All-tail, All-take}
 use Rattle.directory.proofs.Tests.{both_ways}
 use Rattle.std.proofs.lemmas.List.{append-nil, length-map, map-append, take-append-le, take-map, take_all, take_at, length_push, length-take, length-append}
 use Rattle.entry_word.specs.Marks.{says_off, IsSmallMark, MarksUnpack}
@@ -64,8 +64,7 @@ pub all-after : (P : Write → Type 0) (setting : Setting) (course : Course) (mo
 all-after P setting course move new gone here erased purged =
     All-append P (map (new_address setting move) (numbers_from 0 (suc move.renewed))) _
     (All-map P (new_address setting move) (numbers_from 0 (suc move.renewed)) (λ i d h. new _))
-    (All-cons P _ (mark_at move.to (Here move.number) ∷ ends) gone
-    (All-cons P _ ends here (all-ends P setting course move erased purged)))
+    (grind (arith, all-ends P setting course move erased purged))
   where
     ends : List Write
     ends = erasure_writes setting course move ++ purge_writes setting course move
@@ -74,10 +73,7 @@ plain-after : MarksUnpack → (setting : Setting) (sub : ℕ) (course : Course) 
     → move.to < 2 ^ 16 → All IsPlain (map (visit_of sub) (after_coming setting course move))
 plain-after unpacks setting sub course move few low =
     All-map IsPlain (visit_of sub) (after_coming setting course move)
-    (all-after (λ write. IsPlain (visit_of sub write)) setting course move (λ level. (refl, refl))
-    (plain-mark unpacks sub move.from (Gone move.number move.to) (few, low) refl refl)
-    (plain-mark unpacks sub move.to (Here move.number) few refl refl) (λ level cluster. (refl, refl))
-    (λ node. (refl, refl)))
+    (search (all-after, plain-mark))
 
 -- what is known of a course
 pub record IsCourse (setting : Setting) (course : Course) : Type 0 where
@@ -204,8 +200,7 @@ script-legal unpacks setting sub steps k low script =
     let far = amid-script unpacks setting sub steps k low script in
     let taken : take (length (far.before ++ far.under)) steps ≡ far.before ++ far.under = grind (arith, take_at) in
     let front = visits setting sub (far.before ++ far.under) in
-    let whole : take k front ≡ take (length (take k front)) front =
-    grind (arith, length-take k front, take_min k front) in
+    let whole : take k front ≡ take (length (take k front)) front = grind (arith, length-take, take_min) in
     grind (arith, far, taken, whole, take-map, may-take)
 
 -- a front of legal puts is legal
@@ -232,8 +227,7 @@ next-decided setting sub puts visit left legal = grind (arith, steps-append, vis
 -- the next put of the step under way keeps puts legal
 pub due-legal : MarksUnpack → DueIsLegal
 due-legal unpacks setting sub puts visit low legal due =
-    subst (ArePuts setting sub) (sym (ap (λ xs. xs ++ visit ∷ []) legal.front
-    ∙ sym (take-more (visits setting sub (steps_in puts)) (length puts) visit due)))
+    subst (ArePuts setting sub) (sym (grind (arith, take-more)))
     (script-legal unpacks setting sub (steps_in puts) (suc (length puts)) low legal.script)
 
 may-append : (setting : Setting) (course : Course) (xs ys : List Step) → MaySteps setting course xs

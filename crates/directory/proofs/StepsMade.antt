@@ -94,8 +94,7 @@ pub own-all : (setting : Setting) (scripts : Scripts) (history : History) (sub :
 own-all setting scripts history sub below played done =
     played-own setting scripts history sub below played
     ∙ take_all (length (own sub history)) (script_visits setting scripts sub)
-    (past-end (script_visits setting scripts sub) (length (own sub history))
-    (sym (next-sub setting scripts history sub below) ∙ done))
+    (grind (arith, past-end, next-sub))
 
 pub sub_made : (setting : Setting) (scripts : Scripts) (history : History) (sub : ℕ) → sub < subs setting
     → IsPlayed setting scripts history → IsDone setting scripts history sub
@@ -103,8 +102,7 @@ pub sub_made : (setting : Setting) (scripts : Scripts) (history : History) (sub 
 sub_made setting scripts history sub below played done =
     steps_made setting scripts history sub [] (steps_of scripts sub) (tickets sub history) refl
     (tickets-ascend sub history)
-    (tickets-tell sub history ∙ (ap (map Some) (own-all setting scripts history sub below played done)
-    ∙ map-map Some (visit_of sub) (writes setting (course_at (start setting sub)) (steps_of scripts sub))))
+    (tickets-tell sub history ∙ grind (arith, own-all, map-map))
 
 -- all visits of steps that may come show these steps
 all-shown : MarksUnpack → (setting : Setting) (sub : ℕ) (course : Course) (steps : List Step)

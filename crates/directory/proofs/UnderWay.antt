@@ -7,7 +7,7 @@ use Rattle.std.proofs.lemmas.Grind.{flat_map-append}
 use Rattle.std.proofs.lemmas.List.{append-nil, map-append, length_push, length-drop, length-take-le, take_all, take-append-le, drop-append-le}
 use Rattle.std.proofs.lemmas.List.Sums.{fold-append}
 use Rattle.std.proofs.Math.ListN.{drop_of_length-le}
-use Rattle.std.proofs.lemmas.List.Elements.{All-cons, All-nil, All-append}
+use Rattle.std.proofs.lemmas.List.Elements.{All-append}
 use Rattle.std.proofs.lemmas.Option.{slice_get_within}
 use Rattle.entry_word.specs.declared.visit.Key.{Key}
 use Rattle.entry_word.specs.declared.visit.Visit.{Visit}
@@ -176,8 +176,7 @@ look_more setting history actor finds ticketed now caller call later key far cal
       few = grind (arith, fewer, length_push, left_at_origin, looks-fall);
       done = All-append (IsAnswered setting history actor (ticketed ++ now ∷ [])) caller.answers (mine ∷ [])
           (answered-more setting history actor ticketed (now ∷ []) caller.answers far.done)
-          (All-cons (IsAnswered setting history actor (ticketed ++ now ∷ [])) mine [] is_mine
-          (All-nil (IsAnswered setting history actor (ticketed ++ now ∷ []))));
+          (grind (arith, is_mine));
       script = grind (arith, append_assoc, map-append);
       current = λ c l same. rw none_left (record { looks = tt; reads = refl; low = omega arith });
       follow = follow-push 0 caller.answers mine far.follow far.ends far.low;
