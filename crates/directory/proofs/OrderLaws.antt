@@ -1,7 +1,7 @@
 -- The histories of orders: turns of actors until they are done, and orders of the actors of histories.
 use Rattle.std.proofs.Common.{◌≡◌, ℕ, zero, suc, ◌+◌, ◌≤◌, true, ◌==◌, List, [], ◌∷◌, ◌++◌, None, length, map, fold, refl, ap, ◌∙◌, arith, inl, inr, ◌⊎◌}
 use Rattle.std.specs.Prelude.{flat_map, replicate, option_map}
-use Rattle.std.proofs.lemmas.Bool.{eqb-true, or_cases, lt-ltb, le-ltb, ne_eqb, eq-eqb, cases_lt}
+use Rattle.std.proofs.lemmas.Bool.{eqb-true, or_cases, ne_eqb, cases_lt}
 use Rattle.std.proofs.lemmas.List.{append-nil, length_push, get_or_past, map-append}
 use Rattle.std.proofs.lemmas.List.Sums.{fold-append}
 use Rattle.std.proofs.lemmas.Option.{slice_get_within}
@@ -22,18 +22,8 @@ use Rattle.directory.specs.HistoryLaws.{next-sub, next-caller, tickets-count, tu
 
 -- an actor that isn't done has made fewer visits than it may
 pub next-few : TurnsAreFew
-next-few setting scripts history actor visit played h = grind (
-  arith,
-  cases_lt,
-  lt-ltb,
-  slice_get_within,
-  next-sub,
-  le-ltb,
-  caller-look,
-  under_way,
-  tickets-count,
-  read_left,
-)
+next-few setting scripts history actor visit played h =
+    grind (arith, cases_lt, slice_get_within, next-sub, caller-look, under_way, tickets-count, read_left)
 
 -- the visits of others don't change an actor's next visit, so an actor that is done stays done
 pub done-kept : (setting : Setting) (scripts : Scripts) (actor : ℕ) (order : List ℕ) (history : History)
@@ -50,17 +40,8 @@ IsCounted setting scripts actor k history later =
 counted : (setting : Setting) (scripts : Scripts) (actor k : ℕ) (history : History)
     → IsCounted setting scripts actor k history (after_turns setting scripts history (replicate k actor))
 counted setting scripts actor zero history = inr (omega arith)
-counted setting scripts actor (suc k) history = grind (
-  arith,
-  done-kept,
-  turn-none,
-  own-push,
-  eq-eqb,
-  next-actor,
-  length_push,
-  turn-some,
-  counted setting scripts actor k,
-)
+counted setting scripts actor (suc k) history =
+    grind (arith, done-kept, turn-none, own-push, next-actor, length_push, turn-some, counted setting scripts actor k)
 
 pub played-kept : (setting : Setting) (scripts : Scripts) (order : List ℕ) (history : History)
     → IsPlayed setting scripts history → IsPlayed setting scripts (after_turns setting scripts history order)

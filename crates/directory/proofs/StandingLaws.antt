@@ -149,10 +149,6 @@ last-stop start (suc count) (move ∷ moves) few = last-stop move.to count moves
 pub standing-is_stop : MarksUnpack → StandsAtStop
 standing-is_stop unpacks setting sub history low legal =
     let made = commits-are_moves unpacks setting sub history low legal in
-    grind (
-      arith,
-      made,
-      last-stop (start setting sub) (number sub history)
-          (course_in setting sub (puts_to sub history)).moves made.0,
-      start-kept,
-    )
+    let stop = last-stop (start setting sub) (number sub history) (course_in setting sub (puts_to sub history)).moves
+    made.0 in
+    grind (arith, made, stop, start-kept)

@@ -29,15 +29,8 @@ parted : (history : History) (sub : ℕ) (seen : List ℕ) (xs ys : List Write)
     → map (slice_get history) seen ≡ map (λ write. Some (visit_of sub write)) (xs ++ ys)
     → (map (slice_get history) (take (length xs) seen) ≡ map (λ write. Some (visit_of sub write)) xs)
     × (map (slice_get history) (drop (length xs) seen) ≡ map (λ write. Some (visit_of sub write)) ys)
-parted history sub seen xs ys h = grind (
-  arith,
-  take-map (slice_get history) (length xs) seen,
-  take_at,
-  length-map,
-  drop-map (slice_get history) (length xs) seen,
-  drop_at,
-  map-append,
-)
+parted history sub seen xs ys h =
+    grind (arith, take-map (slice_get history), drop-map (slice_get history), take_at, length-map, drop_at, map-append)
 
 -- the lines of a subscriber
 step_made : (setting : Setting) (scripts : Scripts) (history : History) (sub : ℕ) (course : Course) (step : Step)

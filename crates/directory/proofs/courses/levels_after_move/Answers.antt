@@ -7,16 +7,8 @@ use Rattle.directory.proofs.LevelLaws.{base-few, numbered-steps}
 use Rattle.directory.proofs.courses.levels_after_move.Goals as goal
 
 pub returns-clause-gathered : goal.returns-clause-gathered
-returns-clause-gathered c = grind (
-  arith,
-  base-after,
-  drop_of_length-le,
-  length-append,
-  drop-append-le,
-  base-few,
-  sum_by_push,
-  numbered-steps,
-)
+returns-clause-gathered c =
+    grind (arith, base-after, drop_of_length-le, length-append, drop-append-le, base-few, sum_by_push, numbered-steps)
 
 pub returns-clause-address : goal.returns-clause-address
 returns-clause-address c =
