@@ -65,9 +65,6 @@ all-after P setting course move new gone here erased purged =
     All-append P (map (new_address setting move) (numbers_from 0 (suc move.renewed))) _
     (All-map P (new_address setting move) (numbers_from 0 (suc move.renewed)) (λ i d h. new _))
     (grind (arith, all-ends P setting course move erased purged))
-  where
-    ends : List Write
-    ends = erasure_writes setting course move ++ purge_writes setting course move
 
 plain-after : MarksUnpack → (setting : Setting) (sub : ℕ) (course : Course) (move : Move) → move.number < 2 ^ 32
     → move.to < 2 ^ 16 → All IsPlain (map (visit_of sub) (after_coming setting course move))
