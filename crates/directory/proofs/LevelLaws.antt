@@ -1,4 +1,4 @@
--- What a move does to the levels: those that it renews have its node and have gathered nothing, the others go on.
+-- Moves are numbered, and the last that renewed a level is one of them; and no move has more writes than the most.
 use Rattle.std.proofs.Common.{◌≡◌, ℕ, suc, ◌+◌, ◌≤◌, cond, List, [], ◌∷◌, ◌++◌, length, fold, ◌∙◌, arith, length-append}
 use Rattle.std.specs.Prelude.{nat_le}
 use Rattle.std.proofs.lemmas.List.{length-map}
