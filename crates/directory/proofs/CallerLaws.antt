@@ -1,6 +1,6 @@
 -- The looks of callers: each own visit reads one word, and no caller makes more than the most.
-use Rattle.std.proofs.Common.{◌≡◌, ℕ, ◌+◌, ◌<◌, ◌≤◌, List, [], ◌∷◌, ◌++◌, Option, Some, None, refl, sym, ◌∙◌, arith}
-use Rattle.std.specs.Prelude.{sum_by, option_map}
+use Rattle.std.proofs.Common.{◌≡◌, ℕ, ◌+◌, ◌<◌, ◌≤◌, List, [], ◌∷◌, ◌++◌, Option, Some, None, refl, sym, arith}
+use Rattle.std.specs.Prelude.{sum_by}
 use Rattle.std.proofs.lemmas.List.Sums.{fold-append, sum_by-cons}
 use Rattle.entry_word.specs.declared.visit.Key.{Key}
 use Rattle.entry_word.specs.declared.visit.Visit.{Visit}
@@ -48,12 +48,4 @@ caller-push setting calls words word = fold-append (after_read setting) (caller_
 pub caller-look : (setting : Setting) (scripts : Scripts) (history : History) (actor : ℕ) (visit : Visit)
     → subs setting ≤ actor → next setting scripts history actor ≡ Some visit
     → (key : Key) × (next_key (caller_in setting scripts history actor) ≡ Some key) × (visit ≡ look_by actor key)
-caller-look setting scripts history actor visit high h = at_key
-    (next_key (caller_in setting scripts history actor)) refl
-    (sym (next-caller setting scripts history actor high) ∙ h)
-  where
-    at_key : (o : Option Key) → next_key (caller_in setting scripts history actor) ≡ o
-        → option_map (look_by actor) o ≡ Some visit
-        → (key : Key) × (next_key (caller_in setting scripts history actor) ≡ Some key) × (visit ≡ look_by actor key)
-    at_key None e g = cc
-    at_key (Some key) e g = (key, e, cc)
+caller-look setting scripts history actor visit high h = grind (arith, next-caller)

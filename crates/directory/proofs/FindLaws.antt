@@ -1,16 +1,14 @@
 -- Finds: an answer stays, and what the parts of a find make of it.
-use Rattle.std.proofs.Common.{◌≡◌, ℕ, zero, suc, ◌+◌, ◌*◌, ◌≤◌, Bool, true, false, cond, List, [], ◌∷◌, ◌++◌, Option, Some, None, length, fold, refl, sym, ap, ◌∙◌, arith}
+use Rattle.std.proofs.Common.{◌≡◌, ℕ, zero, suc, ◌+◌, ◌*◌, ◌≤◌, List, [], ◌∷◌, ◌++◌, Option, Some, None, length, fold, refl, arith}
 use Rattle.entry_word.specs.Marks.{mark_in}
-use Rattle.entry_word.specs.Addresses.{address_in}
 use Rattle.entry_word.specs.declared.mark.PresenceMark.{PresenceMark}
 use Rattle.entry_word.specs.declared.mark.PresenceMark.TheVariants.{Empty, Gone, Coming}
 use Rattle.std.proofs.lemmas.List.Sums.{sum_by-cons}
 use Rattle.directory.specs.Settings.{Setting}
 use Rattle.entry_word.specs.declared.address.Address.{Address}
-use Rattle.directory.specs.Finds.{FindCall, Reader, Chase, at_origin, climbs, chases, ended, climb, hop, after_origin, after_entry, after_mark, after_word, all_readers, is_known, known_with, looks_left, way_in}
+use Rattle.directory.specs.Finds.{FindCall, Reader, Chase, at_origin, climbs, chases, ended, climb, hop, after_origin, after_entry, after_mark, after_word, all_readers, looks_left, way_in}
 use Rattle.directory.specs.Parts.{AreNothing, climb_weight, lead, known_after, LeadOn}
 use Rattle.directory.specs.declared.answers.Found.{Found}
-use Rattle.directory.specs.declared.answers.Found.TheVariants.{At}
 use Rattle.directory.specs.Statements.{LooksFall}
 use Rattle.directory.proofs.Tests.{both_ways}
 
@@ -25,8 +23,7 @@ pub climb-passes : (setting : Setting) (call : FindCall) (known : Option ℕ) (w
     (words : List ℕ) → length words ≡ length passed → AreNothing words
     → fold (after_word setting call) (climb known weight (passed ++ later)) words
     ≡ climb known (weight + climb_weight setting call passed) later
-climb-passes setting call known weight [] later [] same nothing = ap (λ w. climb known w later)
-    (let e : weight ≡ weight + 0 = omega arith in e)
+climb-passes setting call known weight [] later [] same nothing = grind arith
 climb-passes setting call known weight [] later (word ∷ words) same nothing = absurd (omega arith)
 climb-passes setting call known weight (reader ∷ passed) later [] same nothing = absurd (omega arith)
 climb-passes setting call known weight (reader ∷ passed) later (word ∷ words) same nothing = grind (
@@ -41,13 +38,7 @@ hop-once : (setting : Setting) (known level : Option ℕ) (weight hops node : �
     → after_mark setting (record { known = known; level = level; weight = weight; hops_left = suc hops }) node mark
     ≡ hop setting (known_after known mark) level weight (suc hops) node to
 hop-once setting known level weight hops node (Gone number next) to h = let e : next ≡ to = cc in rw e refl
-hop-once setting known level weight hops node (Coming number next) to h = at_test (is_known number known) h
-  where
-    at_test : (b : Bool) → cond b None (Some next) ≡ Some to
-        → cond b (ended (At node number level weight)) (hop setting known level weight (suc hops) node next)
-        ≡ hop setting known level weight (suc hops) node to
-    at_test true h = cc
-    at_test false h = let e : next ≡ to = cc in rw e refl
+hop-once setting known level weight hops node (Coming number next) to h = grind arith
 hop-once setting known level weight hops node mark to h = cc
 
 -- the chase along marks that lead on
@@ -61,20 +52,13 @@ pub chase-hops : (setting : Setting) (call : FindCall) (known last_known level :
     }) node) words
     ≡ chases (record { known = last_known; level = level; weight = weight + way; hops_left = hops }) last
 unfolding LeadOn
-chase-hops setting call known last_known level weight way hops node last [] leads = let e : weight
-    ≡ weight + way = omega (arith, leads.2) in rw (sym leads.0, sym leads.1, sym e)
-    (ap (λ h. chases (record { known = known; level = level; weight = weight; hops_left = h }) node)
-    (let e : 0 + hops ≡ hops = omega arith in e))
-chase-hops setting call known last_known level weight way hops node last (word ∷ words) leads =
-    ap (λ h. fold (after_word setting call) (after_mark setting
-    (record { known = known; level = level; weight = weight; hops_left = h }) node (mark_in word)) words)
-    (let e : suc (length words) + hops ≡ suc (length words + hops) = omega arith in e)
-    ∙ (ap (λ pursuit. fold (after_word setting call) pursuit words)
-    (hop-once setting known level weight (length words + hops) node (mark_in word) leads.0 leads.2)
-    ∙ (chase-hops setting call (known_after known (mark_in word)) last_known level
-    (weight + setting.distance node leads.0) leads.1 hops leads.0 last words leads.4
-    ∙ ap (λ w. chases (record { known = last_known; level = level; weight = w; hops_left = hops }) last)
-    (let e : weight + setting.distance node leads.0 + leads.1 ≡ weight + way = omega (arith, leads.3) in e)))
+chase-hops setting call known last_known level weight way hops node last [] leads = grind arith
+chase-hops setting call known last_known level weight way hops node last (word ∷ words) leads = grind (
+  arith,
+  hop-once,
+  chase-hops setting call (known_after known (mark_in word)) last_known level (weight + setting.distance node
+      leads.0) leads.1 hops leads.0 last words leads.4,
+)
 
 -- each look leaves fewer
 climb-left : (setting : Setting) (call : FindCall) (known : Option ℕ) (weight : ℕ) (readers : List Reader)
@@ -89,8 +73,7 @@ hop-left setting call known level weight (suc more) node to = omega arith
 
 mark-left : (setting : Setting) (call : FindCall) (chase : Chase) (node : ℕ) (mark : PresenceMark)
     → looks_left setting call (after_mark setting chase node mark) ≤ chase.hops_left
-mark-left setting call chase node (Gone number to) = hop-left setting call
-    (known_with number chase.known) chase.level chase.weight chase.hops_left node to
+mark-left setting call chase node (Gone number to) = grind (arith, hop-left)
 mark-left setting call chase node (Coming number from) = grind (arith, hop-left, both_ways)
 mark-left setting call chase node mark = omega arith
 
@@ -98,8 +81,7 @@ entry-left : (setting : Setting) (call : FindCall) (known : Option ℕ) (weight 
     (later : List Reader) (entry : Option Address)
     → looks_left setting call (after_entry setting call known weight reader later entry) ≤ length later +
     (setting.nodes + 3)
-entry-left setting call known weight reader later None = climb-left setting call known
-    (weight + 2 * way_in setting call reader) later
+entry-left setting call known weight reader later None = grind (arith, climb-left)
 entry-left setting call known weight reader later (Some address) = omega arith
 
 origin-left : (setting : Setting) (call : FindCall) (mark : PresenceMark)
@@ -111,8 +93,6 @@ origin-left setting call mark = omega arith
 
 pub looks-fall : LooksFall
 looks-fall setting call at_origin word key h = omega (arith, origin-left setting call (mark_in word))
-looks-fall setting call (climbs known weight reader later) word key h = omega
-    (arith, entry-left setting call known weight reader later (address_in word))
-looks-fall setting call (chases chase node) word key h = omega
-    (arith, mark-left setting call chase node (mark_in word))
+looks-fall setting call (climbs known weight reader later) word key h = grind (arith, entry-left)
+looks-fall setting call (chases chase node) word key h = grind (arith, mark-left)
 looks-fall setting call (ended found) word key h = cc

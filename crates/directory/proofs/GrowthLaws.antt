@@ -1,5 +1,5 @@
 -- What a turn adds: to a history, to the lines of a subscriber and to those of a caller.
-use Rattle.std.proofs.Common.{◌≡◌, ℕ, ◌-◌, ◌≤◌, List, [], ◌∷◌, ◌++◌, Option, Some, None, length, map, take, drop, refl, sym, ap, ◌∙◌, arith, length-append, ◌+◌}
+use Rattle.std.proofs.Common.{◌≡◌, ℕ, ◌-◌, ◌≤◌, List, [], ◌∷◌, ◌++◌, Option, Some, None, length, map, take, drop, refl, sym, ◌∙◌, arith, length-append}
 use Rattle.std.specs.Prelude.{slice_index, replicate, option_map, option_to_list, All}
 use Rattle.std.proofs.lemmas.Bool.{eq-eqb, cases_lt}
 use Rattle.std.proofs.lemmas.List.{append-nil, take_all, take-append-le, drop-append-le, length-drop, map-append, get_or_append_left, get_or_push, nil_from_length, replicate-append-replicate}
@@ -8,14 +8,12 @@ use Rattle.directory.specs.Settings.{Setting}
 use Rattle.directory.specs.Histories.{History, cell, tickets}
 use Rattle.directory.specs.Courses.{after_step}
 use Rattle.directory.specs.Writes.{step_writes, writes}
-use Rattle.directory.specs.Finds.{Pursuit, after_word, answer_of}
-use Rattle.directory.specs.Looks.{look_by}
+use Rattle.directory.specs.Finds.{Pursuit, after_word}
 use Rattle.directory.specs.Orders.{Scripts, finds_of, Answer, Caller, with_pursuit, caller_in, after_turns, IsDone}
-use Rattle.directory.specs.Outcomes.{step_line, step_lines, found_line, answer_line}
+use Rattle.directory.specs.Outcomes.{step_lines, found_line, answer_line}
 use Rattle.directory.specs.declared.answers.Found.{Found}
 use Rattle.directory.specs.Statements.{TurnsEndAlike, StepLinesGrow, CallersRead, CallerLinesGrow, CallersKept, CallersCount}
-use Rattle.directory.proofs.HistoryLaws.{words-push}
-use Rattle.directory.proofs.TicketLaws.{tickets-push}
+use Rattle.directory.proofs.HistoryLaws.{words-push, tickets-push}
 use Rattle.directory.proofs.NextLaws.{after_turns-done}
 use Rattle.directory.proofs.CallerLaws.{caller-push}
 use Rattle.directory.proofs.OrderLaws.{after_turns-append, done-after}
@@ -24,8 +22,7 @@ use Rattle.directory.proofs.UnderWay.{IsAnswered, IsUnderWay, under_way}
 -- turns of one actor, in two parts
 replicate-split : {A : Type 0} (few many : ℕ) (x : A) → few ≤ many
     → replicate many x ≡ replicate few x ++ replicate (many - few) x
-replicate-split few many x h = let e : few + (many - few) ≡ many = omega (arith, h) in
-    sym (replicate-append-replicate few (many - few) x ∙ ap (λ k. replicate k x) e)
+replicate-split few many x h = grind (arith, replicate-append-replicate)
 
 -- more turns of an actor that is done
 more_turns : (setting : Setting) (scripts : Scripts) (history : History) (actor few many : ℕ) → few ≤ many
@@ -33,12 +30,8 @@ more_turns : (setting : Setting) (scripts : Scripts) (history : History) (actor 
     → after_turns setting scripts history (replicate many actor)
     ≡ after_turns setting scripts history (replicate few actor)
 more_turns setting scripts history actor few many h done =
-    ap (after_turns setting scripts history) (replicate-split few many actor h)
-    ∙ (after_turns-append setting scripts history (replicate few actor) (replicate (many - few) actor)
-    ∙ after_turns-done setting scripts (after_turns setting scripts history (replicate few actor))
-    (replicate (many - few) actor)
-    (All-replicate (IsDone setting scripts (after_turns setting scripts history (replicate few actor)))
-    (many - few) actor done))
+    rw (replicate-split few many actor h, after_turns-append) (after_turns-done setting scripts _ _ (All-replicate
+    (IsDone setting scripts (after_turns setting scripts history (replicate few actor))) (many - few) actor done))
 
 pub turns-end : TurnsEndAlike
 turns-end setting scripts history actor k played done = grind (arith, cases_lt, more_turns, done-after)
@@ -47,29 +40,26 @@ turns-end setting scripts history actor k played done = grind (arith, cases_lt, 
 pub step_lines-push : StepLinesGrow
 unfolding step_lines writes
 step_lines-push setting sub course [] step seen more count size = grind (arith, seen, nil_from_length, take_all)
-step_lines-push setting sub course (one ∷ done) step seen more count size =
-    rw (
-      front,
-      back,
-    )
-    (ap (λ lines. step_line setting sub course one (take size_one seen) ∷ lines)
-    (step_lines-push setting sub (after_step setting course one) done step (drop size_one seen) more
-    (omega (
-      arith,
-      count,
-      length-drop size_one seen,
-      length-append (step_writes setting course one) (writes setting (after_step setting course one) done),
-    )) size))
+step_lines-push setting sub course (one ∷ done) step seen more count size = grind (
+  arith,
+  front,
+  back,
+  length-drop,
+  length-append,
+  step_lines-push setting sub (after_step setting course one) done step (drop size_one seen) more (omega (
+    arith,
+    count,
+    length-drop size_one seen,
+    length-append (step_writes setting course one) (writes setting (after_step
+        setting course one) done),
+  )) size,
+)
   where
     size_one : ℕ
     size_one = length (step_writes setting course one)
 
     within : size_one ≤ length seen
-    within = omega (
-      arith,
-      count,
-      length-append (step_writes setting course one) (writes setting (after_step setting course one) done),
-    )
+    within = grind (arith, length-append)
 
     front : take size_one (seen ++ more) ≡ take size_one seen
     front = take-append-le size_one seen more within
@@ -85,8 +75,7 @@ pub callers-read : CallersRead
 callers-read setting scripts history actor key = grind (arith, words-push, eq-eqb, caller-push)
 
 pub callers-count : CallersCount
-callers-count setting scripts history actor high played =
-    let far = under_way setting scripts history actor high played in (far.count, far.low)
+callers-count setting scripts history actor high played = grind (arith, under_way)
 
 -- the lines of answers with one ticket more
 lines-more : (setting : Setting) (history : History) (actor : ℕ) (seen : List ℕ) (ticket : ℕ) (answers : List Answer)
@@ -94,24 +83,18 @@ lines-more : (setting : Setting) (history : History) (actor : ℕ) (seen : List 
     → map (answer_line actor (seen ++ ticket ∷ [])) answers ≡ map (answer_line actor seen) answers
 lines-more setting history actor seen ticket [] all = refl
 lines-more setting history actor seen ticket (answer ∷ answers) all =
-    let one : IsAnswered setting history actor seen answer =
-    All-head (IsAnswered setting history actor seen) answer answers all in
-    rw (
-      get_or_append_left seen (ticket ∷ []) 0 answer.first (omega (arith, one.order, one.within)),
-      get_or_append_left seen (ticket ∷ []) 0 answer.last (omega (arith, one.within)),
+    let one = All-head (IsAnswered setting history actor seen) answer answers all in
+    grind (
+      arith,
+      one,
+      get_or_append_left,
       lines-more setting history actor seen ticket answers
           (All-tail (IsAnswered setting history actor seen) answer answers all),
-    ) refl
+    )
 
 pub caller_lines-push : CallerLinesGrow
 caller_lines-push setting scripts history actor key call later high played same =
-    rw (
-      callers-read setting scripts history actor key,
-      tickets-push actor history (look_by actor key),
-      eq-eqb actor actor refl,
-      same,
-    )
-    (at_answer (answer_of pursuit))
+    grind (arith, callers-read, tickets-push, eq-eqb, at_answer)
   where
     caller : Caller
     caller = caller_in setting scripts history actor

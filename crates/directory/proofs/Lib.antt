@@ -7,14 +7,10 @@ mod LevelLaws
 mod NextLaws
 mod CallerLaws
 mod OrderLaws
-mod CellLaws
 mod StateLaws
-mod TicketLaws
 mod StepsMade
 mod UnderWay
 mod MadeLaws
 mod StandingLaws
 mod RestLaws
-mod AmidLaws
 mod GrowthLaws
-mod DoneLaws

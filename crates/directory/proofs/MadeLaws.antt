@@ -1,13 +1,12 @@
 -- The lines of an outcome are made by visits: each step's by all its writes, each find's by all its looks.
-use Rattle.std.proofs.Common.{◌≡◌, ℕ, zero, suc, ◌+◌, ◌-◌, ◌<◌, ◌≤◌, List, [], ◌∷◌, ◌++◌, length, map, take, drop, sym, ap, ◌∙◌, arith, append_assoc}
-use Rattle.std.specs.Prelude.{slice_index, flat_map, All}
+use Rattle.std.proofs.Common.{◌≡◌, ℕ, zero, suc, ◌+◌, ◌<◌, ◌≤◌, List, [], ◌∷◌, ◌++◌, length, map, arith, append_assoc}
+use Rattle.std.specs.Prelude.{flat_map, All}
 use Rattle.std.proofs.lemmas.List.{length-drop, length-take-le, get_or-drop, get_or-take}
-use Rattle.std.proofs.lemmas.List.Elements.{All-cons, All-nil, All-append, All-head, All-tail}
+use Rattle.std.proofs.lemmas.List.Elements.{All-nil, All-append, All-head, All-tail}
 use Rattle.directory.specs.Settings.{Setting, subs}
 use Rattle.directory.specs.Histories.{History, tickets}
 use Rattle.directory.specs.Writes.{numbers_from}
 use Rattle.directory.specs.Finds.{FindCall}
-use Rattle.directory.specs.Looks.{last_of}
 use Rattle.directory.specs.Orders.{Scripts, finds_of, Answer, caller_in, IsPlayed}
 use Rattle.directory.specs.Outcomes.{sub_lines, found_line, answer_line, caller_lines, IsFindLine, IsMade}
 use Rattle.directory.specs.declared.answers.Found.{Found}
@@ -17,15 +16,6 @@ use Rattle.directory.proofs.StepsMade.{sub_made}
 use Rattle.directory.proofs.UnderWay.{IsAnswered, seen_of, under_way}
 
 -- the lines of a caller
-index-first : (ticketed : List ℕ) (first count : ℕ) → 1 ≤ count
-    → slice_index (take count (drop first ticketed)) 0 ≡ slice_index ticketed first
-index-first ticketed first count some = grind (arith, get_or-take, get_or-drop)
-
-index-last : (ticketed : List ℕ) (first last : ℕ) → first ≤ last → last < length ticketed
-    → slice_index (take (suc last - first) (drop first ticketed))
-    (length (take (suc last - first) (drop first ticketed)) - 1) ≡ slice_index ticketed last
-index-last ticketed first last order within = grind (arith, get_or-take, get_or-drop, length-drop, length-take-le)
-
 find_made : (setting : Setting) (scripts : Scripts) (history : History) (actor first last : ℕ) (call : FindCall)
     (found : Found)
     → IsFindLine setting scripts history actor call (found_line actor call found first last)
@@ -40,28 +30,17 @@ answers_made : (setting : Setting) (scripts : Scripts) (history : History) (acto
     → All (IsMade setting scripts history) (map (answer_line actor ticketed) answers)
 answers_made setting scripts history actor ticketed done [] left script all = All-nil (IsMade setting scripts history)
 answers_made setting scripts history actor ticketed done (answer ∷ answers) left script all =
-    All-cons (IsMade setting scripts history) _ _
-    (find_made setting scripts history actor (slice_index ticketed answer.first)
-    (slice_index ticketed answer.last) answer.call answer.found
-    (line (All-head (IsAnswered setting history actor ticketed) answer answers all)))
-    (answers_made setting scripts history actor ticketed (done ++ answer.call ∷ []) answers left
-    (script ∙ sym (append_assoc done (answer.call ∷ []) (map (λ (a : Answer). a.call) answers ++ left)))
-    (All-tail (IsAnswered setting history actor ticketed) answer answers all))
+    grind (
+      arith,
+      find_made,
+      line (All-head (IsAnswered setting history actor ticketed) answer answers all),
+      answers_made setting scripts history actor ticketed (done ++ answer.call ∷ []) answers left
+          (rw append_assoc script) (All-tail (IsAnswered setting history actor ticketed) answer answers all),
+    )
   where
     line : IsAnswered setting history actor ticketed answer
         → IsFindLine setting scripts history actor answer.call (answer_line actor ticketed answer)
-    line h = record {
-      before = done;
-      later = map (λ (a : Answer). a.call) answers ++ left;
-      found = answer.found;
-      seen = seen_of ticketed answer;
-      script = script;
-      find = h.find;
-      tells = sym (ap (λ n. found_line actor answer.call answer.found n (last_of (seen_of ticketed answer)))
-          (index-first ticketed answer.first (suc answer.last - answer.first) (omega (arith, h.order)))
-          ∙ ap (λ n. found_line actor answer.call answer.found (slice_index ticketed answer.first) n)
-          (index-last ticketed answer.first answer.last h.order h.within));
-    }
+    line h = grind (arith, seen_of, get_or-take, get_or-drop, length-drop, length-take-le)
 
 caller_made : (setting : Setting) (scripts : Scripts) (history : History) (actor : ℕ) → subs setting ≤ actor
     → IsPlayed setting scripts history → All (IsMade setting scripts history)

@@ -1,5 +1,5 @@
 -- The next visits of actors, and histories in which each visit was its actor's next one.
-use Rattle.std.proofs.Common.{◌≡◌, ℕ, ◌+◌, ◌<◌, Bool, true, false, ◌==◌, List, [], ◌∷◌, ◌++◌, Option, Some, None, length, take, map, refl, sym, ap, ◌∙◌, subst, arith, inl, inr}
+use Rattle.std.proofs.Common.{◌≡◌, ℕ, ◌+◌, ◌<◌, ◌==◌, List, [], ◌∷◌, ◌++◌, Some, length, take, refl, sym, ap, ◌∙◌, subst, arith, inl, inr}
 use Rattle.std.specs.Prelude.{slice_get, option_to_list, All}
 use Rattle.std.proofs.lemmas.Bool.{eqb-true, ne_eqb, cases_lt}
 use Rattle.std.proofs.lemmas.List.{append-nil, take_all, take-append-le, length_push}
@@ -23,17 +23,12 @@ write-puts : (sub s : ℕ) (write : Write) → is_put_for s (visit_of sub write)
 write-puts sub s (mark_at node mark) = refl
 write-puts sub s (entry_at level cluster address) = refl
 
-own-write : (sub : ℕ) (writes : List Write) (i : ℕ) (visit : Visit)
-    → slice_get (map (visit_of sub) writes) i ≡ Some visit
-    → (visit.actor ≡ sub) × ((s : ℕ) → is_put_for s visit.act ≡ (sub == s))
-own-write sub writes i visit h = grind (arith, slice_get-map, option_map-some, write-puts)
-
 -- the next visit of an actor is its own, and a put into a cell of a subscriber just where that is the actor
 next-own : (setting : Setting) (scripts : Scripts) (history : History) (actor : ℕ) (visit : Visit)
     → next setting scripts history actor ≡ Some visit → (visit.actor ≡ actor)
     × ((s : ℕ) → s < subs setting → is_put_for s visit.act ≡ (actor == s))
 next-own setting scripts history actor visit h =
-    grind (arith, cases_lt, next-sub, own-write, next-caller, option_map-some, ne_eqb)
+    grind (arith, cases_lt, next-sub, slice_get-map, write-puts, next-caller, option_map-some, ne_eqb)
 
 pub next-actor : (setting : Setting) (scripts : Scripts) (history : History) (actor : ℕ) (visit : Visit)
     → next setting scripts history actor ≡ Some visit → visit.actor ≡ actor
@@ -48,12 +43,7 @@ turn-some setting scripts history actor visit h = ap (λ v. history ++ option_to
 kept_by_turn : (setting : Setting) (scripts : Scripts) (P : History → Type 0) (history : History) (actor : ℕ)
     → ((visit : Visit) → next setting scripts history actor ≡ Some visit → P (history ++ visit ∷ [])) → P history
     → P (after_turn setting scripts history actor)
-kept_by_turn setting scripts P history actor more now = at_next (next setting scripts history actor) refl
-  where
-    at_next : (n : Option Visit) → next setting scripts history actor ≡ n
-        → P (after_turn setting scripts history actor)
-    at_next None e = rw (turn-none setting scripts history actor e) now
-    at_next (Some visit) e = rw (turn-some setting scripts history actor visit e) (more visit e)
+kept_by_turn setting scripts P history actor more now = grind (arith, turn-none, turn-some)
 
 pub kept_by_play : (setting : Setting) (scripts : Scripts) (P : History → Type 0)
     → ((history : History) (actor : ℕ) (visit : Visit) → next setting scripts history actor ≡ Some visit → P history
@@ -70,11 +60,9 @@ played-push setting scripts history actor visit e played ticket found h =
     elim (cases_lt ticket (length history)) [
       | inl low ↦
           let here = slice_get-within history ticket low in
-          rw (take-append-le ticket history (visit ∷ []) (omega arith)) (played ticket found
-          (here.1 ∙ (sym (slice_get-left history (visit ∷ []) ticket here.0 here.1) ∙ h)))
+          rw (take-append-le ticket history (visit ∷ []) (omega arith)) (grind (arith, slice_get-left))
       | inr high ↦
-          let within : ticket < length (history ++ visit ∷ []) =
-          slice_get_within (history ++ visit ∷ []) ticket found h in
+          let within : ticket < length (history ++ visit ∷ []) = grind (arith, slice_get_within) in
           let same : ticket ≡ length history + 0 = omega (arith, length_push history visit) in
           let is_found : visit ≡ found = same_some (sym (slice_get-right history (visit ∷ []) ticket 0 same) ∙ h) in
           rw (
@@ -116,20 +104,7 @@ front-push whole made visit next_one so_far = grind (arith, length_push, take-mo
 pub played-own : ScriptsInOrder
 played-own setting scripts history sub below played =
     by_fronts (λ front. own sub front ≡ take (length (own sub front)) (script_visits setting scripts sub)) history
-    refl
-    (λ t visit h so_far. step t visit h so_far (visit.actor == sub) refl)
-  where
-    step : (t : ℕ) (visit : Visit) → slice_get history t ≡ Some visit
-        → own sub (take t history) ≡ take (length (own sub (take t history))) (script_visits setting scripts sub)
-        → (b : Bool) → (visit.actor == sub) ≡ b → own sub (take t history ++ visit ∷ [])
-        ≡ take (length (own sub (take t history ++ visit ∷ []))) (script_visits setting scripts sub)
-    step t visit h so_far true e = rw (own-push sub (take t history) visit, e)
-        (front-push (script_visits setting scripts sub) (own sub (take t history)) visit
-        (sym (next-sub setting scripts (take t history) sub below)
-        ∙ (ap (λ a. next setting scripts (take t history) a) (sym (eqb-true visit.actor sub e)) ∙ played t visit h))
-        so_far)
-    step t visit h so_far false e =
-        rw (own-push sub (take t history) visit, e, append-nil (own sub (take t history))) so_far
+    refl (λ t visit h so_far. grind (arith, own-push, front-push, next-sub, eqb-true, append-nil))
 
 -- so it is legal for each subscriber
 pub played-legal : MarksUnpack → PlayedIsLegal

@@ -1,19 +1,17 @@
 -- The histories of orders: turns of actors until they are done, and orders of the actors of histories.
-use Rattle.std.proofs.Common.{◌≡◌, ℕ, zero, suc, ◌+◌, ◌-◌, ◌<◌, ◌≤◌, true, false, cond, ◌==◌, List, [], ◌∷◌, ◌++◌, Option, Some, None, length, take, map, fold, refl, sym, ap, ◌∙◌, subst, arith, inl, inr, ◌⊎◌}
-use Rattle.std.specs.Prelude.{sum_by, flat_map, replicate, option_map}
-use Rattle.std.proofs.lemmas.Bool.{eqb-true, or_cases, lt-ltb, le-ltb, ne_eqb, eq-eqb, cases_lt}
+use Rattle.std.proofs.Common.{◌≡◌, ℕ, zero, suc, ◌+◌, ◌≤◌, true, ◌==◌, List, [], ◌∷◌, ◌++◌, None, length, map, fold, refl, ap, ◌∙◌, arith, inl, inr, ◌⊎◌}
+use Rattle.std.specs.Prelude.{flat_map, replicate, option_map}
+use Rattle.std.proofs.lemmas.Bool.{eqb-true, or_cases, ne_eqb, cases_lt}
 use Rattle.std.proofs.lemmas.List.{append-nil, length_push, get_or_past, map-append}
 use Rattle.std.proofs.lemmas.List.Sums.{fold-append}
 use Rattle.std.proofs.lemmas.Option.{slice_get_within}
 use Rattle.node_set.specs.Ascending.{has}
 use Rattle.node_set.specs.SetLaws.{has-passing}
-use Rattle.entry_word.specs.declared.visit.Key.{Key}
 use Rattle.entry_word.specs.declared.visit.Visit.{Visit}
-use Rattle.directory.specs.Settings.{Setting, subs}
-use Rattle.directory.specs.Histories.{History, own, words_read}
-use Rattle.directory.specs.Finds.{FindCall, most_looks}
+use Rattle.directory.specs.Settings.{Setting}
+use Rattle.directory.specs.Histories.{History, own}
 use Rattle.directory.specs.Looks.{look_by}
-use Rattle.directory.specs.Orders.{actors, Scripts, finds_of, script_visits, caller_at, after_read, caller_after, caller_in, next_key, next, after_turn, after_turns, most_turns, last_turns, history_of, IsPlayed, IsDone}
+use Rattle.directory.specs.Orders.{actors, Scripts, caller_at, after_read, caller_after, next_key, after_turn, after_turns, most_turns, last_turns, history_of, IsPlayed, IsDone}
 use Rattle.directory.proofs.HistoryLaws.{words-push}
 use Rattle.directory.specs.Statements.{OrdersAreDone, HistoriesAreOrdered, OrdersAreOwn, TurnsAreFew}
 use Rattle.directory.specs.StepLaws.{by_fronts, own-push}
@@ -25,41 +23,14 @@ use Rattle.directory.specs.HistoryLaws.{next-sub, next-caller, tickets-count, tu
 -- an actor that isn't done has made fewer visits than it may
 pub next-few : TurnsAreFew
 next-few setting scripts history actor visit played h =
-    elim (cases_lt actor (subs setting)) [
-      | inl low ↦ rw (lt-ltb actor (subs setting) low)
-          (slice_get_within (script_visits setting scripts actor) (length (own actor history)) visit
-          (sym (next-sub setting scripts history actor low) ∙ h))
-      | inr high ↦ rw (le-ltb actor (subs setting) high)
-          (wanting (caller-look setting scripts history actor visit high h) high)
-    ]
-  where
-    wanting : (key : Key) × (next_key (caller_in setting scripts history actor) ≡ Some key)
-        × (visit ≡ look_by actor key) → subs setting ≤ actor
-        → length (own actor history) < sum_by (λ (call : FindCall). most_looks setting call.from)
-        (finds_of setting scripts actor)
-    wanting (key, wanted, is_look) high =
-        omega (
-          arith,
-          (under_way setting scripts history actor high played).few,
-          tickets-count actor history,
-          read_left setting (caller_in setting scripts history actor)
-              (caller_in setting scripts history actor).calls 0 key refl wanted,
-        )
+    grind (arith, cases_lt, slice_get_within, next-sub, caller-look, under_way, tickets-count, read_left)
 
--- the visits of others don't change an actor's next visit
-next-kept : (setting : Setting) (scripts : Scripts) (history : History) (actor : ℕ) (visit : Visit)
-    → (visit.actor == actor) ≡ false → next setting scripts (history ++ visit ∷ []) actor
-    ≡ next setting scripts history actor
-next-kept setting scripts history actor visit e = grind (arith, own-push, words-push, append-nil)
-
--- an actor that is done stays done
+-- the visits of others don't change an actor's next visit, so an actor that is done stays done
 pub done-kept : (setting : Setting) (scripts : Scripts) (actor : ℕ) (order : List ℕ) (history : History)
     → IsDone setting scripts history actor → IsDone setting scripts (after_turns setting scripts history order) actor
 done-kept setting scripts actor order history done = kept_by_play setting scripts
-    (λ h. IsDone setting scripts h actor) (λ h other visit e now.
-    next-kept setting scripts h actor visit (ne_eqb visit.actor actor (λ same.
-    let its : other ≡ actor = sym (next-actor setting scripts h other visit e) ∙ same in
-    let both : Some visit ≡ None = sym e ∙ (ap (next setting scripts h) its ∙ now) in cc)) ∙ now) order history done
+    (λ h. IsDone setting scripts h actor)
+    (λ h other visit e now. grind (arith, own-push, words-push, append-nil, ne_eqb, next-actor)) order history done
 
 -- after so many turns an actor is done, or has made a visit at each
 abbrev IsCounted : Setting → Scripts → ℕ → ℕ → History → History → Type 0
@@ -69,22 +40,8 @@ IsCounted setting scripts actor k history later =
 counted : (setting : Setting) (scripts : Scripts) (actor k : ℕ) (history : History)
     → IsCounted setting scripts actor k history (after_turns setting scripts history (replicate k actor))
 counted setting scripts actor zero history = inr (omega arith)
-counted setting scripts actor (suc k) history = at_next (next setting scripts history actor) refl
-    (counted setting scripts actor k)
-  where
-    at_next : (n : Option Visit) → next setting scripts history actor ≡ n
-        → ((h : History) → IsCounted setting scripts actor k h (after_turns setting scripts h (replicate k actor)))
-        → IsCounted setting scripts actor (suc k) history
-        (after_turns setting scripts (after_turn setting scripts history actor) (replicate k actor))
-    at_next None e more = inl (done-kept setting scripts actor (replicate k actor) _
-        (subst (λ h. IsDone setting scripts h actor) (sym (turn-none setting scripts history actor e)) e))
-    at_next (Some visit) e more =
-        let one_more : length (own actor (history ++ visit ∷ [])) ≡ length (own actor history) + 1 =
-        ap length (own-push actor history visit ∙ ap (λ b. own actor history ++ cond b (visit ∷ []) [])
-        (eq-eqb visit.actor actor (next-actor setting scripts history actor visit e)))
-        ∙ length_push (own actor history) visit in
-        rw (turn-some setting scripts history actor visit e)
-        (elim (more (history ++ visit ∷ [])) [ inl done ↦ inl done | inr many ↦ inr (omega arith) ])
+counted setting scripts actor (suc k) history =
+    grind (arith, done-kept, turn-none, own-push, next-actor, length_push, turn-some, counted setting scripts actor k)
 
 pub played-kept : (setting : Setting) (scripts : Scripts) (order : List ℕ) (history : History)
     → IsPlayed setting scripts history → IsPlayed setting scripts (after_turns setting scripts history order)
@@ -94,20 +51,7 @@ played-kept setting scripts order history played = kept_by_play setting scripts 
 pub done-after : (setting : Setting) (scripts : Scripts) (actor : ℕ) (history : History)
     → IsPlayed setting scripts history → IsDone setting scripts
     (after_turns setting scripts history (replicate (most_turns setting scripts actor) actor)) actor
-done-after setting scripts actor history played = at_next (next setting scripts late actor) refl
-  where
-    late : History
-    late = after_turns setting scripts history (replicate (most_turns setting scripts actor) actor)
-
-    at_next : (n : Option Visit) → next setting scripts late actor ≡ n → IsDone setting scripts late actor
-    at_next None e = e
-    at_next (Some visit) e =
-        let few = next-few setting scripts late actor visit (played-kept setting scripts
-        (replicate (most_turns setting scripts actor) actor) history played) e in
-        elim (counted setting scripts actor (most_turns setting scripts actor) history) [
-          | inl done ↦ done
-          | inr many ↦ absurd (omega (arith, few, many))
-        ]
+done-after setting scripts actor history played = grind (arith, next-few, played-kept, counted)
 
 pub after_turns-append : (setting : Setting) (scripts : Scripts) (history : History) (one other : List ℕ)
     → after_turns setting scripts history (one ++ other)
@@ -126,8 +70,7 @@ done-each setting scripts actor (first ∷ others) history inside played =
     rw (after_turns-append setting scripts history (replicate (most_turns setting scripts first) first)
     (turns_of setting scripts others))
     (elim (or_cases (actor == first) (has actor others) inside) [
-      | inl e ↦ done-kept setting scripts actor (turns_of setting scripts others) _
-          (rw (← eqb-true actor first e) (done-after setting scripts actor history played))
+      | inl e ↦ grind (arith, done-kept, eqb-true, done-after)
       | inr later ↦ done-each setting scripts actor others _ later
           (played-kept setting scripts (replicate (most_turns setting scripts first) first) history played)
     ])
@@ -135,12 +78,7 @@ done-each setting scripts actor (first ∷ others) history inside played =
 -- one who is no actor has no visit
 stranger-done : (setting : Setting) (scripts : Scripts) (history : History) (actor : ℕ)
     → actors setting scripts ≤ actor → IsDone setting scripts history actor
-stranger-done setting scripts history actor high =
-    rw (next-caller setting scripts history actor (omega arith))
-    (let none : finds_of setting scripts actor ≡ [] = get_or_past scripts.finds (actor - subs setting) []
-    (omega arith) in
-    ap (λ calls. option_map (look_by actor) (next_key (caller_after setting calls
-    (words_read setting actor history)))) none ∙ idle (words_read setting actor history))
+stranger-done setting scripts history actor high = grind (arith, next-caller, get_or_past, idle)
   where
     nothing_left : (words : List ℕ) → fold (after_read setting) (caller_at []) words ≡ caller_at []
     nothing_left [] = refl
@@ -157,8 +95,7 @@ all-done setting scripts order actor =
 -- more turns after the end change nothing
 pub history-longer : (setting : Setting) (scripts : Scripts) (order more : List ℕ)
     → after_turns setting scripts (history_of setting scripts order) more ≡ history_of setting scripts order
-history-longer setting scripts order more = after_turns-done setting scripts
-    (history_of setting scripts order) more (λ k d low. all-done setting scripts order _)
+history-longer setting scripts order more = grind (arith, after_turns-done, all-done)
 
 -- an order that names the actor of each of its visits, or one that is done, is its own
 own-order : (setting : Setting) (scripts : Scripts) (history : History) → IsPlayed setting scripts history
@@ -166,12 +103,7 @@ own-order : (setting : Setting) (scripts : Scripts) (history : History) → IsPl
 own-order setting scripts history played =
     by_fronts (λ front. after_turns setting scripts [] (map (λ (visit : Visit). visit.actor) front) ≡ front) history
     refl
-    (λ t visit h same. rw (
-      map-append (λ (v : Visit). v.actor) (take t history) (visit ∷ []),
-      after_turns-append setting scripts [] (map (λ (v : Visit). v.actor) (take t history)) (visit.actor ∷ []),
-      same,
-    )
-    (turn-some setting scripts (take t history) visit.actor visit (played t visit h)))
+    (λ t visit h same. grind (arith, map-append, after_turns-append, turn-some))
 
 -- a played history, whoever made it, becomes the history of the order of its actors
 pub completed : HistoriesAreOrdered

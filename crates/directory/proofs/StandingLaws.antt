@@ -3,7 +3,6 @@ use Rattle.std.proofs.Common.{◌≡◌, ℕ, zero, suc, ◌≤◌, List, [], �
 use Rattle.std.specs.Prelude.{slice_index, filter_map, All}
 use Rattle.std.specs.List.{cons_option}
 use Rattle.std.proofs.Math.Seq.{take-append-add, take-nil}
-use Rattle.directory.proofs.AmidLaws.{legal-amid}
 use Rattle.std.proofs.lemmas.List.{append-nil, length-take-le, length-map, map-append}
 use Rattle.std.proofs.lemmas.List.Elements.{All-cons, All-head, All-map, All-nil, All-tail, All-take, filter_map-append}
 use Rattle.entry_word.specs.declared.mark.PresenceMark.TheVariants.{Here, Gone, Coming}
@@ -11,11 +10,11 @@ use Rattle.directory.specs.Settings.{Setting, start}
 use Rattle.directory.specs.Histories.{puts_to}
 use Rattle.directory.specs.Courses.{Step, move_to, Move, Course, course_at, next_move, after_step, after_steps}
 use Rattle.directory.specs.Writes.{Write, mark_at, numbers_from, new_address, erasure_writes, purge_writes, move_writes, step_writes, writes}
-use Rattle.directory.specs.Puts.{steps_in, course_in}
+use Rattle.directory.specs.Puts.{course_in}
 use Rattle.directory.specs.Standing.{Commit, commit_by, commits, number}
 use Rattle.directory.specs.States.{write_commit}
 use Rattle.directory.proofs.StateLaws.{commits-told}
-use Rattle.directory.proofs.StepLaws.{all-ends}
+use Rattle.directory.proofs.StepLaws.{all-ends, legal-amid}
 use Rattle.entry_word.specs.Marks.{MarksUnpack}
 use Rattle.directory.specs.Statements.{CommitsAreMoves, StandsAtStop}
 use Rattle.directory.specs.StepLaws.{start-kept}
@@ -81,8 +80,7 @@ move-listed setting course move k = (
         (All-map IsNoCommit (new_address setting move) numbers (λ i d h. refl))
 
     none_last : All IsNoCommit last
-    none_last = All-cons IsNoCommit _ (erasure_writes setting course move ++ purge_writes setting course move) refl
-        (all-ends IsNoCommit setting course move (λ level cluster. refl) (λ node. refl))
+    none_last = grind (arith, all-ends IsNoCommit setting course move (λ level cluster. refl) (λ node. refl))
 
 -- the writes of steps commit to the moves that they add, and a front of those of one step to its first
 steps-listed : (setting : Setting) (course : Course) (steps : List Step)
@@ -109,9 +107,8 @@ under-listed setting course (move_to node ∷ []) k one =
       | inl none ↦ (0, omega arith, none)
       | inr its ↦ (1, omega arith, its)
     ])
-under-listed setting course (step ∷ []) k one = (
-  0,
-  omega arith,
+under-listed setting course (step ∷ []) k one = grind (
+  arith,
   none-listed (take k (step_writes setting course step))
       (All-take IsNoCommit k _ (All-cons IsNoCommit _ [] refl (All-nil IsNoCommit))),
 )
@@ -133,25 +130,12 @@ commits-are_moves unpacks setting sub history low legal =
     let under = added setting (after_steps setting first far.before) far.under in
     let last = under-listed setting (after_steps setting first far.before) far.under far.made far.one in
     let moves : (course_in setting sub (puts_to sub history)).moves ≡ before ++ under =
-    moves-added setting first (steps_in (puts_to sub history))
-    ∙ (ap (added setting first) far.steps ∙ added-append setting first far.before far.under) in
+    grind (arith, moves-added, added-append) in
     let listed : commits sub history ≡ map commit_by (before ++ take last.0 under) =
-    commits-told unpacks setting sub history low legal ∙ (ap (filter_map write_commit) far.writes
-    ∙ (filter_map-append write_commit (writes setting first far.before) _
-    ∙ (ap (λ cs. cs ++ filter_map write_commit (take far.made
-    (writes setting (after_steps setting first far.before) far.under))) (steps-listed setting first far.before)
-    ∙ (ap (λ cs. map commit_by before ++ cs) last.2 ∙ sym (map-append commit_by before (take last.0 under)))))) in
-    let count : number sub history ≡ length before + last.0 = omega (
-      arith,
-      ap length listed,
-      length-map (before ++ take last.0 under) commit_by,
-      length-append before (take last.0 under),
-      length-take-le last.0 under last.1,
-    ) in (
-      omega (arith, count, last.1, ap length moves, length-append before under),
-      listed ∙ ap (map commit_by) (sym (take-append-add before under last.0)
-          ∙ (ap (λ n. take n (before ++ under)) (sym count) ∙ ap (take (number sub history)) (sym moves))),
-    )
+    commits-told unpacks setting sub history low legal ∙ grind (arith, filter_map-append, steps-listed, map-append) in
+    let count : number sub history ≡ length before + last.0 =
+    grind (arith, length-map, length-append, length-take-le) in
+    grind (arith, count, last, moves, listed, length-append, take-append-add)
 
 -- the node after the first moves of a list
 last-stop : (start count : ℕ) (moves : List Move) → count ≤ length moves
@@ -165,8 +149,6 @@ last-stop start (suc count) (move ∷ moves) few = last-stop move.to count moves
 pub standing-is_stop : MarksUnpack → StandsAtStop
 standing-is_stop unpacks setting sub history low legal =
     let made = commits-are_moves unpacks setting sub history low legal in
-    let course : Course = course_in setting sub (puts_to sub history) in
-    ap (fold (λ node (commit : Commit). commit.to) (start setting sub)) made.1
-    ∙ (last-stop (start setting sub) (number sub history) course.moves made.0
-    ∙ ap (λ node. slice_index (node ∷ map (λ (move : Move). move.to) course.moves) (number sub history))
-    (sym (start-kept setting (course_at (start setting sub)) (steps_in (puts_to sub history)))))
+    let stop = last-stop (start setting sub) (number sub history) (course_in setting sub (puts_to sub history)).moves
+    made.0 in
+    grind (arith, made, stop, start-kept)

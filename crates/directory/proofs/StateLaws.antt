@@ -1,5 +1,5 @@
 -- A cell after a legal history holds what the writes that are made have left; and these fit into their words.
-use Rattle.std.proofs.Common.{◌≡◌, ℕ, ◌<◌, ◌≤◌, ◌^◌, Bool, false, ◌==◌, ◌&&◌, List, [], ◌∷◌, Option, None, length, map, fold, refl, ap, ◌∙◌, arith}
+use Rattle.std.proofs.Common.{◌≡◌, ℕ, ◌<◌, ◌≤◌, ◌^◌, Bool, false, ◌==◌, List, [], ◌∷◌, Option, None, length, map, fold, refl, ap, ◌∙◌, arith}
 use Rattle.std.specs.Prelude.{unwrap_or, filter_map, All}
 use Rattle.std.proofs.lemmas.List.Elements.{All-append, All-cons, All-head, All-nil, All-tail, All-take}
 use Rattle.directory.proofs.Tests.{both_ways}
@@ -12,16 +12,16 @@ use Rattle.entry_word.specs.declared.mark.PresenceMark.TheVariants.{Empty}
 use Rattle.entry_word.specs.declared.address.Address.{Address}
 use Rattle.entry_word.specs.declared.visit.Key.TheVariants.{Presence, Entry}
 use Rattle.entry_word.specs.declared.visit.Visit.{Visit}
-use Rattle.directory.specs.Settings.{Setting, start}
-use Rattle.directory.specs.Keys.{is_start, is_start_home}
+use Rattle.directory.specs.Settings.{Setting}
+use Rattle.directory.specs.Keys.{is_start}
 use Rattle.directory.specs.Histories.{History, word_after, cell, puts_to}
-use Rattle.directory.specs.Courses.{Step, move_to, Course, course_at, last_stop, next_move, after_step, MayStep, MaySteps}
+use Rattle.directory.specs.Courses.{Step, move_to, Course, last_stop, next_move, after_step, MayStep, MaySteps}
 use Rattle.directory.specs.Writes.{Write, mark_at, entry_at, visit_of, step_writes, writes}
-use Rattle.directory.specs.Puts.{mark_put, node_put, steps_in}
+use Rattle.directory.specs.Puts.{mark_put, node_put}
 use Rattle.directory.specs.Standing.{commit_of, off}
 use Rattle.directory.specs.Legal.{IsLegal}
 use Rattle.directory.specs.States.{AreSmall, IsSmallWrite, opening_mark, opening_entry, mark_after, entry_after, mark_left, entry_left, write_commit, write_off, writes_made}
-use Rattle.directory.proofs.CellLaws.{cell-of_puts}
+use Rattle.directory.proofs.HistoryLaws.{cell-of_puts}
 use Rattle.directory.proofs.StepLaws.{IsCourse, after_coming, all-after, course-after}
 use Rattle.directory.specs.Statements.{MarksAreLeft, EntriesAreLeft, CommitsAreTold, OffIsTold}
 use Rattle.entry_word.specs.MarkLaws.{read-mark}
@@ -44,14 +44,12 @@ writes-left : {A : Type 0} (f : ℕ → Visit → ℕ) (after : A → Write → 
     → ((a : A) (write : Write) → f (word a) (visit_of sub write) ≡ word (after a write)) → (a : A) (ws : List Write)
     → fold f (word a) (map (visit_of sub) ws) ≡ word (fold after a ws)
 writes-left f after word sub one a [] = refl
-writes-left f after word sub one a (write ∷ ws) = ap (λ w. fold f w (map (visit_of sub) ws)) (one a write)
-    ∙ writes-left f after word sub one (after a write) ws
+writes-left f after word sub one a (write ∷ ws) = grind (arith, writes-left f after word sub one (after a write) ws)
 
 -- the puts of a legal history are the visits of the writes that are made
 pub puts-made : (setting : Setting) (sub : ℕ) (history : History) → IsLegal setting sub history
     → puts_to sub history ≡ map (visit_of sub) (writes_made setting sub (puts_to sub history))
-puts-made setting sub history legal = legal.front ∙ take-map (visit_of sub) (length (puts_to sub history))
-    (writes setting (course_at (start setting sub)) (steps_in (puts_to sub history)))
+puts-made setting sub history legal = grind (arith, take-map)
 
 pub mark-word_left : (setting : Setting) (sub : ℕ) (history : History) → IsLegal setting sub history → (node : ℕ)
     → cell setting history (Presence node sub) ≡ mark_word
@@ -88,8 +86,7 @@ small-writes setting course (step ∷ steps) sound may =
         let to : node < 2 ^ 16 = omega (arith, sound.low, h.inside) in
         let move = next_move setting course node in
         All-cons IsSmallWrite _ (after_coming setting course move) (h.few, from)
-        (all-after IsSmallWrite setting course move (λ level. (h.few, to)) (h.few, to) h.few (λ level cluster. tt)
-        (λ node. tt))
+        (search all-after)
     at_step _ h = All-cons IsSmallWrite _ [] sound.few (All-nil IsSmallWrite)
 
 small-each : (ws : List Write) → All IsSmallWrite ws → AreSmall ws
@@ -102,8 +99,7 @@ pub small-made : (setting : Setting) (sub : ℕ) (history : History) → setting
     → IsLegal setting sub history → AreSmall (writes_made setting sub (puts_to sub history))
 small-made setting sub history low legal =
     small-each _ (All-take IsSmallWrite (length (puts_to sub history)) _
-    (small-writes setting (course_at (start setting sub)) (steps_in (puts_to sub history))
-    (record { low = low; inside = legal.script.begins; few = omega arith }) legal.script.allowed))
+    (grind (arith, small-writes)))
 
 -- what is left fits into its word
 small-left : {A : Type 0} (IsSmall : A → Type 0) (after : A → Write → A)
@@ -122,8 +118,7 @@ small-mark_after node mark (entry_at level cluster address) small fits = small
 small-entry_after : (level cluster : ℕ) (address : Option Address) (write : Write) → IsSmallAddress address
     → IsSmallWrite write → IsSmallAddress (entry_after level cluster address write)
 small-entry_after level cluster address (mark_at node mark) small fits = small
-small-entry_after level cluster address (entry_at other c new) small fits =
-    both_ways IsSmallAddress (level == other && cluster == c) fits small
+small-entry_after level cluster address (entry_at other c new) small fits = grind (arith, both_ways)
 
 -- so what is read of a legal history is what its writes have left
 pub mark-read : MarksUnpack → MarksAreLeft
@@ -142,8 +137,7 @@ entry-read unpacks setting sub history low legal level cluster =
     (writes_made setting sub (puts_to sub history)) level cluster)
     (small-left IsSmallAddress (entry_after level cluster) (small-entry_after level cluster)
     (opening_entry setting sub level cluster) _
-    (both_ways IsSmallAddress (is_start_home setting level cluster sub)
-    (omega arith, omega (arith, legal.script.begins, low)) tt)
+    (grind (arith, both_ways))
     (small-made setting sub history low legal)))
 
 -- the writes tell the commits, and whether the subscriber is off
@@ -162,8 +156,7 @@ off-of_visits : MarksUnpack → (sub : ℕ) (off : Bool) (ws : List Write) → A
 unfolding AreSmall
 off-of_visits unpacks sub off [] small = refl
 off-of_visits unpacks sub off (mark_at node mark ∷ ws) small =
-    ap (λ m. fold (λ o (v : Visit). says_off (mark_put v.act)) (says_off m) (map (visit_of sub) ws))
-    (read-mark unpacks mark small.0) ∙ off-of_visits unpacks sub (says_off mark) ws small.1
+    grind (arith, read-mark, off-of_visits unpacks sub (says_off mark) ws small.1)
 off-of_visits unpacks sub off (entry_at level cluster address ∷ ws) small = off-of_visits unpacks sub false ws small.1
 
 pub commits-told : MarksUnpack → CommitsAreTold

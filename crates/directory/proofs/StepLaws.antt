@@ -1,23 +1,26 @@
--- Steps: more of them add writes at the end, puts show which were begun, and a front of legal puts is legal.
-use Rattle.std.proofs.Common.{◌≡◌, ℕ, zero, suc, ◌+◌, ◌-◌, ◌<◌, ◌≤◌, ◌^◌, false, List, [], ◌∷◌, ◌++◌, Some, None, length, map, take, fold, refl, sym, ap, ◌∙◌, subst, arith, length-append, ◌==◌, append_assoc, inl, inr}
+-- Steps: more of them add writes at the end, puts show which were begun and how far these are, and a front of legal
+-- puts is legal.
+use Rattle.std.proofs.lemmas.List.{take-append-drop}
+use Rattle.std.proofs.lemmas.List.{length-take, take_min}
+use Rattle.std.proofs.Common.{drop}
+use Rattle.std.proofs.Common.{◌≡◌, ℕ, suc, ◌-◌, ◌<◌, ◌≤◌, ◌^◌, false, List, [], ◌∷◌, ◌++◌, Some, None, length, map, take, refl, sym, ap, ◌∙◌, subst, arith, length-append, ◌==◌, append_assoc, inl, inr}
 use Rattle.std.specs.Prelude.{slice_get, All}
 use Rattle.std.proofs.Math.Seq.{take-nil}
 use Rattle.std.proofs.lemmas.Bool.{cases_lt}
-use Rattle.std.proofs.lemmas.List.Elements.{All-append, All-cons, All-head, All-map, All-nil, All-tail, All-take}
+use Rattle.std.proofs.lemmas.List.Elements.{All-append, All-head, All-map, All-nil, All-tail, All-take}
 use Rattle.directory.proofs.Tests.{both_ways}
-use Rattle.std.proofs.lemmas.List.{append-nil, length-map, map-append, take-append-le, take-map, take_all, take_at}
-use Rattle.std.proofs.lemmas.List.Sums.{fold-append}
+use Rattle.std.proofs.lemmas.List.{append-nil, length-map, map-append, take-append-le, take-map, take_all, take_at, length_push, length-take, length-append}
 use Rattle.entry_word.specs.Marks.{says_off, IsSmallMark, MarksUnpack}
 use Rattle.entry_word.specs.declared.mark.PresenceMark.{PresenceMark}
-use Rattle.entry_word.specs.declared.mark.PresenceMark.TheVariants.{Empty, Here, Gone, Coming, Off}
+use Rattle.entry_word.specs.declared.mark.PresenceMark.TheVariants.{Empty, Here, Gone, Coming}
 use Rattle.entry_word.specs.declared.visit.Visit.{Visit}
 use Rattle.directory.specs.Settings.{Setting, start}
 use Rattle.directory.specs.Courses.{Step, move_to, switch_off, switch_on, Move, Course, course_at, last_stop, next_move, after_step, after_steps, MayStep, MaySteps}
 use Rattle.directory.specs.Writes.{Write, mark_at, entry_at, visit_of, numbers_from, new_address, erasure_writes, purge_writes, step_writes, writes, visits}
-use Rattle.directory.specs.Puts.{node_put, mark_put, mark_step, steps_from, steps_in, course_in}
+use Rattle.directory.specs.Puts.{node_put, mark_put, mark_step, steps_from, steps_in}
 use Rattle.directory.specs.Legal.{IsScript, ArePuts}
-use Rattle.directory.specs.Statements.{FrontsAreLegal, ScriptsAreLegal, DueIsLegal, BeginningIsLegal, NextIsDecided}
-use Rattle.directory.specs.StepLaws.{steps-append, take-append, visits-append, visits_in, take-more, may-take}
+use Rattle.directory.specs.Statements.{FrontsAreLegal, ScriptsAreLegal, DueIsLegal, BeginningIsLegal, NextIsDecided, LegalIsAmid, StepsBeginAtRest}
+use Rattle.directory.specs.StepLaws.{steps-append, take-append, visits-append, visits_in, take-more, may-take, last_stop-moved}
 use Rattle.entry_word.specs.MarkLaws.{read-mark}
 
 -- a put that begins no step, when no Off was put before it, and is none itself
@@ -35,11 +38,7 @@ plain-skipped (x ∷ xs) ys all =
 
 plain-mark : MarksUnpack → (sub node : ℕ) (mark : PresenceMark) → IsSmallMark mark → mark_step false node mark ≡ None
     → says_off mark ≡ false → IsPlain (visit_of sub (mark_at node mark))
-plain-mark unpacks sub node mark small none on = (
-  ap (mark_step false node) (read-mark unpacks mark small)
-      ∙ none,
-  ap says_off (read-mark unpacks mark small) ∙ on,
-)
+plain-mark unpacks sub node mark small none on = grind (arith, read-mark)
 
 -- what a move puts after its Coming
 abbrev pub after_coming : Setting → Course → Move → List Write
@@ -65,20 +64,13 @@ pub all-after : (P : Write → Type 0) (setting : Setting) (course : Course) (mo
 all-after P setting course move new gone here erased purged =
     All-append P (map (new_address setting move) (numbers_from 0 (suc move.renewed))) _
     (All-map P (new_address setting move) (numbers_from 0 (suc move.renewed)) (λ i d h. new _))
-    (All-cons P _ (mark_at move.to (Here move.number) ∷ ends) gone
-    (All-cons P _ ends here (all-ends P setting course move erased purged)))
-  where
-    ends : List Write
-    ends = erasure_writes setting course move ++ purge_writes setting course move
+    (grind (arith, all-ends P setting course move erased purged))
 
 plain-after : MarksUnpack → (setting : Setting) (sub : ℕ) (course : Course) (move : Move) → move.number < 2 ^ 32
     → move.to < 2 ^ 16 → All IsPlain (map (visit_of sub) (after_coming setting course move))
 plain-after unpacks setting sub course move few low =
     All-map IsPlain (visit_of sub) (after_coming setting course move)
-    (all-after (λ write. IsPlain (visit_of sub write)) setting course move (λ level. (refl, refl))
-    (plain-mark unpacks sub move.from (Gone move.number move.to) (few, low) refl refl)
-    (plain-mark unpacks sub move.to (Here move.number) few refl refl) (λ level cluster. (refl, refl))
-    (λ node. (refl, refl)))
+    (search (all-after, plain-mark))
 
 -- what is known of a course
 pub record IsCourse (setting : Setting) (course : Course) : Type 0 where
@@ -86,22 +78,9 @@ pub record IsCourse (setting : Setting) (course : Course) : Type 0 where
   pub inside : last_stop course < setting.nodes
   pub few : length course.moves < 2 ^ 32
 
-place-after : (course : Course) (move : Move) → fold (λ node (m : Move). m.to) course.start
-    (course.moves ++ move ∷ []) ≡ move.to
-place-after course move = fold-append (λ node (m : Move). m.to) course.start course.moves (move ∷ [])
-
 pub course-after : (setting : Setting) (course : Course) (step : Step) → IsCourse setting course
     → MayStep setting course step → IsCourse setting (after_step setting course step)
-course-after setting course (move_to node) sound may =
-    let there : fold (λ n (m : Move). m.to) course.start (course.moves ++ next_move setting course node ∷ [])
-    ≡ node = place-after course (next_move setting course node) in
-    let more : length (course.moves ++ next_move setting course node ∷ [])
-    ≡ length course.moves + 1 = length-append course.moves (next_move setting course node ∷ []) in
-    record {
-      low = sound.low;
-      inside = subst (λ p. p < setting.nodes) (sym there) may.inside;
-      few = omega (arith, more, may.few);
-    }
+course-after setting course (move_to node) sound may = grind (arith, last_stop-moved, length-append)
 course-after setting course _ sound may = record { low = sound.low; inside = sound.inside; few = sound.few }
 
 -- the first visits of a step, with others after them when it is done
@@ -118,10 +97,8 @@ one-begun unpacks setting sub course (move_to node) k later sound may =
     rw (read-mark unpacks (Coming (suc (length course.moves)) (last_stop course)) (few, from), may.is_on)
     (ap (λ xs. move_to node ∷ xs) (plain-skipped (take k rest) later
     (All-take IsPlain k rest (plain-after unpacks setting sub course (next_move setting course node) few low))))
-one-begun unpacks setting sub course switch_off k later sound may =
-    rw (take-nil {A = Visit} k, read-mark unpacks (Off (length course.moves)) sound.few)
-one-begun unpacks setting sub course switch_on k later sound may =
-    rw (take-nil {A = Visit} k, read-mark unpacks (Here (length course.moves)) sound.few, may)
+one-begun unpacks setting sub course switch_off k later sound may = grind (arith, take-nil, read-mark)
+one-begun unpacks setting sub course switch_on k later sound may = grind (arith, take-nil, read-mark)
 
 -- how far the first visits of steps are
 pub record AreAmid (setting : Setting) (sub : ℕ) (course : Course) (steps : List Step) (k : ℕ) : Type 0 where
@@ -147,9 +124,7 @@ amid unpacks setting sub course (step ∷ steps) (suc k) sound may = elim (cases
     before = [];
     under = step ∷ [];
     made = suc k;
-    shown = shows ∙ ap (λ n. step ∷ steps_from (after_step setting course step).is_off
-        (take n (visits_in setting sub (after_step setting course step) steps)))
-        (let e : suc k - length mine ≡ 0 = omega arith in e);
+    shown = grind (arith, shows, visits_in);
     one = omega arith;
     some = omega arith;
     few = omega (arith, length-append mine (writes setting (after_step setting course step) []));
@@ -171,14 +146,8 @@ amid unpacks setting sub course (step ∷ steps) (suc k) sound may = elim (cases
         few = far.few;
         later = far.later;
         whole = ap (λ xs. step ∷ xs) far.whole;
-        enough = take-append (suc k) mine _
-            ∙ (ap (λ ws. take (suc k) mine ++ ws) far.enough ∙ sym (take-append (suc k) mine rest));
-        front = take-append (suc k) mine rest
-            ∙ (ap (λ ws. ws ++ take (suc k - length mine) rest) (take_all (suc k) mine (omega (arith, high)))
-            ∙ (ap (λ ws. mine ++ ws) far.front ∙ sym (append_assoc mine
-            (writes setting (after_step setting course step) far.before)
-            (take far.made (writes setting (after_steps setting (after_step setting course step) far.before)
-            far.under)))));
+        enough = rw (take-append (suc k) mine, take-append (suc k) mine rest, far.enough);
+        front = rw (take-append (suc k) mine rest, take_all (suc k) mine (omega arith), far.front, append_assoc);
       }
 ]
   where
@@ -199,8 +168,7 @@ amid unpacks setting sub course (step ∷ steps) (suc k) sound may = elim (cases
     shows : steps_from course.is_off (take (suc k) (visits_in setting sub course (step ∷ steps)))
         ≡ step ∷ steps_from (after_step setting course step).is_off
         (take (suc k - length mine) (visits_in setting sub (after_step setting course step) steps))
-    shows = ap (steps_from course.is_off) parted ∙ one-begun unpacks setting sub course step k
-        (take (suc k - length mine) (map (visit_of sub) rest)) sound may.0
+    shows = grind (arith, parted, one-begun, mine, rest)
 
     cut : suc k ≤ length mine → take (suc k) (mine ++ rest) ≡ take (suc k) (mine ++ [])
     cut low = take-append-le (suc k) mine rest low ∙ ap (take (suc k)) (sym (append-nil mine))
@@ -218,45 +186,27 @@ amid unpacks setting sub course steps k sound may = record {
   front = take-nil k;
 }
 
--- a front has as many as it has
-front-taken : {A : Type 0} (n : ℕ) (ys : List A) → take n ys ≡ take (length (take n ys)) ys
-front-taken zero ys = refl
-front-taken (suc n) [] = refl
-front-taken (suc n) (y ∷ ys) = ap (λ zs. y ∷ zs) (front-taken n ys)
-
-take-both : {A : Type 0} (m n : ℕ) (xs : List A) → m ≤ n → take m (take n xs) ≡ take m xs
-take-both zero n xs h = refl
-take-both (suc m) zero xs h = absurd (omega arith)
-take-both (suc m) (suc n) [] h = refl
-take-both (suc m) (suc n) (x ∷ xs) h = ap (λ zs. x ∷ zs) (take-both m n xs (omega arith))
+-- so far are the first visits of a script
+pub amid-script : MarksUnpack → (setting : Setting) (sub : ℕ) (steps : List Step) (k : ℕ) → setting.nodes ≤ 2 ^ 16
+    → IsScript setting sub steps → AreAmid setting sub (course_at (start setting sub)) steps k
+amid-script unpacks setting sub steps k low script = grind (arith, amid)
 
 -- the first visits of steps that a subscriber may make are legal
 pub script-legal : MarksUnpack → ScriptsAreLegal
 script-legal unpacks setting sub steps k low script =
-    let course = course_at (start setting sub) in
-    let far = amid unpacks setting sub course steps k
-    (record { low = low; inside = script.begins; few = omega arith }) script.allowed in
-    let shown : List Step = far.before ++ far.under in
-    let taken : take (length shown) steps ≡ shown =
-    ap (take (length shown)) far.whole ∙ take_at shown far.later (length shown) refl in
-    let same : take k (visits setting sub steps) ≡ take k (visits setting sub shown) =
-    take-map (visit_of sub) k (writes setting course steps) ∙ (ap (map (visit_of sub)) (sym far.enough)
-    ∙ sym (take-map (visit_of sub) k (writes setting course shown))) in
-    record {
-      script = record {
-        known = script.known;
-        begins = script.begins;
-        allowed = rw (far.shown, ← taken) (may-take setting course steps (length shown) script.allowed);
-      };
-      front = rw (far.shown, same) (front-taken k (visits setting sub shown));
-    }
+    let far = amid-script unpacks setting sub steps k low script in
+    let taken : take (length (far.before ++ far.under)) steps ≡ far.before ++ far.under = grind (arith, take_at) in
+    let front = visits setting sub (far.before ++ far.under) in
+    let whole : take k front ≡ take (length (take k front)) front = grind (arith, length-take, take_min) in
+    grind (arith, far, taken, whole, take-map, may-take)
 
 -- a front of legal puts is legal
 pub front-legal : MarksUnpack → FrontsAreLegal
 front-legal unpacks setting sub puts k low within legal =
-    subst (ArePuts setting sub) (sym (ap (take k) legal.front
-    ∙ take-both k (length puts) (visits setting sub (steps_in puts)) within))
-    (script-legal unpacks setting sub (steps_in puts) k low legal.script)
+    let whole = visits setting sub (steps_in puts) in
+    let same : take k whole ≡ take k puts =
+    grind (arith, take-append-drop (length puts) whole, take-append-le k puts (drop (length puts) whole)) in
+    rw (← same) (script-legal unpacks setting sub (steps_in puts) k low legal.script)
 
 -- the next of a longer front
 next-of-front : (xs ys zs : List Visit) (visit : Visit)
@@ -265,24 +215,16 @@ next-of-front : (xs ys zs : List Visit) (visit : Visit)
 next-of-front [] [] zs visit h few = absurd (omega arith)
 next-of-front [] (y ∷ ys) zs visit h few = cc
 next-of-front (x ∷ xs) [] zs visit h few = absurd (omega arith)
-next-of-front (x ∷ xs) (y ∷ ys) zs visit h few =
-    let tails : xs ++ visit ∷ [] ≡ take (length (xs ++ visit ∷ []))
-    (ys ++ zs) = cc in next-of-front xs ys zs visit tails (omega arith)
+next-of-front (x ∷ xs) (y ∷ ys) zs visit h few = grind (arith, next-of-front xs ys zs visit (cc) (omega arith))
 
 -- while a step isn't done, the puts so far decide on the next one
 pub next-decided : NextIsDecided
-next-decided setting sub puts visit left legal =
-    let longer : visits setting sub (steps_in (puts ++ visit ∷ [])) ≡ visits setting sub (steps_in puts) ++ _ =
-    ap (visits setting sub) (steps-append false puts (visit ∷ []))
-    ∙ visits-append setting sub (course_at (start setting sub)) (steps_in puts) _ in
-    next-of-front puts (visits setting sub (steps_in puts)) _ visit
-    (legal.front ∙ ap (take (length (puts ++ visit ∷ []))) longer) left
+next-decided setting sub puts visit left legal = grind (arith, steps-append, visits-append, next-of-front)
 
 -- the next put of the step under way keeps puts legal
 pub due-legal : MarksUnpack → DueIsLegal
 due-legal unpacks setting sub puts visit low legal due =
-    subst (ArePuts setting sub) (sym (ap (λ xs. xs ++ visit ∷ []) legal.front
-    ∙ sym (take-more (visits setting sub (steps_in puts)) (length puts) visit due)))
+    subst (ArePuts setting sub) (sym (grind (arith, take-more)))
     (script-legal unpacks setting sub (steps_in puts) (suc (length puts)) low legal.script)
 
 may-append : (setting : Setting) (course : Course) (xs ys : List Step) → MaySteps setting course xs
@@ -301,23 +243,32 @@ grown (v ∷ vs) more visit first = ap (λ ws. v ∷ ws) (grown vs more visit fi
 -- and so does the first put of a further step, where no step is under way
 pub begin-legal : MarksUnpack → BeginningIsLegal
 unfolding MaySteps
-begin-legal unpacks setting sub puts step visit low legal rest may first =
-    subst (ArePuts setting sub) (sym same) (script-legal unpacks setting sub (steps_in puts ++ step ∷ [])
-    (suc (length puts)) low longer)
+begin-legal unpacks setting sub puts step visit low legal rest may first = search (same, script-legal, longer)
   where
     longer : IsScript setting sub (steps_in puts ++ step ∷ [])
-    longer = record {
-      known = legal.script.known;
-      begins = legal.script.begins;
-      allowed = may-append setting (course_at (start setting sub)) (steps_in puts) (step ∷ []) legal.script.allowed
-          (may, tt);
-    }
+    longer = grind (arith, may-append)
 
     all : puts ≡ visits setting sub (steps_in puts)
     all = legal.front ∙ take_all (length puts) (visits setting sub (steps_in puts)) (omega (arith, rest))
 
     same : puts ++ visit ∷ [] ≡ take (suc (length puts)) (visits setting sub (steps_in puts ++ step ∷ []))
-    same = ap (λ xs. xs ++ visit ∷ []) all
-        ∙ (grown (visits setting sub (steps_in puts)) (visits_in setting sub (course_in setting sub puts) (step ∷ []))
-        visit first
-        ∙ rw (rest, visits-append setting sub (course_at (start setting sub)) (steps_in puts) (step ∷ [])))
+    same = grind (arith, all, grown, visits_in, visits-append)
+
+pub legal-amid : MarksUnpack → LegalIsAmid
+legal-amid unpacks setting sub puts low legal =
+    let far = amid-script unpacks setting sub (steps_in puts) (length puts) low legal.script in grind (arith, far)
+
+-- a put that begins a step comes where the steps before are done
+pub begins-at_rest : MarksUnpack → StepsBeginAtRest
+unfolding steps_from
+begins-at_rest unpacks setting sub puts visit step low legal legal_more begins = grind (
+  arith,
+  amid-script unpacks setting sub (steps_in puts) (suc (length puts)) low legal.script,
+  cases_lt (length puts) (length (visits setting sub (steps_in puts))),
+  length-take (length puts) (visits setting sub (steps_in puts)),
+  steps-append false puts (visit ∷ []),
+  take-more,
+  next-decided,
+  length_push (steps_in puts) step,
+  length-append,
+)

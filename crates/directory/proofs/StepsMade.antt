@@ -1,40 +1,36 @@
--- The lines of a subscriber are made by its visits: each step's by all the writes of the step.
-use Rattle.std.proofs.Common.{◌≡◌, ℕ, ◌<◌, List, [], ◌∷◌, ◌++◌, Option, Some, length, map, take, drop, refl, sym, ap, ◌∙◌, append_assoc}
+-- The lines of a subscriber are made by its visits: each step's by all the writes of the step. One whose script is done
+-- has nothing left to put.
+use Rattle.std.proofs.Common.{arith, ◌≡◌, ℕ, ◌<◌, List, [], ◌∷◌, ◌++◌, Some, length, map, take, drop, refl, sym, ap, ◌∙◌, append_assoc, suc}
 use Rattle.std.specs.Prelude.{slice_get, All}
 use Rattle.std.proofs.lemmas.List.{take_at, drop_at, take-map, drop-map, length-map, map-append, take_all}
 use Rattle.std.proofs.lemmas.List.Sums.{fold-append}
 use Rattle.std.proofs.lemmas.List.Elements.{All-cons, All-nil}
 use Rattle.node_set.specs.Ascending.{IsAscending}
-use Rattle.entry_word.specs.declared.visit.Visit.{Visit}
 use Rattle.directory.specs.Settings.{Setting, subs, start}
-use Rattle.directory.specs.Histories.{History, own, tickets}
-use Rattle.directory.specs.Courses.{Step, move_to, Course, course_at, after_step, after_steps}
+use Rattle.directory.specs.Histories.{History, own, tickets, puts_to}
+use Rattle.directory.specs.Courses.{Step, move_to, Course, course_at, after_step, after_steps, MaySteps}
 use Rattle.directory.specs.Writes.{Write, step_writes, visit_of, writes}
 use Rattle.directory.specs.Orders.{Scripts, steps_of, script_visits, IsPlayed, IsDone}
 use Rattle.directory.specs.Outcomes.{step_line, step_lines, sub_lines, IsStepLine, IsMade}
-use Rattle.directory.proofs.NextLaws.{played-own}
-use Rattle.directory.proofs.TicketLaws.{tickets-tell, tickets-ascend, ascending_take, ascending_drop}
+use Rattle.directory.proofs.NextLaws.{played-own, played-puts}
+use Rattle.directory.proofs.HistoryLaws.{tickets-tell, tickets-ascend, ascending_take, ascending_drop}
 use Rattle.directory.specs.HistoryLaws.{next-sub}
-use Rattle.directory.specs.StepLaws.{past-end}
+use Rattle.directory.specs.StepLaws.{past-end, visits_in}
 use Rattle.std.proofs.lemmas.Simd.{map-map}
+use Rattle.std.proofs.Math.Seq.{drop-length}
+use Rattle.entry_word.specs.Marks.{MarksUnpack}
+use Rattle.entry_word.specs.declared.visit.Visit.{Visit}
+use Rattle.directory.specs.Puts.{steps_from}
+use Rattle.directory.specs.Statements.{DoneIsRest, DoneShowsScript}
+use Rattle.directory.proofs.StepLaws.{IsCourse, course-after, one-begun}
 
 -- the first visits of some are those of the first writes, and the others those of the others
 parted : (history : History) (sub : ℕ) (seen : List ℕ) (xs ys : List Write)
     → map (slice_get history) seen ≡ map (λ write. Some (visit_of sub write)) (xs ++ ys)
     → (map (slice_get history) (take (length xs) seen) ≡ map (λ write. Some (visit_of sub write)) xs)
     × (map (slice_get history) (drop (length xs) seen) ≡ map (λ write. Some (visit_of sub write)) ys)
-parted history sub seen xs ys h = (
-  sym (take-map (slice_get history) (length xs) seen) ∙ (ap (take (length xs)) whole
-      ∙ take_at (map told xs) (map told ys) (length xs) (length-map xs told)),
-  sym (drop-map (slice_get history) (length xs) seen) ∙ (ap (drop (length xs)) whole
-      ∙ drop_at (map told xs) (map told ys) (length xs) (length-map xs told)),
-)
-  where
-    told : Write → Option Visit
-    told write = Some (visit_of sub write)
-
-    whole : map (slice_get history) seen ≡ map told xs ++ map told ys
-    whole = h ∙ map-append told xs ys
+parted history sub seen xs ys h =
+    grind (arith, take-map (slice_get history), drop-map (slice_get history), take_at, length-map, drop_at, map-append)
 
 -- the lines of a subscriber
 step_made : (setting : Setting) (scripts : Scripts) (history : History) (sub : ℕ) (course : Course) (step : Step)
@@ -91,8 +87,7 @@ pub own-all : (setting : Setting) (scripts : Scripts) (history : History) (sub :
 own-all setting scripts history sub below played done =
     played-own setting scripts history sub below played
     ∙ take_all (length (own sub history)) (script_visits setting scripts sub)
-    (past-end (script_visits setting scripts sub) (length (own sub history))
-    (sym (next-sub setting scripts history sub below) ∙ done))
+    (grind (arith, past-end, next-sub))
 
 pub sub_made : (setting : Setting) (scripts : Scripts) (history : History) (sub : ℕ) → sub < subs setting
     → IsPlayed setting scripts history → IsDone setting scripts history sub
@@ -100,5 +95,40 @@ pub sub_made : (setting : Setting) (scripts : Scripts) (history : History) (sub 
 sub_made setting scripts history sub below played done =
     steps_made setting scripts history sub [] (steps_of scripts sub) (tickets sub history) refl
     (tickets-ascend sub history)
-    (tickets-tell sub history ∙ (ap (map Some) (own-all setting scripts history sub below played done)
-    ∙ map-map Some (visit_of sub) (writes setting (course_at (start setting sub)) (steps_of scripts sub))))
+    (tickets-tell sub history ∙ grind (arith, own-all, map-map))
+
+-- all visits of steps that may come show these steps
+all-shown : MarksUnpack → (setting : Setting) (sub : ℕ) (course : Course) (steps : List Step)
+    → IsCourse setting course → MaySteps setting course steps
+    → steps_from course.is_off (visits_in setting sub course steps) ≡ steps
+unfolding writes steps_from MaySteps
+all-shown unpacks setting sub course [] sound may = refl
+all-shown unpacks setting sub course (step ∷ steps) sound may =
+    ap (steps_from course.is_off) whole
+    ∙ (one-begun unpacks setting sub course step (length mine) rest sound may.0
+    ∙ ap (λ xs. step ∷ xs) (all-shown unpacks setting sub (after_step setting course step) steps
+    (course-after setting course step sound may.0) may.1))
+  where
+    mine : List Visit
+    mine = map (visit_of sub) (step_writes setting course step)
+
+    rest : List Visit
+    rest = visits_in setting sub (after_step setting course step) steps
+
+    whole : visits_in setting sub course (step ∷ steps) ≡ take (suc (length mine)) mine ++ rest
+    whole = grind (arith, map-append, rest, take_all, mine)
+
+-- all visits of a script are made
+all-put : (setting : Setting) (scripts : Scripts) (history : History) (sub : ℕ) → sub < subs setting
+    → IsPlayed setting scripts history → IsDone setting scripts history sub
+    → puts_to sub history ≡ script_visits setting scripts sub
+all-put setting scripts history sub known played done =
+    played-puts setting scripts history sub known played ∙ own-all setting scripts history sub known played done
+
+-- so nothing is left to put, and its puts show its steps
+pub done-rests : MarksUnpack → DoneIsRest
+done-rests unpacks setting scripts history sub low valid known played done =
+    grind (arith, all-put, all-shown, drop-length)
+
+pub done-shows : MarksUnpack → DoneShowsScript
+done-shows unpacks setting scripts history sub low valid known played done = grind (arith, all-put, all-shown)

@@ -7,7 +7,7 @@ use Rattle.std.proofs.lemmas.Grind.{flat_map-append}
 use Rattle.std.proofs.lemmas.List.{append-nil, map-append, length_push, length-drop, length-take-le, take_all, take-append-le, drop-append-le}
 use Rattle.std.proofs.lemmas.List.Sums.{fold-append}
 use Rattle.std.proofs.Math.ListN.{drop_of_length-le}
-use Rattle.std.proofs.lemmas.List.Elements.{All-cons, All-nil, All-append, All-weaker}
+use Rattle.std.proofs.lemmas.List.Elements.{All-append}
 use Rattle.std.proofs.lemmas.Option.{slice_get_within}
 use Rattle.entry_word.specs.declared.visit.Key.{Key}
 use Rattle.entry_word.specs.declared.visit.Visit.{Visit}
@@ -16,12 +16,11 @@ use Rattle.directory.specs.Histories.{History, before, cell, tickets_from, ticke
 use Rattle.directory.specs.Finds.{FindCall, Pursuit, at_origin, after_word, key_of, answer_of, most_looks}
 use Rattle.directory.proofs.FindLaws.{looks-fall}
 use Rattle.directory.specs.Looks.{look_by, AreLooks, IsFind}
-use Rattle.directory.specs.Orders.{Scripts, finds_of, Answer, Caller, with_pursuit, read_by, caller_in, key_in, next_key, next, IsPlayed}
+use Rattle.directory.specs.Orders.{Scripts, finds_of, Answer, Caller, with_pursuit, read_by, caller_in, key_in, next_key, IsPlayed}
 use Rattle.directory.specs.Outcomes.{FollowEachOther}
 use Rattle.directory.specs.declared.answers.Found.{Found}
-use Rattle.directory.proofs.HistoryLaws.{words-push}
+use Rattle.directory.proofs.HistoryLaws.{words-push, tickets-push}
 use Rattle.directory.proofs.CallerLaws.{caller-look, caller-push, left_at_origin, left_of}
-use Rattle.directory.proofs.TicketLaws.{tickets-push}
 use Rattle.directory.specs.StepLaws.{by_fronts}
 use Rattle.directory.specs.LookLaws.{pursuit_after, pursuit-step, answer-ends}
 
@@ -44,19 +43,14 @@ looks-push : (setting : Setting) (history : History) (actor : ℕ) (call : FindC
     → slice_get history ticket ≡ Some (look_by actor key)
     → AreLooks setting history actor call earliest pursuit (sofar ++ ticket ∷ [])
 unfolding AreLooks
-looks-push setting history actor call [] earliest pursuit ticket key looks low wanted is_look =
-    (low, (key, wanted, is_look, tt))
+looks-push setting history actor call [] earliest pursuit ticket key looks low wanted is_look = grind arith
 looks-push setting history actor call (t ∷ sofar) earliest pursuit ticket key
-    (first, (k, is_wanted, its_look, rest)) low wanted is_look = (
-      first,
-      (
-        k,
-        is_wanted,
-        its_look,
-        looks-push setting history actor call sofar (suc t)
-            (after_word setting call pursuit (cell setting (before t history) k)) ticket key rest low
-            (rw (pursuit-step setting history actor call pursuit t k sofar its_look) at wanted) is_look,
-      ),
+    (first, (k, is_wanted, its_look, rest)) low wanted is_look = grind (
+      arith,
+      pursuit-step,
+      looks-push setting history actor call sofar (suc t)
+          (after_word setting call pursuit (cell setting (before t history) k)) ticket key rest low
+          (rw (pursuit-step setting history actor call pursuit t k sofar its_look) at wanted) is_look,
     )
 
 after_last-push : (earliest : ℕ) (sofar : List ℕ) (ticket : ℕ)
@@ -119,20 +113,11 @@ later_than : {setting : Setting} {history : History} {actor : ℕ} {call : FindC
 later_than h far = record { looks = far.looks; reads = far.reads; low = omega (arith, h, far.low) }
 
 -- the tickets of a find that was answered stay
-seen-more : (ticketed more : List ℕ) (answer : Answer) → answer.first ≤ answer.last → answer.last < length ticketed
-    → seen_of (ticketed ++ more) answer ≡ seen_of ticketed answer
-seen-more ticketed more answer order within = grind (arith, drop-append-le, length-drop, take-append-le)
-
 answered-more : (setting : Setting) (history : History) (actor : ℕ) (ticketed more : List ℕ) (answers : List Answer)
     → All (IsAnswered setting history actor ticketed) answers
     → All (IsAnswered setting history actor (ticketed ++ more)) answers
 answered-more setting history actor ticketed more answers =
-    All-weaker (IsAnswered setting history actor ticketed) (IsAnswered setting history actor (ticketed ++ more))
-    (λ answer h. record {
-      within = omega (arith, h.within, length-append ticketed more);
-      order = h.order;
-      find = rw (seen-more ticketed more answer h.order h.within) h.find;
-    }) answers
+    grind (arith, length-append, drop-append-le, length-drop, take-append-le)
 
 -- one look more of a caller
 look_more : (setting : Setting) (history : History) (actor : ℕ) (finds : List FindCall) (ticketed : List ℕ) (now : ℕ)
@@ -159,8 +144,7 @@ look_more setting history actor finds ticketed now caller call later key far cal
 
     pushed : IsAt setting history actor call (suc now) pursuit (drop caller.first ticketed ++ now ∷ [])
     pushed = record {
-      looks = looks-push setting history actor call (drop caller.first ticketed) 0 at_origin now key so_far.looks
-          so_far.low (rw so_far.reads wanted) is_look;
+      looks = grind (arith, looks-push);
       reads = pursuit-push setting history actor call at_origin (drop caller.first ticketed) now key is_look
           ∙ ap (λ s. after_word setting call s (cell setting (before now history) key)) so_far.reads;
       low = omega (arith, after_last-push 0 (drop caller.first ticketed) now);
@@ -176,43 +160,24 @@ look_more setting history actor finds ticketed now caller call later key far cal
     at_answer : (o : Option Found) → answer_of pursuit ≡ o
         → IsUnderWay setting history actor finds (ticketed ++ now ∷ []) (suc now)
         (with_pursuit caller call later pursuit o)
-    at_answer None e = record {
-      count = counted;
-      low = omega (arith, far.low);
-      few = rw calls (omega (
-        arith,
-        far.few,
-        fewer,
-        length_push ticketed now,
-        looks-fall setting call caller.pursuit
-            (cell setting (before now history) key) key wanted,
-      ));
-      done = answered-more setting history actor ticketed (now ∷ []) caller.answers far.done;
-      script = far.script;
-      current = λ c l same. let its : call ∷ later ≡ c ∷ l = sym calls ∙ same in let is_call : call ≡ c = cc in
-          rw (longer, ← is_call) pushed;
-      follow = far.follow;
-      ends = far.ends;
-    }
+    at_answer None e = grind (
+      arith,
+      counted,
+      fewer,
+      length_push ticketed now,
+      looks-fall setting call caller.pursuit (cell setting (before now history) key) key wanted,
+      answered-more setting history actor ticketed (now ∷ []) caller.answers far.done,
+      longer,
+      pushed,
+    )
     at_answer (Some found) e = record {
       count = counted;
       low = omega arith;
-      few = omega (
-        arith,
-        far.few,
-        fewer,
-        length_push ticketed now,
-        left_at_origin setting later,
-        looks-fall setting
-            call caller.pursuit (cell setting (before now history) key) key wanted,
-      );
+      few = grind (arith, fewer, length_push, left_at_origin, looks-fall);
       done = All-append (IsAnswered setting history actor (ticketed ++ now ∷ [])) caller.answers (mine ∷ [])
           (answered-more setting history actor ticketed (now ∷ []) caller.answers far.done)
-          (All-cons (IsAnswered setting history actor (ticketed ++ now ∷ [])) mine [] is_mine
-          (All-nil (IsAnswered setting history actor (ticketed ++ now ∷ []))));
-      script = far.script ∙ (ap (λ cs. map (λ (a : Answer). a.call) caller.answers ++ cs) calls
-          ∙ (sym (append_assoc (map (λ (a : Answer). a.call) caller.answers) (call ∷ []) later)
-          ∙ ap (λ cs. cs ++ later) (sym (map-append (λ (a : Answer). a.call) caller.answers (mine ∷ [])))));
+          (grind (arith, is_mine));
+      script = grind (arith, append_assoc, map-append);
       current = λ c l same. rw none_left (record { looks = tt; reads = refl; low = omega arith });
       follow = follow-push 0 caller.answers mine far.follow far.ends far.low;
       ends = omega (arith, end_place-push 0 caller.answers mine);
@@ -222,15 +187,7 @@ look_more setting history actor finds ticketed now caller call later key far cal
         mine = record { call = call; found = found; first = caller.first; last = caller.next }
 
         all_seen : seen_of (ticketed ++ now ∷ []) mine ≡ drop caller.first ticketed ++ now ∷ []
-        all_seen = ap (take (suc caller.next - caller.first)) longer
-            ∙ take_all (suc caller.next - caller.first) (drop caller.first ticketed ++ now ∷ [])
-            (omega (
-              arith,
-              far.low,
-              far.count,
-              length_push (drop caller.first ticketed) now,
-              length-drop caller.first ticketed,
-            ))
+        all_seen = grind (arith, longer, take_all, length_push, length-drop)
 
         is_mine : IsAnswered setting history actor (ticketed ++ now ∷ []) mine
         is_mine = record {
@@ -248,21 +205,8 @@ pub under_way : (setting : Setting) (scripts : Scripts) (history : History) (act
     → IsUnderWay setting history actor (finds_of setting scripts actor) (tickets actor history) (length history)
     (caller_in setting scripts history actor)
 unfolding words_after tickets_from AreLooks FollowEachOther
-under_way setting scripts history actor high played =
-    by_fronts (λ front. Under front) history
-    (record {
-      count = refl;
-      low = omega arith;
-      few = omega (arith, left_at_origin setting (finds_of setting scripts actor));
-      done = All-nil
-          (IsAnswered setting history actor []);
-      script = refl;
-      current = λ call later same. record
-          { looks = tt; reads = refl; low = omega arith };
-      follow = tt;
-      ends = omega arith;
-    })
-    (λ t visit h far. step t visit h far (visit.actor == actor) refl)
+under_way setting scripts history actor high played = by_fronts (λ front. Under front) history
+    (grind (arith, left_at_origin)) (λ t visit h far. step t visit h far (visit.actor == actor) refl)
   where
     Under : History → Type 0
     Under front = IsUnderWay setting history actor (finds_of setting scripts actor) (tickets actor front)
@@ -271,21 +215,11 @@ under_way setting scripts history actor high played =
     step : (t : ℕ) (visit : Visit) → slice_get history t ≡ Some visit → Under (take t history) → (b : Bool)
         → (visit.actor == actor) ≡ b → Under (take t history ++ visit ∷ [])
     step t visit h far false e =
+        let more : length (take t history) ≤ length (take t history ++ visit ∷ []) = grind (arith, length_push) in
         rw (words-push setting actor (take t history) visit, tickets-push actor (take t history) visit, e)
         (rw (append-nil (words_read setting actor (take t history)), append-nil (tickets actor (take t history)))
-        (record {
-          count = far.count;
-          low = far.low;
-          few = far.few;
-          done = far.done;
-          script = far.script;
-          current = λ call later same. later_than (omega (arith, length_push (take t history) visit))
-              (far.current call later same);
-          follow = far.follow;
-          ends = far.ends;
-        }))
-    step t visit h far true e = at_look (caller-look setting scripts (take t history) actor visit high
-        (ap (λ a. next setting scripts (take t history) a) (sym (eqb-true visit.actor actor e)) ∙ played t visit h))
+        (search (later_than, far.current)))
+    step t visit h far true e = grind (arith, at_look, caller-look, eqb-true)
       where
         here : length (take t history) ≡ t
         here = length-take-le t history (omega (arith, slice_get_within history t visit h))
@@ -299,17 +233,7 @@ under_way setting scripts history actor high played =
         at_look : (key : Key) × (next_key caller ≡ Some key) × (visit ≡ look_by actor key)
             → Under (take t history ++ visit ∷ [])
         at_look (key, wanted, is_look) =
-            rw (
-              words-push setting actor (take t history) visit,
-              tickets-push actor (take t history) visit,
-              e,
-              read,
-              grown,
-              here,
-              caller-push setting (finds_of setting scripts actor)
-                  (words_read setting actor (take t history)) (cell setting (take t history) key),
-            )
-            (at_calls caller.calls refl wanted)
+            grind (arith, words-push, tickets-push, read, grown, here, caller-push, at_calls)
           where
             read : words_of setting (take t history) visit.act ≡ cell setting (take t history) key ∷ []
             read = ap (λ (v : Visit). words_of setting (take t history) v.act) is_look

@@ -1,4 +1,4 @@
-use Rattle.directory.proofs.CellLaws.{cell-of_puts}
+use Rattle.directory.proofs.HistoryLaws.{cell-of_puts}
 use Rattle.directory.proofs.histories.cell_of_puts.Goals as goal
 
 pub returns : goal.returns

@@ -1,6 +1,5 @@
 use Rattle.directory.specs.StepLaws.{own-push, puts-push}
-use Rattle.directory.proofs.HistoryLaws.{words-push}
-use Rattle.directory.proofs.TicketLaws.{tickets-push}
+use Rattle.directory.proofs.HistoryLaws.{words-push, tickets-push}
 use Rattle.directory.proofs.histories.own_after.Goals as goal
 
 pub returns : goal.returns

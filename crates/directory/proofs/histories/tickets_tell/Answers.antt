@@ -1,4 +1,4 @@
-use Rattle.directory.proofs.TicketLaws.{tickets-tell, tickets-ascend}
+use Rattle.directory.proofs.HistoryLaws.{tickets-tell, tickets-ascend}
 use Rattle.directory.proofs.histories.tickets_tell.Goals as goal
 
 pub returns : goal.returns

@@ -1,4 +1,4 @@
-use Rattle.directory.proofs.AmidLaws.{legal-amid}
+use Rattle.directory.proofs.StepLaws.{legal-amid}
 use Rattle.directory.proofs.legal.legal_is_amid.Goals as goal
 
 pub returns : goal.returns

@@ -1,4 +1,4 @@
-use Rattle.directory.proofs.AmidLaws.{begins-at_rest}
+use Rattle.directory.proofs.StepLaws.{begins-at_rest}
 use Rattle.directory.proofs.legal.steps_begin_at_rest.Goals as goal
 
 pub returns : goal.returns

@@ -1,4 +1,4 @@
-use Rattle.directory.proofs.DoneLaws.{done-rests, done-shows}
+use Rattle.directory.proofs.StepsMade.{done-rests, done-shows}
 use Rattle.directory.proofs.orders.done_is_rest.Goals as goal
 
 pub returns : goal.returns

@@ -1,5 +1,7 @@
-use Rattle.directory.proofs.RestLaws.{stands-at_start, stands-at_last, passage-none, passage-last}
+use Rattle.std.proofs.Common.{arith}
+use Rattle.std.proofs.lemmas.List.Sums.{fold-append}
+use Rattle.directory.specs.ListLaws.{last_or-push}
 use Rattle.directory.proofs.standing.last_commit_tells.Goals as goal
 
 pub returns : goal.returns
-returns c = record { start = stands-at_start; stands = stands-at_last; closed = passage-none; passage = passage-last }
+returns c = grind (arith, fold-append, last_or-push)
