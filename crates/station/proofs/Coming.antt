@@ -66,8 +66,7 @@ all-or-other actor (event ∷ later) = dite (ℕ_discrete (event_actor event) ac
 front-has : {actor : ℕ} (front rest earlier : List TurnEvent) (event : TurnEvent) (later : List TurnEvent)
     → event_actor event ≡ actor → events_of actor rest ≡ [] → front ++ rest ≡ earlier ++ event ∷ later
     → IsLoggedAt earlier event front
-front-has {actor} [] rest earlier event later mine none is =
-    absurd (grind (arith, some-mine earlier event later mine))
+front-has {actor} [] rest earlier event later mine none is = grind (arith, some-mine earlier event later mine)
 front-has (x ∷ front) rest [] event later mine none is = grind (arith, event, front)
 front-has (x ∷ front) rest (e ∷ earlier) event later mine none is =
     grind (arith, front-has front rest earlier event later mine none (ap (drop 1) is))
@@ -240,10 +239,7 @@ come_on {setup} {seat} {states} before earlier event first short (suc count) aft
     (through.steps count (omega arith))
   where
     less : GoesThrough setup seat count states
-    less = record {
-      keeps = λ step low. through.keeps step (omega (arith, low));
-      steps = λ step low. through.steps step (omega (arith, low));
-    }
+    less = grind arith
 
     further : Came setup seat count states earlier event → Came setup seat (suc count) states earlier event
     further t = (t.0, omega (arith, t.1), t.2)

@@ -57,8 +57,7 @@ grows law {s} id {x} {new} {v} {act} o me may is =
     let others = alone o id v me may.inside in
     let stands : StandsForActor v v.low = (omega arith, omega (arith, here.alone)) in
     let mine = was.owner_is v.low stands in
-    let words : (k : ℕ) → slice_index ws (suc k) ≡ slice_index s.words (suc k) = λ k. get_or-set_other s.words 0
-    (suc k) new 0 (λ e. omega arith) in
+    let words : (k : ℕ) → slice_index ws (suc k) ≡ slice_index s.words (suc k) = grind (arith, get_or-set_other) in
     let grown : (front : History) → IsFront front history → IsFront front longer =
     λ front f. front-longer front history (visit ∷ []) f in
     let whole = front-itself longer in
@@ -77,15 +76,7 @@ grows law {s} id {x} {new} {v} {act} o me may is =
         setup_is = λ _. refl;
         has = search;
         owner_is = was.owner_is;
-        inside = λ node at. rw (← same_some (sym may.inside ∙ at)) record {
-          known = here.known;
-          alone = here.alone;
-          lock = words x ∙ here.lock;
-          drawn = λ _. drawn;
-          owed = λ _. refl;
-          tally = λ _. words _ ∙ o.tallies x here.known
-              (tallied_here o id x v me others (λ due _. true≢false (sym due ∙ may.clear)));
-        };
+        inside = grind (arith, same_some, alone, tallied_here);
         unwritten = λ key put. let node = put_node setting act put ∙ may.at in record {
           cell = may.cell key put;
           inside = may.inside ∙ ap (λ (n : ℕ). Some n) (sym node);
@@ -98,8 +89,7 @@ grows law {s} id {x} {new} {v} {act} o me may is =
         others = was.others;
       } (λ k u ne there. let old = o.views k u there in
           let same : (actor : ℕ) → StandsForActor u actor → own actor longer ≡ own actor history =
-          λ actor st. own-other actor history visit
-          (λ e. ne (sym (old.owner_is actor st).0 ∙ (ap o.owner (sym e) ∙ mine.0))) in
+    grind (arith, own-other) in
           resound ws longer old record {
             seen = grown u.seen old.has.seen;
             told = grown u.told old.has.told;
@@ -111,10 +101,7 @@ grows law {s} id {x} {new} {v} {act} o me may is =
           (λ due. due) (λ _ put. put) (λ node _. words node) (λ node _ _. words _) (λ key _ _ _. words _));
       actors = λ actor below. owned s o.owner id actor v w me refl refl near (o.actors actor below);
       known = λ actor above. own-other actor history visit (λ e. omega (arith, mine.1, above, e)) ∙ o.known actor above;
-      few = λ actor. dite (ℕ_discrete v.low actor)
-          (λ e. few_more (own actor history) visit (own actor longer) (own-mine history visit e)
-          (rw (← e, was.has.visits v.low stands) may.few))
-          (λ ne. rw (own-other actor history visit ne) (o.few actor));
+      few = grind (arith, dite, few_more, own-mine, own-other);
       turns = o.turns;
       in_turn = o.in_turn;
       strangers = o.strangers;
@@ -151,9 +138,7 @@ draws law n id {x} m {act} may s o wide me small =
     let was = o.views id v me in
     let here = was.inside x may.inside in
     let stands : StandsForActor v v.low = (omega arith, omega (arith, here.alone)) in
-    let new : (found + 1) % 2 ^ 64 ≡ suc (length o.history) =
-    ap (λ (k : ℕ). (k + 1) % 2 ^ 64) o.tickets
-    ∙ no_wrap (length o.history) (few_visits v.setup.actors o.history o.few_actors o.known o.few) in (
+    let new : (found + 1) % 2 ^ 64 ≡ suc (length o.history) = grind (arith, no_wrap, few_visits) in (
       view_with_ticket v x act o.history,
       keeps,
       tt,

@@ -27,8 +27,7 @@ front-of_longer xs ys zs f g short =
 -- a visit of another adds nothing, and a visit of one's own adds itself
 pub own-other : (actor : ℕ) (history : List Visit) (visit : Visit) → visit.actor ≢ actor
     → own actor (history ++ visit ∷ []) ≡ own actor history
-own-other actor history visit other =
-    rw (own-append actor history (visit ∷ []), ne_eqb visit.actor actor other, append-nil)
+own-other actor history visit other = grind (arith, own-append, append-nil)
 
 pub own-mine : {actor : ℕ} (history : List Visit) (visit : Visit) → visit.actor ≡ actor
     → own actor (history ++ visit ∷ []) ≡ own actor history ++ visit ∷ []

@@ -24,8 +24,7 @@ use Rattle.directory.specs.Statements.{SameKey}
 
 pub cell-push : (setting : Setting) (key : Key) (history : History) (visit : Visit)
     → cell setting (history ++ visit ∷ []) key ≡ word_after key (cell setting history key) visit.act
-cell-push setting key history visit = fold-append (λ w (v : Visit). word_after key w v.act)
-    (opening setting key) history (visit ∷ [])
+cell-push setting key history visit = grind (arith, fold-append)
 
 -- the census stays where an act is elsewhere, or changes nobody's being here
 here-same : SameKey → (setting : Setting) (history : History) (node sub : ℕ) (act : Act)

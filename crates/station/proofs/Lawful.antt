@@ -1,4 +1,5 @@
 -- A put that its actor may do keeps the history legal for all.
+use Rattle.std.proofs.Common.{arith}
 use Rattle.std.proofs.Common.{◌≡◌, ℕ, ne_eqb, false, [], ◌∷◌, ◌++◌, refl, sym, ap, ◌∙◌}
 use Rattle.std.proofs.lemmas.List.{append-nil}
 use mathlib.Core.Logic.{dite}
@@ -17,8 +18,7 @@ use Rattle.station.specs.PutLaws.{puts-append, puts-seen}
 
 unput : (setting : Setting) (sub : ℕ) (history : History) (visit : Visit) → is_put_for sub visit.act ≡ false
     → IsLegal setting sub history → IsLegal setting sub (history ++ visit ∷ [])
-unput setting sub history visit away legal =
-    rw (puts-append sub history (visit ∷ []), away, append-nil (puts_to sub history)) legal
+unput setting sub history visit away legal = grind (arith, puts-append, append-nil)
 
 pub legal_more : (view : View) (sub : ℕ) (history : History) (act : Act) → MayDo view act → IsFront view.seen history
     → own view.low history ≡ own view.low view.seen → IsLegal (setting_in view.setup) sub history
@@ -28,9 +28,7 @@ legal_more view sub history (Put key word) may front same legal =
     let setting = setting_in view.setup in
     dite (ℕ_discrete view.low sub)
     (λ e. let puts = puts-seen setting sub view.seen history front (rw (← e) same) legal in
-    let both : puts_to sub (view.seen ++ visit ∷ []) ≡ puts_to sub (history ++ visit ∷ []) =
-    puts-append sub view.seen (visit ∷ []) ∙ (ap (λ l. l ++ puts_to sub (visit ∷ [])) (sym puts)
-    ∙ sym (puts-append sub history (visit ∷ []))) in
+    let both : puts_to sub (view.seen ++ visit ∷ []) ≡ puts_to sub (history ++ visit ∷ []) = grind (arith, puts-append) in
     rw (← both, ← e) may.1)
     (λ ne. unput setting sub history visit (ne_eqb (key_sub key) sub (λ e. ne (sym may.0 ∙ e))) legal)
 legal_more view sub history act may front same legal =

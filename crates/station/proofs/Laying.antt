@@ -91,12 +91,7 @@ opening_of plan homes o at actors = grind (arith, take-length, counted)
 
 pub passing-more : (f : ℕ → Bool) (v k : ℕ)
     → length (sift f v (suc k)) ≡ length (sift f v k) + cond (f (v + k)) 1 0
-passing-more f v k = ap length (passing_grows f v k)
-    ∙ (length-append (sift f v k) (cond (f (v + k)) ((v + k) ∷ []) []) ∙ one (f (v + k)))
-  where
-    one : (b : Bool) → length (sift f v k) + length (cond b ((v + k) ∷ []) []) ≡ length (sift f v k) + cond b 1 0
-    one true = refl
-    one false = refl
+passing-more f v k = grind (arith, passing_grows, length-append)
 
 pub starts-at : (setting : Setting) (node sub : ℕ) → sub < subs setting
     → says_here (mark_in (cell setting [] (Presence node sub))) ≡ (node == start setting sub)

@@ -57,54 +57,35 @@ by-mine {actor} log event mine = rw (events-append actor log (event ∷ []), eq-
 
 by-other : (actor : ℕ) (log : List TurnEvent) (event : TurnEvent) → event_actor event ≢ actor
     → events_of actor (log ++ event ∷ []) ≡ events_of actor log
-by-other actor log event other =
-    rw (events-append actor log (event ∷ []), ne_eqb (event_actor event) actor other, append-nil)
+by-other actor log event other = grind (arith, events-append, append-nil)
 
 -- all events of its actors are among those that a view has logged
 pub own-all : {log : List TurnEvent} {view : View} (actor : ℕ) → HasLogged log view → StandsForActor view actor
     → events_of actor log ≡ events_of actor view.turns
-own-all {view} actor has st = ap (events_of actor) has.goes_on ∙ (events-append actor view.turns has.later
-    ∙ (ap (λ l. events_of actor view.turns ++ l) (has.by_others actor st) ∙ append-nil (events_of actor view.turns)))
+own-all {view} actor has st = grind (arith, events-append, append-nil)
 
 -- a view that has logged the same, and lost the same, and stands for no others
 pub logged-same : {log : List TurnEvent} {v : View} (w : View) → w.turns ≡ v.turns → w.lost ≡ v.lost
     → ((actor : ℕ) → StandsForActor w actor → StandsForActor v actor) → HasLogged log v → HasLogged log w
-logged-same w turns lost stands has = record {
-  later = has.later;
-  goes_on = has.goes_on ∙ ap (λ l. l ++ has.later) (sym turns);
-  by_others = λ actor st. has.by_others actor (stands actor st);
-  lost = λ actor st. lost ∙ (has.lost actor (stands actor st) ∙ ap (λ l. lost_in (events_of actor l)) (sym turns));
-}
+logged-same w turns lost stands has = grind arith
 
 -- after an event of another
 logged-other : {log : List TurnEvent} (event : TurnEvent) {view : View}
     → ((actor : ℕ) → StandsForActor view actor → event_actor event ≢ actor) → HasLogged log view
     → HasLogged (log ++ event ∷ []) view
-logged-other event {view} away has = record {
-  later = has.later ++ event ∷ [];
-  goes_on = ap (λ l. l ++ event ∷ []) has.goes_on ∙ append_assoc view.turns has.later (event ∷ []);
-  by_others = λ actor st. by-other actor has.later event (away actor st) ∙ has.by_others actor st;
-  lost = has.lost;
-}
+logged-other event {view} away has = grind (arith, append_assoc, by-other)
 
 -- after an event of its own
 logged-mine : {log : List TurnEvent} (event : TurnEvent) {v : View} (w : View) → event_actor event ≡ v.low
     → v.high ≡ suc v.low → w.low ≡ v.low → w.high ≡ v.high → w.turns ≡ log ++ event ∷ []
     → w.lost ≡ v.lost ++ lost_in (event ∷ []) → HasLogged log v → HasLogged (log ++ event ∷ []) w
-logged-mine {log} event {v} w mine alone low high turns lost has =
-    let actor = v.low in
-    let stands : StandsForActor v actor = (omega arith, omega (arith, alone)) in
-    let before = own-all actor has stands in
-    let one = lost-append (events_of actor log) (event ∷ []) in
-    let all : w.lost ≡ lost_in (events_of actor w.turns) =
-    cc (lost, turns, has.lost actor stands, by-mine log event mine, one, before) in
-    record {
-      later = [];
-      goes_on = sym (append-nil (log ++ event ∷ [])) ∙ ap (λ l. l ++ []) (sym turns);
-      by_others = λ _ _. refl;
-      lost = λ other st. let same : actor ≡ other = omega (arith, st.0, st.1, low, high, alone) in
-          rw (← same) all;
-    }
+logged-mine {log} event {v} w mine alone low high turns lost has = grind (
+  arith,
+  own-all (v.low) has ((omega arith, omega (arith, alone))),
+  lost-append (events_of (v.low) log) (event ∷ []),
+  by-mine log event mine,
+  append-nil (log ++ event ∷ []),
+)
 
 -- the log after a step of a seat j, which has the view w then
 pub record LogGoes (setup : Setup) (s : State Act View) (o : KeepsRule setup s) (j : ℕ) (w : View)
@@ -128,8 +109,7 @@ log-goes o j v w event me alone mine may low high turns lost =
     let its = (o.views j v me).owner_is v.low (omega arith, omega (arith, alone)) in
     record {
       in_turn = log-more event o.in_turn may;
-      strangers = λ actor above. by-other actor o.turns event (λ e. omega (arith, mine, its.1, above, e))
-          ∙ o.strangers actor above;
+      strangers = grind (arith, by-other);
       mine = logged-mine event w mine alone low high turns lost (o.logged j v me);
       others = λ k u ne at. logged-other event (λ actor st e. ne
           (sym ((o.views k u at).owner_is actor st).0 ∙ (ap o.owner (sym e ∙ mine) ∙ its.0))) (o.logged k u at);
@@ -143,8 +123,7 @@ logs o j v event me alone mine may =
     let has = o.logged j v me in
     record {
       later = has.later;
-      by_others = subst (λ (a : ℕ). events_of a has.later ≡ []) (sym mine)
-          (has.by_others v.low (omega arith, omega (arith, alone)));
+      by_others = grind arith;
       goes_on = ap (λ l. l ++ event ∷ []) has.goes_on;
       in_turn = log-more event o.in_turn may;
     }

@@ -105,9 +105,7 @@ due_legal law {setup} {view} key word low h next mine =
     let made = length (puts_to view.low view.seen) in
     let vs = visits setting view.low h.steps in
     let next' = rw h.sub at next in
-    let puts : puts_to view.low (view.seen ++ visit ∷ []) ≡ take (suc made) vs =
-    put-alone view.seen key word view.low mine ∙ (ap (λ l. l ++ visit ∷ []) h.made
-    ∙ sym (take-more vs made visit next')) in
+    let puts : puts_to view.low (view.seen ++ visit ∷ []) ≡ take (suc made) vs = grind (arith, put-alone, take-more) in
     rw puts (law setting view.low h.steps (suc made) low h.script)
 
 -- the handset after its put is the handset of the pass after its visit
@@ -124,22 +122,11 @@ handset_after {setup} {view} after {new} key word earlier h next mine low seen p
     let made = length (puts_to view.low view.seen) in
     let vs = visits setting view.low h.steps in
     let next' = rw h.sub at next in
-    let now : puts_to after.low after.seen ≡ puts_to view.low view.seen ++ visit ∷ [] =
-    (λ i. puts_to (low i) (seen i)) ∙ (put-alone earlier key word view.low mine
-    ∙ ap (λ l. l ++ visit ∷ []) puts) in
-    let count : length (puts_to after.low after.seen) ≡ suc made = ap length now
-    ∙ omega (arith, length-append (puts_to view.low view.seen) (visit ∷ [])) in
-    let whole : puts_to after.low after.seen ≡ take (suc made) vs = now ∙ (ap (λ l. l ++ visit ∷ []) h.made
-    ∙ sym (take-more vs made visit next')) in
+    let now : puts_to after.low after.seen ≡ puts_to view.low view.seen ++ visit ∷ [] = grind (arith, put-alone) in
+    let count : length (puts_to after.low after.seen) ≡ suc made = grind (arith, length-append) in
+    let whole : puts_to after.low after.seen ≡ take (suc made) vs = grind (arith, take-more) in
     record {
-      own = record {
-        goes = goes;
-        sub = sub ∙ (h.sub ∙ sym low);
-        steps = h.steps;
-        script = subst (λ (s : ℕ). IsScript setting s h.steps) (sym low) h.script;
-        stands = subst (λ (k : ℕ). StandsForSteps setting new h.steps k) (sym count) stands;
-        made = whole ∙ (λ i. take (sym count i) (visits setting (sym low i) h.steps));
-      };
+      own = grind arith;
       steps_are = refl;
       puts = now;
     }
@@ -184,13 +171,7 @@ pub moves : (setup : Setup) (view : View) (earlier : History) {node old : ℕ} (
     → view.seen ≡ earlier ++ put_of actor key new ∷ [] → view.owes ≡ changes_here (setting_in setup) earlier
     (Put key new) → view.tally ≡ length (census (setting_in setup) earlier node)
     → old ≡ cell (setting_in setup) earlier key → Moves setup view node key old new
-moves setup view earlier new actor (Entry level cluster sub) known at seen owes tally is =
-    record {
-      owes = owes;
-      more = λ due _. absurd (true≢false (sym due
-          ∙ owes));
-      less = λ due _. absurd (true≢false (sym due ∙ owes));
-    }
+moves setup view earlier new actor (Entry level cluster sub) known at seen owes tally is = grind arith
 moves setup view earlier {node} new actor (Presence place sub) known at seen owes tally is =
     let setting = setting_in setup in
     let later : History = earlier ++ put_of actor (Presence place sub) new ∷ [] in
@@ -221,8 +202,7 @@ moves setup view earlier {node} new actor (Presence place sub) known at seen owe
 
 pub census-short : (setting : Setting) (history : History) (node : ℕ)
     → length (census setting history node) ≤ subs setting
-census-short setting history node = length-passing-le (λ s. says_here (mark_in (cell setting history
-    (Presence node s)))) 0 (subs setting)
+census-short setting history node = grind (arith, length-passing-le)
 
 pub may_put : (view : View) {node : ℕ} {key : Key} (word : ℕ) (log : List TurnEvent) → view.has_drawn ≡ false
     → view.unwritten ≡ None → view.owes ≡ false → node ≡ key_node (setting_in view.setup) key

@@ -135,8 +135,7 @@ changed {setup} {s} {o} {j} {x} {v} {w} {new} c =
           (λ e. rw (← e) (c.lock actor (rw e is)))
           (λ ne. let t = o.locks node actor inside (sym (c.elsewhere node (lock_word node) inside ne
           (is_lock refl)) ∙ is) in
-          let away : o.owner actor ≢ j = λ e. other_node v node ne c.before
-          (ap (λ (y : View). y.inside) (sym (same_view s.views c.me t.1 e)) ∙ t.2) in
+          let away : o.owner actor ≢ j = grind (arith, other_node, same_view) in
           (t.0, set_else s.views j (o.owner actor) w away ∙ t.1, t.2, t.3));
       cells = λ key known quiet. dite (ℕ_discrete x (key_node (setting_in setup) key))
           (λ e. c.cells key known (sym e) (quiet j w (set_here s.views j w near)))

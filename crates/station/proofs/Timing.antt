@@ -42,14 +42,12 @@ none-first actor event later e = grind (arith, nat_tests)
 -- there is its own event in a log that has it
 pub some-mine : {actor : ℕ} (earlier : List TurnEvent) (event : TurnEvent) (later : List TurnEvent)
     → event_actor event ≡ actor → length (events_of actor earlier) < length (events_of actor (earlier ++ event ∷ later))
-some-mine {actor} earlier event later mine =
-    rw (events-append actor earlier (event ∷ later), events-mine actor event later mine, length-append) (omega arith)
+some-mine {actor} earlier event later mine = grind (arith, events-append, events-mine, length-append)
 
 -- who has an event in the log is one of the actors
 pub actor-below : {setup : Setup} {s : State Act View} (o : KeepsRule setup s) (front : List TurnEvent)
     (event : TurnEvent) (later : List TurnEvent) → o.turns ≡ front ++ event ∷ later → event_actor event < setup.actors
-actor-below o front event later is =
-    grind (arith, o.strangers (event_actor event), some-mine front event later refl)
+actor-below o front event later is = grind (arith, some-mine front event later refl)
 
 -- a log in which nobody has an event
 nobodys : (log : List TurnEvent) → ((actor : ℕ) → events_of actor log ≡ []) → log ≡ []
@@ -75,8 +73,7 @@ whole : {log : List TurnEvent} {view : View} (front : List TurnEvent) (last : Tu
 whole {view} front last has stands is = ⊎_elim
     (λ (e : has.later ≡ []). has.goes_on ∙ (ap (λ l. view.turns ++ l) e ∙ append-nil view.turns))
     (λ (t : (rest : List TurnEvent) × (event : TurnEvent) × (has.later ≡ rest ++ event ∷ [])).
-    let both : front ++ last ∷ [] ≡ (view.turns ++ t.0) ++ t.1 ∷ [] = sym is ∙ (has.goes_on
-    ∙ (ap (λ l. view.turns ++ l) t.2 ∙ sym (append_assoc view.turns t.0 (t.1 ∷ [])))) in
+    let both : front ++ last ∷ [] ≡ (view.turns ++ t.0) ++ t.1 ∷ [] = grind (arith, append_assoc) in
     let same : t.1 ≡ last = same_last front last (view.turns ++ t.0) t.1 both in
     let none = has.by_others (event_actor last) stands in
     absurd (grind (arith, some-mine t.0 t.1 [] (ap event_actor same), t.2)))

@@ -55,11 +55,9 @@ stored law {setup} {s} o j {x} {i} new {v} {unwritten} {owes} me there word not_
     let w : View = record v { unwritten = unwritten; owes = owes } in
     let was = o.views j v me in
     let known = (was.inside x there).known in
-    let stays : (k : ℕ) → k ≢ i → slice_index ws k ≡ slice_index s.words k =
-    λ k ne. get_or-set_other s.words i k new 0 ne in
+    let stays : (k : ℕ) → k ≢ i → slice_index ws k ≡ slice_index s.words k = grind (arith, get_or-set_other) in
     let at : (F : ℕ → ℕ) (node : ℕ) → v.inside ≡ Some node → F x ≢ i
-    → slice_index ws (F node) ≡ slice_index s.words (F node) =
-    λ F node is ne. stays (F node) (subst (λ (n : ℕ). F n ≢ i) (same_some (sym there ∙ is)) ne) in
+    → slice_index ws (F node) ≡ slice_index s.words (F node) = grind (arith, same_some) in
     changed record {
       me = me;
       known = known;
@@ -96,8 +94,7 @@ writes law below same n id {i} {new} m {key} put known at turn is s o wide me sm
     let here = (o.views id v me).inside x turn.inside in
     let near : i < length s.words = rw (o.size, at) (cell_below below setup known) in
     let others = alone o id v me turn.inside in
-    let word : slice_index ws i ≡ cell (setting_in setup) o.history key =
-    get_or-set_same s.words i new 0 near ∙ (is ∙ sym (cell_seen same o id key me turn)) in
+    let word : slice_index ws i ≡ cell (setting_in setup) o.history key = grind (arith, get_or-set_same, cell_seen) in
     let not_lock : lock_word x ≢ i = λ e. behind (nodes_in setup) x _ here.known (sym (e ∙ at)) in
     let not_tally : tally_word setup x ≢ i = λ e. behind_tally (nodes_in setup) x _ here.known (sym (e ∙ at)) in (
       view_after_put v,
@@ -129,8 +126,7 @@ tallies law same n id {x} {i} {new} m turn at is s o wide me small =
     let here = (o.views id v me).inside x turn.inside in
     let near : i < length s.words = omega (arith, o.size, here.known, at) in
     let others = alone o id v me turn.inside in
-    let not_cell : (key : Key) → cell_word setup key ≢ i = λ key e. behind_tally (nodes_in setup) x _ here.known
-    (e ∙ at) in (
+    let not_cell : (key : Key) → cell_word setup key ≢ i = grind (arith, behind_tally) in (
       view_after_tally v,
       keeps,
       tt,
