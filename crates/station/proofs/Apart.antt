@@ -1,6 +1,6 @@
 -- Words of different nodes are different, and what a view says of the words of its node stays while
 -- these words stay.
-use Rattle.std.proofs.Common.{◌≡◌, ◌≢◌, ℕ, suc, ◌+◌, ◌*◌, ◌<◌, Bool, true, false, true≢false, List, [], ◌∷◌, ◌++◌, drop, set, refl, sym, ap, ◌∙◌, arith, Option, Some, get_or-set_other}
+use Rattle.std.proofs.Common.{◌≡◌, ◌≢◌, ℕ, suc, ◌+◌, ◌*◌, ◌<◌, Bool, true, false, List, [], drop, set, refl, sym, ap, ◌∙◌, arith, Option, Some, get_or-set_other}
 use Rattle.std.specs.Prelude.{slice_index}
 use Rattle.entry_word.specs.declared.visit.Key.{Key}
 use Rattle.directory.specs.Keys.{key_node}

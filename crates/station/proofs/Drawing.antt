@@ -1,5 +1,5 @@
 -- A ticket is drawn.
-use Rattle.std.proofs.Common.{◌≡◌, ℕ, suc, ◌+◌, ◌%◌, ◌^◌, ◌<◌, ◌≤◌, true≢false, [], ◌∷◌, ◌++◌, length, set, drop, refl, sym, ap, ◌∙◌, inl, inr, arith, Some, get_or-set_other, get_or-set_same, length-set, length-append}
+use Rattle.std.proofs.Common.{◌≡◌, ℕ, suc, ◌+◌, ◌%◌, ◌^◌, ◌<◌, ◌≤◌, [], ◌∷◌, ◌++◌, length, set, drop, refl, sym, ap, ◌∙◌, inl, inr, arith, Some, get_or-set_other, get_or-set_same, length-set, length-append}
 use Rattle.std.specs.Prelude.{slice_index}
 use mathlib.Core.Option.{none}
 use mathlib.Core.Logic.{dite}
@@ -89,19 +89,18 @@ grows law {s} id {x} {new} {v} {act} o me may is =
         others = was.others;
       } (λ k u ne there. let old = o.views k u there in
           let same : (actor : ℕ) → StandsForActor u actor → own actor longer ≡ own actor history =
-    grind (arith, own-other) in
+          grind (arith, own-other) in
           resound ws longer old record {
             seen = grown u.seen old.has.seen;
             told = grown u.told old.has.told;
             visits = λ actor st. same actor st ∙ old.has.visits actor st;
             had = grown u.had old.has.had;
             kept = λ actor st. same actor st ∙ old.has.kept actor st;
-          } grown (λ node at none-there. at-push setting node u.visit_count history visit
-          (λ e. others k u ne there (at ∙ ap (λ (n : ℕ). Some n) (sym e ∙ may.at))) none-there)
+          } grown (λ node at none-there. grind (arith, at-push))
           (λ due. due) (λ _ put. put) (λ node _. words node) (λ node _ _. words _) (λ key _ _ _. words _));
       actors = λ actor below. owned s o.owner id actor v w me refl refl near (o.actors actor below);
       known = λ actor above. own-other actor history visit (λ e. omega (arith, mine.1, above, e)) ∙ o.known actor above;
-      few = grind (arith, dite, few_more, own-mine, own-other);
+      few = grind (arith, ℕ_discrete, few_more, own-mine, own-other);
       turns = o.turns;
       in_turn = o.in_turn;
       strangers = o.strangers;
@@ -116,12 +115,10 @@ grows law {s} id {x} {new} {v} {act} o me may is =
           ∙ sym (cell-push setting key history visit
           ∙ word-unput law key (cell setting history key) act (quiet id w (set_here s.views id w near))));
       tallies = λ node known quiet. words _ ∙ (o.tallies node known (λ k u there due at. dite (ℕ_discrete k id)
-          (λ e. let same = same_view s.views me there e in
-          true≢false (sym due ∙ (ap (λ (y : View). y.owes) same ∙ may.clear)))
+          (λ e. grind (arith, same_view))
           (λ ne. quiet k u (set_else s.views id k w ne ∙ there) due at))
           ∙ sym (ap length (census-push law setting history node visit (dite (ℕ_discrete x node)
-          (λ e. inr (not_true (changes_here setting history act) (λ due. quiet id w (set_here s.views id w near) due
-          (may.inside ∙ ap (λ (n : ℕ). Some n) e))))
+          (λ e. inr (not_true (changes_here setting history act) (λ due. grind (arith, set_here s.views id w near))))
           (λ ne. inl (λ e. ne (sym may.at ∙ e)))))));
       legal = λ sub known. legal_more v sub history act may.may was.has.seen (was.has.visits v.low stands)
           (o.legal sub known);

@@ -1,5 +1,5 @@
 -- The rule at the opening, and where a seat is split in two, or noted.
-use Rattle.std.proofs.Common.{◌≡◌, ◌≢◌, ℕ, ◌<◌, ◌≤◌, ◌==◌, eq-eqb, ne_eqb, cond, List, [], ◌∷◌, ◌++◌, length, set, refl, sym, ap, ◌∙◌, subst, arith, None, length-set}
+use Rattle.std.proofs.Common.{◌≡◌, ◌≢◌, ℕ, ◌<◌, ◌≤◌, ◌==◌, eq-eqb, cond, List, [], ◌∷◌, ◌++◌, length, set, refl, sym, ◌∙◌, subst, arith, None, length-set}
 use mathlib.Core.Option.{some-ne-none}
 use mathlib.Core.Logic.{dite}
 use native.Mathlib.Decide.{ℕ_discrete}
@@ -9,7 +9,7 @@ use Rattle.directory.specs.Settings.{Setting, subs, start}
 use Rattle.directory.specs.Courses.{MaySteps}
 use Rattle.directory.specs.Puts.{steps_from}
 use Rattle.directory.specs.Legal.{IsLegal}
-use Rattle.station.specs.Setup.{Setup, CellsLie, setting_in, nodes_in, subs_in, cell_word}
+use Rattle.station.specs.Setup.{Setup, CellsLie, setting_in, nodes_in, subs_in}
 use Rattle.station.specs.Views.{IsSoundView, StandsForActor}
 use Rattle.station.specs.Rule.{KeepsRule, IsViewOf}
 use Rattle.station.specs.Opening.{AreOpening}
@@ -105,8 +105,7 @@ deals setup id v more out clear s o me =
     (each_set P s.views id rest others) in
     reseated {o = o} record {
       sound = each (IsSoundView setup s.words o.history owner)
-          (narrowed was out clear (λ actor st. let its : StandsForActor v actor = (omega (arith, st.0), st.1) in
-          (its, later actor (λ e. omega (arith, e, st.0)) ∙ mine actor its)))
+          (narrowed was out clear (λ actor st. grind arith))
           (narrowed was out clear (λ actor st. ((st.0, omega (arith, st.1, more)), first actor (omega (arith, st)))))
           (λ k u ne at. let old = o.views k u at in
           let owner_is : (actor : ℕ) → StandsForActor u actor → (owner actor ≡ k) × (actor < setup.actors) = λ actor st.
@@ -122,14 +121,7 @@ deals setup id v more out clear s o me =
             (omega (arith, e), omega (arith, e)),
           ))
           (λ ne. subst (λ (k : ℕ). (u : View) × IsViewOf new k u × StandsForActor u actor) (sym (later actor ne))
-          (dite (ℕ_discrete (o.owner actor) id)
-          (λ e. let st : StandsForActor v actor = subst (λ (y : View). StandsForActor y actor)
-          (same_view s.views me t.1 e) t.2 in (
-            view_of_rest v,
-            subst (λ k. IsViewOf new k (view_of_rest v)) (sym e) rest_there,
-            (omega (arith, st.0, ne), st.1),
-          ))
-          (λ other. (t.0, there (o.owner actor) t.0 other t.1, t.2))));
+          (grind (arith, ℕ_discrete, same_view)));
       remains = grind (arith, same_view);
       in_turn = o.in_turn;
       strangers = o.strangers;

@@ -7,7 +7,7 @@ use Rattle.atomic_table.specs.Table.{Me}
 use Rattle.entry_word.specs.declared.visit.Act.{Act}
 use Rattle.entry_word.specs.declared.visit.Key.TheVariants.{Presence, Entry}
 use Rattle.directory.specs.Settings.{start}
-use Rattle.region_plan.specs.Plan.{PlanData, nodes_of, leader}
+use Rattle.region_plan.specs.Plan.{PlanData, nodes_of}
 use Rattle.region_plan.specs.Matched.{IsMatched}
 use Rattle.station.specs.Setup.{Setup, CellsLie, setting_in}
 use Rattle.station.specs.Passes.{AreFresh, IsFreshPass, PassData, TrackerData, fresh_view}

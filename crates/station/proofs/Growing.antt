@@ -14,7 +14,7 @@ use Rattle.entry_word.specs.declared.visit.Act.{Act}
 use Rattle.entry_word.specs.declared.visit.Act.TheVariants.{Put, Census}
 use Rattle.entry_word.specs.declared.visit.Visit.{Visit}
 use Rattle.directory.specs.Settings.{Setting, subs}
-use Rattle.directory.specs.Keys.{act_node, opening}
+use Rattle.directory.specs.Keys.{act_node}
 use Rattle.directory.specs.Histories.{History, cell, changes_here, own, word_after}
 use Rattle.directory.specs.Census.{census}
 use Rattle.station.specs.Views.{visits_at}

@@ -1,13 +1,13 @@
 -- A seat takes another in.
-use Rattle.std.proofs.Common.{◌≡◌, ℕ, ◌^◌, ◌<◌, ◌≤◌, Bool, true, false, List, length, refl, sym, ap, ◌∙◌, arith, None, lt-ltb, le-ltb}
-use Rattle.std.specs.Prelude.{nat_lt, if◌then◌else◌}
+use Rattle.std.proofs.Common.{◌≡◌, ℕ, ◌^◌, ◌<◌, ◌≤◌, Bool, List, length, refl, sym, ap, ◌∙◌, arith, None, lt-ltb, le-ltb}
+use Rattle.std.specs.Prelude.{if◌then◌else◌}
 use Rattle.std.proofs.lemmas.Bool.Decides.{nat_tests}
 use mathlib.Core.Option.{none}
 use native.Mathlib.Decide.{dec_le}
 use Rattle.atomic_table.specs.Table.{Me, Joins, Allows, step, keeps}
 use Rattle.atomic_table.proofs.Lists.{set_else}
 use Rattle.entry_word.specs.declared.visit.Act.{Act}
-use Rattle.directory.specs.Histories.{History, IsFront, own, tickets}
+use Rattle.directory.specs.Histories.{History, IsFront, own}
 use Rattle.trail_laws.specs.Within.{HistoryFrontsAreLegal}
 use Rattle.station.specs.Setup.{Setup, setting_in}
 use Rattle.station.specs.Views.{IsSoundView}

@@ -1,5 +1,5 @@
 -- The log of turns, as it goes on by one event more.
-use Rattle.std.proofs.Common.{◌≡◌, ◌≢◌, ◌⊎◌, ℕ, suc, ◌≤◌, eq-eqb, ne_eqb, List, [], ◌∷◌, ◌++◌, get_or, length, drop, set, refl, sym, ap, ◌∙◌, subst, inl, arith, append_assoc, length-append}
+use Rattle.std.proofs.Common.{◌≡◌, ◌≢◌, ◌⊎◌, ℕ, suc, ◌≤◌, eq-eqb, ne_eqb, List, [], ◌∷◌, ◌++◌, get_or, length, drop, set, refl, sym, ap, ◌∙◌, inl, arith, append_assoc, length-append}
 use Rattle.std.proofs.lemmas.List.{append-nil}
 use Rattle.std.proofs.lemmas.List.Sums.{fold-append}
 use Rattle.atomic_table.specs.Table.{State}
@@ -20,8 +20,7 @@ module _ {A : Type 0} where
       → xs ++ x ∷ [] ≡ earlier ++ y ∷ later
       → ((earlier ≡ xs) × (y ≡ x)) ⊎ ((rest : List A) × (xs ≡ earlier ++ y ∷ rest))
   last_or_there [] x [] y later e = inl (refl, sym (ap (λ (l : List A). get_or l 0 x) e))
-  last_or_there [] x (a ∷ earlier) y later e =
-      absurd (omega (arith, ap length e, length-append earlier (y ∷ later)))
+  last_or_there [] x (a ∷ earlier) y later e = grind (arith, length-append earlier (y ∷ later))
   last_or_there (b ∷ xs) x [] y later e = grind arith
   last_or_there (b ∷ xs) x (a ∷ earlier) y later e = grind (arith, last_or_there xs x earlier y later (ap (drop 1) e))
 

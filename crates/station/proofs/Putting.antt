@@ -1,5 +1,5 @@
 -- What a handset puts next, and how it moves the tally of its node.
-use Rattle.std.proofs.Common.{◌≡◌, ◌≢◌, ℕ, zero, suc, ◌+◌, ◌^◌, ◌<◌, ◌≤◌, eq-eqb, ne_eqb, Bool, true, false, true≢false, not, List, [], ◌∷◌, ◌++◌, length, take, refl, sym, ap, ◌∙◌, subst, arith, Option, Some, None, length-append}
+use Rattle.std.proofs.Common.{◌≡◌, ◌≢◌, ℕ, zero, suc, ◌+◌, ◌^◌, ◌<◌, ◌≤◌, eq-eqb, ne_eqb, Bool, true, false, not, List, [], ◌∷◌, ◌++◌, length, take, refl, sym, ap, ◌∙◌, subst, arith, Option, Some, None, length-append}
 use Rattle.std.specs.Prelude.{slice_get, IfSome, option_map, if◌then◌else◌, unwrap_or}
 use mathlib.Core.Logic.{dite}
 use native.Mathlib.Decide.{ℕ_discrete}
@@ -14,7 +14,7 @@ use Rattle.directory.specs.Settings.{Setting, subs}
 use Rattle.directory.specs.Keys.{key_sub, key_node}
 use Rattle.directory.specs.Histories.{History, cell, changes_here, own, puts_to}
 use Rattle.directory.specs.Census.{census}
-use Rattle.directory.specs.Legal.{IsLegal, IsScript}
+use Rattle.directory.specs.Legal.{IsLegal}
 use Rattle.directory.specs.Statements.{ScriptsAreLegal}
 use Rattle.directory.specs.Writes.{Write, mark_at, visit_of, visits, write_key, write_word, new_address}
 use Rattle.region_plan.specs.Plan.{PlanData, nodes_of, levels_of}
@@ -141,9 +141,7 @@ passing-gains f g v (suc n) k low high same off on =
     let more' = passing-more g v n in
     dite (ℕ_discrete (v + n) k)
     (λ e. let rest = passing_same f g v n (λ s _ below. same s (λ is. omega (arith, e, is, below))) in grind arith)
-    (λ ne. let there = same (v + n) ne in
-    let rest = passing-gains f g v n k low (omega (arith, high, ne)) same off on in
-    grind arith)
+    (λ ne. grind (arith, passing-gains f g v n k low (omega (arith, high, ne)) same off on))
 
 -- whether a subscriber is at a node
 abbrev was_here : Setting → History → ℕ → ℕ → Bool

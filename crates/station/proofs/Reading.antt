@@ -9,7 +9,7 @@ use Rattle.entry_word.specs.declared.visit.Key.{Key}
 use Rattle.directory.specs.Keys.{key_node}
 use Rattle.directory.specs.Histories.{cell}
 use Rattle.directory.specs.Census.{census}
-use Rattle.station.specs.Setup.{Setup, setting_in, nodes_in, subs_in, IsCellOf, tally_word, cell_word}
+use Rattle.station.specs.Setup.{Setup, setting_in, IsCellOf, tally_word, cell_word}
 use Rattle.station.specs.Views.{visits_at}
 use Rattle.station.specs.Rule.{KeepsRule, IsViewOf}
 use Rattle.station.specs.Plays.{Seat, ReadsCell, ReadsTally, Witnesses}

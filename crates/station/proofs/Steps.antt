@@ -147,13 +147,11 @@ changed {setup} {s} {o} {j} {x} {v} {w} {new} c =
           (ap (λ (y : View). y.inside) (sym same) ∙ ((o.views k u at).unwritten key is).inside))
           (λ away. quiet k u (set_else s.views j k w away ∙ at) is)));
       tallies = λ node known quiet. dite (ℕ_discrete x node)
-          (λ e. rw (← e)
-          (c.tally (λ owes is. quiet j w (set_here s.views j w near) owes (is ∙ ap (λ (n : ℕ). Some n) e))))
+          (λ e. grind (arith, set_here s.views j w near))
           (λ ne. c.elsewhere node (tally_word setup node) known ne (is_tally refl)
           ∙ o.tallies node known (λ k u at owes is.
           dite (ℕ_discrete k j)
-          (λ e. let same = same_view s.views c.me at e in
-          other_node v node ne c.before (ap (λ (y : View). y.inside) (sym same) ∙ is))
+          (λ e. grind (arith, same_view, other_node))
           (λ away. quiet k u (set_else s.views j k w away ∙ at) owes is)));
       legal = o.legal;
     }

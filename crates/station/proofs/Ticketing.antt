@@ -1,7 +1,7 @@
 -- The tickets that a pass keeps.
 use Rattle.std.specs.Prelude.{◌||◌, slice_get}
 use Rattle.node_set.specs.Ascending.{has}
-use Rattle.std.proofs.Common.{get_or, add-one, Some, ◌≡◌, ℕ, zero, suc, ◌+◌, ◌^◌, ◌<◌, ◌≤◌, ◌==◌, Bool, false, List, [], ◌∷◌, ◌++◌, length, take, refl, sym, ap, ◌∙◌, subst, arith, Option, None, length-append}
+use Rattle.std.proofs.Common.{get_or, add-one, Some, ◌≡◌, ℕ, zero, suc, ◌+◌, ◌^◌, ◌<◌, ◌≤◌, ◌==◌, Bool, false, List, [], ◌∷◌, ◌++◌, length, take, refl, ap, ◌∙◌, arith, Option, None, length-append}
 use Rattle.std.proofs.Math.Bool.{or_assoc, or-false}
 use Rattle.std.proofs.lemmas.Bool.Decides.{nat_tests}
 use Rattle.std.proofs.lemmas.Option.{slice_get_within}
@@ -12,11 +12,11 @@ use Rattle.entry_word.specs.declared.visit.Act.{Act}
 use Rattle.entry_word.specs.declared.visit.Visit.{Visit}
 use Rattle.directory.specs.Histories.{History, before, changes_here, own, tickets, tickets_from}
 use Rattle.station.specs.Setup.{setting_in}
-use Rattle.station.specs.Plays.{Draws, view_with_ticket, view_held, view_inside, view_outside, visit_by, key_put, MayDo}
+use Rattle.station.specs.Plays.{Draws, view_held, view_inside, view_outside, visit_by, key_put, MayDo}
 use Rattle.station.specs.Passes.{IsPass, PassData, actor_of}
-use Rattle.station.specs.Turns.{HasHadTurn, Logs}
+use Rattle.station.specs.Turns.{Logs}
 use Rattle.station.specs.declared.view.TurnEvent.TheVariants.{GivenBack, Won}
-use Rattle.station.specs.Visits.{HasLeft, HasVisited, IsSamePass, MayDraw}
+use Rattle.station.specs.Visits.{HasLeft, HasVisited, MayDraw}
 use Rattle.station.specs.declared.view.TurnEvent.{TurnEvent}
 use Rattle.station.specs.declared.view.View.{View}
 use Rattle.station.specs.TicketLaws.{tickets-mine, tickets-same}

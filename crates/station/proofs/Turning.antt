@@ -1,5 +1,5 @@
 -- The turn at a node: it is won or lost, and given back.
-use Rattle.std.proofs.Common.{◌≡◌, ◌≢◌, ℕ, suc, ◌-◌, ◌<◌, ◌≤◌, ◌==◌, true, false, true≢false, List, [], ◌∷◌, ◌++◌, length, set, refl, sym, ap, ◌∙◌, subst, inl, inr, ⊎_elim, arith, Some, None, get_or-set_other, get_or-set_same, length-set}
+use Rattle.std.proofs.Common.{◌≡◌, ◌≢◌, ℕ, suc, ◌-◌, ◌<◌, ◌≤◌, ◌==◌, true, false, List, [], ◌∷◌, ◌++◌, length, set, refl, sym, ap, ◌∙◌, subst, inl, inr, ⊎_elim, arith, Some, None, get_or-set_other, get_or-set_same, length-set}
 use Rattle.std.specs.Prelude.{slice_index}
 use Rattle.std.proofs.lemmas.List.{set-get_or, append-nil}
 use mathlib.Core.Option.{some, none, some-injective}
@@ -11,7 +11,7 @@ use Rattle.atomic_table.proofs.Lists.{set_here, set_else, exchanged}
 use Rattle.entry_word.specs.declared.visit.Key.{Key}
 use Rattle.entry_word.specs.declared.visit.Act.{Act}
 use Rattle.directory.specs.Keys.{key_node}
-use Rattle.station.specs.Setup.{Setup, setting_in, nodes_in, lock_word, tally_word, cell_word}
+use Rattle.station.specs.Setup.{Setup, setting_in, nodes_in, lock_word, cell_word}
 use Rattle.station.specs.Views.{IsInsideNode, IsSoundView, StandsForActor, turn_at}
 use Rattle.station.specs.Rule.{KeepsRule, IsViewOf, IsHeld, IsCellWritten, IsTallied}
 use Rattle.station.specs.Plays.{Seat, view_inside, view_held, Turns, view_outside, Leaves}
@@ -127,10 +127,7 @@ turns law setup n id x m act known alone idle s o wide me small =
       entering law o id x act me known alone idle free,
       λ node other at said.
           let a : x ≡ node = omega arith in let b : act ≡ other = some-injective act other said in (
-            (λ _. (
-              (λ i. (view_inside m.0 (a i) (b i) log, m.1)),
-              rw (← a) (logs o id m.0 (Won m.0.low x) me alone refl (sym (o.lock_words x known) ∙ free)),
-            )),
+            (λ _. grind (arith, logs o id m.0 (Won m.0.low x) me alone refl (sym (o.lock_words x known) ∙ free))),
             (λ not. absurd (not free)),
           ),
     ))

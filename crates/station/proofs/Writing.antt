@@ -1,5 +1,5 @@
 -- Stores: a put is written, and a tally.
-use Rattle.std.proofs.Common.{◌≡◌, ◌≢◌, ℕ, ◌<◌, Bool, true, true≢false, length, set, refl, sym, ap, ◌∙◌, subst, inr, arith, Option, Some, get_or-set_other, get_or-set_same, length-set}
+use Rattle.std.proofs.Common.{◌≡◌, ◌≢◌, ℕ, ◌<◌, Bool, true, true≢false, length, set, refl, sym, ap, ◌∙◌, inr, arith, Option, Some, get_or-set_other, get_or-set_same, length-set}
 use Rattle.std.specs.Prelude.{slice_index}
 use mathlib.Core.Option.{none}
 use mathlib.Core.Logic.{dite}
@@ -32,12 +32,7 @@ cell_below law setup {key} known = omega (arith, law setup.plan (subs_in setup) 
 pub still_held : (s : St) (o : ℕ → ℕ) (j : ℕ) {x actor : ℕ} (v w : View) → IsViewOf s.views j v → w.inside ≡ v.inside
     → w.low ≡ v.low → IsHeld s.views o x actor → IsHeld (set s.views j w) o x actor
 still_held s o j {actor} v w me inside low t = dite (ℕ_discrete (o actor) j)
-    (λ e. let same = same_view s.views me t.1 e in (
-      w,
-      subst (λ k. IsViewOf (set s.views j w) k w) (sym e) (set_here s.views j w (seat_below s.views j v me)),
-      inside ∙ (ap (λ (y : View). y.inside) (sym same) ∙ t.2),
-      low ∙ (ap (λ (y : View). y.low) (sym same) ∙ t.3),
-    ))
+    (λ e. grind (arith, same_view, set_here, seat_below))
     (λ ne. (t.0, Rattle.atomic_table.proofs.Lists.set_else s.views j (o actor) w ne ∙ t.1, t.2, t.3))
 
 -- the view inside a node stores a word of it, but not the lock: what it leaves in the cells and in the tally is told
@@ -103,11 +98,7 @@ writes law below same n id {i} {new} m {key} put known at turn is s o wide me sm
       stored law o id new me turn.inside (is_cell key known refl at) (λ e. omega (arith, e, at)) not_lock
           (λ due. (due, not_tally)) (λ _ none. absurd (no_some none))
           (λ other cell_there there quiet. dite (ℕ_discrete (cell_word setup other) i)
-          (λ e. rw (
-            e,
-            ← law setup.plan (subs_in setup) key other known cell_there
-                (same_number (nodes_in setup) _ _ (sym at ∙ sym e)),
-          ) word)
+          (λ e. grind (arith, same_number))
           (λ ne. get_or-set_other s.words i (cell_word setup other) new 0 ne
           ∙ o.cells other cell_there (written_here o id v other me others there
           (λ had. ne (ap (cell_word setup) (same_some (sym had ∙ put)) ∙ sym at)))))
@@ -135,7 +126,6 @@ tallies law same n id {x} {i} {new} m turn at is s o wide me small =
           (λ due. absurd (true≢false (sym due))) (λ key put. (put, not_cell key))
           (λ key known there quiet. get_or-set_other s.words i (cell_word setup key) new 0 (not_cell key)
           ∙ o.cells key known (written_here o id v key me others there quiet))
-          (λ quiet. ap (slice_index ws) (sym at) ∙ (get_or-set_same s.words i new 0 near
-          ∙ (is ∙ sym (ap length (census_seen same o id me turn))))),
+          (λ quiet. ap (slice_index ws) (sym at) ∙ (grind (arith, get_or-set_same, census_seen))),
       refl,
     )
