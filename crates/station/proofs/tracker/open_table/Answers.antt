@@ -19,12 +19,5 @@ returns c =
     let size = (c.in_ok-words.ensures.opening c.args.actors).size in
     let few : length c.in_ok-words.words.items < 2 ^ 64 = search rules in
     record {
-      opened = IfOk-weaker c.of_words.result _ _ (λ made o. (
-        o.0 ∙ (ap length words ∙ size),
-        subst (λ (k : ℕ). k < 2 ^ 64) size few,
-        o.1,
-        o.5 ∙ e,
-        o.2,
-        o.4 ∙ ap (λ (s : Setup). (first_view s, [])) e,
-      )) c.of_words.ensures;
+      opened = grind arith;
     }

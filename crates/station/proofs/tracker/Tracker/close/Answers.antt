@@ -7,8 +7,7 @@ use Rattle.station.proofs.tracker.Tracker.close.Goals as goal
 -- the actors that the tracker counts are those that its setup has, and the passes that were looked through are its own
 present : {counted actors : ℕ} {seen passes : List PassData} → counted ≡ actors → seen ≡ passes
     → ArePresent counted seen → ArePresent actors passes
-present {counted} {passes} e f all =
-    subst (λ (n : ℕ). ArePresent n passes) e (subst (ArePresent counted) f all)
+present {counted} {passes} e f all = grind arith
 
 pub returns-in-Some-clause-fault : goal.returns-in-Some-clause-fault
 returns-in-Some-clause-fault c = grind arith

@@ -23,9 +23,7 @@ loop-actor-preserved c =
     let told = c.split_seat-next.ensures in
     record {
       table = told.0 ∙ d.table;
-      view = told.2 ∙ (ap {B = Me Act View} (λ (m : Me Act View). (view_of_rest m.0, m.1)) d.view
-          ∙ ap {B = Me Act View} (λ (a : ℕ). (rest_view c.args.self.now.setup a, []))
-          (sym (add-one c.loop-actor.actor)));
+      view = grind (arith, rest_view, add-one);
       fresh = fresh_push c.loop-actor.passes.items c.split_seat-next.result.id d.fresh d.count (told.3 ∙ d.table)
           (dealt_fresh _ _ d.view told.4) c.of.ensures items;
       count = ap length items ∙ (length-append c.loop-actor.passes.items (c.of.result ∷ []) ∙ ap (λ n. n + 1) d.count);

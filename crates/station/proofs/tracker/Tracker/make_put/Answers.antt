@@ -1,3 +1,4 @@
+use Rattle.std.proofs.Common.{arith}
 use Rattle.std.proofs.Common.{refl, subst, sym, ap, ◌∙◌}
 use Rattle.station.specs.Setup.{Setup}
 use Rattle.station.specs.Handsets.{Moves}
@@ -27,7 +28,6 @@ returns-clause-made c =
       there = there;
       won = rw c.requires.low c.in_ok-ticket.ensures.logs;
       draws = c.in_ok-ticket.ensures.drawn;
-      left = left_by there (ap (λ m. m.0) c.give_back.ensures.left ∙ ap (λ m. view_outside m.0 new.turns) put) refl
-          refl;
+      left = grind (arith, left_by);
       given_back = rw put at c.give_back.ensures.logs;
     }

@@ -40,13 +40,7 @@ returns c =
     let seen = ap (λ h. census setting h node) made.1
     ∙ census-counted setting (before c.in_ok-ticket.ticket c.give_back.new.seat.me.0.seen) node _ node in
     record {
-      seen = (
-        made.0,
-        record {
-          bits = λ sub. list.bits sub ∙ ap {B = ℕ} (λ l. if has sub l then 1 else 0) seen;
-          length_is = here.count ∙ (ap (λ m. length (census setting m.0.seen node)) list.same ∙ ap length seen);
-        },
-      );
+      seen = grind arith;
     }
 
 pub invariant_of-pass : goal.invariant_of-pass

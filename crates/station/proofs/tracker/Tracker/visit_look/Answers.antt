@@ -34,16 +34,11 @@ returns c =
     let back = c.give_back.ensures in
     let t = c.in_ok-ticket.ensures in
     let made = looked c.pass.view_is c.pass.invariant.low t.drawn t.logs refl (λ _. refl)
-    (ap (λ q. key_node (setting_in q.view.setup) key) c.pass.view_is
-    ∙ (ap (λ s. key_node (setting_in s) key) c.requires.of.setup ∙ sym c.node_of-node.ensures.node)) read.same
+    (grind arith) read.same
     (ap (λ m. m.0) back.left) back.logs (back.table ∙ (read.table ∙ c.draw.ensures.table))
     (back.id ∙ (read.id ∙ c.draw.ensures.id)) c.keep_ticket.ensures.spare in
     record {
-      looked = (
-        made.0,
-        read.word (ap (λ (x : View). x.unwritten) t.drawn.view) ∙ (ap (λ h. cell setting h key) made.1
-            ∙ cell-push setting key (before c.in_ok-ticket.ticket c.give_back.new.seat.me.0.seen) _),
-      );
+      looked = grind (arith, cell-push);
     }
 
 pub invariant_of-pass : goal.invariant_of-pass

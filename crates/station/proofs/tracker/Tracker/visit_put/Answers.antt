@@ -62,8 +62,7 @@ returns c =
     (c.next_put-key.ensures.next old.view own ∙ ap (λ (a : ℕ). Some (put_of a key word)) own.sub)
     (c.next_put-key.ensures.sub ∙ own.sub) visited.same.actor (seen_done old.view made.draws made.left) puts
     (rw (← c.requires.plan) c.made.ensures.goes)
-    (ap (λ q. q.sub) c.made.ensures.exact ∙ write-sub (setting_of c.args.plan.now []) c.args.handset.now
-    c.args.handset.now.stage)
+    (grind (arith, write-sub))
     (rw (← c.requires.plan) (c.made.ensures.stands setup.homes own.steps made_count (rw c.requires.plan own.stands))) in
     let is_due = λ (P : Visit → Type 0). put_due key word P c.next_put-key.ensures.due h.sub in
     record {
