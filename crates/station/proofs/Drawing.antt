@@ -109,8 +109,7 @@ grows law {s} id {x} {new} {v} {act} o me may is =
       locks = λ node actor known names. still_held s o.owner id v w me refl refl
           (o.locks node actor known (sym (words node) ∙ names));
       cells = λ key known quiet. words _ ∙ (o.cells key known (λ k u there put. dite (ℕ_discrete k id)
-          (λ e. let same = same_view s.views me there e in
-          no_some (sym may.unwritten ∙ (ap (λ (y : View). y.unwritten) (sym same) ∙ put)))
+          (λ e. grind (arith, same_view, no_some))
           (λ ne. quiet k u (set_else s.views id k w ne ∙ there) put))
           ∙ sym (cell-push setting key history visit
           ∙ word-unput law key (cell setting history key) act (quiet id w (set_here s.views id w near))));

@@ -13,14 +13,9 @@ use Rattle.entry_word.specs.declared.visit.Visit.{Visit}
 use Rattle.directory.specs.Histories.{History, IsFront, own, tickets}
 use Rattle.station.specs.Passes.{NoteData, PassData, actor_of}
 use Rattle.station.specs.Closing.{HasNoPass}
-use Rattle.station.specs.Plays.{longer}
 use Rattle.station.specs.Visits.{HasHeard}
 use Rattle.station.specs.TicketLaws.{own-nil}
 use Rattle.station.proofs.Joining.{longer_one, longer_other}
-
--- the longer of a front and its whole is the whole
-longer-whole : (xs zs : List Visit) → IsFront xs zs → longer xs zs ≡ zs
-longer-whole xs zs f = grind (arith, dec_le, longer_one, take_all, longer_other)
 
 -- an actor that isn't missing has a pass
 none_more : (x : PassData) (passes : List PassData) (actor : ℕ) → actor_of x ≢ actor → HasNoPass passes actor
@@ -77,4 +72,4 @@ taken all {before} left o {pass} items is rest = grind (
 -- a pass that hears of a history that goes on from its own has seen that
 pub heard_whole : {whole : History} {pass new : PassData} {note : NoteData} → HasHeard pass note new
     → note.view.seen ≡ whole → IsFront pass.view.seen whole → new.view.seen ≡ whole
-heard_whole {whole} {pass} heard told front = grind (arith, longer-whole)
+heard_whole {whole} {pass} heard told front = grind (arith, dec_le, longer_one, take_all, longer_other)

@@ -7,7 +7,7 @@ use native.Mathlib.Decide.{dec_le}
 use Rattle.atomic_table.specs.Table.{Me, Joins, Allows, step, keeps}
 use Rattle.atomic_table.proofs.Lists.{set_else}
 use Rattle.entry_word.specs.declared.visit.Act.{Act}
-use Rattle.directory.specs.Histories.{History, IsFront, own}
+use Rattle.directory.specs.Histories.{History, IsFront}
 use Rattle.trail_laws.specs.Within.{HistoryFrontsAreLegal}
 use Rattle.station.specs.Setup.{Setup, setting_in}
 use Rattle.station.specs.Views.{IsSoundView}
@@ -39,11 +39,6 @@ longer_other one other h = ap (λ (c : Bool). if c then other else one) (lt-ltb 
 pub longer_one : (one other : History) → length other ≤ length one → longer one other ≡ one
 longer_one one other h = ap (λ (c : Bool). if c then other else one) (le-ltb (length one) (length other) h)
 
-pub longer-own : (actor : ℕ) (one other history : History) → IsFront one history → IsFront other history
-    → own actor history ≡ own actor one
-    → own actor history ≡ own actor (longer one other)
-longer-own actor one other history f g same = grind (arith, dec_le, longer_one, longer_other, own-between)
-
 pub longer_long : (one other : History)
     → (length one ≤ length (longer one other)) × (length other ≤ length (longer one other))
 longer_long one other = grind (arith, nat_tests)
@@ -61,7 +56,7 @@ hears setup id other v w low high out s o me ne at =
       seen = longer_is (λ (l : History). IsFront l o.history) was.has.seen note.has.seen;
       told = note.has.seen;
       had = was.has.seen;
-      visits = grind (arith, longer-own);
+      visits = grind (arith, dec_le, longer_one, longer_other, own-between);
       kept = λ actor st. was.has.visits actor st;
     } (λ _ f. f) (λ _ _ none. none) (λ due. due) (λ _ put. put) (λ _ _. refl) (λ _ _ _. refl) (λ _ _ _ _. refl)) in
     restated {o = heard} w at (sym low) (sym high) (sym out)

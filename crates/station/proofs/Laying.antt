@@ -83,18 +83,13 @@ pub opening_of : (plan : PlanData) (homes : List ℕ) {words : List ℕ} → Are
     → (actors : ℕ) → AreOpening (setup_of plan homes actors) words
 opening_of plan homes o at actors = grind (arith, take-length, counted)
 
--- who starts at a node
-
 pub passing-more : (f : ℕ → Bool) (v k : ℕ)
     → length (sift f v (suc k)) ≡ length (sift f v k) + cond (f (v + k)) 1 0
 passing-more f v k = grind (arith, passing_grows, length-append)
 
-pub starts-at : (setting : Setting) (node sub : ℕ) → sub < subs setting
-    → says_here (mark_in (cell setting [] (Presence node sub))) ≡ (node == start setting sub)
-starts-at setting node sub known = grind (arith, nat_tests)
-
+-- how many start at a node
 pub count-more : (setting : Setting) (node sub : ℕ) {count : ℕ} → sub < subs setting
     → count ≡ length (sift (λ s. says_here (mark_in (cell setting [] (Presence node s)))) 0 sub)
     → count + cond (node == start setting sub) 1 0 ≡ length
     (sift (λ s. says_here (mark_in (cell setting [] (Presence node s)))) 0 (sub + 1))
-count-more setting node sub {count} known is = grind (arith, starts-at, passing-more, add-one)
+count-more setting node sub {count} known is = grind (arith, nat_tests, passing-more, add-one)

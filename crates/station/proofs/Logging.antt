@@ -54,10 +54,6 @@ by-mine : {actor : ℕ} (log : List TurnEvent) (event : TurnEvent) → event_act
     → events_of actor (log ++ event ∷ []) ≡ events_of actor log ++ event ∷ []
 by-mine {actor} log event mine = rw (events-append actor log (event ∷ []), eq-eqb (event_actor event) actor mine)
 
-by-other : (actor : ℕ) (log : List TurnEvent) (event : TurnEvent) → event_actor event ≢ actor
-    → events_of actor (log ++ event ∷ []) ≡ events_of actor log
-by-other actor log event other = grind (arith, events-append, append-nil)
-
 -- all events of its actors are among those that a view has logged
 pub own-all : {log : List TurnEvent} {view : View} (actor : ℕ) → HasLogged log view → StandsForActor view actor
     → events_of actor log ≡ events_of actor view.turns
@@ -72,7 +68,7 @@ logged-same w turns lost stands has = grind arith
 logged-other : {log : List TurnEvent} (event : TurnEvent) {view : View}
     → ((actor : ℕ) → StandsForActor view actor → event_actor event ≢ actor) → HasLogged log view
     → HasLogged (log ++ event ∷ []) view
-logged-other event {view} away has = grind (arith, append_assoc, by-other)
+logged-other event {view} away has = grind (arith, append_assoc, events-append, append-nil)
 
 -- after an event of its own
 logged-mine : {log : List TurnEvent} (event : TurnEvent) {v : View} (w : View) → event_actor event ≡ v.low
@@ -108,7 +104,7 @@ log-goes o j v w event me alone mine may low high turns lost =
     let its = (o.views j v me).owner_is v.low (omega arith, omega (arith, alone)) in
     record {
       in_turn = log-more event o.in_turn may;
-      strangers = grind (arith, by-other);
+      strangers = grind (arith, events-append, append-nil);
       mine = logged-mine event w mine alone low high turns lost (o.logged j v me);
       others = λ k u ne at. logged-other event (λ actor st e. ne
           (sym ((o.views k u at).owner_is actor st).0 ∙ (ap o.owner (sym e ∙ mine) ∙ its.0))) (o.logged k u at);

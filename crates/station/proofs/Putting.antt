@@ -89,10 +89,6 @@ pub due_is : {plan : PlanData} {handset : HandsetData} {visit : Visit} → GoesW
     → due (setting_of plan []) handset ≡ Some visit → IsDue plan handset.sub visit
 due_is {handset} g homes e = due_by g homes handset.stage g.stage e
 
-put-alone : {sub : ℕ} (history : History) (key : Key) (word actor : ℕ) → key_sub key ≡ sub
-    → puts_to sub (history ++ put_of actor key word ∷ []) ≡ puts_to sub history ++ put_of actor key word ∷ []
-put-alone {sub} history key word actor e = grind (arith, puts-append, eq-eqb)
-
 -- the next put of a handset keeps what its pass has seen legal
 pub due_legal : ScriptsAreLegal → {setup : Setup} {view : View} {handset : HandsetData} (key : Key) (word : ℕ)
     → (setting_in setup).nodes ≤ 2 ^ 16 → (h : IsHandsetOf setup view handset)
@@ -105,7 +101,8 @@ due_legal law {setup} {view} key word low h next mine =
     let made = length (puts_to view.low view.seen) in
     let vs = visits setting view.low h.steps in
     let next' = rw h.sub at next in
-    let puts : puts_to view.low (view.seen ++ visit ∷ []) ≡ take (suc made) vs = grind (arith, put-alone, take-more) in
+    let puts : puts_to view.low (view.seen ++ visit ∷ []) ≡ take (suc made) vs =
+    grind (arith, puts-append, eq-eqb, take-more) in
     rw puts (law setting view.low h.steps (suc made) low h.script)
 
 -- the handset after its put is the handset of the pass after its visit
@@ -122,7 +119,8 @@ handset_after {setup} {view} after {new} key word earlier h next mine low seen p
     let made = length (puts_to view.low view.seen) in
     let vs = visits setting view.low h.steps in
     let next' = rw h.sub at next in
-    let now : puts_to after.low after.seen ≡ puts_to view.low view.seen ++ visit ∷ [] = grind (arith, put-alone) in
+    let now : puts_to after.low after.seen ≡ puts_to view.low view.seen ++ visit ∷ [] =
+    grind (arith, puts-append, eq-eqb) in
     let count : length (puts_to after.low after.seen) ≡ suc made = grind (arith, length-append) in
     let whole : puts_to after.low after.seen ≡ take (suc made) vs = grind (arith, take-more) in
     record {

@@ -35,13 +35,7 @@ same_view views {v} {u} me at e = some-injective u v (sym at ∙ (ap (get_elem? 
 -- each actor keeps its seat
 pub owned : (s : St) (owner : ℕ → ℕ) (j actor : ℕ) (v w : View) → IsViewOf s.views j v → w.low ≡ v.low → w.high ≡ v.high
     → j < length s.views → IsOwned s.views owner actor → IsOwned (set s.views j w) owner actor
-owned s owner j actor v w me low high near o = dite (ℕ_discrete (owner actor) j)
-    (λ e. let same = same_view s.views me o.1 e in
-    let l : o.0.low ≡ v.low = ap (λ (x : View). x.low) same in
-    let h : o.0.high ≡ v.high = ap (λ (x : View). x.high) same in
-    let st = o.2 in
-    (w, subst (λ k. IsViewOf (set s.views j w) k w) (sym e) (set_here s.views j w near), (omega arith, omega arith)))
-    (λ ne. (o.0, set_else s.views j (owner actor) w ne ∙ o.1, o.2))
+owned s owner j actor v w me low high near o = grind (arith, same_view, set_here s.views j w near, set_else)
 
 -- there is a view at a seat only below the count of seats
 pub seat_below : (views : List View) (j : ℕ) (v : View) → IsViewOf views j v → j < length views

@@ -141,8 +141,7 @@ module _ (setup : Setup) (old new : State Act View) (seat : ℕ) (was : KeepsRul
       log_first.1 ∙ ap (λ l. had ++ l) (just-one s.before.low rest
       (λ actor ne. append_cancel_left (events_of actor had) (events_of actor rest) []
       (split actor ∙ (others_same actor ne ∙ sym (append-nil (events_of actor had)))))
-      (append_cancel_left (events_of s.before.low had) (events_of s.before.low rest) (event ∷ [])
-      (split s.before.low ∙ own_then)))
+      (grind (arith, append_cancel_left, own_then)))
 
   -- and comes behind all that was there
   moment : was.turns ≡ s.before.turns ++ logs.later

@@ -152,9 +152,7 @@ turns law setup n id x m act known alone idle s o wide me small =
           (let others : (actor : ℕ) → StandsForActor w actor → (turn : NodeTurn) → Contains w.lost turn
           → turn.word ≢ suc actor = λ actor st turn had. ⊎_elim
           (λ (old : Contains m.0.lost turn). was.others actor st turn old)
-          (λ (e : turn_at x word ≡ turn). λ names.
-          let its : actor ≡ m.0.low = omega (arith, st.0, st.1, alone) in
-          other (ap (λ (t : NodeTurn). t.word) e ∙ (names ∙ ap suc its)))
+          (λ (e : turn_at x word ≡ turn). grind arith)
           (Contains-push_cases m.0.lost (turn_at x word) turn had) in
           search (arith, was))),
       λ node said-act at said. let a : x ≡ node = omega arith in (

@@ -102,8 +102,7 @@ writes law below same n id {i} {new} m {key} put known at turn is s o wide me sm
           (λ ne. get_or-set_other s.words i (cell_word setup other) new 0 ne
           ∙ o.cells other cell_there (written_here o id v other me others there
           (λ had. ne (ap (cell_word setup) (same_some (sym had ∙ put)) ∙ sym at)))))
-          (λ quiet. get_or-set_other s.words i (tally_word setup x) new 0 not_tally
-          ∙ o.tallies x here.known (tallied_here o id x v me others quiet)),
+          (λ quiet. grind (arith, get_or-set_other, tallied_here)),
       refl,
     )
 

@@ -1,9 +1,6 @@
 use Rattle.std.proofs.Common.{arith}
-use Rattle.std.proofs.Common.{rules, ◌≡◌, ◌∙◌, ◌<◌, ◌^◌, ap, subst, ℕ, [], length}
-use Rattle.std.proofs.lemmas.Result.{IfOk-weaker}
-use Rattle.station.specs.Setup.{Setup}
+use Rattle.std.proofs.Common.{rules, ◌≡◌, ◌<◌, ◌^◌, length}
 use Rattle.station.specs.Opening.{setup_of}
-use Rattle.station.specs.Plays.{first_view}
 use Rattle.station.proofs.Forking.{opens}
 use Rattle.station.proofs.Fresh.{matched_lies, start_inside}
 use Rattle.station.proofs.tracker.open_table.Goals as goal

@@ -1,6 +1,5 @@
 use Rattle.std.proofs.Common.{arith, ap, sym, ◌∙◌, ◌≡◌, ◌<◌, ◌+◌, ℕ, List, get_or, set, length, take, get_or-set_same, get_or-set_other, length-set}
 use Rattle.std.specs.Prelude.{slice_index, if◌then◌else◌}
-use Rattle.std.proofs.lemmas.Bool.Decides.{nat_tests}
 use Rattle.node_set.specs.Ascending.{has}
 use Rattle.directory.specs.Histories.{tickets}
 use Rattle.station.proofs.Ticketing.{tickets-below, has-taken}

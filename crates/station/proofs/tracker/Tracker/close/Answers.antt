@@ -1,4 +1,4 @@
-use Rattle.std.proofs.Common.{arith, ◌≡◌, ℕ, List, subst}
+use Rattle.std.proofs.Common.{arith, ◌≡◌, ℕ, List}
 use Rattle.std.proofs.lemmas.List.{take_at}
 use Rattle.station.specs.Passes.{PassData}
 use Rattle.station.specs.Closing.{ArePresent}

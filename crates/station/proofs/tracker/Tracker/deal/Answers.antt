@@ -1,8 +1,4 @@
-use Rattle.std.proofs.Common.{arith, ◌≡◌, ◌∙◌, ◌+◌, ◌-◌, ℕ, [], ◌∷◌, sym, ap, add-one, length, length-append}
-use Rattle.atomic_table.specs.Table.{Me}
-use Rattle.entry_word.specs.declared.visit.Act.{Act}
-use Rattle.station.specs.Plays.{view_of_rest}
-use Rattle.station.specs.declared.view.View.{View}
+use Rattle.std.proofs.Common.{arith, ◌≡◌, ◌∙◌, ◌+◌, ◌-◌, [], ◌∷◌, ap, add-one, length, length-append}
 use Rattle.station.proofs.Forking.{deals}
 use Rattle.station.proofs.Fresh.{dealt_fresh, fresh_own, fresh_push, last_fresh, rest_view}
 use Rattle.station.proofs.tracker.Tracker.deal.Goals as goal

@@ -1,5 +1,4 @@
 use Rattle.std.proofs.Common.{arith}
-use Rattle.std.proofs.Common.{sym, ap, ◌∙◌}
 use Rattle.station.proofs.tracker.Tracker.enter.Goals as goal
 
 pub returns : goal.returns

@@ -1,10 +1,7 @@
-use Rattle.std.proofs.Common.{arith, ap, ◌∙◌, ◌≡◌, ◌<◌, ◌≤◌, ℕ, List, Some, get_or, set, length, subst}
-use Rattle.std.specs.Prelude.{slice_get}
+use Rattle.std.proofs.Common.{arith, ap, ◌∙◌, ◌≡◌, ◌<◌, ◌≤◌, List, get_or, set, length}
 use Rattle.std.proofs.lemmas.List.{set-get_or}
 use Rattle.std.proofs.lemmas.Option.{get_or_from_slice_get, slice_get_within}
-use mathlib.Core.Logic.{dite}
 use native.Mathlib.Decide.{dec_le}
-use Rattle.directory.specs.Histories.{IsFront}
 use Rattle.station.specs.Passes.{PassData}
 use Rattle.station.proofs.tracker.Tracker.gather.Goals as goal
 use Rattle.directory.specs.HistoryLaws.{front-through}

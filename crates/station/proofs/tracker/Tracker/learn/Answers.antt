@@ -1,5 +1,5 @@
-use Rattle.std.proofs.Common.{rules, arith, sym, ap, ◌∙◌, ◌≡◌, ◌≤◌, ◌^◌, length}
-use Rattle.station.specs.Setup.{setting_in, nodes_in}
+use Rattle.std.proofs.Common.{rules, arith, ap, ◌≡◌, ◌≤◌, ◌^◌, length}
+use Rattle.station.specs.Setup.{setting_in}
 use Rattle.station.proofs.Joining.{hears, learns, longer_long}
 use Rattle.station.proofs.tracker.Tracker.learn.Goals as goal
 

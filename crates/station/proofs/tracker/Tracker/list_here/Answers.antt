@@ -1,4 +1,4 @@
-use Rattle.std.proofs.Common.{arith, subst, sym, ap, ◌∙◌, ◌≡◌, ◌<◌, ◌+◌, Bool, ℕ}
+use Rattle.std.proofs.Common.{arith, ◌∙◌, ◌≡◌, ◌<◌, ◌+◌, Bool, ℕ}
 use Rattle.entry_word.specs.Marks.{mark_in, says_here}
 use Rattle.entry_word.specs.declared.visit.Key.TheVariants.{Presence}
 use Rattle.directory.specs.Histories.{cell}
@@ -16,7 +16,8 @@ loop-sub-preserved c =
     let f : ℕ → Bool = λ s. says_here (mark_in (cell (setting_in c.args.self.now.setup) c.args.seat.now.me.0.seen
     (Presence c.args.node s))) in
     let told : c.says_here.result ≡ f sub = grind arith in
-    let bits : AreBits f c.if-says_here.who (sub + 1) = grind (arith, then-says_here, hit_bit, else-says_here, miss_bit) in record {
+    let bits : AreBits f c.if-says_here.who (sub + 1) =
+    grind (arith, then-says_here, hit_bit, else-says_here, miss_bit) in record {
       table = now.table ∙ was.table;
       id = now.id ∙ was.id;
       same = now.same ∙ was.same;

@@ -1,8 +1,7 @@
 use Rattle.std.proofs.Common.{arith}
-use Rattle.std.proofs.Common.{refl, subst, sym, ap, ◌∙◌}
+use Rattle.std.proofs.Common.{subst, sym, ap}
 use Rattle.station.specs.Setup.{Setup}
 use Rattle.station.specs.Handsets.{Moves}
-use Rattle.station.specs.Plays.{view_outside}
 use Rattle.station.specs.declared.view.View.{View}
 use Rattle.station.proofs.Ticketing.{left_by}
 use Rattle.station.proofs.Putting.{moves}

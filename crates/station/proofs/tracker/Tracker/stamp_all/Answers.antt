@@ -1,9 +1,8 @@
 use Rattle.std.proofs.Common.{arith, ap, sym, ◌∙◌, ◌≡◌, ◌<◌, List, length, refl, subst}
-use Rattle.std.specs.Prelude.{slice_get}
 use Rattle.std.proofs.Math.Seq.{take-length}
 use Rattle.std.proofs.lemmas.Option.{get_or_from_slice_get, slice_get_within}
 use mathlib.Core.Logic.{dite}
-use native.Mathlib.Decide.{ℕ_discrete, dec_le}
+use native.Mathlib.Decide.{dec_le}
 use Rattle.directory.specs.Histories.{History, own}
 use Rattle.station.specs.Passes.{PassData, IsNoteOf, IsPassOf, actor_of}
 use Rattle.station.proofs.Ending.{find_pass, heard_whole, order_is, own_there, stamp_more, taken}

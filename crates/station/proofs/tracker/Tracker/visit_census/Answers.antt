@@ -1,6 +1,4 @@
-use Rattle.std.proofs.Common.{arith, ap, ◌∙◌, ℕ, length, refl}
-use Rattle.std.specs.Prelude.{if◌then◌else◌}
-use Rattle.node_set.specs.Ascending.{has}
+use Rattle.std.proofs.Common.{arith, ap, ◌∙◌, refl}
 use Rattle.entry_word.specs.declared.visit.Act.TheVariants.{Census}
 use Rattle.directory.specs.Census.{census}
 use Rattle.directory.specs.Histories.{before}

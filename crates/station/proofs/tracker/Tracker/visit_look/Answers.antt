@@ -1,10 +1,8 @@
 use Rattle.std.proofs.Common.{arith, refl, sym, ap, ◌∙◌}
-use Rattle.directory.specs.Histories.{before, cell}
 use Rattle.station.proofs.Growing.{cell-push}
 use Rattle.entry_word.specs.declared.visit.Act.TheVariants.{Look}
 use Rattle.directory.specs.Keys.{key_node}
 use Rattle.station.specs.Setup.{setting_in}
-use Rattle.station.specs.declared.view.View.{View}
 use Rattle.station.proofs.Steps.{no_some}
 use Rattle.station.proofs.Ticketing.{looked, look_done, lost_pass, may_draw, pass_is}
 use Rattle.station.proofs.tracker.Tracker.visit_look.Goals as goal

@@ -3,7 +3,6 @@ use Rattle.entry_word.specs.declared.visit.Act.TheVariants.{Put}
 use Rattle.entry_word.specs.declared.visit.Visit.{Visit}
 use Rattle.directory.specs.Histories.{puts_to}
 use Rattle.directory.specs.Keys.{key_node}
-use Rattle.region_plan.specs.Settings.{setting_of}
 use Rattle.station.specs.Setup.{Setup, setting_in}
 use Rattle.station.specs.Handsets.{HandsetGoesOn, IsHandsetOf, put_of}
 use Rattle.station.specs.Passes.{PassData}

@@ -1,5 +1,5 @@
 use Rattle.std.proofs.Common.{arith}
-use Rattle.std.proofs.Common.{◌≡◌, refl, subst, sym, ap, ◌∙◌, [], Option}
+use Rattle.std.proofs.Common.{◌≡◌, subst, [], Option}
 use Rattle.std.specs.Prelude.{Some}
 use Rattle.directory.specs.Finds.{after_word, key_of}
 use Rattle.entry_word.specs.declared.visit.Key.{Key}
@@ -7,7 +7,7 @@ use Rattle.region_plan.specs.Plan.{PlanData}
 use Rattle.region_plan.specs.Matched.{IsMatched}
 use Rattle.region_plan.specs.Settings.{setting_of}
 use Rattle.walk.specs.LookLaws.{cell-wanted}
-use Rattle.walk.specs.Walks.{IsWalkOver, WalkData, call_of, pursuit_of}
+use Rattle.walk.specs.Walks.{WalkData, call_of, pursuit_of}
 use Rattle.station.specs.Setup.{setting_in, subs_in}
 use Rattle.station.proofs.Wanted.{word-seen}
 use Rattle.station.specs.TurnLaws.{held-passed}
