@@ -10,6 +10,3 @@ lay_level-requires-clause-at c = c.loop-level.invariant.1
 
 pub loop-level-preserved : goal.loop-level-preserved
 loop-level-preserved c = grind (arith, sum_by_more)
-
-pub returns-clause-at : goal.returns-clause-at
-returns-clause-at c = grind arith

@@ -21,9 +21,3 @@ loop-cluster-init c = (c.requires.laid, omega (arith, c.requires.at))
 
 pub loop-sub-init : goal.loop-sub-init
 loop-sub-init c = (c.loop-cluster.invariant.0, omega (arith, c.loop-cluster.invariant.1))
-
-pub loop-cluster-preserved : goal.loop-cluster-preserved
-loop-cluster-preserved c = grind arith
-
-pub returns-clause-at : goal.returns-clause-at
-returns-clause-at c = grind arith

@@ -21,9 +21,3 @@ loop-node-init c = (c.requires.laid, omega (arith, c.requires.at))
 
 pub loop-sub-init : goal.loop-sub-init
 loop-sub-init c = (c.loop-node.invariant.0, omega (arith, c.loop-node.invariant.1))
-
-pub loop-node-preserved : goal.loop-node-preserved
-loop-node-preserved c = grind arith
-
-pub returns-clause-at : goal.returns-clause-at
-returns-clause-at c = grind arith

@@ -9,9 +9,6 @@ present : {counted actors : ℕ} {seen passes : List PassData} → counted ≡ a
     → ArePresent counted seen → ArePresent actors passes
 present {counted} {passes} e f all = grind arith
 
-pub returns-in-Some-clause-fault : goal.returns-in-Some-clause-fault
-returns-in-Some-clause-fault c = grind arith
-
 pub gather-longest-requires-clause-present : goal.gather-longest-requires-clause-present
 gather-longest-requires-clause-present c = grind (arith, present)
 
@@ -28,9 +25,6 @@ stamp_all-requires-clause-present c = grind (arith, present)
 pub stamp_all-requires-clause-gathered : goal.stamp_all-requires-clause-gathered
 stamp_all-requires-clause-gathered c =
     rw c.gather-longest.ensures.same c.gather-longest.ensures.gathered
-
-pub stamp_all-requires-clause-room : goal.stamp_all-requires-clause-room
-stamp_all-requires-clause-room c = grind arith
 
 pub returns-clause-order : goal.returns-clause-order
 returns-clause-order c = grind (arith, take_at)

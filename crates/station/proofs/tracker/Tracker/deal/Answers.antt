@@ -9,9 +9,6 @@ split_seat-next-requires c = grind (arith, deals)
 pub of-requires : goal.of-requires
 of-requires c = grind (arith, dealt_fresh, fresh_own)
 
-pub push_reserved-requires : goal.push_reserved-requires
-push_reserved-requires c = grind arith
-
 pub loop-actor-preserved : goal.loop-actor-preserved
 loop-actor-preserved c =
     let d = c.loop-actor.invariant in
@@ -28,9 +25,6 @@ loop-actor-preserved c =
 
 pub of-requires-2 : goal.of-requires-2
 of-requires-2 c = grind (arith, last_fresh, fresh_own)
-
-pub push_reserved-requires-2 : goal.push_reserved-requires-2
-push_reserved-requires-2 c = grind arith
 
 pub returns-clause-fresh : goal.returns-clause-fresh
 returns-clause-fresh c =

@@ -13,6 +13,3 @@ returns-clause-setup c = c.in_ok-table.ensures.opened.3
 
 pub returns-clause-table : goal.returns-clause-table
 returns-clause-table c = c.in_ok-table.ensures.opened.4
-
-pub returns-clause-first : goal.returns-clause-first
-returns-clause-first c = grind arith
