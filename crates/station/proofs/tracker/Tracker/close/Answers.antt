@@ -15,16 +15,8 @@ gather-longest-requires-clause-present c = grind (arith, present)
 pub returns-in_default-vec-clause-fault : goal.returns-in_default-vec-clause-fault
 returns-in_default-vec-clause-fault c = grind (arith, present)
 
-pub stamp_all-requires-clause-of : goal.stamp_all-requires-clause-of
-stamp_all-requires-clause-of c =
-    rw c.gather-longest.ensures.same c.requires.of
-
 pub stamp_all-requires-clause-present : goal.stamp_all-requires-clause-present
 stamp_all-requires-clause-present c = grind (arith, present)
-
-pub stamp_all-requires-clause-gathered : goal.stamp_all-requires-clause-gathered
-stamp_all-requires-clause-gathered c =
-    rw c.gather-longest.ensures.same c.gather-longest.ensures.gathered
 
 pub returns-clause-order : goal.returns-clause-order
 returns-clause-order c = grind (arith, take_at)

@@ -13,9 +13,6 @@ draw-requires-clause-may c =
     λ log. may_draw (Census c.args.node) log c.pass.invariant
     (omega (arith, c.requires.spare, ap (λ q. q.spare) c.pass.view_is)) refl (λ key e. no_some e) tt
 
-pub keep_ticket-requires-clause-small : goal.keep_ticket-requires-clause-small
-keep_ticket-requires-clause-small c = c.in_ok-ticket.ensures.drawn.few
-
 pub invariant_of-pass-2 : goal.invariant_of-pass-2
 invariant_of-pass-2 c =
     let d = c.in_ok-ticket.ensures.drawn in

@@ -14,9 +14,6 @@ draw-requires-clause-may c =
     (omega (arith, c.requires.spare, ap (λ q. q.spare) c.pass.view_is))
     (ap (λ s. key_node (setting_in s) c.args.key) setup ∙ sym c.node_of-node.ensures.node) (λ key e. no_some e) tt
 
-pub keep_ticket-requires-clause-small : goal.keep_ticket-requires-clause-small
-keep_ticket-requires-clause-small c = c.in_ok-ticket.ensures.drawn.few
-
 pub invariant_of-pass-2 : goal.invariant_of-pass-2
 invariant_of-pass-2 c =
     let d = c.in_ok-ticket.ensures.drawn in
