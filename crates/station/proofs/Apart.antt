@@ -1,6 +1,6 @@
 -- Words of different nodes are different, and what a view says of the words of its node stays while
 -- these words stay.
-use Rattle.std.proofs.Common.{◌≡◌, ◌≢◌, ℕ, suc, ◌+◌, ◌*◌, ◌<◌, Bool, true, false, true≢false, List, [], ◌∷◌, ◌++◌, drop, set, refl, sym, ap, ◌∙◌, arith, Option, Some, get_or-set_other}
+use Rattle.std.proofs.Common.{◌≡◌, ◌≢◌, ℕ, suc, ◌+◌, ◌*◌, ◌<◌, Bool, true, false, List, [], drop, set, refl, sym, ap, ◌∙◌, arith, Option, Some, get_or-set_other}
 use Rattle.std.specs.Prelude.{slice_index}
 use Rattle.entry_word.specs.declared.visit.Key.{Key}
 use Rattle.directory.specs.Keys.{key_node}
@@ -43,8 +43,7 @@ apart law {setup} inx iny ne (is_cell key cell at a) (is_cell other cell' at' b)
 pub else_where : NumbersApart → {setup : Setup} (ws : List ℕ) {x y i k : ℕ} (new : ℕ) → x < nodes_in setup
     → y < nodes_in setup → x ≢ y → IsWordAt setup x i → IsWordAt setup y k
     → slice_index (set ws i new) k ≡ slice_index ws k
-else_where law ws {i} {k} new inx iny ne a b =
-    get_or-set_other ws i k new 0 (λ e. apart law inx iny ne a b (sym e))
+else_where law ws {i} {k} new inx iny ne a b = grind (arith, get_or-set_other, apart)
 
 -- two views are never inside one node
 pub one_inside : {setup : Setup} {s : Rattle.atomic_table.specs.Table.State
@@ -89,20 +88,11 @@ resound new later {unwritten} {owes} was has goes_on beside still kept lock tall
             known = h.known;
             alone = h.alone;
             lock = lock node is ∙ h.lock;
-            drawn = λ drawn. let d = h.drawn drawn in
-                let begins = goes_on (d.earlier ++ d.visit ∷ []) d.begins in
-                let last = beside node is d.last in
-                let put = λ (key : Key) (is : unwritten ≡ Some key). d.put key (kept key is) in
-                let word = λ (key : Key) (is : unwritten ≡ Some key). d.word key (kept key is) in
-                let moves = λ (due : owes ≡ true). d.moves (still due) in
-                let counted = λ (due : owes ≡ true). d.tally (still due) in
-                search;
+            drawn = grind arith;
             owed = λ due. h.owed (still due);
             tally = λ due. tally node is due ∙ h.tally (still due);
           };
-      unwritten = λ key is. let h = was.unwritten key (kept key is) in
-          record { cell = h.cell; inside = h.inside; drawn = h.drawn; word = cell key is h.inside h.cell ∙ h.word };
-      outside = λ out. let calm = was.outside out in
-          (calm.0, not_true owes (λ due. true≢false (sym (still due) ∙ calm.1)));
+      unwritten = grind arith;
+      outside = grind (arith, not_true);
       others = was.others;
     }

@@ -66,8 +66,7 @@ all-or-other actor (event ∷ later) = dite (ℕ_discrete (event_actor event) ac
 front-has : {actor : ℕ} (front rest earlier : List TurnEvent) (event : TurnEvent) (later : List TurnEvent)
     → event_actor event ≡ actor → events_of actor rest ≡ [] → front ++ rest ≡ earlier ++ event ∷ later
     → IsLoggedAt earlier event front
-front-has {actor} [] rest earlier event later mine none is =
-    absurd (grind (arith, some-mine earlier event later mine))
+front-has {actor} [] rest earlier event later mine none is = grind (arith, some-mine earlier event later mine)
 front-has (x ∷ front) rest [] event later mine none is = grind (arith, event, front)
 front-has (x ∷ front) rest (e ∷ earlier) event later mine none is =
     grind (arith, front-has front rest earlier event later mine none (ap (drop 1) is))
@@ -93,12 +92,7 @@ events-keep actor node log (event ∷ later) of valid foreign =
     let split : (log ++ event ∷ []) ++ later ≡ log ++ event ∷ later = append_assoc log (event ∷ []) later in
     let one = event-keeps node log event of.0 (valid log event later refl) in
     let rest = events-keep actor node (log ++ event ∷ []) later of.1 (rw split valid) in
-    rw (← split) (⊎_elim
-    (λ (f : IsForeign actor (lock_in log node)). rest (inl (rw (one (inl f)) f)) ∙ one (inl f))
-    (λ (f : IsForeign actor (lock_in (log ++ event ∷ later) node)).
-    let same = rest (inr (rw split f)) in
-    same ∙ one (inr (rw (← same, split) f)))
-    foreign)
+    rw (← split) (grind arith)
 
 module _ (setup : Setup) (old new : State Act View) (seat : ℕ) (was : KeepsRule setup old) (is : KeepsRule setup new)
     (s : IsStepOf seat old new) where
@@ -114,9 +108,7 @@ module _ (setup : Setup) (old new : State Act View) (seat : ℕ) (was : KeepsRul
   was_there earlier event later mine log o =
       let b = event_actor o.event in
       let front = earlier ++ event ∷ o.front in
-      let whole : is.turns ≡ front ++ o.event ∷ o.back = log
-      ∙ (ap (λ (l : List TurnEvent). earlier ++ event ∷ l) o.is
-      ∙ sym (append_assoc earlier (event ∷ o.front) (o.event ∷ o.back))) in
+      let whole : is.turns ≡ front ++ o.event ∷ o.back = grind (arith, append_assoc) in
       let its = is.actors b (actor-below is front o.event o.back whole) in
       let k = is.owner b in
       let before = sym (other_seat s k (apart k its.0 b its.1 its.2 o.other)) ∙ its.1 in
@@ -126,9 +118,7 @@ module _ (setup : Setup) (old new : State Act View) (seat : ℕ) (was : KeepsRul
       let there = front-has its.0.turns has.later front o.event o.back refl (has.by_others b its.2)
       (sym has.goes_on ∙ whole) in
       let then : was.turns ≡ earlier ++ event ∷ (o.front ++ ((o.event ∷ there.0) ++ had.later)) = had.goes_on
-      ∙ (ap (λ (l : List TurnEvent). l ++ had.later) there.1
-      ∙ (append_assoc front (o.event ∷ there.0) had.later
-      ∙ append_assoc earlier (event ∷ o.front) ((o.event ∷ there.0) ++ had.later))) in
+      ∙ (grind (arith, append_assoc)) in
       front-has s.before.turns me.later earlier event (o.front ++ ((o.event ∷ there.0) ++ had.later)) mine
       (me.by_others s.before.low (omega arith, omega (arith, s.alone))) (sym me.goes_on ∙ then)
 
@@ -139,10 +129,8 @@ module _ (setup : Setup) (old new : State Act View) (seat : ℕ) (was : KeepsRul
   named earlier more log own k view node at inside ne =
       let away : k ≢ seat = λ e. ne (ap (λ (u : View). u.low) (same_view old.views s.was at e)) in
       let there = (is.views k view (other_seat s k away ∙ at)).inside node inside in
-      let word : lock_in (earlier ++ more) node ≡ suc view.low = ap (λ l. lock_in l node) (sym log)
-      ∙ (sym (is.lock_words node there.known) ∙ there.lock) in
-      let foreign : IsForeign s.before.low (lock_in (earlier ++ more) node) =
-      ((λ e. absurd (omega (arith, word, e))), (λ e. ne (omega (arith, word, e)))) in
+      let word : lock_in (earlier ++ more) node ≡ suc view.low = grind arith in
+      let foreign : IsForeign s.before.low (lock_in (earlier ++ more) node) = grind arith in
       sym (events-keep s.before.low node earlier more own (subst IsLog log is.in_turn) (inr foreign)) ∙ word
 
   others_out : (earlier more : List TurnEvent) (actor node : ℕ) → is.turns ≡ earlier ++ more
@@ -154,17 +142,13 @@ module _ (setup : Setup) (old new : State Act View) (seat : ℕ) (was : KeepsRul
       → AreOf s.before.low more → actor ≡ s.before.low → IsInTurn earlier (Lost actor node word)
       → node < nodes_in setup → IsAnothers old actor node word
   anothers earlier more actor node word log own mine may known =
-      let foreign : IsForeign s.before.low (lock_in earlier node) =
-      ((λ e. may.1 (sym may.0 ∙ e)), (λ e. may.2 (sym may.0 ∙ (e ∙ ap suc (sym mine))))) in
-      let here : slice_index new.words (lock_word node) ≡ word = is.lock_words node known
-      ∙ (ap (λ l. lock_in l node) log
-      ∙ (events-keep s.before.low node earlier more own (subst IsLog log is.in_turn) (inl foreign) ∙ may.0)) in
+      let foreign : IsForeign s.before.low (lock_in earlier node) = grind arith in
+      let here : slice_index new.words (lock_word node) ≡ word = grind (arith, events-keep) in
       let b = word - 1 in
       let is_suc : word ≡ suc b = omega (arith, may.1) in
       let held = is.locks node b known (here ∙ is_suc) in
       let k = is.owner b in
-      let away : k ≢ seat = λ e. may.2 (is_suc ∙ ap suc (sym held.3
-      ∙ (ap (λ (u : View). u.low) (same_view new.views (its_seat s) held.1 e) ∙ (s.low ∙ sym mine)))) in
+      let away : k ≢ seat = grind (arith, same_view, its_seat s) in
       let before = sym (other_seat s k away) ∙ held.1 in
       let named_then : suc held.0.low ≡ word = ap suc held.3 ∙ sym is_suc in (
         may.2,
@@ -198,8 +182,7 @@ module _ (setup : Setup) (old new : State Act View) (seat : ℕ) (was : KeepsRul
       (λ (t : IsLoggedAt earlier event s.before.turns). inr t)
       (λ (absent : IsLoggedAt earlier event s.before.turns → ⊥).
       let has = is.logged seat s.after (its_seat s) in
-      let log : is.turns ≡ earlier ++ event ∷ (there.0 ++ has.later) = has.goes_on
-      ∙ (ap (λ (l : List TurnEvent). l ++ has.later) there.1 ∙ append_assoc earlier (event ∷ there.0) has.later) in
+      let log : is.turns ≡ earlier ++ event ∷ (there.0 ++ has.later) = grind (arith, append_assoc) in
       ⊎_elim
       (λ (own : AreOf s.before.low (there.0 ++ has.later)). inl (record {
         own = s;
@@ -240,10 +223,7 @@ come_on {setup} {seat} {states} before earlier event first short (suc count) aft
     (through.steps count (omega arith))
   where
     less : GoesThrough setup seat count states
-    less = record {
-      keeps = λ step low. through.keeps step (omega (arith, low));
-      steps = λ step low. through.steps step (omega (arith, low));
-    }
+    less = grind arith
 
     further : Came setup seat count states earlier event → Came setup seat (suc count) states earlier event
     further t = (t.0, omega (arith, t.1), t.2)

@@ -1,5 +1,5 @@
 -- A ticket is drawn.
-use Rattle.std.proofs.Common.{◌≡◌, ℕ, suc, ◌+◌, ◌%◌, ◌^◌, ◌<◌, ◌≤◌, true≢false, [], ◌∷◌, ◌++◌, length, set, drop, refl, sym, ap, ◌∙◌, inl, inr, arith, Some, get_or-set_other, get_or-set_same, length-set, length-append}
+use Rattle.std.proofs.Common.{◌≡◌, ℕ, suc, ◌+◌, ◌%◌, ◌^◌, ◌<◌, ◌≤◌, [], ◌∷◌, ◌++◌, length, set, drop, refl, sym, ap, ◌∙◌, inl, inr, arith, Some, get_or-set_other, get_or-set_same, length-set, length-append}
 use Rattle.std.specs.Prelude.{slice_index}
 use mathlib.Core.Option.{none}
 use mathlib.Core.Logic.{dite}
@@ -57,8 +57,7 @@ grows law {s} id {x} {new} {v} {act} o me may is =
     let others = alone o id v me may.inside in
     let stands : StandsForActor v v.low = (omega arith, omega (arith, here.alone)) in
     let mine = was.owner_is v.low stands in
-    let words : (k : ℕ) → slice_index ws (suc k) ≡ slice_index s.words (suc k) = λ k. get_or-set_other s.words 0
-    (suc k) new 0 (λ e. omega arith) in
+    let words : (k : ℕ) → slice_index ws (suc k) ≡ slice_index s.words (suc k) = grind (arith, get_or-set_other) in
     let grown : (front : History) → IsFront front history → IsFront front longer =
     λ front f. front-longer front history (visit ∷ []) f in
     let whole = front-itself longer in
@@ -77,15 +76,7 @@ grows law {s} id {x} {new} {v} {act} o me may is =
         setup_is = λ _. refl;
         has = search;
         owner_is = was.owner_is;
-        inside = λ node at. rw (← same_some (sym may.inside ∙ at)) record {
-          known = here.known;
-          alone = here.alone;
-          lock = words x ∙ here.lock;
-          drawn = λ _. drawn;
-          owed = λ _. refl;
-          tally = λ _. words _ ∙ o.tallies x here.known
-              (tallied_here o id x v me others (λ due _. true≢false (sym due ∙ may.clear)));
-        };
+        inside = grind (arith, same_some, alone, tallied_here);
         unwritten = λ key put. let node = put_node setting act put ∙ may.at in record {
           cell = may.cell key put;
           inside = may.inside ∙ ap (λ (n : ℕ). Some n) (sym node);
@@ -98,23 +89,18 @@ grows law {s} id {x} {new} {v} {act} o me may is =
         others = was.others;
       } (λ k u ne there. let old = o.views k u there in
           let same : (actor : ℕ) → StandsForActor u actor → own actor longer ≡ own actor history =
-          λ actor st. own-other actor history visit
-          (λ e. ne (sym (old.owner_is actor st).0 ∙ (ap o.owner (sym e) ∙ mine.0))) in
+          grind (arith, own-other) in
           resound ws longer old record {
             seen = grown u.seen old.has.seen;
             told = grown u.told old.has.told;
             visits = λ actor st. same actor st ∙ old.has.visits actor st;
             had = grown u.had old.has.had;
             kept = λ actor st. same actor st ∙ old.has.kept actor st;
-          } grown (λ node at none-there. at-push setting node u.visit_count history visit
-          (λ e. others k u ne there (at ∙ ap (λ (n : ℕ). Some n) (sym e ∙ may.at))) none-there)
+          } grown (λ node at none-there. grind (arith, at-push))
           (λ due. due) (λ _ put. put) (λ node _. words node) (λ node _ _. words _) (λ key _ _ _. words _));
       actors = λ actor below. owned s o.owner id actor v w me refl refl near (o.actors actor below);
       known = λ actor above. own-other actor history visit (λ e. omega (arith, mine.1, above, e)) ∙ o.known actor above;
-      few = λ actor. dite (ℕ_discrete v.low actor)
-          (λ e. few_more (own actor history) visit (own actor longer) (own-mine history visit e)
-          (rw (← e, was.has.visits v.low stands) may.few))
-          (λ ne. rw (own-other actor history visit ne) (o.few actor));
+      few = grind (arith, ℕ_discrete, few_more, own-mine, own-other);
       turns = o.turns;
       in_turn = o.in_turn;
       strangers = o.strangers;
@@ -123,18 +109,15 @@ grows law {s} id {x} {new} {v} {act} o me may is =
       locks = λ node actor known names. still_held s o.owner id v w me refl refl
           (o.locks node actor known (sym (words node) ∙ names));
       cells = λ key known quiet. words _ ∙ (o.cells key known (λ k u there put. dite (ℕ_discrete k id)
-          (λ e. let same = same_view s.views me there e in
-          no_some (sym may.unwritten ∙ (ap (λ (y : View). y.unwritten) (sym same) ∙ put)))
+          (λ e. grind (arith, same_view, no_some))
           (λ ne. quiet k u (set_else s.views id k w ne ∙ there) put))
           ∙ sym (cell-push setting key history visit
           ∙ word-unput law key (cell setting history key) act (quiet id w (set_here s.views id w near))));
       tallies = λ node known quiet. words _ ∙ (o.tallies node known (λ k u there due at. dite (ℕ_discrete k id)
-          (λ e. let same = same_view s.views me there e in
-          true≢false (sym due ∙ (ap (λ (y : View). y.owes) same ∙ may.clear)))
+          (λ e. grind (arith, same_view))
           (λ ne. quiet k u (set_else s.views id k w ne ∙ there) due at))
           ∙ sym (ap length (census-push law setting history node visit (dite (ℕ_discrete x node)
-          (λ e. inr (not_true (changes_here setting history act) (λ due. quiet id w (set_here s.views id w near) due
-          (may.inside ∙ ap (λ (n : ℕ). Some n) e))))
+          (λ e. inr (not_true (changes_here setting history act) (λ due. grind (arith, set_here s.views id w near))))
           (λ ne. inl (λ e. ne (sym may.at ∙ e)))))));
       legal = λ sub known. legal_more v sub history act may.may was.has.seen (was.has.visits v.low stands)
           (o.legal sub known);
@@ -151,9 +134,7 @@ draws law n id {x} m {act} may s o wide me small =
     let was = o.views id v me in
     let here = was.inside x may.inside in
     let stands : StandsForActor v v.low = (omega arith, omega (arith, here.alone)) in
-    let new : (found + 1) % 2 ^ 64 ≡ suc (length o.history) =
-    ap (λ (k : ℕ). (k + 1) % 2 ^ 64) o.tickets
-    ∙ no_wrap (length o.history) (few_visits v.setup.actors o.history o.few_actors o.known o.few) in (
+    let new : (found + 1) % 2 ^ 64 ≡ suc (length o.history) = grind (arith, no_wrap, few_visits) in (
       view_with_ticket v x act o.history,
       keeps,
       tt,

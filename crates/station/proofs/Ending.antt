@@ -1,11 +1,11 @@
 -- How the passes of all actors tell the order of all tickets.
-use Rattle.std.proofs.Common.{◌≡◌, ◌≢◌, ℕ, zero, suc, ◌+◌, ◌==◌, List, [], ◌∷◌, ◌++◌, length, map, take, drop, refl, sym, ap, ◌∙◌, arith, Option, Some, append_assoc, length-append}
+use Rattle.std.proofs.Common.{◌≡◌, ◌≢◌, ℕ, zero, suc, ◌+◌, ◌==◌, List, [], ◌∷◌, ◌++◌, length, map, take, drop, refl, arith, Option, Some, append_assoc, length-append}
 use Rattle.std.proofs.lemmas.Bool.Decides.{nat_tests}
 use Rattle.std.proofs.Math.Seq.{take-append_seam}
 use Rattle.std.proofs.lemmas.List.{take-append-drop, take_all}
 use Rattle.std.proofs.lemmas.Option.{slice_get_within}
 use Rattle.directory.specs.ListLaws.{slice_get-right}
-use Rattle.std.specs.Prelude.{option_to_list, slice_get, slice_index, if◌then◌else◌, unwrap_or}
+use Rattle.std.specs.Prelude.{option_to_list, slice_get, slice_index, if◌then◌else◌}
 use mathlib.Core.Logic.{dite}
 use native.Mathlib.Decide.{ℕ_discrete, dec_le}
 use Rattle.node_set.specs.Ascending.{has}
@@ -13,20 +13,14 @@ use Rattle.entry_word.specs.declared.visit.Visit.{Visit}
 use Rattle.directory.specs.Histories.{History, IsFront, own, tickets}
 use Rattle.station.specs.Passes.{NoteData, PassData, actor_of}
 use Rattle.station.specs.Closing.{HasNoPass}
-use Rattle.station.specs.Plays.{longer}
 use Rattle.station.specs.Visits.{HasHeard}
 use Rattle.station.specs.TicketLaws.{own-nil}
 use Rattle.station.proofs.Joining.{longer_one, longer_other}
 
--- the longer of a front and its whole is the whole
-longer-whole : (xs zs : List Visit) → IsFront xs zs → longer xs zs ≡ zs
-longer-whole xs zs f = grind (arith, dec_le, longer_one, take_all, longer_other)
-
 -- an actor that isn't missing has a pass
 none_more : (x : PassData) (passes : List PassData) (actor : ℕ) → actor_of x ≢ actor → HasNoPass passes actor
     → HasNoPass (x ∷ passes) actor
-none_more x passes actor ne missing zero pass e is =
-    ne (ap (λ (o : Option PassData). actor_of (unwrap_or o x)) e ∙ is)
+none_more x passes actor ne missing zero pass e is = grind arith
 none_more x passes actor ne missing (suc k) pass e is = missing k pass e is
 
 pub find_pass : (passes : List PassData) (actor : ℕ) → ¬ HasNoPass passes actor
@@ -41,8 +35,7 @@ find_pass (x ∷ passes) actor there = dite (ℕ_discrete (actor_of x) actor)
 pub own_there : (history : History) (i : ℕ) {visit : Visit} → slice_get history i ≡ Some visit
     → own visit.actor history ≢ []
 own_there [] i {visit} e none-own = omega (arith, slice_get_within [] i visit e)
-own_there (x ∷ later) zero {visit} e none-own =
-    (own-nil visit.actor x later none-own).0 (ap (λ (o : Option Visit). (unwrap_or o x).actor) e)
+own_there (x ∷ later) zero {visit} e none-own = grind (arith, own-nil)
 own_there (x ∷ later) (suc i) {visit} e none-own = own_there later i e (own-nil visit.actor x later none-own).1
 
 pub order_is : (order : List ℕ) (history : History) → length order ≡ length history
@@ -67,18 +60,16 @@ stamp_more old new i visit actor history told is other = grind (arith, nat_tests
 pub taken : (all : List PassData) {before : List PassData} (left : List PassData) (o : Option PassData)
     {pass : PassData} → before ≡ left ++ option_to_list o → o ≡ Some pass → before ≡ take (length before) all
     → (left ≡ take (length left) all) × (slice_get all (length left) ≡ Some pass) × (length before ≡ length left + 1)
-taken all {before} left o {pass} items is rest =
-    let popped : before ≡ left ++ pass ∷ [] = items ∙ ap (λ x. left ++ option_to_list x) is in
-    let later = drop (length before) all in
-    let whole : all ≡ left ++ pass ∷ later = sym (take-append-drop (length before) all)
-    ∙ (ap (λ (l : List PassData). l ++ later) (sym rest ∙ popped) ∙ append_assoc left (pass ∷ []) later) in (
-      rw whole (sym (take-append_seam left (pass ∷ later))),
-      rw whole (slice_get-right left (pass ∷ later) (length left) 0 (omega arith)),
-      ap length popped ∙ length-append left (pass ∷ []),
-    )
+taken all {before} left o {pass} items is rest = grind (
+  arith,
+  take-append-drop (length before) all,
+  append_assoc left (pass ∷ []) (drop (length before) all),
+  take-append_seam left (pass ∷ (drop (length before) all)),
+  slice_get-right left (pass ∷ (drop (length before) all)) (length left) 0 (omega arith),
+  length-append left (pass ∷ []),
+)
 
 -- a pass that hears of a history that goes on from its own has seen that
 pub heard_whole : {whole : History} {pass new : PassData} {note : NoteData} → HasHeard pass note new
     → note.view.seen ≡ whole → IsFront pass.view.seen whole → new.view.seen ≡ whole
-heard_whole {whole} {pass} heard told front =
-    heard.seen ∙ (ap (longer pass.view.seen) told ∙ longer-whole pass.view.seen whole front)
+heard_whole {whole} {pass} heard told front = grind (arith, dec_le, longer_one, take_all, longer_other)

@@ -1,5 +1,5 @@
 -- The rule at the opening, and where a seat is split in two, or noted.
-use Rattle.std.proofs.Common.{◌≡◌, ◌≢◌, ℕ, ◌<◌, ◌≤◌, ◌==◌, eq-eqb, ne_eqb, cond, List, [], ◌∷◌, ◌++◌, length, set, refl, sym, ap, ◌∙◌, subst, arith, None, length-set}
+use Rattle.std.proofs.Common.{◌≡◌, ◌≢◌, ℕ, ◌<◌, ◌≤◌, ◌==◌, eq-eqb, cond, List, [], ◌∷◌, ◌++◌, length, set, refl, sym, ◌∙◌, subst, arith, None, length-set}
 use mathlib.Core.Option.{some-ne-none}
 use mathlib.Core.Logic.{dite}
 use native.Mathlib.Decide.{ℕ_discrete}
@@ -9,7 +9,7 @@ use Rattle.directory.specs.Settings.{Setting, subs, start}
 use Rattle.directory.specs.Courses.{MaySteps}
 use Rattle.directory.specs.Puts.{steps_from}
 use Rattle.directory.specs.Legal.{IsLegal}
-use Rattle.station.specs.Setup.{Setup, CellsLie, setting_in, nodes_in, subs_in, cell_word}
+use Rattle.station.specs.Setup.{Setup, CellsLie, setting_in, nodes_in, subs_in}
 use Rattle.station.specs.Views.{IsSoundView, StandsForActor}
 use Rattle.station.specs.Rule.{KeepsRule, IsViewOf}
 use Rattle.station.specs.Opening.{AreOpening}
@@ -28,10 +28,7 @@ use Rattle.visit_log.specs.Numbers.{NumbersBelow}
 pub nothing_legal : (setting : Setting) (sub : ℕ) → sub < subs setting → start setting sub < setting.nodes
     → IsLegal setting sub []
 unfolding steps_from MaySteps
-nothing_legal setting sub known begins = record {
-  script = record { known = known; begins = begins; allowed = tt };
-  front = refl;
-}
+nothing_legal setting sub known begins = search
 
 -- nothing is in no list
 pub none_lost : (turn : NodeTurn) → Contains [] turn → ⊥
@@ -61,11 +58,9 @@ opens below {setup} {words} lies few inside all =
       in_turn = log-nil;
       strangers = λ _ _. refl;
       lock_words = λ node known. o.locks node known (omega (arith, all.size, known));
-      logged = one_view (λ _ u. HasLogged [] u) v
-          record { later = []; goes_on = refl; by_others = λ _ _. refl; lost = λ _ _. refl };
+      logged = grind (arith, one_view);
       locks = λ node actor known is. absurd (omega (arith, o.locks node known (omega (arith, all.size, known)), is));
-      cells = λ key known _. o.cells key known (subst (λ (k : ℕ). cell_word setup key < k) (sym all.size)
-          (cell_below below setup known));
+      cells = grind (arith, cell_below);
       tallies = λ node known _. o.tallies node known (omega (arith, all.size, known));
       legal = λ sub known. nothing_legal (setting_in setup) sub known (inside sub known);
     }
@@ -96,10 +91,8 @@ deals setup id v more out clear s o me =
     let new : List View = vs ++ view_of_first v ∷ [] in
     let owner : ℕ → ℕ = λ actor. cond (actor == v.low) count (o.owner actor) in
     let was = o.views id v me in
-    let first : (actor : ℕ) → actor ≡ v.low → owner actor ≡ count =
-    λ actor e. ap (λ b. cond b count (o.owner actor)) (eq-eqb actor v.low e) in
-    let later : (actor : ℕ) → actor ≢ v.low → owner actor ≡ o.owner actor =
-    λ actor ne. ap (λ b. cond b count (o.owner actor)) (ne_eqb actor v.low ne) in
+    let first : (actor : ℕ) → actor ≡ v.low → owner actor ≡ count = grind (arith, eq-eqb) in
+    let later : (actor : ℕ) → actor ≢ v.low → owner actor ≡ o.owner actor = grind arith in
     let mine : (actor : ℕ) → StandsForActor v actor → o.owner actor ≡ id = λ actor st. (was.owner_is actor st).0 in
     let rest_there : IsViewOf new id (view_of_rest v) =
     at_longer vs _ id _ (set_here s.views id (view_of_rest v) (seat_below s.views id v me)) in
@@ -112,8 +105,7 @@ deals setup id v more out clear s o me =
     (each_set P s.views id rest others) in
     reseated {o = o} record {
       sound = each (IsSoundView setup s.words o.history owner)
-          (narrowed was out clear (λ actor st. let its : StandsForActor v actor = (omega (arith, st.0), st.1) in
-          (its, later actor (λ e. omega (arith, e, st.0)) ∙ mine actor its)))
+          (narrowed was out clear (λ actor st. grind arith))
           (narrowed was out clear (λ actor st. ((st.0, omega (arith, st.1, more)), first actor (omega (arith, st)))))
           (λ k u ne at. let old = o.views k u at in
           let owner_is : (actor : ℕ) → StandsForActor u actor → (owner actor ≡ k) × (actor < setup.actors) = λ actor st.
@@ -129,16 +121,8 @@ deals setup id v more out clear s o me =
             (omega (arith, e), omega (arith, e)),
           ))
           (λ ne. subst (λ (k : ℕ). (u : View) × IsViewOf new k u × StandsForActor u actor) (sym (later actor ne))
-          (dite (ℕ_discrete (o.owner actor) id)
-          (λ e. let st : StandsForActor v actor = subst (λ (y : View). StandsForActor y actor)
-          (same_view s.views me t.1 e) t.2 in (
-            view_of_rest v,
-            subst (λ k. IsViewOf new k (view_of_rest v)) (sym e) rest_there,
-            (omega (arith, st.0, ne), st.1),
-          ))
-          (λ other. (t.0, there (o.owner actor) t.0 other t.1, t.2))));
-      remains = λ k u node at is. let ne : k ≢ id = λ e. let same = same_view s.views me at e in cc in
-          (k, u, there k u ne at, is, refl, refl, refl);
+          (grind (arith, ℕ_discrete, same_view)));
+      remains = grind (arith, same_view);
       in_turn = o.in_turn;
       strangers = o.strangers;
       logged = each (λ _ u. HasLogged o.turns u)

@@ -7,7 +7,7 @@ use Rattle.atomic_table.specs.Table.{Me}
 use Rattle.entry_word.specs.declared.visit.Act.{Act}
 use Rattle.entry_word.specs.declared.visit.Key.TheVariants.{Presence, Entry}
 use Rattle.directory.specs.Settings.{start}
-use Rattle.region_plan.specs.Plan.{PlanData, nodes_of, leader}
+use Rattle.region_plan.specs.Plan.{PlanData, nodes_of}
 use Rattle.region_plan.specs.Matched.{IsMatched}
 use Rattle.station.specs.Setup.{Setup, CellsLie, setting_in}
 use Rattle.station.specs.Passes.{AreFresh, IsFreshPass, PassData, TrackerData, fresh_view}
@@ -19,9 +19,7 @@ use Rattle.directory.specs.ListLaws.{same_some}
 pub matched_lies : {plan : PlanData} (homes : List ℕ) (actors : ℕ) → IsMatched plan
     → CellsLie (record { plan = plan; homes = homes; actors = actors })
 matched_lies homes actors m (Presence node sub) known = known.place
-matched_lies {plan} homes actors m (Entry level cluster sub) known =
-    m.within level cluster (leader plan level cluster) known.place.0 known.place.1
-    (m.led level cluster known.place.0 known.place.1)
+matched_lies {plan} homes actors m (Entry level cluster sub) known = grind arith
 
 pub start_inside : (plan : PlanData) (homes : List ℕ) (actors sub : ℕ) → All (λ home. home < nodes_of plan) homes
     → sub < length homes
@@ -35,8 +33,7 @@ rest_view setup actor = record (first_view setup) { low = actor }
 -- the seat that is dealt from such a view knows what a fresh pass does
 pub dealt_fresh : (setup : Setup) (actor : ℕ) {rest dealt : Me Act View} → rest ≡ (rest_view setup actor, [])
     → dealt ≡ (view_of_first rest.0, []) → dealt ≡ (fresh_view setup actor, [])
-dealt_fresh setup actor is told =
-    told ∙ ap {B = Me Act View} (λ (m : Me Act View). (view_of_first m.0, [])) is
+dealt_fresh setup actor is told = grind arith
 
 -- the view that is left in the end is that of the last actor
 pub last_fresh : (setup : Setup) {actor last : ℕ} {rest : Me Act View} → rest ≡ (rest_view setup actor, [])
@@ -45,8 +42,7 @@ last_fresh setup {last} is at high = grind (arith, rest_view)
 
 pub fresh_own : (setup : Setup) (actor : ℕ) {me : Me Act View} → me ≡ (fresh_view setup actor, [])
     → me ≡ (fresh_view me.0.setup actor, [])
-fresh_own setup actor is =
-    is ∙ ap {B = Me Act View} (λ (s : Setup). (fresh_view s actor, [])) (sym (ap (λ (m : Me Act View). m.0.setup) is))
+fresh_own setup actor is = grind arith
 
 -- what holds of each pass, and of one more
 pushed : (P : ℕ → PassData → Type 0) (passes : List PassData) {pass : PassData} → P (length passes) pass

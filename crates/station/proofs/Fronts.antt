@@ -1,5 +1,5 @@
 -- Histories that begin with others, and what is filtered from them.
-use Rattle.std.proofs.Common.{◌≡◌, ◌≢◌, ℕ, ◌≤◌, ne_eqb, eq-eqb, List, [], ◌∷◌, ◌++◌, length, take, drop, refl, sym, ap, ◌∙◌, subst, arith, append_assoc}
+use Rattle.std.proofs.Common.{◌≡◌, ◌≢◌, ℕ, ◌≤◌, eq-eqb, List, [], ◌∷◌, ◌++◌, length, take, drop, refl, sym, ap, ◌∙◌, subst, arith, append_assoc}
 use Rattle.std.proofs.lemmas.List.{append-nil}
 use Rattle.entry_word.specs.declared.visit.Visit.{Visit}
 use Rattle.directory.specs.Histories.{IsFront, own}
@@ -20,15 +20,13 @@ front-longer xs zs more f = grind (arith, front-rest xs zs f, append_assoc, fron
 -- of two fronts of one history the shorter is a front of the other
 pub front-of_longer : (xs ys zs : List Visit) → IsFront xs zs → IsFront ys zs → length xs ≤ length ys → IsFront xs ys
 front-of_longer xs ys zs f g short =
-    let t = split_at xs (drop (length xs) zs) ys (drop (length ys) zs) (sym (front-rest xs zs f)
-    ∙ front-rest ys zs g) short in
+    let t = split_at xs (drop (length xs) zs) ys (drop (length ys) zs) (grind (arith, front-rest)) short in
     subst (λ l. xs ≡ take (length xs) l) (sym t.1) (front-append xs t.0)
 
 -- a visit of another adds nothing, and a visit of one's own adds itself
 pub own-other : (actor : ℕ) (history : List Visit) (visit : Visit) → visit.actor ≢ actor
     → own actor (history ++ visit ∷ []) ≡ own actor history
-own-other actor history visit other =
-    rw (own-append actor history (visit ∷ []), ne_eqb visit.actor actor other, append-nil)
+own-other actor history visit other = grind (arith, own-append, append-nil)
 
 pub own-mine : {actor : ℕ} (history : List Visit) (visit : Visit) → visit.actor ≡ actor
     → own actor (history ++ visit ∷ []) ≡ own actor history ++ visit ∷ []
@@ -42,8 +40,7 @@ first-nil (p ∷ ps) qs e = absurd (omega (arith, ap length e))
 pub own-between : (actor : ℕ) (xs ys zs : List Visit) → IsFront xs zs → IsFront ys zs → length xs ≤ length ys
     → own actor zs ≡ own actor xs → own actor zs ≡ own actor ys
 own-between actor xs ys zs f g short same =
-    let t = split_at xs (drop (length xs) zs) ys (drop (length ys) zs) (sym (front-rest xs zs f)
-    ∙ front-rest ys zs g) short in
+    let t = split_at xs (drop (length xs) zs) ys (drop (length ys) zs) (grind (arith, front-rest)) short in
     let rest = drop (length ys) zs in
     let none = own-beyond actor xs zs f same in
     let both : own actor t.0 ++ own actor rest ≡ [] = cc (own-append actor t.0 rest, none, t.2) in

@@ -14,7 +14,7 @@ use Rattle.entry_word.specs.declared.visit.Act.{Act}
 use Rattle.entry_word.specs.declared.visit.Act.TheVariants.{Put, Census}
 use Rattle.entry_word.specs.declared.visit.Visit.{Visit}
 use Rattle.directory.specs.Settings.{Setting, subs}
-use Rattle.directory.specs.Keys.{act_node, opening}
+use Rattle.directory.specs.Keys.{act_node}
 use Rattle.directory.specs.Histories.{History, cell, changes_here, own, word_after}
 use Rattle.directory.specs.Census.{census}
 use Rattle.station.specs.Views.{visits_at}
@@ -24,8 +24,7 @@ use Rattle.directory.specs.Statements.{SameKey}
 
 pub cell-push : (setting : Setting) (key : Key) (history : History) (visit : Visit)
     → cell setting (history ++ visit ∷ []) key ≡ word_after key (cell setting history key) visit.act
-cell-push setting key history visit = fold-append (λ w (v : Visit). word_after key w v.act)
-    (opening setting key) history (visit ∷ [])
+cell-push setting key history visit = grind (arith, fold-append)
 
 -- the census stays where an act is elsewhere, or changes nobody's being here
 here-same : SameKey → (setting : Setting) (history : History) (node sub : ℕ) (act : Act)

@@ -1,13 +1,13 @@
 -- A seat takes another in.
-use Rattle.std.proofs.Common.{◌≡◌, ℕ, ◌^◌, ◌<◌, ◌≤◌, Bool, true, false, List, length, refl, sym, ap, ◌∙◌, arith, None, lt-ltb, le-ltb}
-use Rattle.std.specs.Prelude.{nat_lt, if◌then◌else◌}
+use Rattle.std.proofs.Common.{◌≡◌, ℕ, ◌^◌, ◌<◌, ◌≤◌, Bool, List, length, refl, sym, ap, ◌∙◌, arith, None, lt-ltb, le-ltb}
+use Rattle.std.specs.Prelude.{if◌then◌else◌}
 use Rattle.std.proofs.lemmas.Bool.Decides.{nat_tests}
 use mathlib.Core.Option.{none}
 use native.Mathlib.Decide.{dec_le}
 use Rattle.atomic_table.specs.Table.{Me, Joins, Allows, step, keeps}
 use Rattle.atomic_table.proofs.Lists.{set_else}
 use Rattle.entry_word.specs.declared.visit.Act.{Act}
-use Rattle.directory.specs.Histories.{History, IsFront, own, tickets}
+use Rattle.directory.specs.Histories.{History, IsFront}
 use Rattle.trail_laws.specs.Within.{HistoryFrontsAreLegal}
 use Rattle.station.specs.Setup.{Setup, setting_in}
 use Rattle.station.specs.Views.{IsSoundView}
@@ -31,22 +31,13 @@ spent_sound setup words history owner seat = search arith
 
 -- the longer of two
 pub longer_is : (P : History → Type 0) {one other : History} → P one → P other → P (longer one other)
-longer_is P {one} {other} a b = go (nat_lt (length one) (length other))
-  where
-    go : (c : Bool) → P (if c then other else one)
-    go true = b
-    go false = a
+longer_is P {one} {other} a b = grind arith
 
 pub longer_other : (one other : History) → length one < length other → longer one other ≡ other
 longer_other one other h = ap (λ (c : Bool). if c then other else one) (lt-ltb (length one) (length other) h)
 
 pub longer_one : (one other : History) → length other ≤ length one → longer one other ≡ one
 longer_one one other h = ap (λ (c : Bool). if c then other else one) (le-ltb (length one) (length other) h)
-
-pub longer-own : (actor : ℕ) (one other history : History) → IsFront one history → IsFront other history
-    → own actor history ≡ own actor one
-    → own actor history ≡ own actor (longer one other)
-longer-own actor one other history f g same = grind (arith, dec_le, longer_one, longer_other, own-between)
 
 pub longer_long : (one other : History)
     → (length one ≤ length (longer one other)) × (length other ≤ length (longer one other))
@@ -65,8 +56,7 @@ hears setup id other v w low high out s o me ne at =
       seen = longer_is (λ (l : History). IsFront l o.history) was.has.seen note.has.seen;
       told = note.has.seen;
       had = was.has.seen;
-      visits = λ actor st. longer-own actor v.seen w.seen o.history was.has.seen note.has.seen
-          (was.has.visits actor st);
+      visits = grind (arith, dec_le, longer_one, longer_other, own-between);
       kept = λ actor st. was.has.visits actor st;
     } (λ _ f. f) (λ _ _ none. none) (λ due. due) (λ _ put. put) (λ _ _. refl) (λ _ _ _. refl) (λ _ _ _ _. refl)) in
     restated {o = heard} w at (sym low) (sym high) (sym out)
@@ -107,9 +97,4 @@ learns law n id i m low short had s o wide me small =
 pub pass_heard : {me new : Me Act View} (w : View) {actor seen seen' spare : ℕ} {kept : List ℕ} {room : ℕ}
     → IsPass me actor seen spare kept room → new ≡ (view_with_note me.0 w, me.1) → IsLearned new.0
     → seen' ≡ length (longer me.0.seen w.seen) → IsPass new actor seen' spare kept room
-pass_heard {me} w {actor} {kept = kept} p e l count =
-    let told : IsLearned (view_with_note me.0 w) = rw (ap (λ (m : Me Act View). m.0) e) at l in
-    let tickets_are : kept ≡ tickets actor (longer me.0.seen w.seen) = p.tickets_are
-    ∙ sym (tickets-same actor me.0.seen (longer me.0.seen w.seen) told.had
-    (told.visits actor (omega (arith, p.low), omega (arith, p.high)))) in
-    rw e assumption
+pass_heard {me} w {actor} {kept = kept} p e l count = grind (arith, tickets-same)

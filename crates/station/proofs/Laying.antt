@@ -1,5 +1,5 @@
 -- The words of the opening, laid one after another.
-use Rattle.std.proofs.Common.{◌≡◌, ℕ, zero, suc, ◌+◌, ◌*◌, ◌<◌, ◌==◌, Bool, true, false, cond, List, [], ◌∷◌, ◌++◌, length, refl, sym, ap, ◌∙◌, arith, length-append, add-one}
+use Rattle.std.proofs.Common.{◌≡◌, ℕ, zero, suc, ◌+◌, ◌*◌, ◌<◌, ◌==◌, Bool, cond, List, [], ◌∷◌, ◌++◌, length, refl, sym, ap, ◌∙◌, arith, length-append, add-one}
 use Rattle.std.specs.Prelude.{slice_index}
 use Rattle.std.proofs.Math.Seq.{take-length}
 use Rattle.std.proofs.lemmas.Bool.Decides.{nat_tests}
@@ -62,19 +62,15 @@ pub laid_tally : {setup : Setup} {ws new : List ℕ} (k : ℕ) {x : ℕ} → k <
     → AreLaid setup ws → AreLaid setup new × (length new ≡ suc (length ws))
 laid_tally {setup} k known at is grown o = laid_push grown o (λ e. absurd (omega arith))
     (λ node inside e. absurd (omega arith)) (λ node inside e. let same : k ≡ node = omega arith in rw (← same) is)
-    (λ key _ e. absurd (behind_tally (nodes_in setup) k (cell_number setup.plan (subs_in setup) key) known
-    (sym e ∙ at)))
+    (λ key _ e. absurd (grind (arith, behind_tally)))
 
 pub laid_cell : NumbersApart → {setup : Setup} {ws new : List ℕ} {x : ℕ} {key : Key} → IsCellOf setup key
     → length ws ≡ cell_word setup key → x ≡ cell (setting_in setup) [] key → new ≡ ws ++ x ∷ [] → AreLaid setup ws
     → AreLaid setup new × (length new ≡ suc (length ws))
 laid_cell law {setup} {key = key} known at is grown o = laid_push grown o
     (λ e. absurd (zero_cell (nodes_in setup) (cell_number setup.plan (subs_in setup) key) (sym e ∙ at)))
-    (λ node inside e. absurd (behind (nodes_in setup) node (cell_number setup.plan (subs_in setup) key) inside
-    (sym at ∙ e))) (λ node inside e. absurd (behind_tally (nodes_in setup) node
-    (cell_number setup.plan (subs_in setup) key) inside (sym at ∙ e)))
-    (λ other inside e. rw (← law setup.plan (subs_in setup) key other known inside
-    (same_number (nodes_in setup) _ _ (sym at ∙ e))) is)
+    (λ node inside e. absurd (grind (arith, behind))) (λ node inside e. absurd (grind (arith, behind_tally)))
+    (λ other inside e. grind (arith, same_number))
 
 pub first_laid : (setup : Setup) → AreLaid setup (0 ∷ [])
 first_laid setup = grind arith
@@ -87,23 +83,13 @@ pub opening_of : (plan : PlanData) (homes : List ℕ) {words : List ℕ} → Are
     → (actors : ℕ) → AreOpening (setup_of plan homes actors) words
 opening_of plan homes o at actors = grind (arith, take-length, counted)
 
--- who starts at a node
-
 pub passing-more : (f : ℕ → Bool) (v k : ℕ)
     → length (sift f v (suc k)) ≡ length (sift f v k) + cond (f (v + k)) 1 0
-passing-more f v k = ap length (passing_grows f v k)
-    ∙ (length-append (sift f v k) (cond (f (v + k)) ((v + k) ∷ []) []) ∙ one (f (v + k)))
-  where
-    one : (b : Bool) → length (sift f v k) + length (cond b ((v + k) ∷ []) []) ≡ length (sift f v k) + cond b 1 0
-    one true = refl
-    one false = refl
+passing-more f v k = grind (arith, passing_grows, length-append)
 
-pub starts-at : (setting : Setting) (node sub : ℕ) → sub < subs setting
-    → says_here (mark_in (cell setting [] (Presence node sub))) ≡ (node == start setting sub)
-starts-at setting node sub known = grind (arith, nat_tests)
-
+-- how many start at a node
 pub count-more : (setting : Setting) (node sub : ℕ) {count : ℕ} → sub < subs setting
     → count ≡ length (sift (λ s. says_here (mark_in (cell setting [] (Presence node s)))) 0 sub)
     → count + cond (node == start setting sub) 1 0 ≡ length
     (sift (λ s. says_here (mark_in (cell setting [] (Presence node s)))) 0 (sub + 1))
-count-more setting node sub {count} known is = grind (arith, starts-at, passing-more, add-one)
+count-more setting node sub {count} known is = grind (arith, nat_tests, passing-more, add-one)

@@ -1,5 +1,5 @@
 -- The log of turns, as it goes on by one event more.
-use Rattle.std.proofs.Common.{◌≡◌, ◌≢◌, ◌⊎◌, ℕ, suc, ◌≤◌, eq-eqb, ne_eqb, List, [], ◌∷◌, ◌++◌, get_or, length, drop, set, refl, sym, ap, ◌∙◌, subst, inl, arith, append_assoc, length-append}
+use Rattle.std.proofs.Common.{◌≡◌, ◌≢◌, ◌⊎◌, ℕ, suc, ◌≤◌, eq-eqb, ne_eqb, List, [], ◌∷◌, ◌++◌, get_or, length, drop, set, refl, sym, ap, ◌∙◌, inl, arith, append_assoc, length-append}
 use Rattle.std.proofs.lemmas.List.{append-nil}
 use Rattle.std.proofs.lemmas.List.Sums.{fold-append}
 use Rattle.atomic_table.specs.Table.{State}
@@ -20,8 +20,7 @@ module _ {A : Type 0} where
       → xs ++ x ∷ [] ≡ earlier ++ y ∷ later
       → ((earlier ≡ xs) × (y ≡ x)) ⊎ ((rest : List A) × (xs ≡ earlier ++ y ∷ rest))
   last_or_there [] x [] y later e = inl (refl, sym (ap (λ (l : List A). get_or l 0 x) e))
-  last_or_there [] x (a ∷ earlier) y later e =
-      absurd (omega (arith, ap length e, length-append earlier (y ∷ later)))
+  last_or_there [] x (a ∷ earlier) y later e = grind (arith, length-append earlier (y ∷ later))
   last_or_there (b ∷ xs) x [] y later e = grind arith
   last_or_there (b ∷ xs) x (a ∷ earlier) y later e = grind (arith, last_or_there xs x earlier y later (ap (drop 1) e))
 
@@ -55,56 +54,33 @@ by-mine : {actor : ℕ} (log : List TurnEvent) (event : TurnEvent) → event_act
     → events_of actor (log ++ event ∷ []) ≡ events_of actor log ++ event ∷ []
 by-mine {actor} log event mine = rw (events-append actor log (event ∷ []), eq-eqb (event_actor event) actor mine)
 
-by-other : (actor : ℕ) (log : List TurnEvent) (event : TurnEvent) → event_actor event ≢ actor
-    → events_of actor (log ++ event ∷ []) ≡ events_of actor log
-by-other actor log event other =
-    rw (events-append actor log (event ∷ []), ne_eqb (event_actor event) actor other, append-nil)
-
 -- all events of its actors are among those that a view has logged
 pub own-all : {log : List TurnEvent} {view : View} (actor : ℕ) → HasLogged log view → StandsForActor view actor
     → events_of actor log ≡ events_of actor view.turns
-own-all {view} actor has st = ap (events_of actor) has.goes_on ∙ (events-append actor view.turns has.later
-    ∙ (ap (λ l. events_of actor view.turns ++ l) (has.by_others actor st) ∙ append-nil (events_of actor view.turns)))
+own-all {view} actor has st = grind (arith, events-append, append-nil)
 
 -- a view that has logged the same, and lost the same, and stands for no others
 pub logged-same : {log : List TurnEvent} {v : View} (w : View) → w.turns ≡ v.turns → w.lost ≡ v.lost
     → ((actor : ℕ) → StandsForActor w actor → StandsForActor v actor) → HasLogged log v → HasLogged log w
-logged-same w turns lost stands has = record {
-  later = has.later;
-  goes_on = has.goes_on ∙ ap (λ l. l ++ has.later) (sym turns);
-  by_others = λ actor st. has.by_others actor (stands actor st);
-  lost = λ actor st. lost ∙ (has.lost actor (stands actor st) ∙ ap (λ l. lost_in (events_of actor l)) (sym turns));
-}
+logged-same w turns lost stands has = grind arith
 
 -- after an event of another
 logged-other : {log : List TurnEvent} (event : TurnEvent) {view : View}
     → ((actor : ℕ) → StandsForActor view actor → event_actor event ≢ actor) → HasLogged log view
     → HasLogged (log ++ event ∷ []) view
-logged-other event {view} away has = record {
-  later = has.later ++ event ∷ [];
-  goes_on = ap (λ l. l ++ event ∷ []) has.goes_on ∙ append_assoc view.turns has.later (event ∷ []);
-  by_others = λ actor st. by-other actor has.later event (away actor st) ∙ has.by_others actor st;
-  lost = has.lost;
-}
+logged-other event {view} away has = grind (arith, append_assoc, events-append, append-nil)
 
 -- after an event of its own
 logged-mine : {log : List TurnEvent} (event : TurnEvent) {v : View} (w : View) → event_actor event ≡ v.low
     → v.high ≡ suc v.low → w.low ≡ v.low → w.high ≡ v.high → w.turns ≡ log ++ event ∷ []
     → w.lost ≡ v.lost ++ lost_in (event ∷ []) → HasLogged log v → HasLogged (log ++ event ∷ []) w
-logged-mine {log} event {v} w mine alone low high turns lost has =
-    let actor = v.low in
-    let stands : StandsForActor v actor = (omega arith, omega (arith, alone)) in
-    let before = own-all actor has stands in
-    let one = lost-append (events_of actor log) (event ∷ []) in
-    let all : w.lost ≡ lost_in (events_of actor w.turns) =
-    cc (lost, turns, has.lost actor stands, by-mine log event mine, one, before) in
-    record {
-      later = [];
-      goes_on = sym (append-nil (log ++ event ∷ [])) ∙ ap (λ l. l ++ []) (sym turns);
-      by_others = λ _ _. refl;
-      lost = λ other st. let same : actor ≡ other = omega (arith, st.0, st.1, low, high, alone) in
-          rw (← same) all;
-    }
+logged-mine {log} event {v} w mine alone low high turns lost has = grind (
+  arith,
+  own-all (v.low) has ((omega arith, omega (arith, alone))),
+  lost-append (events_of (v.low) log) (event ∷ []),
+  by-mine log event mine,
+  append-nil (log ++ event ∷ []),
+)
 
 -- the log after a step of a seat j, which has the view w then
 pub record LogGoes (setup : Setup) (s : State Act View) (o : KeepsRule setup s) (j : ℕ) (w : View)
@@ -128,8 +104,7 @@ log-goes o j v w event me alone mine may low high turns lost =
     let its = (o.views j v me).owner_is v.low (omega arith, omega (arith, alone)) in
     record {
       in_turn = log-more event o.in_turn may;
-      strangers = λ actor above. by-other actor o.turns event (λ e. omega (arith, mine, its.1, above, e))
-          ∙ o.strangers actor above;
+      strangers = grind (arith, events-append, append-nil);
       mine = logged-mine event w mine alone low high turns lost (o.logged j v me);
       others = λ k u ne at. logged-other event (λ actor st e. ne
           (sym ((o.views k u at).owner_is actor st).0 ∙ (ap o.owner (sym e ∙ mine) ∙ its.0))) (o.logged k u at);
@@ -143,8 +118,7 @@ logs o j v event me alone mine may =
     let has = o.logged j v me in
     record {
       later = has.later;
-      by_others = subst (λ (a : ℕ). events_of a has.later ≡ []) (sym mine)
-          (has.by_others v.low (omega arith, omega (arith, alone)));
+      by_others = grind arith;
       goes_on = ap (λ l. l ++ event ∷ []) has.goes_on;
       in_turn = log-more event o.in_turn may;
     }

@@ -1,5 +1,5 @@
 -- What a handset puts next, and how it moves the tally of its node.
-use Rattle.std.proofs.Common.{◌≡◌, ◌≢◌, ℕ, zero, suc, ◌+◌, ◌^◌, ◌<◌, ◌≤◌, eq-eqb, ne_eqb, Bool, true, false, true≢false, not, List, [], ◌∷◌, ◌++◌, length, take, refl, sym, ap, ◌∙◌, subst, arith, Option, Some, None, length-append}
+use Rattle.std.proofs.Common.{◌≡◌, ◌≢◌, ℕ, zero, suc, ◌+◌, ◌^◌, ◌<◌, ◌≤◌, eq-eqb, ne_eqb, Bool, true, false, not, List, [], ◌∷◌, ◌++◌, length, take, refl, sym, ap, ◌∙◌, subst, arith, Option, Some, None, length-append}
 use Rattle.std.specs.Prelude.{slice_get, IfSome, option_map, if◌then◌else◌, unwrap_or}
 use mathlib.Core.Logic.{dite}
 use native.Mathlib.Decide.{ℕ_discrete}
@@ -14,7 +14,7 @@ use Rattle.directory.specs.Settings.{Setting, subs}
 use Rattle.directory.specs.Keys.{key_sub, key_node}
 use Rattle.directory.specs.Histories.{History, cell, changes_here, own, puts_to}
 use Rattle.directory.specs.Census.{census}
-use Rattle.directory.specs.Legal.{IsLegal, IsScript}
+use Rattle.directory.specs.Legal.{IsLegal}
 use Rattle.directory.specs.Statements.{ScriptsAreLegal}
 use Rattle.directory.specs.Writes.{Write, mark_at, visit_of, visits, write_key, write_word, new_address}
 use Rattle.region_plan.specs.Plan.{PlanData, nodes_of, levels_of}
@@ -89,10 +89,6 @@ pub due_is : {plan : PlanData} {handset : HandsetData} {visit : Visit} → GoesW
     → due (setting_of plan []) handset ≡ Some visit → IsDue plan handset.sub visit
 due_is {handset} g homes e = due_by g homes handset.stage g.stage e
 
-put-alone : {sub : ℕ} (history : History) (key : Key) (word actor : ℕ) → key_sub key ≡ sub
-    → puts_to sub (history ++ put_of actor key word ∷ []) ≡ puts_to sub history ++ put_of actor key word ∷ []
-put-alone {sub} history key word actor e = grind (arith, puts-append, eq-eqb)
-
 -- the next put of a handset keeps what its pass has seen legal
 pub due_legal : ScriptsAreLegal → {setup : Setup} {view : View} {handset : HandsetData} (key : Key) (word : ℕ)
     → (setting_in setup).nodes ≤ 2 ^ 16 → (h : IsHandsetOf setup view handset)
@@ -106,8 +102,7 @@ due_legal law {setup} {view} key word low h next mine =
     let vs = visits setting view.low h.steps in
     let next' = rw h.sub at next in
     let puts : puts_to view.low (view.seen ++ visit ∷ []) ≡ take (suc made) vs =
-    put-alone view.seen key word view.low mine ∙ (ap (λ l. l ++ visit ∷ []) h.made
-    ∙ sym (take-more vs made visit next')) in
+    grind (arith, puts-append, eq-eqb, take-more) in
     rw puts (law setting view.low h.steps (suc made) low h.script)
 
 -- the handset after its put is the handset of the pass after its visit
@@ -125,21 +120,11 @@ handset_after {setup} {view} after {new} key word earlier h next mine low seen p
     let vs = visits setting view.low h.steps in
     let next' = rw h.sub at next in
     let now : puts_to after.low after.seen ≡ puts_to view.low view.seen ++ visit ∷ [] =
-    (λ i. puts_to (low i) (seen i)) ∙ (put-alone earlier key word view.low mine
-    ∙ ap (λ l. l ++ visit ∷ []) puts) in
-    let count : length (puts_to after.low after.seen) ≡ suc made = ap length now
-    ∙ omega (arith, length-append (puts_to view.low view.seen) (visit ∷ [])) in
-    let whole : puts_to after.low after.seen ≡ take (suc made) vs = now ∙ (ap (λ l. l ++ visit ∷ []) h.made
-    ∙ sym (take-more vs made visit next')) in
+    grind (arith, puts-append, eq-eqb) in
+    let count : length (puts_to after.low after.seen) ≡ suc made = grind (arith, length-append) in
+    let whole : puts_to after.low after.seen ≡ take (suc made) vs = grind (arith, take-more) in
     record {
-      own = record {
-        goes = goes;
-        sub = sub ∙ (h.sub ∙ sym low);
-        steps = h.steps;
-        script = subst (λ (s : ℕ). IsScript setting s h.steps) (sym low) h.script;
-        stands = subst (λ (k : ℕ). StandsForSteps setting new h.steps k) (sym count) stands;
-        made = whole ∙ (λ i. take (sym count i) (visits setting (sym low i) h.steps));
-      };
+      own = grind arith;
       steps_are = refl;
       puts = now;
     }
@@ -154,9 +139,7 @@ passing-gains f g v (suc n) k low high same off on =
     let more' = passing-more g v n in
     dite (ℕ_discrete (v + n) k)
     (λ e. let rest = passing_same f g v n (λ s _ below. same s (λ is. omega (arith, e, is, below))) in grind arith)
-    (λ ne. let there = same (v + n) ne in
-    let rest = passing-gains f g v n k low (omega (arith, high, ne)) same off on in
-    grind arith)
+    (λ ne. grind (arith, passing-gains f g v n k low (omega (arith, high, ne)) same off on))
 
 -- whether a subscriber is at a node
 abbrev was_here : Setting → History → ℕ → ℕ → Bool
@@ -184,13 +167,7 @@ pub moves : (setup : Setup) (view : View) (earlier : History) {node old : ℕ} (
     → view.seen ≡ earlier ++ put_of actor key new ∷ [] → view.owes ≡ changes_here (setting_in setup) earlier
     (Put key new) → view.tally ≡ length (census (setting_in setup) earlier node)
     → old ≡ cell (setting_in setup) earlier key → Moves setup view node key old new
-moves setup view earlier new actor (Entry level cluster sub) known at seen owes tally is =
-    record {
-      owes = owes;
-      more = λ due _. absurd (true≢false (sym due
-          ∙ owes));
-      less = λ due _. absurd (true≢false (sym due ∙ owes));
-    }
+moves setup view earlier new actor (Entry level cluster sub) known at seen owes tally is = grind arith
 moves setup view earlier {node} new actor (Presence place sub) known at seen owes tally is =
     let setting = setting_in setup in
     let later : History = earlier ++ put_of actor (Presence place sub) new ∷ [] in
@@ -221,8 +198,7 @@ moves setup view earlier {node} new actor (Presence place sub) known at seen owe
 
 pub census-short : (setting : Setting) (history : History) (node : ℕ)
     → length (census setting history node) ≤ subs setting
-census-short setting history node = length-passing-le (λ s. says_here (mark_in (cell setting history
-    (Presence node s)))) 0 (subs setting)
+census-short setting history node = grind (arith, length-passing-le)
 
 pub may_put : (view : View) {node : ℕ} {key : Key} (word : ℕ) (log : List TurnEvent) → view.has_drawn ≡ false
     → view.unwritten ≡ None → view.owes ≡ false → node ≡ key_node (setting_in view.setup) key

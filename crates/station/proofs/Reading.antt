@@ -9,7 +9,7 @@ use Rattle.entry_word.specs.declared.visit.Key.{Key}
 use Rattle.directory.specs.Keys.{key_node}
 use Rattle.directory.specs.Histories.{cell}
 use Rattle.directory.specs.Census.{census}
-use Rattle.station.specs.Setup.{Setup, setting_in, nodes_in, subs_in, IsCellOf, tally_word, cell_word}
+use Rattle.station.specs.Setup.{Setup, setting_in, IsCellOf, tally_word, cell_word}
 use Rattle.station.specs.Views.{visits_at}
 use Rattle.station.specs.Rule.{KeepsRule, IsViewOf}
 use Rattle.station.specs.Plays.{Seat, ReadsCell, ReadsTally, Witnesses}
@@ -25,8 +25,7 @@ use Rattle.visit_log.specs.Numbers.{NumbersApart}
 -- a load changes nothing
 pub unmoved : {setup : Setup} {s : St} (i j : ℕ) (v : View) → KeepsRule setup s → IsViewOf s.views j v
     → KeepsRule setup (with (set s.words i (slice_index s.words i)) s j v)
-unmoved {setup} {s} i j v o me =
-    rw (set-get_or s.words i 0, set_again s.views j v me) o
+unmoved {setup} {s} i j v o me = grind (arith, set-get_or, set_again)
 
 pub witnesses : (n id i : ℕ) (m : Seat)
     → Allows (KeepsRule m.0.setup) n id m i (λ y. y) (Witnesses (step n i 0 0 none) m)
@@ -43,8 +42,7 @@ all_seen {setup} o j {x} {v} me turn =
 pub cell_seen : SameKey → {setup : Setup} {s : St} (o : KeepsRule setup s) (j : ℕ) {v : View} (key : Key)
     → IsViewOf s.views j v → HasTurn v (key_node (setting_in setup) key) → cell (setting_in setup) o.history key ≡ cell
     (setting_in setup) v.seen key
-cell_seen law {setup} o j {v} key me turn = cell-stays law (setting_in setup) key v.seen o.history
-    (o.views j v me).has.seen refl (all_seen o j me turn)
+cell_seen law {setup} o j {v} key me turn = grind (arith, cell-stays, all_seen)
 
 pub census_seen : SameKey → {setup : Setup} {s : St} (o : KeepsRule setup s) (j : ℕ) {x : ℕ} {v : View}
     → IsViewOf s.views j v → HasTurn v x → census (setting_in setup) o.history x ≡ census (setting_in setup) v.seen x
@@ -69,8 +67,7 @@ reads_cell law same n id {i} m {key} known at turn s o wide me small =
         refl,
         λ other cell_there at'.
             let number : cell_word setup key ≡ cell_word setup other = sym at ∙ at' in
-            let e : key ≡ other = law setup.plan (subs_in setup) key other known cell_there (same_number
-            (nodes_in setup) _ _ number) in (
+            let e : key ≡ other = grind (arith, same_number) in (
               (λ quiet. subst (λ (k : Key). slice_index s.words i ≡ cell (setting_in setup) m.0.seen k) e
                   (ap (slice_index s.words) at
                   ∙ (o.cells key known (written_here o id m.0 key me (alone o id m.0 me turn.inside) refl

@@ -35,13 +35,7 @@ same_view views {v} {u} me at e = some-injective u v (sym at ∙ (ap (get_elem? 
 -- each actor keeps its seat
 pub owned : (s : St) (owner : ℕ → ℕ) (j actor : ℕ) (v w : View) → IsViewOf s.views j v → w.low ≡ v.low → w.high ≡ v.high
     → j < length s.views → IsOwned s.views owner actor → IsOwned (set s.views j w) owner actor
-owned s owner j actor v w me low high near o = dite (ℕ_discrete (owner actor) j)
-    (λ e. let same = same_view s.views me o.1 e in
-    let l : o.0.low ≡ v.low = ap (λ (x : View). x.low) same in
-    let h : o.0.high ≡ v.high = ap (λ (x : View). x.high) same in
-    let st = o.2 in
-    (w, subst (λ k. IsViewOf (set s.views j w) k w) (sym e) (set_here s.views j w near), (omega arith, omega arith)))
-    (λ ne. (o.0, set_else s.views j (owner actor) w ne ∙ o.1, o.2))
+owned s owner j actor v w me low high near o = grind (arith, same_view, set_here s.views j w near, set_else)
 
 -- there is a view at a seat only below the count of seats
 pub seat_below : (views : List View) (j : ℕ) (v : View) → IsViewOf views j v → j < length views
@@ -135,8 +129,7 @@ changed {setup} {s} {o} {j} {x} {v} {w} {new} c =
           (λ e. rw (← e) (c.lock actor (rw e is)))
           (λ ne. let t = o.locks node actor inside (sym (c.elsewhere node (lock_word node) inside ne
           (is_lock refl)) ∙ is) in
-          let away : o.owner actor ≢ j = λ e. other_node v node ne c.before
-          (ap (λ (y : View). y.inside) (sym (same_view s.views c.me t.1 e)) ∙ t.2) in
+          let away : o.owner actor ≢ j = grind (arith, other_node, same_view) in
           (t.0, set_else s.views j (o.owner actor) w away ∙ t.1, t.2, t.3));
       cells = λ key known quiet. dite (ℕ_discrete x (key_node (setting_in setup) key))
           (λ e. c.cells key known (sym e) (quiet j w (set_here s.views j w near)))
@@ -148,13 +141,11 @@ changed {setup} {s} {o} {j} {x} {v} {w} {new} c =
           (ap (λ (y : View). y.inside) (sym same) ∙ ((o.views k u at).unwritten key is).inside))
           (λ away. quiet k u (set_else s.views j k w away ∙ at) is)));
       tallies = λ node known quiet. dite (ℕ_discrete x node)
-          (λ e. rw (← e)
-          (c.tally (λ owes is. quiet j w (set_here s.views j w near) owes (is ∙ ap (λ (n : ℕ). Some n) e))))
+          (λ e. grind (arith, set_here s.views j w near))
           (λ ne. c.elsewhere node (tally_word setup node) known ne (is_tally refl)
           ∙ o.tallies node known (λ k u at owes is.
           dite (ℕ_discrete k j)
-          (λ e. let same = same_view s.views c.me at e in
-          other_node v node ne c.before (ap (λ (y : View). y.inside) (sym same) ∙ is))
+          (λ e. grind (arith, same_view, other_node))
           (λ away. quiet k u (set_else s.views j k w away ∙ at) owes is)));
       legal = o.legal;
     }

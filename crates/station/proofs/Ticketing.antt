@@ -1,7 +1,7 @@
 -- The tickets that a pass keeps.
 use Rattle.std.specs.Prelude.{◌||◌, slice_get}
 use Rattle.node_set.specs.Ascending.{has}
-use Rattle.std.proofs.Common.{get_or, add-one, Some, ◌≡◌, ℕ, zero, suc, ◌+◌, ◌^◌, ◌<◌, ◌≤◌, ◌==◌, Bool, false, List, [], ◌∷◌, ◌++◌, length, take, refl, sym, ap, ◌∙◌, subst, arith, Option, None, length-append}
+use Rattle.std.proofs.Common.{get_or, add-one, Some, ◌≡◌, ℕ, zero, suc, ◌+◌, ◌^◌, ◌<◌, ◌≤◌, ◌==◌, Bool, false, List, [], ◌∷◌, ◌++◌, length, take, refl, ap, ◌∙◌, arith, Option, None, length-append}
 use Rattle.std.proofs.Math.Bool.{or_assoc, or-false}
 use Rattle.std.proofs.lemmas.Bool.Decides.{nat_tests}
 use Rattle.std.proofs.lemmas.Option.{slice_get_within}
@@ -12,11 +12,11 @@ use Rattle.entry_word.specs.declared.visit.Act.{Act}
 use Rattle.entry_word.specs.declared.visit.Visit.{Visit}
 use Rattle.directory.specs.Histories.{History, before, changes_here, own, tickets, tickets_from}
 use Rattle.station.specs.Setup.{setting_in}
-use Rattle.station.specs.Plays.{Draws, view_with_ticket, view_held, view_inside, view_outside, visit_by, key_put, MayDo}
+use Rattle.station.specs.Plays.{Draws, view_held, view_inside, view_outside, visit_by, key_put, MayDo}
 use Rattle.station.specs.Passes.{IsPass, PassData, actor_of}
-use Rattle.station.specs.Turns.{HasHadTurn, Logs}
+use Rattle.station.specs.Turns.{Logs}
 use Rattle.station.specs.declared.view.TurnEvent.TheVariants.{GivenBack, Won}
-use Rattle.station.specs.Visits.{HasLeft, HasVisited, IsSamePass, MayDraw}
+use Rattle.station.specs.Visits.{HasLeft, HasVisited, MayDraw}
 use Rattle.station.specs.declared.view.TurnEvent.{TurnEvent}
 use Rattle.station.specs.declared.view.View.{View}
 use Rattle.station.specs.TicketLaws.{tickets-mine, tickets-same}
@@ -27,8 +27,7 @@ use Rattle.directory.specs.Keys.{act_node}
 -- a pass has room for one visit more
 pub own_few : {me : Me Act View} {actor seen spare : ℕ} {kept : List ℕ} {room : ℕ}
     → IsPass me actor seen spare kept room → 1 ≤ spare → length (own me.0.low me.0.seen) < 2 ^ 56
-own_few {me} {actor} p h =
-    rw p.low (omega (arith, tickets-count actor me.0.seen, ap length p.tickets_are, p.few))
+own_few {me} {actor} p h = grind (arith, tickets-count)
 
 -- a view that leaves its node has written all, where it did so before
 pub left_by : (there : View) {new : View} {unwritten : Option Key} {owes : Bool}
@@ -80,24 +79,12 @@ pub visit_done : (old new : PassData) {two : View} {node ticket : ℕ} {act : Ac
     → act_node (setting_in old.view.setup) act ≡ node → Logs old.view.turns (Won (actor_of old) node) two.turns
     → Logs two.turns (GivenBack two.low node) new.view.turns → new.table ≡ old.table → new.seat ≡ old.seat
     → new.spare + 1 ≡ old.spare → HasVisited old act ticket new
-visit_done old new {two} {node} {act = act} d gone_by at wins back table seat less =
-    let v = old.view in
-    let left : HasLeft (view_with_ticket (view_inside v node act two.turns) node act d.earlier) new.view =
-    rw d.view at gone_by in
-    let legal = rw (← gone_by.seen) at d.legal in
-    let turn : HasHadTurn v.low (act_node (setting_in v.setup) act) v.turns new.view.turns = rw at record {
-      inside = two.turns;
-      won = wins;
-      given_back = rw (← ap (λ (x : View). x.low) d.view) back;
-    } in
-    let same : IsSamePass old new = assumption in
-    search
+visit_done old new {two} {node} {act = act} d gone_by at wins back table seat less = grind arith
 
 pub pass_is : {me : Me Act View} {actor seen seen' spare : ℕ} {kept kept' : List ℕ} {room room' : ℕ}
     → IsPass me actor seen spare kept room → seen' ≡ seen → kept' ≡ kept → room' ≡ room
     → IsPass me actor seen' spare kept' room'
-pass_is {me} {actor} {seen} {spare} {kept} {kept'} {room'} p a b c =
-    rw (a, b, c) p
+pass_is {me} {actor} {seen} {spare} {kept} {kept'} {room'} p a b c = grind arith
 
 -- what comes before the last visit
 pub before_last : (earlier : History) {seen : History} (visit : Visit) {ticket : ℕ} → length earlier ≡ ticket
@@ -121,18 +108,7 @@ pub looked : {inside old : PassData} {two there : Me Act View} {new : View} {tab
     → HasVisited old act ticket (record { table = table; seat = seat; view = new; spare = spare })
     × (two.0.seen ≡ before ticket new.seen ++ visit_by old.view act ∷ [])
 looked {inside} {two} {new} {table} {node} {ticket} {seat} {spare} {act} told low d wins none-put calm at same gone back
-    of_table of_seat less =
-    let v = inside.view in
-    let left = look_left d none-put calm (ap (λ (m : Me Act View). m.0) same) gone in
-    let visit = visit_by v act in
-    let after : PassData = record { table = table; seat = seat; view = new; spare = spare } in
-    rw (← told) (
-      visit_done inside after d left at (rw low wins)
-          (subst (λ (m : Me Act View). Logs m.0.turns (GivenBack m.0.low node) new.turns) same back) of_table of_seat
-          less,
-      ap (λ (x : View). x.seen) d.view
-          ∙ sym (ap (λ l. l ++ visit ∷ []) (before_last d.earlier visit d.count (seen_done v d left))),
-    )
+    of_table of_seat less = grind (arith, look_left, visit_done, before_last, seen_done)
 
 -- tickets are those of visits
 from-below : (actor t : ℕ) (xs : History) (k d : ℕ) → k < length (tickets_from actor t xs)
@@ -162,8 +138,7 @@ from-has actor t (suc i) (x ∷ xs) e = grind (arith, nat_tests, from-has actor 
 
 pub tickets-has : (actor i : ℕ) (history : History) {visit : Visit} → slice_get history i ≡ Some visit
     → has i (tickets actor history) ≡ (visit.actor == actor)
-tickets-has actor i history e = ap (λ (k : ℕ). has k (tickets actor history)) (omega arith)
-    ∙ from-has actor 0 i history e
+tickets-has actor i history e = grind (arith, from-has actor 0 i history e)
 
 -- one ticket more
 pub has-taken : (x k : ℕ) (xs : List ℕ) (d : ℕ) → k < length xs
@@ -173,5 +148,4 @@ has-taken x k xs d h = ap (λ (n : ℕ). has x (take n xs)) (add-one k) ∙ go x
     go : (y j : ℕ) (ys : List ℕ) → j < length ys → has y (take (suc j) ys) ≡ (has y (take j ys) || (y == get_or ys j d))
     go y j [] g = absurd (omega arith)
     go y zero (z ∷ zs) g = or-false (y == z)
-    go y (suc j) (z ∷ zs) g = ap (λ b. (y == z) || b) (go y j zs (omega arith))
-        ∙ sym (or_assoc (y == z) (has y (take j zs)) (y == get_or zs j d))
+    go y (suc j) (z ∷ zs) g = grind (arith, or_assoc, go y j zs (omega arith))

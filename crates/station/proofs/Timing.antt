@@ -1,5 +1,5 @@
 -- An event comes into the log behind all that was logged before its step.
-use Rattle.std.proofs.Common.{◌≡◌, ◌≢◌, ◌⊎◌, ℕ, ◌<◌, List, [], ◌∷◌, ◌++◌, get_or, length, drop, refl, sym, ap, ◌∙◌, subst, inl, inr, ⊎_elim, arith, append_assoc, length-append, None}
+use Rattle.std.proofs.Common.{◌≡◌, ◌≢◌, ◌⊎◌, ℕ, ◌<◌, List, [], ◌∷◌, ◌++◌, get_or, length, refl, sym, ap, ◌∙◌, inl, inr, ⊎_elim, arith, append_assoc, length-append, None}
 use Rattle.std.specs.List.{last_or}
 use Rattle.std.proofs.lemmas.List.{append-nil, append_cancel_left}
 use Rattle.std.proofs.lemmas.Bool.Decides.{nat_tests}
@@ -42,14 +42,12 @@ none-first actor event later e = grind (arith, nat_tests)
 -- there is its own event in a log that has it
 pub some-mine : {actor : ℕ} (earlier : List TurnEvent) (event : TurnEvent) (later : List TurnEvent)
     → event_actor event ≡ actor → length (events_of actor earlier) < length (events_of actor (earlier ++ event ∷ later))
-some-mine {actor} earlier event later mine =
-    rw (events-append actor earlier (event ∷ later), events-mine actor event later mine, length-append) (omega arith)
+some-mine {actor} earlier event later mine = grind (arith, events-append, events-mine, length-append)
 
 -- who has an event in the log is one of the actors
 pub actor-below : {setup : Setup} {s : State Act View} (o : KeepsRule setup s) (front : List TurnEvent)
     (event : TurnEvent) (later : List TurnEvent) → o.turns ≡ front ++ event ∷ later → event_actor event < setup.actors
-actor-below o front event later is =
-    grind (arith, o.strangers (event_actor event), some-mine front event later refl)
+actor-below o front event later is = grind (arith, some-mine front event later refl)
 
 -- a log in which nobody has an event
 nobodys : (log : List TurnEvent) → ((actor : ℕ) → events_of actor log ≡ []) → log ≡ []
@@ -63,9 +61,7 @@ just-one actor [] others mine = absurd (omega (arith, ap length mine))
 just-one actor (first ∷ later) {event} others mine = dite (ℕ_discrete (event_actor first) actor)
     (λ e. let is : first ∷ events_of actor later ≡ event ∷ [] = sym (events-mine actor first later e) ∙ mine in
     let same : first ≡ event = ap (λ (l : List TurnEvent). get_or l 0 first) is in
-    let rest : later ≡ [] = nobodys later (λ a. dite (ℕ_discrete a actor)
-    (λ q. subst (λ (b : ℕ). events_of b later ≡ []) (sym q) (ap (drop 1) is))
-    (λ ne. (none-first a first later (others a ne)).1)) in
+    let rest : later ≡ [] = nobodys later (λ a. grind (arith, ℕ_discrete, none-first)) in
     λ i. same i ∷ rest i)
     (λ ne. absurd ((none-first (event_actor first) first later (others (event_actor first) ne)).0 refl))
 
@@ -75,8 +71,7 @@ whole : {log : List TurnEvent} {view : View} (front : List TurnEvent) (last : Tu
 whole {view} front last has stands is = ⊎_elim
     (λ (e : has.later ≡ []). has.goes_on ∙ (ap (λ l. view.turns ++ l) e ∙ append-nil view.turns))
     (λ (t : (rest : List TurnEvent) × (event : TurnEvent) × (has.later ≡ rest ++ event ∷ [])).
-    let both : front ++ last ∷ [] ≡ (view.turns ++ t.0) ++ t.1 ∷ [] = sym is ∙ (has.goes_on
-    ∙ (ap (λ l. view.turns ++ l) t.2 ∙ sym (append_assoc view.turns t.0 (t.1 ∷ [])))) in
+    let both : front ++ last ∷ [] ≡ (view.turns ++ t.0) ++ t.1 ∷ [] = grind (arith, append_assoc) in
     let same : t.1 ≡ last = same_last front last (view.turns ++ t.0) t.1 both in
     let none = has.by_others (event_actor last) stands in
     absurd (grind (arith, some-mine t.0 t.1 [] (ap event_actor same), t.2)))
@@ -84,8 +79,7 @@ whole {view} front last has stands is = ⊎_elim
 
 module _ {old new : State Act View} {seat : ℕ} (s : IsStepOf seat old new) where
   pub its_seat : IsViewOf new.views seat s.after
-  its_seat = subst (λ (vs : List View). IsViewOf vs seat s.after) (sym s.views)
-      (set_here old.views seat s.after (seat_below old.views seat s.before s.was))
+  its_seat = grind (arith, set_here, seat_below)
 
   -- another seat has the view that it had
   pub other_seat : (k : ℕ) → k ≢ seat → get_elem? new.views k ≡ get_elem? old.views k
@@ -114,12 +108,7 @@ module _ (setup : Setup) (old new : State Act View) (seat : ℕ) (was : KeepsRul
       let its = was.actors actor (actor-below was t.0 t.1 [] t.2) in
       let all : was.turns ≡ its.0.turns = whole t.0 t.1 (was.logged (was.owner actor) its.0 its.1) its.2 t.2 in
       dite (ℕ_discrete (was.owner actor) seat)
-      (λ e. let same = same_view old.views s.was its.1 e in
-      let later = (is.logged seat s.after (its_seat s)).later in (
-        logs.later ++ event ∷ later,
-        log_then ∙ (append_assoc s.before.turns logs.later (event ∷ later)
-            ∙ ap (λ l. l ++ (logs.later ++ event ∷ later)) (sym (all ∙ ap (λ (u : View). u.turns) same))),
-      ))
+      (λ e. grind (arith, same_view, its_seat, log_then, append_assoc))
       (λ ne. let has = is.logged (was.owner actor) its.0 (other_seat s (was.owner actor) ne ∙ its.1) in
       (has.later, has.goes_on ∙ ap (λ l. l ++ has.later) (sym all))))
       (ends was.turns)
@@ -129,10 +118,7 @@ module _ (setup : Setup) (old new : State Act View) (seat : ℕ) (was : KeepsRul
   others_same actor ne = dite (dec_le setup.actors actor)
       (λ h. is.strangers actor h ∙ sym (was.strangers actor h))
       (λ h. let its = was.actors actor (omega arith) in
-      let away : was.owner actor ≢ seat = λ e.
-      let st : StandsForActor s.before actor = subst (λ (u : View). StandsForActor u actor)
-      (same_view old.views s.was its.1 e) its.2 in
-      ne (omega (arith, st.0, st.1, s.alone)) in
+      let away : was.owner actor ≢ seat = grind (arith, same_view) in
       own-all actor (is.logged (was.owner actor) its.0 (other_seat s (was.owner actor) away ∙ its.1)) its.2
       ∙ sym (own-all actor (was.logged (was.owner actor) its.0 its.1) its.2))
 
@@ -155,8 +141,7 @@ module _ (setup : Setup) (old new : State Act View) (seat : ℕ) (was : KeepsRul
       log_first.1 ∙ ap (λ l. had ++ l) (just-one s.before.low rest
       (λ actor ne. append_cancel_left (events_of actor had) (events_of actor rest) []
       (split actor ∙ (others_same actor ne ∙ sym (append-nil (events_of actor had)))))
-      (append_cancel_left (events_of s.before.low had) (events_of s.before.low rest) (event ∷ [])
-      (split s.before.low ∙ own_then)))
+      (grind (arith, append_cancel_left, own_then)))
 
   -- and comes behind all that was there
   moment : was.turns ≡ s.before.turns ++ logs.later
@@ -164,8 +149,7 @@ module _ (setup : Setup) (old new : State Act View) (seat : ℕ) (was : KeepsRul
       (λ (t : (s.before.turns ++ logs.later ≡ was.turns) × (event ≡ event)). sym t.0)
       (λ (t : (rest : List TurnEvent) × (was.turns ≡ (s.before.turns ++ logs.later) ++ event ∷ rest)).
       absurd (grind (arith, some-mine (s.before.turns ++ logs.later) event t.0 mine, t.1, own_first)))
-      (last_or_there was.turns event (s.before.turns ++ logs.later) event
-      (is.logged seat s.after (its_seat s)).later (sym one_more ∙ log_then))
+      (grind (arith, last_or_there, its_seat, one_more, log_then))
 
   locks_then : HasLocks setup old (s.before.turns ++ logs.later)
   locks_then = record {

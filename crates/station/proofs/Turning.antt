@@ -1,5 +1,5 @@
 -- The turn at a node: it is won or lost, and given back.
-use Rattle.std.proofs.Common.{◌≡◌, ◌≢◌, ℕ, suc, ◌-◌, ◌<◌, ◌≤◌, ◌==◌, true, false, true≢false, List, [], ◌∷◌, ◌++◌, length, set, refl, sym, ap, ◌∙◌, subst, inl, inr, ⊎_elim, arith, Some, None, get_or-set_other, get_or-set_same, length-set}
+use Rattle.std.proofs.Common.{◌≡◌, ◌≢◌, ℕ, suc, ◌-◌, ◌<◌, ◌≤◌, ◌==◌, true, false, List, [], ◌∷◌, ◌++◌, length, set, refl, sym, ap, ◌∙◌, subst, inl, inr, ⊎_elim, arith, Some, None, get_or-set_other, get_or-set_same, length-set}
 use Rattle.std.specs.Prelude.{slice_index}
 use Rattle.std.proofs.lemmas.List.{set-get_or, append-nil}
 use mathlib.Core.Option.{some, none, some-injective}
@@ -11,7 +11,7 @@ use Rattle.atomic_table.proofs.Lists.{set_here, set_else, exchanged}
 use Rattle.entry_word.specs.declared.visit.Key.{Key}
 use Rattle.entry_word.specs.declared.visit.Act.{Act}
 use Rattle.directory.specs.Keys.{key_node}
-use Rattle.station.specs.Setup.{Setup, setting_in, nodes_in, lock_word, tally_word, cell_word}
+use Rattle.station.specs.Setup.{Setup, setting_in, nodes_in, lock_word, cell_word}
 use Rattle.station.specs.Views.{IsInsideNode, IsSoundView, StandsForActor, turn_at}
 use Rattle.station.specs.Rule.{KeepsRule, IsViewOf, IsHeld, IsCellWritten, IsTallied}
 use Rattle.station.specs.Plays.{Seat, view_inside, view_held, Turns, view_outside, Leaves}
@@ -99,10 +99,7 @@ entering law {setup} {s} o j x {v} act me known alone idle free =
       size = length-set s.words (lock_word x) (suc v.low);
       first = get_or-set_other s.words (lock_word x) 0 (suc v.low) 0 (λ e. omega arith);
       elsewhere = λ y k iny ne word. else_where law s.words (suc v.low) known iny ne (is_lock refl) word;
-      mine =
-          let inside : (node : ℕ) → Some x ≡ Some node → IsInsideNode setup new o.history w node =
-          λ node is. rw (← same_some is) here in
-          search (arith, was);
+      mine = grind (arith, same_some);
       alone = others;
       lock = λ actor is. let low : v.low ≡ actor = omega (arith, at, is) in
           let mine : o.owner actor ≡ j = ap o.owner (sym low) ∙ (was.owner_is v.low (omega arith)).0 in
@@ -110,9 +107,7 @@ entering law {setup} {s} o j x {v} act me known alone idle free =
       cells = λ key cell at quiet.
           get_or-set_other s.words (lock_word x) (cell_word setup key) (suc v.low) 0 (behind (nodes_in setup) x _ known)
           ∙ o.cells key cell (written_here o j v key me others at quiet);
-      tally = λ quiet.
-          get_or-set_other s.words (lock_word x) (tally_word setup x) (suc v.low) 0 (λ e. omega arith)
-          ∙ o.tallies x known (tallied_here o j x v me others (λ owes is. nobody j v me is));
+      tally = grind (arith, get_or-set_other, tallied_here);
     }
 
 pub turns : NumbersApart → (setup : Setup) (n id x : ℕ) (m : Seat) (act : Act) → x < nodes_in setup
@@ -132,10 +127,7 @@ turns law setup n id x m act known alone idle s o wide me small =
       entering law o id x act me known alone idle free,
       λ node other at said.
           let a : x ≡ node = omega arith in let b : act ≡ other = some-injective act other said in (
-            (λ _. (
-              (λ i. (view_inside m.0 (a i) (b i) log, m.1)),
-              rw (← a) (logs o id m.0 (Won m.0.low x) me alone refl (sym (o.lock_words x known) ∙ free)),
-            )),
+            (λ _. grind (arith, logs o id m.0 (Won m.0.low x) me alone refl (sym (o.lock_words x known) ∙ free))),
             (λ not. absurd (not free)),
           ),
     ))
@@ -149,10 +141,7 @@ turns law setup n id x m act known alone idle s o wide me small =
     let low = held.3 in let high = there.alone in
     let below : b < setup.actors = (theirs.owner_is b (omega arith, omega arith)).1 in
     let few : word ≤ 128 = omega (arith, below, o.few_actors) in
-    let other : word ≢ suc m.0.low = λ e.
-    let mine : o.owner b ≡ id = ap o.owner (omega arith) ∙ (was.owner_is m.0.low (omega arith, omega arith)).0 in
-    let same = same_view s.views me held.1 mine in
-    some_not_none (sym held.2 ∙ (ap (λ (y : View). y.inside) same ∙ idle.out)) in
+    let other : word ≢ suc m.0.low = grind (arith, same_view, some_not_none) in
     let may : IsInTurn o.turns (Lost m.0.low x word) = (sym (o.lock_words x known), taken, other) in (
       w,
       keeps,
@@ -163,9 +152,7 @@ turns law setup n id x m act known alone idle s o wide me small =
           (let others : (actor : ℕ) → StandsForActor w actor → (turn : NodeTurn) → Contains w.lost turn
           → turn.word ≢ suc actor = λ actor st turn had. ⊎_elim
           (λ (old : Contains m.0.lost turn). was.others actor st turn old)
-          (λ (e : turn_at x word ≡ turn). λ names.
-          let its : actor ≡ m.0.low = omega (arith, st.0, st.1, alone) in
-          other (ap (λ (t : NodeTurn). t.word) e ∙ (names ∙ ap suc its)))
+          (λ (e : turn_at x word ≡ turn). grind arith)
           (Contains-push_cases m.0.lost (turn_at x word) turn had) in
           search (arith, was))),
       λ node said-act at said. let a : x ≡ node = omega arith in (
@@ -214,14 +201,11 @@ leaves law setup n id {x} m there unwritten owes s o wide me small =
         elsewhere = λ y k iny ne word. else_where law s.words 0 known iny ne (is_lock refl) word;
         mine = search (arith, was);
         alone = others;
-        lock = λ actor is. let e : 0 ≡ suc actor = sym (get_or-set_same s.words (lock_word x) 0 0 near) ∙ is in
-            absurd (omega arith);
+        lock = grind (arith, get_or-set_same);
         cells = λ key cell at quiet.
             get_or-set_other s.words (lock_word x) (cell_word setup key) 0 0 (behind (nodes_in setup) x _ known)
             ∙ o.cells key cell (written_here o id v key me others at quiet);
-        tally = λ quiet.
-            get_or-set_other s.words (lock_word x) (tally_word setup x) 0 0 (λ e. omega arith)
-            ∙ o.tallies x known (tallied_here o id x v me others (λ due is. true≢false (sym due ∙ owes)));
+        tally = grind (arith, get_or-set_other, tallied_here);
       },
       (
         refl,

@@ -33,5 +33,4 @@ word-seen marks entries fronts {setup} {plan} {old} {new} {act} {ticket} {walk} 
     fronts (setting_in setup) walk.sub new.view.seen ticket small
     (legal-seen setup old new act ticket told visited walk.sub known) in
     rw (reads, same)
-    (word-wanted marks entries setup.plan setup.homes (before ticket new.view.seen) walk key matched_there small legal
-    goes wanted)
+    (grind (arith, word-wanted))

@@ -15,15 +15,3 @@ loop-sub-preserved c =
     let laid = laid_cell c.cell_numbers.ensures.apart is_cell (omega (arith, was.1))
     (c.look-word.ensures.history c.args.homes.now [] c.requires.hold) c.in_ok-push.ensures.items was.0 in
     (laid.0, omega (arith, laid.1, was.1))
-
-pub loop-node-init : goal.loop-node-init
-loop-node-init c = (c.requires.laid, omega (arith, c.requires.at))
-
-pub loop-sub-init : goal.loop-sub-init
-loop-sub-init c = (c.loop-node.invariant.0, omega (arith, c.loop-node.invariant.1))
-
-pub loop-node-preserved : goal.loop-node-preserved
-loop-node-preserved c = grind arith
-
-pub returns-clause-at : goal.returns-clause-at
-returns-clause-at c = grind arith

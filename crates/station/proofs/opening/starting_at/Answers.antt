@@ -1,6 +1,5 @@
 use Rattle.std.proofs.Common.{rules, arith, ◌≡◌, ◌≢◌, ◌+◌, ◌<◌, ◌==◌, cond, ℕ, List, [], refl, sym, ap, ◌∙◌, subst, eq-eqb, ne_eqb, length}
 use Rattle.std.specs.Prelude.{slice_index}
-use Rattle.std.proofs.lemmas.Bool.Decides.{nat_tests}
 use Rattle.node_set.specs.Ascending.{sift}
 use Rattle.entry_word.specs.Marks.{mark_in, says_here}
 use Rattle.entry_word.specs.declared.visit.Key.TheVariants.{Presence}
@@ -13,10 +12,8 @@ use Rattle.station.proofs.opening.starting_at.Goals.{then-node-homes, else-node-
 pub loop-sub-preserved : goal.loop-sub-preserved
 loop-sub-preserved c =
     let home = slice_index c.args.homes.now c.loop-sub.sub in
-    let e : c.if-node-homes.count ≡ c.loop-sub.count + cond (c.args.node == home) 1 0 = elim c.if-node-homes.branch [
-      | then-node-homes w ↦ grind (arith, nat_tests, w.count-is, w.if-node-homes.true)
-      | else-node-homes w ↦ grind (arith, nat_tests, w.count-is, w.if-node-homes.false)
-    ] in (
+    let e : c.if-node-homes.count ≡ c.loop-sub.count + cond (c.args.node == home) 1 0 =
+    grind (arith, then-node-homes, else-node-homes) in (
       (λ plan. e ∙ count-more (setting_of plan c.args.homes.now) c.args.node c.loop-sub.sub c.loop-sub-test.true
           (c.loop-sub.invariant.0 plan)),
       bound (c.args.node == home) c.loop-sub.count c.loop-sub.sub c.if-node-homes.count e c.loop-sub.invariant.1,
@@ -28,8 +25,7 @@ loop-sub-preserved c =
 
 pub returns : goal.returns
 returns c =
-    let all : c.loop-sub.sub ≡ length c.args.homes.now = omega
-    (arith, c.loop-sub-test.false, c.loop-sub.auto.sub-end) in record {
+    let all : c.loop-sub.sub ≡ length c.args.homes.now = grind arith in record {
       count = λ plan. c.loop-sub.invariant.0 plan
           ∙ ap {B = ℕ} (λ (k : ℕ). length (sift (λ s. says_here (mark_in (cell
           (setting_of plan c.args.homes.now) [] (Presence c.args.node s)))) 0 k)) all;

@@ -1,9 +1,6 @@
 use Rattle.std.proofs.Common.{arith}
-use Rattle.std.proofs.Common.{rules, ◌≡◌, ◌∙◌, ◌<◌, ◌^◌, ap, subst, ℕ, [], length}
-use Rattle.std.proofs.lemmas.Result.{IfOk-weaker}
-use Rattle.station.specs.Setup.{Setup}
+use Rattle.std.proofs.Common.{rules, ◌≡◌, ◌<◌, ◌^◌, length}
 use Rattle.station.specs.Opening.{setup_of}
-use Rattle.station.specs.Plays.{first_view}
 use Rattle.station.proofs.Forking.{opens}
 use Rattle.station.proofs.Fresh.{matched_lies, start_inside}
 use Rattle.station.proofs.tracker.open_table.Goals as goal
@@ -19,12 +16,5 @@ returns c =
     let size = (c.in_ok-words.ensures.opening c.args.actors).size in
     let few : length c.in_ok-words.words.items < 2 ^ 64 = search rules in
     record {
-      opened = IfOk-weaker c.of_words.result _ _ (λ made o. (
-        o.0 ∙ (ap length words ∙ size),
-        subst (λ (k : ℕ). k < 2 ^ 64) size few,
-        o.1,
-        o.5 ∙ e,
-        o.2,
-        o.4 ∙ ap (λ (s : Setup). (first_view s, [])) e,
-      )) c.of_words.ensures;
+      opened = grind arith;
     }

@@ -1,6 +1,5 @@
 use Rattle.std.proofs.Common.{arith, ap, sym, ◌∙◌, ◌≡◌, ◌<◌, ◌+◌, ℕ, List, get_or, set, length, take, get_or-set_same, get_or-set_other, length-set}
 use Rattle.std.specs.Prelude.{slice_index, if◌then◌else◌}
-use Rattle.std.proofs.lemmas.Bool.Decides.{nat_tests}
 use Rattle.node_set.specs.Ascending.{has}
 use Rattle.directory.specs.Histories.{tickets}
 use Rattle.station.proofs.Ticketing.{tickets-below, has-taken}
@@ -20,11 +19,7 @@ stamped : (order list : List ℕ) (old : ℕ → ℕ) {at : ℕ} (actor k : ℕ)
     → at < length order → ((i : ℕ) → slice_index order i ≡ (if has i (take k list) then actor else old i)) → (i : ℕ)
     → slice_index (set order at actor) i ≡ (if has i (take (k + 1) list) then actor else old i)
 stamped order list old {at} actor k d is near inside all i =
-    let more = has-taken i k list d near in
-    let here = get_or-set_same order at actor 0 inside in
-    let elsewhere = get_or-set_other order at i actor 0 in
-    let was = all i in
-    grind (arith, nat_tests)
+    grind (arith, has-taken i k list d near, get_or-set_same order, get_or-set_other order)
 
 pub loop-k-preserved : goal.loop-k-preserved
 loop-k-preserved c =
@@ -33,14 +28,11 @@ loop-k-preserved c =
     let at = kept c.before.before.before.before in
     let told = c.self.view_is in
     let low : c.args.self.now.view.low ≡ c.self.inside.actor = sym (ap (λ q. q.view.low) told) ∙ c.self.invariant.low in
-    let lists : tickets c.args.self.now.view.low c.args.self.now.view.seen ≡ list =
-    ap (λ q. tickets q.view.low q.view.seen) (sym told)
-    ∙ ap (λ (a : ℕ). tickets a c.self.inside.seat.me.0.seen) c.self.invariant.low in
+    let lists : tickets c.args.self.now.view.low c.args.self.now.view.seen ≡ list = grind arith in
     let was = rw (lists, low) at c.loop-k.invariant.stamped in
     let next = stamped c.loop-k.order list (λ i. slice_index c.args.order.now i) c.self.inside.actor k
     c.index.result.now at.1 at.0 at.2 was in
     record {
-      size = ap length c.write_at.ensures ∙ (length-set c.loop-k.order c.index.result.now c.self.inside.actor
-          ∙ c.loop-k.invariant.size);
+      size = grind (arith, length-set);
       stamped = rw (lists, low, c.write_at.ensures) next;
     }

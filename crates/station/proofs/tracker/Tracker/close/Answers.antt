@@ -1,4 +1,4 @@
-use Rattle.std.proofs.Common.{arith, ◌≡◌, ℕ, List, subst}
+use Rattle.std.proofs.Common.{arith, ◌≡◌, ℕ, List}
 use Rattle.std.proofs.lemmas.List.{take_at}
 use Rattle.station.specs.Passes.{PassData}
 use Rattle.station.specs.Closing.{ArePresent}
@@ -7,11 +7,7 @@ use Rattle.station.proofs.tracker.Tracker.close.Goals as goal
 -- the actors that the tracker counts are those that its setup has, and the passes that were looked through are its own
 present : {counted actors : ℕ} {seen passes : List PassData} → counted ≡ actors → seen ≡ passes
     → ArePresent counted seen → ArePresent actors passes
-present {counted} {passes} e f all =
-    subst (λ (n : ℕ). ArePresent n passes) e (subst (ArePresent counted) f all)
-
-pub returns-in-Some-clause-fault : goal.returns-in-Some-clause-fault
-returns-in-Some-clause-fault c = grind arith
+present {counted} {passes} e f all = grind arith
 
 pub gather-longest-requires-clause-present : goal.gather-longest-requires-clause-present
 gather-longest-requires-clause-present c = grind (arith, present)
@@ -19,19 +15,8 @@ gather-longest-requires-clause-present c = grind (arith, present)
 pub returns-in_default-vec-clause-fault : goal.returns-in_default-vec-clause-fault
 returns-in_default-vec-clause-fault c = grind (arith, present)
 
-pub stamp_all-requires-clause-of : goal.stamp_all-requires-clause-of
-stamp_all-requires-clause-of c =
-    rw c.gather-longest.ensures.same c.requires.of
-
 pub stamp_all-requires-clause-present : goal.stamp_all-requires-clause-present
 stamp_all-requires-clause-present c = grind (arith, present)
-
-pub stamp_all-requires-clause-gathered : goal.stamp_all-requires-clause-gathered
-stamp_all-requires-clause-gathered c =
-    rw c.gather-longest.ensures.same c.gather-longest.ensures.gathered
-
-pub stamp_all-requires-clause-room : goal.stamp_all-requires-clause-room
-stamp_all-requires-clause-room c = grind arith
 
 pub returns-clause-order : goal.returns-clause-order
 returns-clause-order c = grind (arith, take_at)

@@ -1,8 +1,4 @@
-use Rattle.std.proofs.Common.{arith, ◌≡◌, ◌∙◌, ◌+◌, ◌-◌, ℕ, [], ◌∷◌, sym, ap, add-one, length, length-append}
-use Rattle.atomic_table.specs.Table.{Me}
-use Rattle.entry_word.specs.declared.visit.Act.{Act}
-use Rattle.station.specs.Plays.{view_of_rest}
-use Rattle.station.specs.declared.view.View.{View}
+use Rattle.std.proofs.Common.{arith, ◌≡◌, ◌∙◌, ◌+◌, ◌-◌, [], ◌∷◌, ap, add-one, length, length-append}
 use Rattle.station.proofs.Forking.{deals}
 use Rattle.station.proofs.Fresh.{dealt_fresh, fresh_own, fresh_push, last_fresh, rest_view}
 use Rattle.station.proofs.tracker.Tracker.deal.Goals as goal
@@ -13,9 +9,6 @@ split_seat-next-requires c = grind (arith, deals)
 pub of-requires : goal.of-requires
 of-requires c = grind (arith, dealt_fresh, fresh_own)
 
-pub push_reserved-requires : goal.push_reserved-requires
-push_reserved-requires c = grind arith
-
 pub loop-actor-preserved : goal.loop-actor-preserved
 loop-actor-preserved c =
     let d = c.loop-actor.invariant in
@@ -23,9 +16,7 @@ loop-actor-preserved c =
     let told = c.split_seat-next.ensures in
     record {
       table = told.0 ∙ d.table;
-      view = told.2 ∙ (ap {B = Me Act View} (λ (m : Me Act View). (view_of_rest m.0, m.1)) d.view
-          ∙ ap {B = Me Act View} (λ (a : ℕ). (rest_view c.args.self.now.setup a, []))
-          (sym (add-one c.loop-actor.actor)));
+      view = grind (arith, rest_view, add-one);
       fresh = fresh_push c.loop-actor.passes.items c.split_seat-next.result.id d.fresh d.count (told.3 ∙ d.table)
           (dealt_fresh _ _ d.view told.4) c.of.ensures items;
       count = ap length items ∙ (length-append c.loop-actor.passes.items (c.of.result ∷ []) ∙ ap (λ n. n + 1) d.count);
@@ -34,9 +25,6 @@ loop-actor-preserved c =
 
 pub of-requires-2 : goal.of-requires-2
 of-requires-2 c = grind (arith, last_fresh, fresh_own)
-
-pub push_reserved-requires-2 : goal.push_reserved-requires-2
-push_reserved-requires-2 c = grind arith
 
 pub returns-clause-fresh : goal.returns-clause-fresh
 returns-clause-fresh c =

@@ -12,8 +12,7 @@ fetch_add-requires c =
     let m = c.turn.new.seat.me in
     let told = c.self.view_is in
     let turn = c.in_ok-turn.ensures.turn in
-    let e : m.0.setup ≡ c.self.inside.table.shared.key =
-    ap (λ (x : Me Act View). x.0.setup) turn ∙ (c.requires.setup ∙ sym (ap (λ t. t.setup) told)) in (
+    let e : m.0.setup ≡ c.self.inside.table.shared.key = grind arith in (
       search rules,
       omega (arith, c.self.invariant.words),
       rw (← e) (draws c.same_key_means.ensures _ _ m (subst (λ (v : View). MayDraw v c.args.node c.args.act.now)

@@ -1,10 +1,7 @@
-use Rattle.std.proofs.Common.{arith, ap, ◌∙◌, ◌≡◌, ◌<◌, ◌≤◌, ℕ, List, Some, get_or, set, length, subst}
-use Rattle.std.specs.Prelude.{slice_get}
+use Rattle.std.proofs.Common.{arith, ap, ◌∙◌, ◌≡◌, ◌<◌, ◌≤◌, List, get_or, set, length}
 use Rattle.std.proofs.lemmas.List.{set-get_or}
 use Rattle.std.proofs.lemmas.Option.{get_or_from_slice_get, slice_get_within}
-use mathlib.Core.Logic.{dite}
 use native.Mathlib.Decide.{dec_le}
-use Rattle.directory.specs.Histories.{IsFront}
 use Rattle.station.specs.Passes.{PassData}
 use Rattle.station.proofs.tracker.Tracker.gather.Goals as goal
 use Rattle.directory.specs.HistoryLaws.{front-through}
@@ -22,14 +19,7 @@ loop-k-preserved c =
     record {
       same = ap (set items k) (f.same ∙ at) ∙ (set-get_or items k found ∙ d.same);
       of = e.of;
-      seen = λ j pass h there. dite (dec_le k j)
-          (λ up. let same : j ≡ k = omega arith in
-          let is : found ≡ pass = at ∙ (ap (λ (l : List PassData). get_or l k found) d.same
-          ∙ get_or_from_slice_get stored k pass found (subst (λ (i : ℕ). slice_get stored i ≡ Some pass) same there)) in
-          subst (λ (l : List _). IsFront l c.take_in.new.longest.view.seen) (f.seen
-          ∙ ap (λ (p : PassData). p.view.seen) is) e.told)
-          (λ low. front-through pass.view.seen c.loop-k.longest.view.seen c.take_in.new.longest.view.seen
-          (d.seen j pass (omega arith) there) e.begins);
+      seen = grind (arith, dec_le, get_or_from_slice_get, front-through);
       known = λ _. e.known;
       legal = λ _. e.legal;
     }
@@ -42,14 +32,10 @@ returns-clause-gathered c =
     let back = ap (set all 0) (c.note-longest.ensures.same ∙ c.index_mut.ensures.value) ∙ set-get_or all 0 first in
     let count : length c.loop-k.passes.items ≡ length all = ap length (d.same ∙ back) in
     let actors = ap (λ t. t.setup.actors) c.self.view_is in
-    let some : 0 < length all = dite (dec_le 1 (length all)) (λ h. h)
-    (λ none. absurd (c.requires.present 0 (omega (arith, c.self.invariant, actors))
-    (λ j q e. absurd (omega (arith, slice_get_within all j q e, none))))) in
-    let done : length all ≤ c.loop-k.k = omega
-    (arith, c.loop-k-test.false, c.len-k-end.ensures, c.args.passes.now.ok) in
+    let some : 0 < length all = grind (arith, dec_le, slice_get_within) in
+    let done : length all ≤ c.loop-k.k = grind arith in
     record {
-      seen = λ j pass e. d.seen j pass (omega (arith, slice_get_within all j pass e, done)) (ap (λ
-          (l : List PassData). slice_get l j) back ∙ e);
+      seen = λ j pass e. d.seen j pass (omega (arith, slice_get_within all j pass e, done)) (grind arith);
       known = d.known (omega (arith, some, done));
       legal = d.legal (omega (arith, some, done));
     }

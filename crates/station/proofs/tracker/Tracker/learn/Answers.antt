@@ -1,5 +1,5 @@
-use Rattle.std.proofs.Common.{rules, arith, sym, ap, ◌∙◌, ◌≡◌, ◌≤◌, ◌^◌, length}
-use Rattle.station.specs.Setup.{setting_in, nodes_in}
+use Rattle.std.proofs.Common.{rules, arith, ap, ◌≡◌, ◌≤◌, ◌^◌, length}
+use Rattle.station.specs.Setup.{setting_in}
 use Rattle.station.proofs.Joining.{hears, learns, longer_long}
 use Rattle.station.proofs.tracker.Tracker.learn.Goals as goal
 
@@ -13,10 +13,8 @@ load-requires c =
     let note = c.args.other.me.0 in
     let two = c.self.view_is in
     let joined = c.join_seat.ensures.2 in
-    let e : m.0.setup ≡ c.self.inside.table.shared.key = ap (λ q. q.0.setup) joined
-    ∙ (c.requires.setup ∙ sym (ap (λ t. t.setup) two)) in
-    let few : (setting_in m.0.setup).nodes ≤ 2 ^ 16 = omega
-    (arith, c.self.invariant.nodes_are, c.self.invariant.few_nodes, ap nodes_in e) in
+    let e : m.0.setup ≡ c.self.inside.table.shared.key = grind arith in
+    let few : (setting_in m.0.setup).nodes ≤ 2 ^ 16 = grind arith in
     let long = longer_long old.seen note.seen in (
       search rules,
       omega (arith, c.self.invariant.words),

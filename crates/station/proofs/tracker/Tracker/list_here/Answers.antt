@@ -1,4 +1,4 @@
-use Rattle.std.proofs.Common.{arith, subst, sym, ap, ◌∙◌, ◌≡◌, ◌<◌, ◌+◌, Bool, ℕ}
+use Rattle.std.proofs.Common.{arith, ◌∙◌, ◌≡◌, ◌<◌, ◌+◌, Bool, ℕ}
 use Rattle.entry_word.specs.Marks.{mark_in, says_here}
 use Rattle.entry_word.specs.declared.visit.Key.TheVariants.{Presence}
 use Rattle.directory.specs.Histories.{cell}
@@ -15,14 +15,9 @@ loop-sub-preserved c =
     let small : sub < 64 = omega (arith, c.loop-sub-test.true, c.self.invariant.few_subs) in
     let f : ℕ → Bool = λ s. says_here (mark_in (cell (setting_in c.args.self.now.setup) c.args.seat.now.me.0.seen
     (Presence c.args.node s))) in
-    let told : c.says_here.result ≡ f sub = c.says_here.ensures
-    ∙ ap (λ w. says_here (mark_in w)) (now.word (ap (λ m. m.0.unwritten) was.same ∙ c.requires.unwritten)
-    ∙ ap (λ m. cell (setting_in c.args.self.now.setup) m.0.seen (Presence c.args.node sub)) was.same) in
-    let bits : AreBits f c.if-says_here.who (sub + 1) = elim c.if-says_here.branch [
-      | then-says_here w ↦ hit_bit f c.loop-sub.who sub small (sym told ∙ w.if-says_here.true) w.who-is was.bits
-      | else-says_here w ↦ subst (λ (k : ℕ). AreBits f k (sub + 1)) (sym w.who-is)
-          (miss_bit f c.loop-sub.who sub (sym told ∙ w.if-says_here.false) was.bits)
-    ] in record {
+    let told : c.says_here.result ≡ f sub = grind arith in
+    let bits : AreBits f c.if-says_here.who (sub + 1) =
+    grind (arith, then-says_here, hit_bit, else-says_here, miss_bit) in record {
       table = now.table ∙ was.table;
       id = now.id ∙ was.id;
       same = now.same ∙ was.same;

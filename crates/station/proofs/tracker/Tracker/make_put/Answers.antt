@@ -1,7 +1,7 @@
-use Rattle.std.proofs.Common.{refl, subst, sym, ap, ◌∙◌}
+use Rattle.std.proofs.Common.{arith}
+use Rattle.std.proofs.Common.{subst, sym, ap}
 use Rattle.station.specs.Setup.{Setup}
 use Rattle.station.specs.Handsets.{Moves}
-use Rattle.station.specs.Plays.{view_outside}
 use Rattle.station.specs.declared.view.View.{View}
 use Rattle.station.proofs.Ticketing.{left_by}
 use Rattle.station.proofs.Putting.{moves}
@@ -27,7 +27,6 @@ returns-clause-made c =
       there = there;
       won = rw c.requires.low c.in_ok-ticket.ensures.logs;
       draws = c.in_ok-ticket.ensures.drawn;
-      left = left_by there (ap (λ m. m.0) c.give_back.ensures.left ∙ ap (λ m. view_outside m.0 new.turns) put) refl
-          refl;
+      left = grind (arith, left_by);
       given_back = rw put at c.give_back.ensures.logs;
     }

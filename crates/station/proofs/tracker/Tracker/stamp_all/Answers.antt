@@ -1,9 +1,8 @@
 use Rattle.std.proofs.Common.{arith, ap, sym, ◌∙◌, ◌≡◌, ◌<◌, List, length, refl, subst}
-use Rattle.std.specs.Prelude.{slice_get}
 use Rattle.std.proofs.Math.Seq.{take-length}
 use Rattle.std.proofs.lemmas.Option.{get_or_from_slice_get, slice_get_within}
 use mathlib.Core.Logic.{dite}
-use native.Mathlib.Decide.{ℕ_discrete, dec_le}
+use native.Mathlib.Decide.{dec_le}
 use Rattle.directory.specs.Histories.{History, own}
 use Rattle.station.specs.Passes.{PassData, IsNoteOf, IsPassOf, actor_of}
 use Rattle.station.proofs.Ending.{find_pass, heard_whole, order_is, own_there, stamp_more, taken}
@@ -44,27 +43,19 @@ loop-pass-preserved c =
     let t = taken all left c.pop.result c.pop.ensures.items c.in-Some.is d.left in
     let count = t.2 in
     let heard = c.hear.ensures.heard in
-    let seen : c.hear.new.pass.view.seen ≡ whole = heard_whole heard (c.copy-note.ensures.seen ∙ d.same)
-    (c.requires.gathered.seen (length left) pass t.1) in
-    let mine : own (actor_of pass) whole ≡ own (actor_of pass) pass.view.seen = ap (own (actor_of pass))
-    (sym seen) ∙ heard.visits in
+    let seen : c.hear.new.pass.view.seen ≡ whole = grind (arith, heard_whole) in
+    let mine : own (actor_of pass) whole ≡ own (actor_of pass) pass.view.seen = grind arith in
     record {
       left = t.0;
       of = subst (IsNoteOf c.args.self.now) (sym c.copy-note.ensures.same) d.of;
       same = ap (λ n. n.view.seen) c.copy-note.ensures.same ∙ d.same;
       size = c.stamp.ensures.size ∙ d.size;
-      visits = λ j p h e. dite (ℕ_discrete j (length left))
-          (λ is. let same = same_some (sym t.1 ∙ (ap (slice_get all) (sym is) ∙ e)) in
-          subst (λ (q : PassData). own (actor_of q) whole ≡ own (actor_of q) q.view.seen) same mine)
-          (λ ne. d.visits j p (omega arith) e);
+      visits = grind (arith, same_some);
       stamped = λ i j visit p there h e is.
           stamp_more c.loop-pass.order c.stamp.new.order i visit (actor_of pass) whole
           (tickets-has (actor_of pass) i whole there)
           (rw (← heard.same.actor, ← seen) (c.stamp.ensures.stamped i))
-          (λ ne. dite (ℕ_discrete j (length left))
-          (λ at. let same = same_some (sym t.1 ∙ (ap (slice_get all) (sym at) ∙ e)) in
-          absurd (ne (is ∙ ap actor_of (sym same))))
-          (λ further. d.stamped i j visit p there (omega arith) e is));
+          (λ ne. grind (arith, same_some));
     }
 
 pub returns : goal.returns
@@ -73,8 +64,7 @@ returns c =
     let d = c.loop-pass.invariant in
     let whole : History = c.args.longest.now.view.seen in
     let g = c.requires.gathered in
-    let empty : length c.loop-pass.passes.items ≡ 0 =
-    omega (arith, c.in_default.ensures.cases, c.loop-pass.passes.ok) in record {
+    let empty : length c.loop-pass.passes.items ≡ 0 = grind arith in record {
       order = record {
         history = whole;
         actors = order_is c.loop-pass.order whole (d.size ∙ c.requires.room) (λ i visit there.

@@ -1,6 +1,4 @@
-use Rattle.std.proofs.Common.{arith, ap, ◌∙◌, ℕ, length, refl}
-use Rattle.std.specs.Prelude.{if◌then◌else◌}
-use Rattle.node_set.specs.Ascending.{has}
+use Rattle.std.proofs.Common.{arith, ap, ◌∙◌, refl}
 use Rattle.entry_word.specs.declared.visit.Act.TheVariants.{Census}
 use Rattle.directory.specs.Census.{census}
 use Rattle.directory.specs.Histories.{before}
@@ -14,9 +12,6 @@ pub draw-requires-clause-may : goal.draw-requires-clause-may
 draw-requires-clause-may c =
     λ log. may_draw (Census c.args.node) log c.pass.invariant
     (omega (arith, c.requires.spare, ap (λ q. q.spare) c.pass.view_is)) refl (λ key e. no_some e) tt
-
-pub keep_ticket-requires-clause-small : goal.keep_ticket-requires-clause-small
-keep_ticket-requires-clause-small c = c.in_ok-ticket.ensures.drawn.few
 
 pub invariant_of-pass-2 : goal.invariant_of-pass-2
 invariant_of-pass-2 c =
@@ -40,13 +35,7 @@ returns c =
     let seen = ap (λ h. census setting h node) made.1
     ∙ census-counted setting (before c.in_ok-ticket.ticket c.give_back.new.seat.me.0.seen) node _ node in
     record {
-      seen = (
-        made.0,
-        record {
-          bits = λ sub. list.bits sub ∙ ap {B = ℕ} (λ l. if has sub l then 1 else 0) seen;
-          length_is = here.count ∙ (ap (λ m. length (census setting m.0.seen node)) list.same ∙ ap length seen);
-        },
-      );
+      seen = grind arith;
     }
 
 pub invariant_of-pass : goal.invariant_of-pass

@@ -1,10 +1,8 @@
 use Rattle.std.proofs.Common.{arith, refl, sym, ap, ◌∙◌}
-use Rattle.directory.specs.Histories.{before, cell}
 use Rattle.station.proofs.Growing.{cell-push}
 use Rattle.entry_word.specs.declared.visit.Act.TheVariants.{Look}
 use Rattle.directory.specs.Keys.{key_node}
 use Rattle.station.specs.Setup.{setting_in}
-use Rattle.station.specs.declared.view.View.{View}
 use Rattle.station.proofs.Steps.{no_some}
 use Rattle.station.proofs.Ticketing.{looked, look_done, lost_pass, may_draw, pass_is}
 use Rattle.station.proofs.tracker.Tracker.visit_look.Goals as goal
@@ -15,9 +13,6 @@ draw-requires-clause-may c =
     λ log. may_draw (Look c.args.key) log c.pass.invariant
     (omega (arith, c.requires.spare, ap (λ q. q.spare) c.pass.view_is))
     (ap (λ s. key_node (setting_in s) c.args.key) setup ∙ sym c.node_of-node.ensures.node) (λ key e. no_some e) tt
-
-pub keep_ticket-requires-clause-small : goal.keep_ticket-requires-clause-small
-keep_ticket-requires-clause-small c = c.in_ok-ticket.ensures.drawn.few
 
 pub invariant_of-pass-2 : goal.invariant_of-pass-2
 invariant_of-pass-2 c =
@@ -34,16 +29,11 @@ returns c =
     let back = c.give_back.ensures in
     let t = c.in_ok-ticket.ensures in
     let made = looked c.pass.view_is c.pass.invariant.low t.drawn t.logs refl (λ _. refl)
-    (ap (λ q. key_node (setting_in q.view.setup) key) c.pass.view_is
-    ∙ (ap (λ s. key_node (setting_in s) key) c.requires.of.setup ∙ sym c.node_of-node.ensures.node)) read.same
+    (grind arith) read.same
     (ap (λ m. m.0) back.left) back.logs (back.table ∙ (read.table ∙ c.draw.ensures.table))
     (back.id ∙ (read.id ∙ c.draw.ensures.id)) c.keep_ticket.ensures.spare in
     record {
-      looked = (
-        made.0,
-        read.word (ap (λ (x : View). x.unwritten) t.drawn.view) ∙ (ap (λ h. cell setting h key) made.1
-            ∙ cell-push setting key (before c.in_ok-ticket.ticket c.give_back.new.seat.me.0.seen) _),
-      );
+      looked = grind (arith, cell-push);
     }
 
 pub invariant_of-pass : goal.invariant_of-pass

@@ -3,7 +3,6 @@ use Rattle.entry_word.specs.declared.visit.Act.TheVariants.{Put}
 use Rattle.entry_word.specs.declared.visit.Visit.{Visit}
 use Rattle.directory.specs.Histories.{puts_to}
 use Rattle.directory.specs.Keys.{key_node}
-use Rattle.region_plan.specs.Settings.{setting_of}
 use Rattle.station.specs.Setup.{Setup, setting_in}
 use Rattle.station.specs.Handsets.{HandsetGoesOn, IsHandsetOf, put_of}
 use Rattle.station.specs.Passes.{PassData}
@@ -62,8 +61,7 @@ returns c =
     (c.next_put-key.ensures.next old.view own ∙ ap (λ (a : ℕ). Some (put_of a key word)) own.sub)
     (c.next_put-key.ensures.sub ∙ own.sub) visited.same.actor (seen_done old.view made.draws made.left) puts
     (rw (← c.requires.plan) c.made.ensures.goes)
-    (ap (λ q. q.sub) c.made.ensures.exact ∙ write-sub (setting_of c.args.plan.now []) c.args.handset.now
-    c.args.handset.now.stage)
+    (grind (arith, write-sub))
     (rw (← c.requires.plan) (c.made.ensures.stands setup.homes own.steps made_count (rw c.requires.plan own.stands))) in
     let is_due = λ (P : Visit → Type 0). put_due key word P c.next_put-key.ensures.due h.sub in
     record {

@@ -1,5 +1,5 @@
 use Rattle.std.proofs.Common.{arith}
-use Rattle.std.proofs.Common.{◌≡◌, refl, subst, sym, ap, ◌∙◌, [], Option}
+use Rattle.std.proofs.Common.{◌≡◌, subst, [], Option}
 use Rattle.std.specs.Prelude.{Some}
 use Rattle.directory.specs.Finds.{after_word, key_of}
 use Rattle.entry_word.specs.declared.visit.Key.{Key}
@@ -7,7 +7,7 @@ use Rattle.region_plan.specs.Plan.{PlanData}
 use Rattle.region_plan.specs.Matched.{IsMatched}
 use Rattle.region_plan.specs.Settings.{setting_of}
 use Rattle.walk.specs.LookLaws.{cell-wanted}
-use Rattle.walk.specs.Walks.{IsWalkOver, WalkData, call_of, pursuit_of}
+use Rattle.walk.specs.Walks.{WalkData, call_of, pursuit_of}
 use Rattle.station.specs.Setup.{setting_in, subs_in}
 use Rattle.station.proofs.Wanted.{word-seen}
 use Rattle.station.specs.TurnLaws.{held-passed}
@@ -17,8 +17,7 @@ use Rattle.station.proofs.tracker.Tracker.visit_walk.Goals as goal
 wanted : (walk : WalkData) {plan : PlanData} {key : Key} {named : Option Key} {its : PlanData} → plan ≡ its
     → named ≡ key_of (call_of walk) (pursuit_of plan walk) → named ≡ Some key
     → key_of (call_of walk) (pursuit_of its walk) ≡ Some key
-wanted walk {key} same next is =
-    subst (λ p. key_of (call_of walk) (pursuit_of p walk) ≡ Some key) same (sym next ∙ is)
+wanted walk {key} same next is = grind arith
 
 pub visit_look-requires-clause-cell : goal.visit_look-requires-clause-cell
 visit_look-requires-clause-cell c =
@@ -31,12 +30,7 @@ saw-requires-clause-word c = grind (arith, wanted, word-seen)
 
 pub returns-in_err-looked : goal.returns-in_err-looked
 returns-in_err-looked c = record {
-  looked = held-passed c.from_residual.result c.in_err-looked.field-0.0 _ _ c.from_residual.ensures.1 (record {
-    key = c.in-Some.key;
-    wanted = wanted c.args.walk.now c.requires.way.plan_is c.next.ensures c.in-Some.is;
-    lost = c.in_err-looked.ensures.looked;
-    same = refl;
-  });
+  looked = grind (arith, held-passed, wanted);
 }
 
 pub returns : goal.returns
@@ -47,14 +41,5 @@ returns c =
     (pursuit_of setup.plan c.args.walk.now) c.in_ok-looked.looked.word =
     subst (λ p. pursuit_of p c.saw.new.self ≡ after_word (setting_of p []) (call_of c.args.walk.now)
     (pursuit_of p c.args.walk.now) c.in_ok-looked.looked.word) c.requires.way.plan_is c.saw.ensures.pursuit in record {
-      looked = record {
-        key = c.in-Some.key;
-        wanted = wanted c.args.walk.now c.requires.way.plan_is c.next.ensures c.in-Some.is;
-        visited = looked.0;
-        pursuit = pursuit
-            ∙ ap (after_word (setting_in setup) (call_of c.args.walk.now) (pursuit_of setup.plan c.args.walk.now))
-            looked.1;
-        call = c.saw.ensures.call;
-        goes = subst (λ p. IsWalkOver p c.saw.new.self) c.requires.way.plan_is c.saw.ensures.goes;
-      };
+      looked = grind (arith, wanted);
     }
