@@ -1,11 +1,9 @@
-use Rattle.std.proofs.Common.{◌∙◌}
+use Rattle.std.proofs.Common.{rules, ◌∙◌}
 use Rattle.distances.proofs.LeavingOut.{fewer_left, none_left_in, leaving_begins, leaving_ends, leaving_next, row_ends}
 use Rattle.distances.proofs.elimination.leave_out_each.Goals as goal
 
 pub loop-node-init : goal.loop-node-init
-loop-node-init c =
-    rw (c.requires.left, c.in_ok-left_out.ensures.items)
-    (leaving_begins c.args.n c.args.width c.args.table.now c.requires.count c.requires.light)
+loop-node-init c = search (rules, leaving_begins)
 
 pub loop-node-preserved : goal.loop-node-preserved
 loop-node-preserved c =
