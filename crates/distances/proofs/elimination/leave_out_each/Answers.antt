@@ -1,4 +1,4 @@
-use Rattle.std.proofs.Common.{rules, ◌∙◌}
+use Rattle.std.proofs.Common.{arith, rules, ◌∙◌}
 use Rattle.distances.proofs.LeavingOut.{fewer_left, none_left_in, leaving_begins, leaving_ends, leaving_next, row_ends}
 use Rattle.distances.proofs.elimination.leave_out_each.Goals as goal
 
@@ -22,11 +22,5 @@ slice_bounds-near_of-end c =
 pub loop-node-smaller : goal.loop-node-smaller
 loop-node-smaller c = fewer_left c.loop-node.left c.in-Some.node c.in-Some.ensures.1
 
-pub lower_pairs-requires-clause-light : goal.lower_pairs-requires-clause-light
-lower_pairs-requires-clause-light c = c.loop-node.invariant.light
-
-pub lower_pairs-requires-clause-width : goal.lower_pairs-requires-clause-width
-lower_pairs-requires-clause-width c = c.loop-node.auto.mine ∙ c.requires.mine
-
-pub lower_pairs-requires-clause-degrees : goal.lower_pairs-requires-clause-degrees
-lower_pairs-requires-clause-degrees c = c.loop-node.auto.degrees ∙ c.requires.degrees
+pub lower_pairs-requires : goal.lower_pairs-requires
+lower_pairs-requires c = search rules
