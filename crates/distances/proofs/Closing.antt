@@ -31,14 +31,7 @@ closing_step {n} {width} {u} {rows} {old} {new} wide u_below is so_far count cop
         ∙ ap (λ i. get_or old (u * width + i) 0) at
         ∙ so_far.rest u v (omega arith) u_below v_below)
   ];
-  rest = λ a v a_from a_below v_below.
-      from (a * width + v) 0 (omega (
-        arith,
-        is,
-        row_fits u width a width (omega (arith, a_from)) (omega arith),
-        mul-le u n u width (omega arith) wide,
-      ))
-      ∙ so_far.rest a v (omega arith) a_below v_below;
+  rest = grind (arith, row_fits, mul-le u n u width (omega arith) wide);
 }
 
 -- what is behind the rows is left out

@@ -133,10 +133,7 @@ leaving_begins n width first count light = record {
   count = count;
   light = light;
   within = All-nil (IsLeftOutWithin n);
-  left_is_fresh = λ x h. (
-    omega (arith, among_below (replicate n true) x h, length-replicate n true),
-    All-nil (λ (s : LeftOut). s.node ≢ x),
-  );
+  left_is_fresh = search (rules, among_below, length-replicate, All-nil);
   fresh_is_left = λ x h. get_or-replicate n x true false h.0;
   keeps = λ d lengths begun. record {
     sound = λ a b a_fresh b_fresh. begun.sound a b a_fresh.0 b_fresh.0;
