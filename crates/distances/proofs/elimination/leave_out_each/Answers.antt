@@ -1,4 +1,4 @@
-use Rattle.std.proofs.Common.{arith, rules, ◌∙◌}
+use Rattle.std.proofs.Common.{rules}
 use Rattle.distances.proofs.LeavingOut.{fewer_left, none_left_in, leaving_begins, leaving_ends, leaving_next, row_ends}
 use Rattle.distances.proofs.elimination.leave_out_each.Goals as goal
 
