@@ -1,5 +1,5 @@
 -- Moving the rows of a table together.
-use Rattle.std.proofs.Common.{◌≡◌, ℕ, ◌+◌, ◌-◌, ◌*◌, ◌<◌, ◌≤◌, List, length, get_or, take, ◌∙◌, ap, inl, inr, arith}
+use Rattle.std.proofs.Common.{rules, ◌≡◌, ℕ, ◌+◌, ◌-◌, ◌*◌, ◌<◌, ◌≤◌, List, length, get_or, take, ◌∙◌, ap, inl, inr, arith}
 use Rattle.std.proofs.lemmas.List.{get_or-take, length-take}
 use Rattle.std.proofs.lemmas.Nat.{mul-add-lt, mul-le, row_fits}
 use Rattle.std.proofs.lemmas.Bool.{cases_lt}
@@ -31,22 +31,11 @@ closing_step {n} {width} {u} {rows} {old} {new} wide u_below is so_far count cop
         ∙ ap (λ i. get_or old (u * width + i) 0) at
         ∙ so_far.rest u v (omega arith) u_below v_below)
   ];
-  rest = λ a v a_from a_below v_below.
-      from (a * width + v) 0 (omega (
-        arith,
-        is,
-        row_fits u width a width (omega (arith, a_from)) (omega arith),
-        mul-le u n u width (omega arith) wide,
-      ))
-      ∙ so_far.rest a v (omega arith) a_below v_below;
+  rest = grind (arith, row_fits, mul-le u n u width (omega arith) wide);
 }
 
 -- what is behind the rows is left out
 pub closing_ends : {n width u : ℕ} {rows table closed : List ℕ} → n ≤ width → n ≤ u → IsClosing n width u rows table
     → closed ≡ take (n * n) table → AreClosed n width rows closed
-closing_ends {n} {width} {rows} {table} wide all so_far is = rw is (record {
-  count = omega (arith, length-take (n * n) table, so_far.count, mul-le n n n width (omega arith) wide);
-  each = λ a v a_below v_below.
-      get_or-take (n * n) table (a * n + v) 0 (mul-add-lt a n v n a_below v_below)
-      ∙ so_far.done a v (omega (arith, all)) v_below;
-})
+closing_ends {n} {width} {rows} {table} wide all so_far is =
+    search (rules, length-take, mul-le, get_or-take, mul-add-lt)

@@ -1,5 +1,5 @@
 -- The table of a network's distances has the least weights of walks, and is a metric.
-use Rattle.std.proofs.Common.{◌≡◌, ℕ, ◌+◌, ◌*◌, ◌/◌, ◌%◌, ◌<◌, length, ◌∙◌, ap}
+use Rattle.std.proofs.Common.{rules, ◌≡◌, ℕ, ◌*◌, ◌/◌, ◌%◌, ◌<◌, length}
 use Rattle.std.proofs.lemmas.Nat.{mul-add-lt, div-mul-add, mod-mul-add}
 use Rattle.net_graph.specs.Walks.{everywhere}
 use Rattle.net_graph.specs.LeastWeights.{LeastWeightsAreBounded, LeastWeightsAreFound, least_weight}
@@ -23,9 +23,7 @@ module _ (bounds : LeastWeightsAreBounded) (network : Network) (sound : IsNetwor
   count = length-map_centres (λ i. d (i / n) (i % n)) (n * n)
 
   cell_is : (u v : ℕ) → u < n → v < n → dist (table_of network) u v ≡ d u v
-  cell_is u v u_below v_below =
-      get_or-map_centres (λ i. d (i / n) (i % n)) (n * n) (u * n + v) 0 (mul-add-lt u n v n u_below v_below)
-      ∙ (ap (λ a. d a ((u * n + v) % n)) (div-mul-add u n v v_below) ∙ ap (d u) (mod-mul-add u n v v_below))
+  cell_is u v u_below v_below = search (rules, get_or-map_centres, mul-add-lt, div-mul-add, mod-mul-add)
 
   rows : AreRowsOf network (table_of network).cells
   rows = record {
@@ -36,7 +34,4 @@ module _ (bounds : LeastWeightsAreBounded) (network : Network) (sound : IsNetwor
   }
 
 pub has_distances : LeastWeightsAreFound → LeastWeightsAreBounded → NetworksHaveDistances
-has_distances found bounds network sound =
-    let are = rows bounds network sound (least_there found network sound) in
-    let cells = (table_of network).cells in
-    (distances network sound cells are, metric network sound cells are)
+has_distances found bounds network sound = search (rules, rows, least_there, distances, metric)

@@ -1,5 +1,5 @@
 -- The table that elimination begins with, and what it ends with.
-use Rattle.std.proofs.Common.{◌≡◌, ℕ, ◌+◌, ◌*◌, ◌<◌, ◌≤◌, List, length, replicate, take, ◌++◌, refl, sym, ◌∙◌, ap, subst₂, inl, inr, arith}
+use Rattle.std.proofs.Common.{rules, ◌≡◌, ℕ, ◌+◌, ◌*◌, ◌<◌, ◌≤◌, List, length, replicate, take, ◌++◌, refl, sym, ◌∙◌, ap, subst₂, inl, inr, arith}
 use Rattle.std.proofs.lemmas.List.{get_or-replicate, length-replicate, take_at}
 use Rattle.std.proofs.lemmas.List.Elements.{All-contains, All-replicate}
 use Rattle.std.proofs.lemmas.Nat.{same_from_place, row_fits}
@@ -31,8 +31,7 @@ arcs_step {n} width {u} {edges} {arcs} are so_far lowered =
     )) (λ i w (v, below, joined, at). (make_arc v w, are.whole v w joined, (at, refl))) lowered)
 
 pub no_arcs : (n width : ℕ) (edges : List Edge) (old : List ℕ) → IsLowered (Below 0 (EdgeOffer edges n width)) old old
-no_arcs n width edges old = lowered_none (Below 0 (EdgeOffer edges n width)) old
-    (λ i w (u, below, offered). omega arith)
+no_arcs n width edges old = search (rules, lowered_none)
 
 pub first_done : (network : Network) (width : ℕ) {table : List ℕ} → network.nodes ≤ width
     → IsLowered (Below network.nodes (EdgeOffer network.edges network.nodes width))
@@ -57,16 +56,7 @@ module _ (network : Network) (sound : IsNetwork network) (width : ℕ) (wide : n
     (first : IsFirstTable network width table) where
   turned_below : (u v : ℕ) → u < network.nodes → v < network.nodes
       → cell_at width table v u ≤ cell_at width table u v
-  turned_below u v u_below v_below = elim (first.sound u v u_below v_below) [
-    | inl far ↦ omega (
-      arith,
-      far,
-      first.light (v * width + u) 0
-          (omega (arith, first.count, row_fits v width network.nodes width v_below (omega arith), wide, u_below)),
-    )
-    | inr joined ↦ first.whole v u (cell_at width table u v) v_below u_below
-        (join_turned network.edges u v (cell_at width table u v) joined)
-  ]
+  turned_below u v u_below v_below = search (rules, row_fits, join_turned)
 
   module _ (bounds : LeastWeightsAreBounded) (d : ℕ → ℕ → ℕ) (least : AreLeast network d) where
     pub begun : KeepsLengths (λ x. x < network.nodes) (cell_at width table) d

@@ -1,5 +1,5 @@
 -- Leaving out all nodes, one after another.
-use Rattle.std.proofs.Common.{◌≡◌, ◌≢◌, ℕ, ◌+◌, ◌*◌, ◌<◌, ◌≤◌, Bool, true, false, cond, min, List, Some, [], ◌∷◌, ◌++◌, length, get_or, set, replicate, refl, sym, ◌∙◌, ap, inl, inr, arith}
+use Rattle.std.proofs.Common.{rules, ◌≡◌, ◌≢◌, ℕ, ◌+◌, ◌*◌, ◌<◌, ◌≤◌, Bool, true, false, cond, min, List, Some, [], ◌∷◌, ◌++◌, length, get_or, set, replicate, refl, sym, ◌∙◌, inl, inr, arith}
 use Rattle.std.specs.Prelude.{All, Contains}
 use Rattle.std.proofs.lemmas.List.{length-set, get_or-set_same, get_or-set_other, get_or-replicate, length-replicate}
 use Rattle.std.proofs.lemmas.List.Elements.{All-nil, All-pop, All-push, All-contains, All-weaker}
@@ -63,9 +63,7 @@ module _ (n width : ℕ) (wide : n ≤ width) (first : List ℕ) (left : List Bo
         (h.0, All-push (λ (t : LeftOut). t.node ≢ x) left_out s h.1 (λ e. other (sym e)))
 
     now_left : (x : ℕ) → now x → among (set left v false) x ≡ true
-    now_left x h =
-        let f = fewer x h in
-        get_or-set_other left v x false false f.1 ∙ so_far.fresh_is_left x f.0
+    now_left x h = grind (arith, get_or-set_other, fewer x h)
 
     left_now : (x : ℕ) → among (set left v false) x ≡ true → now x
     left_now x h =
@@ -77,16 +75,11 @@ module _ (n width : ℕ) (wide : n ≤ width) (first : List ℕ) (left : List Bo
         rest x (so_far.left_is_fresh x kept.0) kept.1
 
     near_sound : (x w : ℕ) → Contains s.near.items (make_near x w) → now x × (w ≡ cell_at width old v x) × (w < FAR)
-    near_sound x w has =
-        let is = All-contains IsNear s.near.items (make_near x w) are_near.sound has in
-        let x_now = left_now x is.0 in
-        (x_now, is.2 ∙ is_row x x_now.0, is.3)
+    near_sound x w has = search (rules, All-contains, left_now)
 
     near_whole : (x : ℕ) → now x → cell_at width old v x < FAR
         → Contains s.near.items (make_near x (cell_at width old v x))
-    near_whole x x_now light =
-        let e = is_row x x_now.0 in
-        rw e at (are_near.whole x (omega (arith, row_count, x_now.0)) (now_left x x_now) (omega arith))
+    near_whole x x_now light = search (rules, now_left)
 
     -- what lowering the cells of near nodes comes to
     pairs_lowered : (a b : ℕ) → now a → now b → cell_at width table a b ≡ min (cell_at width old a b)
@@ -140,10 +133,7 @@ leaving_begins n width first count light = record {
   count = count;
   light = light;
   within = All-nil (IsLeftOutWithin n);
-  left_is_fresh = λ x h. (
-    omega (arith, among_below (replicate n true) x h, length-replicate n true),
-    All-nil (λ (s : LeftOut). s.node ≢ x),
-  );
+  left_is_fresh = search (rules, among_below, length-replicate, All-nil);
   fresh_is_left = λ x h. get_or-replicate n x true false h.0;
   keeps = λ d lengths begun. record {
     sound = λ a b a_fresh b_fresh. begun.sound a b a_fresh.0 b_fresh.0;
@@ -173,9 +163,7 @@ leaving_ends so_far none_left = record {
 pub row_ends : {n width : ℕ} → n ≤ width → {first : List ℕ} {left : List Bool} {left_out : List LeftOut}
     {table : List ℕ} → IsLeavingSome n width first left left_out table → (v : ℕ) → among left v ≡ true
     → v * width + n ≤ length table
-row_ends {n} {width} wide so_far v v_left =
-    let v_below : v < n = (so_far.left_is_fresh v v_left).0 in
-    omega (arith, row_fits v width n width v_below (omega arith), so_far.count, wide)
+row_ends {n} {width} wide so_far v v_left = search (rules, row_fits)
 
 -- the step as the code has it
 pub leaving_next : {n width : ℕ} → n ≤ width → {first : List ℕ} {left : List Bool} {left_out later : List LeftOut}
@@ -202,9 +190,4 @@ none_left_in left none_there x h = none_there x (among_below left x h) h
 -- one node fewer is left
 pub fewer_left : (left : List Bool) (v : ℕ) → among left v ≡ true
     → sum_by (λ is_left. cond is_left 1 0) (set left v false) < sum_by (λ is_left. cond is_left 1 0) left
-fewer_left left v v_left =
-    let weight : Bool → ℕ = λ is_left. cond is_left 1 0 in
-    let one : weight (get_or left v false) ≡ 1 = ap weight v_left in
-    let moved : sum_by weight (set left v false) + weight (get_or left v false) ≡ sum_by weight left + 0 =
-    sum_by-set weight left v false false (among_below left v v_left) in
-    omega arith
+fewer_left left v v_left = search (rules, sum_by-set, among_below)

@@ -1,6 +1,6 @@
 -- The least weights of walks in a network as lengths: they are there, they are a metric, a first step begins each, and
 -- none is heavier than a walk through all nodes.
-use Rattle.std.proofs.Common.{◌≡◌, ◌≢◌, ℕ, ◌+◌, ◌-◌, ◌*◌, ◌<◌, ◌≤◌, List, [], ◌∷◌, ◌++◌, refl, subst, arith}
+use Rattle.std.proofs.Common.{rules, ◌≡◌, ◌≢◌, ℕ, ◌+◌, ◌-◌, ◌*◌, ◌<◌, ◌≤◌, List, [], ◌∷◌, refl, arith}
 use Rattle.net_graph.specs.declared.edge.Edge.{Edge}
 use Rattle.net_graph.specs.declared.edge.TheConstants.{MAX_WEIGHT}
 use Rattle.net_graph.specs.Walks.{IsReached, Joins, Step, IsWalk, weight_of, everywhere}
@@ -14,13 +14,7 @@ use Rattle.distances.specs.NodesLeftOut.{AreLeast, AreLengths}
 module _ (found : LeastWeightsAreFound) (network : Network) (sound : IsNetwork network) where
   reached : (u v : ℕ) → u < network.nodes → v < network.nodes → IsReached network.edges everywhere u v
   reached u v u_below v_below =
-      let to_u = sound.connected u u_below in
-      let to_v = sound.connected v v_below in
-      let back = walk_turned network.edges everywhere 0 to_u.steps u to_u.walk in
-      record {
-        steps = back.steps ++ to_v.steps;
-        walk = walk-append network.edges everywhere u back.steps 0 to_v.steps v back.walk to_v.walk;
-      }
+      grind (arith, walk_turned, walk-append, sound.connected u u_below, sound.connected v v_below)
 
   pub least_there : AreLeast network (least_weight network everywhere)
   least_there u v u_below v_below = found network everywhere u v sound.limits (reached u v u_below v_below)
@@ -41,19 +35,7 @@ module _ (network : Network) (sound : IsNetwork network) (d : ℕ → ℕ → �
       → IsWalk network.edges everywhere a steps b
       → weight_of steps ≤ d a b → Begins network.edges network.nodes d a b
   begins_with a b a_below b_below apart [] walk light = absurd (apart walk.1)
-  begins_with a b a_below b_below apart (step ∷ steps) walk light =
-      let edge = join_edge network.nodes network.edges a step.node step.weight sound.limits.edges walk.1 in
-      let short : d step.node b ≤ weight_of steps = (least step.node b edge.1 b_below).least steps walk.2 in
-      record {
-        next = step.node;
-        weight = step.weight;
-        joined = walk.1;
-        below = edge.1;
-        other = λ same.
-            let again : d a b ≤ weight_of steps = subst (λ i. d i b ≤ weight_of steps) same short in
-            absurd (omega (arith, edge.2.positive));
-        short = omega arith;
-      }
+  begins_with a b a_below b_below apart (step ∷ steps) walk light = search (rules, join_edge)
 
   pub begins : (a b : ℕ) → a < network.nodes → b < network.nodes → a ≢ b → Begins network.edges network.nodes d a b
   begins a b a_below b_below apart =
@@ -91,10 +73,4 @@ module _ (network : Network) (sound : IsNetwork network) (d : ℕ → ℕ → �
         bounds network.nodes network.edges everywhere a b (d a b) sound.limits.edges (least a b a_below b_below)
 
     pub lengths : AreLengths network.nodes d
-    lengths = record {
-      zero = zero_length;
-      positive = positive_length;
-      turned = turned_length;
-      triangle = triangle_length;
-      light = λ u v u_below v_below. omega (arith, bounded u v u_below v_below, sound.limits.few);
-    }
+    lengths = search (rules, zero_length, positive_length, turned_length, triangle, triangle_length, bounded)

@@ -1,5 +1,5 @@
 -- Taking back the nodes that were left out, the last one first.
-use Rattle.std.proofs.Common.{◌≡◌, ◌≢◌, ℕ, ◌+◌, ◌*◌, ◌<◌, ◌≤◌, List, Some, Ok, Err, Result, [], ◌∷◌, ◌++◌, length, get_or, set, replicate, refl, sym, ◌∙◌, ap, inl, inr, arith}
+use Rattle.std.proofs.Common.{rules, ◌≡◌, ◌≢◌, ℕ, ◌+◌, ◌*◌, ◌<◌, ◌≤◌, List, Some, Ok, Err, Result, [], ◌∷◌, ◌++◌, length, get_or, set, replicate, refl, sym, ◌∙◌, ap, inl, inr, arith}
 use Rattle.std.specs.Prelude.{All, Contains, OnOk}
 use Rattle.std.specs.declared.alloc.AllocError.{AllocError}
 use Rattle.std.proofs.lemmas.List.{get_or-set_same, get_or-set_other, get_or-replicate, length-replicate, same_from_push, length-append, get_or_default}
@@ -27,8 +27,7 @@ pub record IsFilling (n width : ℕ) (all left_out : List LeftOut) (back table :
 last_left_out : {n : ℕ} {d : ℕ → ℕ → ℕ} (earlier : List LeftOut) (s : LeftOut) {left_out : List LeftOut}
     → AreLeftOut n d left_out → left_out ≡ earlier ++ s ∷ [] → AreLeftOut n d earlier × IsLeftOut (IsFresh n left_out) d
     s.node s.near.items
-last_left_out earlier s none is = absurd
-    (let e : 0 ≡ length (earlier ++ s ∷ []) = ap length is in omega (arith, length-append earlier (s ∷ [])))
+last_left_out earlier s none is = grind (arith, length-append earlier (s ∷ []))
 last_left_out {n} {d} earlier s {left_out} (more other t _ same before holds) is =
     let e = same_from_push other earlier t s (sym same ∙ is) in (rw (← e.0) before, rw (← e.1) holds)
 
@@ -65,10 +64,7 @@ module _ {v : ℕ} (folded : List ℕ) {mine : List ℕ} (zeroed : mine ≡ set 
 -- no cell rises above FAR
 pub written_light : {n width v : ℕ} {back mine old table : List ℕ} → IsNodeWritten n width v back mine old table
     → All (λ w. w ≤ FAR) old → ((x : ℕ) → x < n → get_or mine x 0 ≤ FAR) → All (λ w. w ≤ FAR) table
-written_light {table} written light mine_light i d i_below = elim (written.cause i) [
-  | inl kept ↦ omega (arith, get_or_default table i d 0 i_below, kept, light i 0 (omega (arith, written.count)))
-  | inr (x, x_below, is) ↦ omega (arith, get_or_default table i d 0 i_below, is, mine_light x x_below)
-]
+written_light {table} written light mine_light i d i_below = search (rules, get_or_default, mine_light)
 
 -- one more node is back
 module _ (n width : ℕ) (all : List LeftOut) (left_out earlier : List LeftOut) (s : LeftOut)
@@ -156,8 +152,5 @@ fill_begins n width all table count light within = record {
 pub both_ways : {n width : ℕ} {first : List ℕ} (table : List ℕ) {left_out : List LeftOut}
     (r : Result (Unit {0}) AllocError) → AreAllLeftOut n width first left_out → OnOk r (IsFilled n width left_out table)
     → OnOk r (IsEliminated n width first table)
-both_ways table (Ok x) all filled = record {
-  count = filled.count;
-  each = λ d lengths keeps. filled.each d lengths (all.holds d lengths keeps) all.all;
-}
+both_ways table (Ok x) all filled = search rules
 both_ways table (Err e) all filled = tt

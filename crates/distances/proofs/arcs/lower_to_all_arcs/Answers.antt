@@ -1,4 +1,4 @@
-use Rattle.std.proofs.Common.{◌≡◌, arith}
+use Rattle.std.proofs.Common.{rules}
 use Rattle.distances.proofs.FirstTable.{arcs_step, first_done, no_arcs}
 use Rattle.distances.proofs.arcs.lower_to_all_arcs.Goals as goal
 
@@ -10,7 +10,4 @@ loop-u-preserved c =
     arcs_step c.args.width (rw c.nodes-n.ensures.count c.arcs_of.ensures) c.loop-u.invariant c.lower_to_arcs.ensures
 
 pub returns : goal.returns
-returns c =
-    let done : c.loop-u.u ≡ c.nodes-n.result = omega arith in
-    first_done c.args.graph.now c.args.width c.requires.wide
-    (rw (done, c.nodes-n.ensures.count, c.requires.far) at c.loop-u.invariant)
+returns c = search (rules, first_done)

@@ -1,4 +1,4 @@
-use Rattle.std.proofs.Common.{◌≡◌, ◌∙◌, length, drop, refl, ap, arith}
+use Rattle.std.proofs.Common.{rules, length, drop, refl}
 use Rattle.std.proofs.lemmas.List.{take_at}
 use Rattle.distances.proofs.FirstTable.{rows_made}
 use Rattle.distances.proofs.distances.all_distances.Goals as goal
@@ -11,9 +11,4 @@ returns c =
     c.deref_mut.ensures.len c.in_ok-eliminate.ensures refl c.close_rows.ensures
 
 pub close_rows-requires-clause-count : goal.close_rows-requires-clause-count
-close_rows-requires-clause-count c =
-    ap length (take_at c.eliminate.new.table (drop (length c.eliminate.new.table) c.in_ok-table.table.items)
-    c.in_ok-table.table.len
-    (let e : length c.eliminate.new.table ≡ c.in_ok-table.table.len =
-    omega (arith, c.eliminate.auto.table, c.deref_mut.ensures.len) in e))
-    ∙ c.in_ok-eliminate.ensures.count
+close_rows-requires-clause-count c = search (rules, take_at)

@@ -1,11 +1,9 @@
-use Rattle.std.proofs.Common.{◌∙◌}
+use Rattle.std.proofs.Common.{rules}
 use Rattle.distances.proofs.LeavingOut.{fewer_left, none_left_in, leaving_begins, leaving_ends, leaving_next, row_ends}
 use Rattle.distances.proofs.elimination.leave_out_each.Goals as goal
 
 pub loop-node-init : goal.loop-node-init
-loop-node-init c =
-    rw (c.requires.left, c.in_ok-left_out.ensures.items)
-    (leaving_begins c.args.n c.args.width c.args.table.now c.requires.count c.requires.light)
+loop-node-init c = search (rules, leaving_begins)
 
 pub loop-node-preserved : goal.loop-node-preserved
 loop-node-preserved c =
@@ -24,11 +22,5 @@ slice_bounds-near_of-end c =
 pub loop-node-smaller : goal.loop-node-smaller
 loop-node-smaller c = fewer_left c.loop-node.left c.in-Some.node c.in-Some.ensures.1
 
-pub lower_pairs-requires-clause-light : goal.lower_pairs-requires-clause-light
-lower_pairs-requires-clause-light c = c.loop-node.invariant.light
-
-pub lower_pairs-requires-clause-width : goal.lower_pairs-requires-clause-width
-lower_pairs-requires-clause-width c = c.loop-node.auto.mine ∙ c.requires.mine
-
-pub lower_pairs-requires-clause-degrees : goal.lower_pairs-requires-clause-degrees
-lower_pairs-requires-clause-degrees c = c.loop-node.auto.degrees ∙ c.requires.degrees
+pub lower_pairs-requires : goal.lower_pairs-requires
+lower_pairs-requires c = search rules

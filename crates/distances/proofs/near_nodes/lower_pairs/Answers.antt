@@ -1,4 +1,4 @@
-use Rattle.std.proofs.Common.{get_or, arith}
+use Rattle.std.proofs.Common.{rules, get_or}
 use Rattle.distances.specs.declared.weights.TheConstants.{FAR}
 use Rattle.distances.specs.declared.near_nodes.Near.{Near}
 use Rattle.distances.specs.Lowering.{Among, PairOffer}
@@ -21,11 +21,7 @@ lower_whole_row-requires-clause-light c =
     lowered_light FAR c.loop-a.invariant c.requires.light
 
 pub returns : goal.returns
-returns c = lowered_all (λ a. Among c.args.near.now (PairOffer c.args.width a)) c.args.near.now c.loop-a.a-index
-    c.loop-a-test.false c.loop-a.invariant
+returns c = search (rules, lowered_all)
 
 pub lower_whole_row-requires-clause-mine : goal.lower_whole_row-requires-clause-mine
-lower_whole_row-requires-clause-mine c = elim c.if-by_row.branch [
-  | then-by_row w ↦ rw (w.mine-is, ← c.requires.width) w.spread.ensures
-  | else-by_row w ↦ absurd (omega (arith, w.if-by_row.false, c.if-by_row-2.true))
-]
+lower_whole_row-requires-clause-mine c = search rules

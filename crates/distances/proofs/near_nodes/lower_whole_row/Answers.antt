@@ -1,4 +1,4 @@
-use Rattle.std.proofs.Common.{◌≤◌, arith}
+use Rattle.std.proofs.Common.{rules, ◌≤◌, arith}
 use Rattle.std.proofs.lemmas.List.Elements.{All-replicate}
 use Rattle.distances.specs.declared.weights.TheConstants.{FAR}
 use Rattle.distances.proofs.Chunks.{span_is_pairs}
@@ -6,8 +6,7 @@ use Rattle.distances.proofs.Lowered.{lowered_light}
 use Rattle.distances.proofs.near_nodes.lower_whole_row.Goals as goal
 
 pub returns : goal.returns
-returns c = span_is_pairs c.args.n c.args.width c.args.a c.args.near.now c.requires.wide c.requires.count
-    c.requires.a.below c.requires.near c.requires.light c.requires.mine c.lower_span.ensures
+returns c = search (rules, span_is_pairs)
 
 pub lower_span-requires-clause-light : goal.lower_span-requires-clause-light
 lower_span-requires-clause-light c =

@@ -1,4 +1,4 @@
-use Rattle.std.proofs.Common.{get_or, length, refl, arith}
+use Rattle.std.proofs.Common.{get_or, length, arith}
 use Rattle.std.proofs.lemmas.List.{length-replicate}
 use Rattle.distances.specs.declared.near_nodes.Near.{Near}
 use Rattle.distances.specs.declared.weights.TheConstants.{FAR}
@@ -11,9 +11,9 @@ loop-b-preserved c =
     let b : Near = get_or c.args.near.now c.loop-b.b-index (record { node = 0; weight = 0 }) in
     let fits = c.requires c.loop-b.b-index (record { node = 0; weight = 0 }) c.loop-b-test.true in
     lowered_more OwnOffer c.args.near.now c.loop-b.b-index (record { node = 0; weight = 0 }) c.loop-b-test.true
-    c.loop-b.invariant (lowered_to (OwnOffer b) c.loop-b.weights
+    c.loop-b.invariant (lowered_to c.loop-b.weights
     (omega (arith, fits.below, c.loop-b.invariant.count, length-replicate (length c.args.weights.now) FAR))
-    (λ i w offered. offered) (refl, refl) c.lower.ensures)
+    c.lower.ensures)
 
 pub returns : goal.returns
 returns c = lowered_all OwnOffer c.args.near.now c.loop-b.b-index c.loop-b-test.false c.loop-b.invariant

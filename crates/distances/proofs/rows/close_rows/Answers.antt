@@ -1,24 +1,10 @@
-use Rattle.std.proofs.Common.{◌≡◌, length, arith}
+use Rattle.std.proofs.Common.{rules, ◌≡◌, length, arith}
 use Rattle.std.proofs.lemmas.Nat.{mul-le, row_fits}
 use Rattle.distances.proofs.Closing.{closing_ends, closing_step}
 use Rattle.distances.proofs.rows.close_rows.Goals as goal
 
-pub copy_within-requires-clause-in_bounds : goal.copy_within-requires-clause-in_bounds
-copy_within-requires-clause-in_bounds c = omega (
-  arith,
-  c.loop-u.invariant.count,
-  c.requires.wide,
-  row_fits c.loop-u.u c.args.width c.args.n c.args.width c.loop-u-test.true (omega arith),
-)
-
-pub copy_within-requires-clause-dest_in_bounds : goal.copy_within-requires-clause-dest_in_bounds
-copy_within-requires-clause-dest_in_bounds c = omega (
-  arith,
-  c.loop-u.invariant.count,
-  c.requires.wide,
-  row_fits c.loop-u.u c.args.n c.args.n c.args.n c.loop-u-test.true (omega arith),
-  mul-le c.args.n c.args.n c.args.n c.args.width (omega arith) c.requires.wide,
-)
+pub copy_within-requires : goal.copy_within-requires
+copy_within-requires c = search (rules, row_fits, mul-le)
 
 pub loop-u-preserved : goal.loop-u-preserved
 loop-u-preserved c =

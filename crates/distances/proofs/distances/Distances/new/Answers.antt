@@ -1,4 +1,4 @@
-use Rattle.std.proofs.Common.{Global, Vec, ℕ, ap}
+use Rattle.std.proofs.Common.{Global, Vec, ℕ, ap, rules}
 use Rattle.distances.proofs.Filling.{distances, kept}
 use Rattle.distances.proofs.distances.Distances.new.Goals as goal
 
@@ -11,6 +11,4 @@ invariant_of-result c =
     (rw c.deref.ensures.value at c.greatest_weight-diameter.ensures.attained))
 
 pub returns : goal.returns
-returns c =
-    rw (ap (λ (v : Vec ℕ Global). v.items) c.in_ok-new.ensures.ok, c.nodes.ensures.count)
-    (distances c.args.graph.now c.nodes.ensures.sound c.in_ok-table.table.items c.in_ok-table.ensures)
+returns c = search (rules, distances)
