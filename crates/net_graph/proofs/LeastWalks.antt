@@ -166,10 +166,7 @@ count_wider g s t (suc n) le = omega (arith, count_wider g s t n le, one_more (g
 count_more : (g : ℕ → ℕ) (s t n x : ℕ) → x < n → s ≤ g x → g x < t → count g s n + 1 ≤ count g t n
 count_more g s t zero x below from to = absurd (omega arith)
 count_more g s t (suc n) x below from to = elim (cases_eq x n) [
-  | inl same ↦
-      let from_n : s ≤ g n = subst (λ i. s ≤ g i) same from in
-      let to_n : g n < t = subst (λ i. g i < t) same to in
-      omega (arith, count_wider g s t n (omega arith), one_past (g n) s from_n, one_below (g n) t to_n)
+  | inl same ↦ search (rules, count_wider, one_past, one_below)
   | inr other ↦ omega (arith, count_more g s t n x (omega arith) from to, one_more (g n) s t (omega arith))
 ]
 

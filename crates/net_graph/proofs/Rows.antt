@@ -91,9 +91,8 @@ pub read_row : {n : ℕ} {starts : List ℕ} {arcs : List Arc} {network : Networ
     → IsLaidOut n starts arcs → record { nodes = n; edges = edges_from starts arcs n } ≡ network → u < network.nodes
     → first ≡ get_or starts u first → next ≡ get_or starts (u + 1) next → list ≡ arcs
     → AreArcsOf network.nodes network.edges u (slice_range list first next)
-read_row {n} {starts} u {first} {next} {list} laid view below at_first at_next whole =
-    let short : u < n = subst (λ (k : ℕ). u < k) (sym (ap (λ (x : Network). x.nodes) view)) below in
+read_row {n} {starts} u {first} {next} laid view below at_first at_next whole =
+    let short : u < n = rw (← view) at below in
     let begins : first ≡ get_or starts u 0 = get_or_read starts u first (omega (arith, laid.count)) at_first 0 in
     let ends : next ≡ get_or starts (u + 1) 0 = get_or_read starts (u + 1) next (omega (arith, laid.count)) at_next 0 in
-    subst (λ (x : Network). AreArcsOf x.nodes x.edges u (slice_range list first next)) view
-    (rw (begins, ends, whole) (row_arcs u laid short))
+    rw (← view, begins, ends, whole) (row_arcs u laid short)

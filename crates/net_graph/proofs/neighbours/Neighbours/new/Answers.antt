@@ -24,11 +24,5 @@ pub invariant_of-result : goal.invariant_of-result
 invariant_of-result c =
     all_rows c.args.n c.args.edges.now c.requires.edges (made c) c.requires.positive c.requires.few
 
-pub returns-clause-joins : goal.returns-clause-joins
-returns-clause-joins c = rows_same_joins c.args.n c.args.edges.now c.requires.edges (made c.before.before)
-
-pub returns-clause-same : goal.returns-clause-same
-returns-clause-same c = rows_same_walks c.args.n c.args.edges.now c.requires.edges (made c.before.before)
-
-pub returns-clause-limits : goal.returns-clause-limits
-returns-clause-limits c = search (rules, laid_out_limits, all_rows, made)
+pub returns : goal.returns
+returns c = search (rules, rows_same_joins, made, rows_same_walks, laid_out_limits, all_rows)
