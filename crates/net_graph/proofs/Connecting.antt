@@ -1,5 +1,5 @@
 -- From the weights of a search from node 0 to a connected network, or the first node that is apart.
-use Rattle.std.proofs.Common.{◌≡◌, ℕ, ◌<◌, Bool, true, List, Option, None, Some, length, replicate, refl, sym, subst, arith}
+use Rattle.std.proofs.Common.{rules, ◌≡◌, ℕ, ◌<◌, Bool, true, List, Option, None, Some, length, replicate, refl, sym, subst, arith}
 use Rattle.std.specs.Prelude.{All}
 use Rattle.std.proofs.lemmas.List.{length-replicate}
 use Rattle.std.proofs.lemmas.List.Elements.{All-replicate}
@@ -33,10 +33,7 @@ module _ {n : ℕ} (edges : List Edge) {network : Network} (nodes : network.node
       }
 
   pub connected : ((v : ℕ) → v < length weights → at_node weights v ≡ None → ⊥) → IsNetwork network
-  connected none = record {
-    limits = limits;
-    connected = λ v below. reached_in v below (none v (omega (arith, least.count)));
-  }
+  connected none = search (rules, reached_in)
 
   pub made : SameJoins edges network.edges → ((v : ℕ) → v < length weights → at_node weights v ≡ None → ⊥)
       → IsGraphOf n edges network

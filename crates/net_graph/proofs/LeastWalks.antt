@@ -1,7 +1,7 @@
 -- The least weight of a walk is found: whether a walk of a weight is there can be tested, since each edge weighs
 -- something, and none of least weight visits a node twice.
-use Rattle.std.proofs.Common.{◌≡◌, ℕ, zero, suc, ◌+◌, ◌-◌, ◌<◌, ◌≤◌, Bool, true, false, List, [], ◌∷◌, length, refl, sym, subst, inl, inr, arith, below_more, ◌∙◌, add-one}
-use Rattle.std.specs.Prelude.{All, ◌==◌, ◌&&◌, ◌||◌, nat_le, ◌*◌, cond, ltb}
+use Rattle.std.proofs.Common.{rules, ◌≡◌, ℕ, zero, suc, ◌+◌, ◌-◌, ◌<◌, ◌≤◌, Bool, true, false, List, [], ◌∷◌, length, refl, sym, subst, inl, inr, arith, below_more, ◌∙◌, add-one}
+use Rattle.std.specs.Prelude.{All, ◌==◌, ◌&&◌, ◌||◌, ◌*◌, cond, ltb}
 use Rattle.std.specs.List.{list_any}
 use Rattle.std.proofs.lemmas.Bool.{cases_Bool, cases_eq, cases_lt, eqb-true, eq-eqb, false≢true, and_parts, or_cases, or_right, and_from, or_left}
 use Rattle.std.proofs.lemmas.Bool.Decides.{nat_tests}
@@ -32,17 +32,11 @@ leads_walk : {edges : List Edge} {inside : ℕ → Bool} {v : ℕ} (k m u from t
     → ((n x : ℕ) → reaches edges inside v k n x ≡ true → IsWalkWeight edges inside x v n) → inside u ≡ true
     → Joins edges from to w → leads_on (reaches edges inside v k) m u from to w ≡ true → IsWalkWeight edges inside u v m
 leads_walk {edges} {inside} {v} k m u from to w there is_inside joined e =
-    let first = and_parts (from == u) (nat_le w m && reaches edges inside v k (m - w) to) e in
-    let second = and_parts (nat_le w m) (reaches edges inside v k (m - w) to) first.1 in
-    let le : w ≤ m = grind (arith, nat_tests, second.0) in
-    step_first u w m is_inside (subst (λ x. Joins edges x to w) (eqb-true from u first.0) joined) le
-    (there (m - w) to second.1)
+    search (rules, and_parts, step_first, eqb-true)
 
 reached_here : (edges : List Edge) (inside : ℕ → Bool) (u v m : ℕ) → inside u ≡ true → (m == 0 && u == v) ≡ true
     → IsWalkWeight edges inside u v m
-reached_here edges inside u v m is_inside e =
-    let parts = and_parts (m == 0) (u == v) e in
-    record { steps = []; walk = (is_inside, eqb-true u v parts.1); sum = sym (eqb-true m 0 parts.0) }
+reached_here edges inside u v m is_inside e = search (rules, and_parts, eqb-true)
 
 reaches-sound : (edges : List Edge) (inside : ℕ → Bool) (v k m u : ℕ) → reaches edges inside v k m u ≡ true
     → IsWalkWeight edges inside u v m
@@ -95,8 +89,7 @@ few_steps : (n : ℕ) (edges : List Edge) (inside : ℕ → Bool) (u : ℕ) (ste
     → IsWalk edges inside u steps v → length steps ≤ weight_of steps
 few_steps n edges inside u [] v all walk = omega arith
 few_steps n edges inside u (step ∷ steps) v all walk =
-    let edge = (join_edge n edges u step.node step.weight all walk.1).2 in
-    omega (arith, edge.positive, few_steps n edges inside step.node steps v all walk.2)
+    search (rules, join_edge, few_steps n edges inside step.node steps v all walk.2)
 
 -- ---- the first number that passes a test
 
@@ -173,10 +166,7 @@ count_wider g s t (suc n) le = omega (arith, count_wider g s t n le, one_more (g
 count_more : (g : ℕ → ℕ) (s t n x : ℕ) → x < n → s ≤ g x → g x < t → count g s n + 1 ≤ count g t n
 count_more g s t zero x below from to = absurd (omega arith)
 count_more g s t (suc n) x below from to = elim (cases_eq x n) [
-  | inl same ↦
-      let from_n : s ≤ g n = subst (λ i. s ≤ g i) same from in
-      let to_n : g n < t = subst (λ i. g i < t) same to in
-      omega (arith, count_wider g s t n (omega arith), one_past (g n) s from_n, one_below (g n) t to_n)
+  | inl same ↦ search (rules, count_wider, one_past, one_below)
   | inr other ↦ omega (arith, count_more g s t n x (omega arith) from to, one_more (g n) s t (omega arith))
 ]
 

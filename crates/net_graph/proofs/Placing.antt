@@ -1,5 +1,5 @@
 -- The arcs of each node, while they are counted and written into their places.
-use Rattle.std.proofs.Common.{◌≡◌, ◌≢◌, ℕ, ◌+◌, ◌<◌, List, [], ◌∷◌, ◌++◌, length, get_or, set, take, drop, sym, ◌∙◌, ap, arith, append_assoc}
+use Rattle.std.proofs.Common.{rules, ◌≡◌, ◌≢◌, ℕ, ◌+◌, ◌<◌, List, [], ◌∷◌, ◌++◌, length, get_or, set, take, drop, sym, ◌∙◌, ap, arith, append_assoc}
 use Rattle.std.proofs.lemmas.Bool.{cases_eq}
 use Rattle.std.proofs.lemmas.List.{get_or-set_same, get_or-set_other, length-append, length-set, take-append-drop, append-nil}
 use Rattle.std.proofs.Math.Seq.{get_or-append_seam}
@@ -90,12 +90,10 @@ module _ {n : ℕ} {edges : List Edge} {starts : List ℕ} (room : HaveRoom n (n
   its_place = omega (arith, below, placed.long)
 
   its_row : row_of note.from (notes_of edges) ≡ row_of note.from first ++ note.arc ∷ row_of note.from rest
-  its_row = ap (row_of note.from) whole ∙ row-append note.from first (note ∷ rest)
-      ∙ ap (λ xs. row_of note.from first ++ xs) (row-own note rest)
+  its_row = search (rules, row-append, row-own)
 
   is_next : get_or (row_of note.from (notes_of edges)) (get_or taken note.from 0) note.arc ≡ note.arc
-  is_next = rw (its_row, placed.counts note.from its_place)
-      (get_or-append_seam (row_of note.from first) note.arc (row_of note.from rest) note.arc)
+  is_next = search (rules, its_row, its_place, get_or-append_seam)
 
   free : get_or taken note.from 0 < length (row_of note.from (notes_of edges))
   free =
@@ -107,8 +105,7 @@ module _ {n : ℕ} {edges : List Edge} {starts : List ℕ} (room : HaveRoom n (n
       )
 
   has_place : get_or starts note.from 0 + get_or taken note.from 0 < length arcs
-  has_place = place_short (λ v. row_of v (notes_of edges)) room placed.long placed.sized placed.filled note.from below
-      free
+  has_place = search (rules, place_short, free)
 
   one_placed : {next : List ℕ} {more : List Arc} → IsArc n note.arc
       → next ≡ set taken note.from (get_or taken note.from 0 + 1)
@@ -139,9 +136,7 @@ module _ {n : ℕ} {edges : List Edge} {starts : List ℕ} (room : HaveRoom n (n
   module _ {next : List ℕ} {more : List Arc} (next_is : next ≡ set taken e.a (get_or taken e.a 0 + 1))
       (more_is : more ≡ set arcs (get_or starts e.a 0 + get_or taken e.a 0) (make_arc e.b e.weight)) where
     placed_there : ArePlaced n edges starts (first ++ note_of e.a e.b e.weight ∷ []) next more
-    placed_there =
-        one_placed room (note_of e.b e.a e.weight ∷ rest) (note_of e.a e.b e.weight) one_way is_edge.a_below placed
-        (record { below = is_edge.b_below; positive = is_edge.positive; light = is_edge.light }) next_is more_is
+    placed_there = search (rules, one_placed, one_way)
 
     pub place_back : get_or starts e.b 0 + get_or next e.b 0 < length more
     place_back = has_place room rest (note_of e.b e.a e.weight) splits is_edge.b_below placed_there
@@ -149,5 +144,4 @@ module _ {n : ℕ} {edges : List Edge} {starts : List ℕ} (room : HaveRoom n (n
     pub edge_placed : {last : List ℕ} {most : List Arc} → last ≡ set next e.b (get_or next e.b 0 + 1)
         → most ≡ set more (get_or starts e.b 0 + get_or next e.b 0) (make_arc e.a e.weight)
         → ArePlaced n edges starts ((first ++ note_of e.a e.b e.weight ∷ []) ++ note_of e.b e.a e.weight ∷ []) last most
-    edge_placed = one_placed room rest (note_of e.b e.a e.weight) splits is_edge.b_below placed_there
-        (record { below = is_edge.a_below; positive = is_edge.positive; light = is_edge.light })
+    edge_placed = search (rules, one_placed, placed_there)

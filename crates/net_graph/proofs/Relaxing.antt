@@ -1,5 +1,5 @@
 -- What one step of the search does to the weights.
-use Rattle.std.proofs.Common.{◌≡◌, ◌≢◌, ◌++◌, take, get_or, ℕ, ◌+◌, ◌<◌, ◌≤◌, Bool, true, false, List, [], ◌∷◌, Option, None, Some, length, set, refl, sym, ◌∙◌, ap, subst, inl, inr, arith}
+use Rattle.std.proofs.Common.{rules, ◌≡◌, ◌≢◌, ◌++◌, take, get_or, ℕ, ◌+◌, ◌<◌, ◌≤◌, Bool, true, false, List, [], ◌∷◌, Option, None, Some, length, set, refl, sym, ◌∙◌, ap, inl, inr, arith}
 use Rattle.std.specs.Prelude.{Contains, IsPermutation}
 use Rattle.std.proofs.lemmas.List.{length-set, get_or-set_same, get_or-set_other, take_more}
 use Rattle.std.proofs.lemmas.Bool.{cases_eq}
@@ -53,29 +53,11 @@ module _ (arc : Arc) (x : ℕ) (unsettled : List Bool) (old : List (Option ℕ))
     count = length-set old arc.target (Some (x + arc.weight));
     kept = λ v settled. other_now v (λ same. let both : true ≡ false = sym waits ∙ sym (ap (among unsettled) same)
         ∙ settled in cc);
-    cause = λ v w here. elim (cases_eq v arc.target) [
-      | inl same ↦ inr (record {
-        by = arc.weight;
-        arc = rw same (first arc []);
-        waits = ap (among unsettled) same ∙ waits;
-        sum = same_Some w (x + arc.weight) (sym here ∙ ap (at_node lowered) same ∙ here_now);
-      })
-      | inr other ↦ inl (sym (other_now v other) ∙ here)
-    ];
+    cause = search (rules, cases_eq, first, same_Some, here_now, other_now);
     falls = λ v w h. grind (arith, cases_eq v arc.target, here_now, lighter_falls, other_now);
-    reached = λ v c has v_waits. elim (first_or_later (make_arc v c) arc [] has) [
-      | inl same ↦ subst (λ (a : Arc). IsAtMost (at_node lowered a.target) (x + a.weight)) same
-          (subst (λ o. IsAtMost o (x + arc.weight)) (sym here_now) (omega arith))
-      | inr none ↦ absurd (omega (arith, none.1))
-    ];
-    wait_on = λ w v has. Contains-permutation (make_waiting (x + arc.weight) arc.target ∷ waited) waiting
-        (make_waiting w v) pushed
-        (later (make_waiting w v) (make_waiting (x + arc.weight) arc.target) waited has);
-    joined = λ v w here. elim (cases_eq v arc.target) [
-      | inl same ↦ inr (rw (same, same_Some w (x + arc.weight) (sym here ∙ ap (at_node lowered) same ∙ here_now))
-          joins)
-      | inr other ↦ inl (sym (other_now v other) ∙ here)
-    ];
+    reached = search (rules, first_or_later, here_now);
+    wait_on = search (rules, Contains-permutation, later);
+    joined = search (rules, cases_eq, same_Some, here_now, joins, other_now);
     since = λ w v has. elim (first_or_later (make_waiting w v) (make_waiting (x + arc.weight) arc.target) waited
         (Contains-permutation waiting (make_waiting (x + arc.weight) arc.target ∷ waited) (make_waiting w v)
         (IsPermutation-sym (make_waiting (x + arc.weight) arc.target ∷ waited) waiting pushed) has)) [

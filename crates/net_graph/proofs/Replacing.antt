@@ -1,5 +1,5 @@
 -- Lists of edges with the same walks, and two more laws of walks.
-use Rattle.std.proofs.Common.{◌≡◌, ◌≢◌, ℕ, ◌+◌, ◌≤◌, Bool, true, List, [], ◌∷◌, refl, sym, subst, inl, inr, arith}
+use Rattle.std.proofs.Common.{rules, ◌≡◌, ◌≢◌, ℕ, ◌+◌, ◌≤◌, Bool, true, List, [], ◌∷◌, refl, inl, inr, arith}
 use Rattle.std.proofs.lemmas.Bool.{cases_eq}
 use Rattle.net_graph.specs.declared.edge.Edge.{Edge}
 use Rattle.net_graph.specs.Walks.{Joins, Step, IsWalk, weight_of, IsLeastWeight, IsUnreached, IsReached}
@@ -22,12 +22,7 @@ Covers old new = (u v w : ℕ) → u ≢ v → Joins old u v w → (x : ℕ) × 
 
 walk_skipped : {edges : List Edge} {inside : ℕ → Bool} {u y v w : ℕ} (c : ℕ) → u ≡ y → IsNoHeavier edges inside y v w
     → IsNoHeavier edges inside u v (c + w)
-walk_skipped {edges} {inside} {v} c e rest =
-    record {
-      steps = rest.steps;
-      walk = subst (λ z. IsWalk edges inside z rest.steps v) (sym e) rest.walk;
-      light = omega (arith, rest.light);
-    }
+walk_skipped {edges} {inside} {v} c e rest = search rules
 
 walk_replaced : {edges : List Edge} {inside : ℕ → Bool} (u : ℕ) {y v w : ℕ} (c x : ℕ) → inside u ≡ true
     → Joins edges u y x → x ≤ c → IsNoHeavier edges inside y v w → IsNoHeavier edges inside u v (c + w)
@@ -69,8 +64,7 @@ least_kept {old} new there back {inside} {u} {v} p =
 reached_kept : {old : List Edge} (new : List Edge) → Covers old new → {inside : ℕ → Bool} {u v : ℕ}
     → IsReached old inside u v → IsReached new inside u v
 reached_kept {old} new there {inside} {u} {v} p =
-    let found = walk_covered old new there inside u p.steps v p.walk in
-    record { steps = found.steps; walk = found.walk }
+    grind (arith, walk_covered old new there inside u p.steps v p.walk)
 
 unreached_kept : (old new : List Edge) → Covers new old → (inside : ℕ → Bool) (u v : ℕ)
     → IsUnreached old inside u v → IsUnreached new inside u v
@@ -78,8 +72,4 @@ unreached_kept old new back inside u v none steps walk =
     let found = walk_covered new old back inside u steps v walk in none found.steps found.walk
 
 pub same_walks : (old new : List Edge) → Covers old new → Covers new old → SameWalks old new
-same_walks old new there back = record {
-  least = λ inside u v w. (least_kept new there back, least_kept old back there);
-  reached = λ inside u v. (reached_kept new there, reached_kept old back);
-  unreached = λ inside u v. (unreached_kept old new back inside u v, unreached_kept new old there inside u v);
-}
+same_walks old new there back = search (rules, least_kept, reached_kept, unreached_kept)

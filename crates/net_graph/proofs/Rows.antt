@@ -1,5 +1,5 @@
 -- The rows of a flat array of arcs, and the edges that they stand for.
-use Rattle.std.proofs.Common.{◌≡◌, ℕ, zero, suc, ◌+◌, ◌-◌, ◌<◌, List, ◌++◌, length, get_or, drop, sym, ◌∙◌, ap, subst, inl, inr, arith, map}
+use Rattle.std.proofs.Common.{rules, ◌≡◌, ℕ, zero, suc, ◌+◌, ◌<◌, List, ◌++◌, length, get_or, sym, ◌∙◌, ap, subst, inl, inr, arith, map}
 use Rattle.std.specs.Prelude.{Contains, All, slice_range}
 use Rattle.std.proofs.lemmas.List.{length-map, get_or-map, get_or_read}
 use Rattle.std.proofs.lemmas.List.Elements.{All-contains, All-take, All-drop, Contains-append_left, Contains-append_right, Contains-append_cases, Contains-get_or}
@@ -60,9 +60,7 @@ row_has_edge starts arcs (suc n) u v w has =
 
 row_limits : (n : ℕ) (starts : List ℕ) (arcs : List Arc) (u : ℕ) → All (IsArc n) arcs
     → All (IsArc n) (row starts arcs u)
-row_limits n starts arcs u all =
-    All-take (IsArc n) (get_or starts (u + 1) 0 - get_or starts u 0) (drop (get_or starts u 0) arcs)
-    (All-drop (IsArc n) (get_or starts u 0) arcs all)
+row_limits n starts arcs u all = search (rules, All-take, All-drop)
 
 pub laid_out_limits : {n : ℕ} {starts : List ℕ} {arcs : List Arc} → IsLaidOut n starts arcs
     → IsInLimits (record { nodes = n; edges = edges_from starts arcs n })
@@ -80,16 +78,12 @@ laid_out_limits {n} {starts} {arcs} laid = record {
 whole_row : {n : ℕ} {starts : List ℕ} {arcs : List Arc} (u : ℕ) → IsLaidOut n starts arcs → (v w : ℕ)
     → Joins (edges_from starts arcs n) u v w → Contains (row starts arcs u) (make_arc v w)
 whole_row {n} {starts} {arcs} u laid v w (inl h) = (row_has_edge starts arcs n u v w h).1
-whole_row {n} {starts} {arcs} u laid v w (inr h) = let r = row_has_edge starts arcs n v u w h in laid.turned v u w r.0
-    r.1
+whole_row {n} {starts} {arcs} u laid v w (inr h) = grind (arith, row_has_edge starts arcs n v u w h)
 
 pub row_arcs : {n : ℕ} {starts : List ℕ} {arcs : List Arc} (u : ℕ) → IsLaidOut n starts arcs → u < n
     → AreArcsOf n (edges_from starts arcs n) u (row starts arcs u)
-row_arcs {n} {starts} {arcs} u laid below = record {
-  sound = λ v w has. inl (edges_have_row starts arcs n u v w below has);
-  whole = whole_row u laid;
-  limits = row_limits n starts arcs u laid.limits;
-}
+row_arcs {n} {starts} {arcs} u laid below =
+    grind (arith, edges_have_row, whole_row u laid, row_limits n starts arcs u laid.limits)
 
 -- the arcs of a node, as they are read
 pub read_row : {n : ℕ} {starts : List ℕ} {arcs : List Arc} {network : Network} (u : ℕ) {first next : ℕ}
@@ -97,9 +91,8 @@ pub read_row : {n : ℕ} {starts : List ℕ} {arcs : List Arc} {network : Networ
     → IsLaidOut n starts arcs → record { nodes = n; edges = edges_from starts arcs n } ≡ network → u < network.nodes
     → first ≡ get_or starts u first → next ≡ get_or starts (u + 1) next → list ≡ arcs
     → AreArcsOf network.nodes network.edges u (slice_range list first next)
-read_row {n} {starts} u {first} {next} {list} laid view below at_first at_next whole =
-    let short : u < n = subst (λ (k : ℕ). u < k) (sym (ap (λ (x : Network). x.nodes) view)) below in
+read_row {n} {starts} u {first} {next} laid view below at_first at_next whole =
+    let short : u < n = rw (← view) at below in
     let begins : first ≡ get_or starts u 0 = get_or_read starts u first (omega (arith, laid.count)) at_first 0 in
     let ends : next ≡ get_or starts (u + 1) 0 = get_or_read starts (u + 1) next (omega (arith, laid.count)) at_next 0 in
-    subst (λ (x : Network). AreArcsOf x.nodes x.edges u (slice_range list first next)) view
-    (rw (begins, ends, whole) (row_arcs u laid short))
+    rw (← view, begins, ends, whole) (row_arcs u laid short)

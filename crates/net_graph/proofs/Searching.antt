@@ -1,5 +1,5 @@
 -- The search as a whole: what it keeps, and that least weights are left when no unsettled node has a weight.
-use Rattle.std.proofs.Common.{◌≡◌, ◌≢◌, ◌⊎◌, ℕ, ◌+◌, ◌-◌, ◌*◌, ◌^◌, ◌<◌, ◌≤◌, Bool, true, false, cond, List, [], ◌∷◌, ◌++◌, take, Option, None, Some, length, get_or, set, replicate, refl, zero, suc, sym, ◌∙◌, ap, subst, inl, inr, arith}
+use Rattle.std.proofs.Common.{rules, ◌≡◌, ◌≢◌, ◌⊎◌, ℕ, ◌+◌, ◌-◌, ◌*◌, ◌^◌, ◌<◌, ◌≤◌, Bool, true, false, cond, List, [], ◌∷◌, ◌++◌, take, Option, None, Some, length, get_or, set, replicate, refl, zero, suc, sym, ◌∙◌, ap, subst, inl, inr, arith}
 use Rattle.std.specs.Prelude.{Contains, IsPermutation}
 use Rattle.std.specs.List.{count_by}
 use Rattle.std.proofs.lemmas.List.{length-set, get_or-set_same, get_or-set_other, get_or_past, get_or-replicate, length-replicate, take_at}
@@ -63,46 +63,34 @@ none_there n v {w} here = grind (arith, cases_lt, get_or-replicate, none-some, g
 
 -- the beginning, where the root alone has a weight
 only_root : (n root v : ℕ) {w : ℕ} → at_node (set (replicate n None) root (Some 0)) v ≡ Some w → (v ≡ root) × (w ≡ 0)
-only_root n root v {w} here = elim (cases_eq v root) [
-  | inr other ↦ absurd (none_there n v (sym (get_or-set_other (replicate n None) root v (Some 0) None other) ∙ here))
-  | inl same ↦
-      let long : length {A = Option ℕ} (set (replicate n None) root (Some 0)) ≡ n =
-      length-set (replicate n None) root (Some 0) ∙ length-replicate n None in
-      elim (cases_lt root n) [
-        | inl below ↦ (
-          same,
-          sym (same_Some 0 w (sym (get_or-set_same (replicate n None) root (Some 0) None
-              (omega (arith, length-replicate {A = Option ℕ} n None))) ∙ (rw same at here))),
-        )
-        | inr past ↦ absurd (none-some w (sym (get_or_past (set (replicate n None) root (Some 0)) v None (omega arith))
-            ∙ here))
-      ]
-]
+only_root n root v {w} here = search (
+  rules,
+  cases_eq,
+  none_there,
+  get_or-set_other,
+  length-set,
+  length-replicate,
+  cases_lt,
+  same_Some,
+  get_or-set_same,
+  none-some,
+  get_or_past,
+)
 
 pub search_begins : (network : Network) (allowed : List Bool) (root : ℕ) → 1 ≤ network.nodes
     → length allowed ≡ network.nodes
     → among allowed root ≡ true
     → IsSearch network (among allowed) root allowed (set (replicate network.nodes None) root (Some 0))
-search_begins network allowed root positive count at_root =
-    let n : ℕ = network.nodes in
-    let below : root < length (replicate {A = Option ℕ} n None) =
-    omega (arith, among_below allowed root at_root, count, length-replicate {A = Option ℕ} n None) in
-    let few : unsettled_count allowed ≤ n = omega (arith, count_by-le-length (λ b. b) allowed, count) in
-    record {
-      nodes = count;
-      count = length-set (replicate n None) root (Some 0) ∙ length-replicate n None;
-      start = rw (get_or-set_same (replicate n None) root (Some 0) None below) (omega arith);
-      inner = λ v h. h;
-      settled = λ v h k. absurd (true_is_not_false h k);
-      sound = λ v w here. let r = only_root n root v here in
-          record { steps = []; walk = (at_root, sym r.0); sum = sym r.1 };
-      closed = λ u v w c is_settled here h joined. let r = only_root n root u here in
-          absurd (true_is_not_false at_root (sym (ap (among allowed) r.0) ∙ is_settled));
-      lightest = λ u v x y is_settled here waits there. let r = only_root n root u here in
-          absurd (true_is_not_false at_root (sym (ap (among allowed) r.0) ∙ is_settled));
-      slack = λ v w here. let r = only_root n root v here in omega (arith, r.1, few);
-      bounded = λ v w here. let r = only_root n root v here in omega (arith, r.1);
-    }
+search_begins network allowed root positive count at_root = search (
+  rules,
+  among_below,
+  length-replicate,
+  count_by-le-length,
+  length-set,
+  get_or-set_same,
+  true_is_not_false,
+  only_root,
+)
 
 -- settling a node
 settled_now : (unsettled : List Bool) (x v : ℕ) → among (set unsettled x false) v ≡ false → (v ≡ x)
@@ -163,21 +151,15 @@ module _ {network : Network} {inside : ℕ → Bool} {root : ℕ} {unsettled : L
 
     lightest_now : (u v x y : ℕ) → among (set unsettled best.node false) u ≡ false → at_node new u ≡ Some x
         → among (set unsettled best.node false) v ≡ true → at_node new v ≡ Some y → x ≤ y
-    lightest_now u v x y is_settled here waits there =
-        let before : at_node weights u ≡ Some x = sym (r.kept u is_settled) ∙ here in
-        let still = unsettled_still unsettled best.node v (among_below unsettled best.node lightest.waits) waits in
-        let light : x ≤ best.weight =
-        grind (
-          arith,
-          settled_now unsettled best.node u is_settled,
-          lightest.weighs,
-          so_far.lightest u best.node x best.weight,
-          lightest.waits,
-        ) in
-        elim (r.cause v y there) [
-          | inl old ↦ omega (arith, light, lightest.lightest v y still.1 old)
-          | inr through ↦ omega (arith, light, through.sum)
-        ]
+    lightest_now u v x y is_settled here waits there = grind (
+      arith,
+      among_below,
+      r.kept u is_settled,
+      unsettled_still unsettled best.node v (among_below unsettled best.node lightest.waits) waits,
+      settled_now unsettled best.node u is_settled,
+      so_far.lightest u best.node x best.weight,
+      r.cause v y there,
+    )
 
     through_light : (v c : ℕ) → Contains arcs (make_arc v c) → c ≤ MAX_WEIGHT
     through_light v c has = (All-contains (IsArc network.nodes) arcs (make_arc v c) of_node.limits has).light
@@ -293,11 +275,7 @@ pub search_settles : {network : Network} {inside : ℕ → Bool} {root : ℕ} {u
     → IsRelaxed arcs best.weight (set unsettled best.node false) weights new remaining after → length new ≡ k
     → IsUnderWay network inside root (set unsettled best.node false) (take k (new ++ rest)) after
 search_settles so_far next of_node {new} rest {k} r count =
-    rw (take_at new rest k count)
-    (record {
-      found = search_goes_on so_far.found (next_is_lightest so_far.queue next) of_node r;
-      queue = queue_goes_on so_far.queue next r;
-    })
+    search (rules, take_at, search_goes_on, next_is_lightest, queue_goes_on)
 
 -- the end, where no unsettled node has a weight
 module _ {network : Network} {inside : ℕ → Bool} {root : ℕ} {unsettled : List Bool} {weights : List (Option ℕ)}
@@ -327,12 +305,4 @@ module _ {network : Network} {inside : ℕ → Bool} {root : ℕ} {unsettled : L
       (omega (arith, y.2))
 
   pub search_ends : AreLeastWeights network inside root weights
-  search_ends = record {
-    count = so_far.count;
-    least = λ v w below here. record {
-      attained = so_far.sound v w here;
-      least = λ steps walk. subst (λ o. IsAtMost o (weight_of steps)) here (from_root steps v walk);
-    };
-    unreached = λ v below here steps walk. subst (λ o. IsAtMost o (weight_of steps)) here (from_root steps v walk);
-    bounded = λ v w below here. so_far.bounded v w here;
-  }
+  search_ends = search (rules, from_root)

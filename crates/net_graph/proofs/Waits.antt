@@ -1,5 +1,5 @@
 -- Which nodes wait, as the queue goes on.
-use Rattle.std.proofs.Common.{◌≡◌, ◌⊎◌, ℕ, ◌<◌, ◌≤◌, Bool, true, false, List, [], ◌∷◌, length, ◌∙◌, ap, subst, inl, inr, arith}
+use Rattle.std.proofs.Common.{rules, ◌≡◌, ◌⊎◌, ℕ, ◌<◌, ◌≤◌, Bool, true, false, List, [], ◌∷◌, length, ◌∙◌, ap, subst, inl, inr, arith}
 use Rattle.std.specs.Prelude.{Contains, IsPermutation}
 use Rattle.std.specs.BinaryHeap.{IsUpperBound}
 use Rattle.std.proofs.lemmas.List.Sorted.{Contains-permutation, IsPermutation-sym}
@@ -38,9 +38,7 @@ module _ {unsettled : List Bool} {old now : List Waiting} (rest : List Waiting) 
       ]
 
   back : (x : Waiting) → Contains (make_waiting weight node ∷ rest) x → Contains now x
-  back x has =
-      Contains-permutation (make_waiting weight node ∷ rest) now x
-      (IsPermutation-sym now (make_waiting weight node ∷ rest) taken) has
+  back x has = search (rules, Contains-permutation, IsPermutation-sym)
 
   rest_fewer : (w v : ℕ) → Contains rest (make_waiting w v) → Contains old (make_waiting w v)
   rest_fewer w v has = so_far.fewer w v (back (make_waiting w v)

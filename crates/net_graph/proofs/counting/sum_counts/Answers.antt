@@ -7,10 +7,7 @@ pub loop-count-init : goal.loop-count-init
 loop-count-init c = record { starts = no_starts c.push.new.self.items (search rules); last = search rules }
 
 pub loop-count-preserved : goal.loop-count-preserved
-loop-count-preserved c = record {
-  starts = grind (arith, one_start);
-  last = grind (arith, last_start);
-}
+loop-count-preserved c = search (rules, one_start, last_start)
 
 pub returns : goal.returns
 returns c = grind (arith, take_all)

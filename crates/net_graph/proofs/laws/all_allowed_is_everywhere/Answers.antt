@@ -1,8 +1,6 @@
+use Rattle.std.proofs.Common.{rules}
 use Rattle.net_graph.specs.WalkLaws.{least_everywhere, unreached_everywhere}
 use Rattle.net_graph.proofs.laws.all_allowed_is_everywhere.Goals as goal
 
-pub returns-clause-least : goal.returns-clause-least
-returns-clause-least c = least_everywhere
-
-pub returns-clause-unreached : goal.returns-clause-unreached
-returns-clause-unreached c = unreached_everywhere
+pub returns : goal.returns
+returns c = search (rules, least_everywhere, unreached_everywhere)
