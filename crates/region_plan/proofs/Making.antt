@@ -1,5 +1,5 @@
 -- The parts of a level, step by step.
-use Rattle.std.proofs.Common.{◌≡◌, ℕ, zero, suc, ◌+◌, ◌-◌, ◌<◌, ◌≤◌, true, cond, List, [], ◌∷◌, ◌++◌, length, map, take, drop, replicate, get_or, refl, sym, ◌∙◌, ap, subst, arith}
+use Rattle.std.proofs.Common.{rules, ◌≡◌, ℕ, zero, suc, ◌+◌, ◌-◌, ◌<◌, ◌≤◌, true, cond, List, [], ◌∷◌, ◌++◌, length, map, take, drop, replicate, get_or, refl, sym, ◌∙◌, ap, arith}
 use Rattle.std.specs.Prelude.{All, Contains, slice_range}
 use Rattle.std.proofs.lemmas.List.{map_push, length-append, length-drop, length-replicate, get_or_default, take_all, take-append-le, drop-append-le, drop_all}
 use Rattle.net_graph.specs.Network.{Network}
@@ -8,8 +8,8 @@ use Rattle.node_set.specs.Nodes.{Nodes}
 use Rattle.distances.specs.Table.{DistanceTable, IsRowOf, dist, ball_of, IsMetric}
 use Rattle.coarse_cover.specs.declared.cover.Cluster.{Cluster}
 use Rattle.std.proofs.lemmas.Grind.{same_number_lists}
-use Rattle.cluster_tree.specs.Inside.{AreWeightsWritten, make_cluster}
-use Rattle.cluster_tree.specs.Tree.{weight_beside, IsTreeOf}
+use Rattle.cluster_tree.specs.Inside.{AreWeightsWritten}
+use Rattle.cluster_tree.specs.Tree.{weight_beside}
 use Rattle.region_plan.specs.Plan.{PlanCluster, Level}
 use Rattle.region_plan.specs.Regions.{clusters_with, readers_of}
 use Rattle.region_plan.specs.Meanings.{IsTop, IsClusterOf, AreClustersOf}
@@ -51,30 +51,10 @@ module _ {table : DistanceTable} (metric : IsMetric table) {cells nodes : List �
   below v h = below_centre table.nodes v (ap (has v) (sym all) ∙ h)
 
   beside : (v : ℕ) → has v nodes ≡ true → weight_beside v nodes cells ≡ dist table 0 v
-  beside v h =
-      ap (λ xs. weight_beside v xs cells) all ∙ ap (λ ws. weight_beside v (centres table.nodes) ws) filled
-      ∙ beside_map (λ u. dist table 0 u) v (centres table.nodes) (has_centre table.nodes v (below v h))
+  beside v h = search (rules, filled, beside_map, has_centre, below)
 
   pub whole_is : IsWhole table (record { leader = 0; phase = 0; members = nodes; weights = cells; depth = depth })
-  whole_is = record {
-    leader = refl;
-    phase = refl;
-    members = all;
-    weights = filled;
-    depth = record {
-      greatest = λ v h. rw (beside v h, ← row.each v (below v h)) (bound v 0 (omega (arith, row.count, below v h)));
-      attained =
-          let at = attained (omega (arith, row.count, metric.some)) in
-          let short : at.0 < table.nodes = omega (arith, at.1, row.count) in
-          let member : has at.0 nodes ≡ true = ap (has at.0) all ∙ has_centre table.nodes at.0 short in
-          record {
-            node = at.0;
-            member = member;
-            far = beside at.0 member ∙ sym (row.each at.0 short)
-                ∙ get_or_default cells at.0 0 depth at.1 ∙ at.2;
-          };
-    };
-  }
+  whole_is = grind (arith, filled, beside, below, has_centre, get_or_default)
 
 -- ---- the flat level and the flat plan
 
@@ -105,13 +85,7 @@ flat_level_is {table} {top} {homes} top_is alone zeros is =
 pub level_sized : {n : ℕ} (exponent threshold phases : ℕ) (clusters : List PlanCluster) (homes : List ℕ) {level : Level}
     → level ≡ level_of exponent threshold (shape_with phases clusters homes) → length homes ≡ n → length clusters ≤ n
     → exponent ≤ 30 → IsSized n level
-level_sized exponent threshold phases clusters homes is nodes few light =
-    rw is (record {
-      homes = nodes;
-      readers = length-map_centres (clusters_with clusters) (length homes) ∙ nodes;
-      clusters = few;
-      exponent = light;
-    })
+level_sized exponent threshold phases clusters homes is nodes few light = search (rules, length-map_centres)
 
 -- ---- a cluster of a cover, as a row
 
@@ -123,14 +97,7 @@ pub row_is : {network : Network} (made : Cluster) {nodes old new : List ℕ} {de
       weights = is.weights;
       depth = depth;
     })
-row_is {network} made {nodes} {depth} listed is = record {
-  leader = refl;
-  phase = refl;
-  members = listed;
-  tree = subst (λ xs. IsTreeOf network xs made.first (make_cluster made.first nodes is.weights)) listed is.tree;
-  count = is.sound.count;
-  depth = is.sound.depth_is;
-}
+row_is {network} made {nodes} {depth} listed is = search rules
 
 pub more_clusters : {network : Network} (made : List Cluster) (rows : List PlanCluster) {c : Cluster} {d : PlanCluster}
     → AreClustersOf network made rows → IsClusterOf network c d

@@ -1,4 +1,4 @@
-use Rattle.std.proofs.Common.{◌∙◌, ap, arith}
+use Rattle.std.proofs.Common.{arith}
 use Rattle.distances.specs.Table.{IsMetric}
 use Rattle.region_plan.specs.Plan.{PlanData}
 use Rattle.region_plan.specs.Flat.{IsFlat}
@@ -34,14 +34,5 @@ of_levels-requires-clause-matched c = flat_matched c.args.graph.now (made c) (ma
 pub of_levels-requires-clause-reached : goal.of_levels-requires-clause-reached
 of_levels-requires-clause-reached c = flat_reached c.args.graph.now (made c) (made_flat c)
 
-pub returns-clause-plan : goal.returns-clause-plan
-returns-clause-plan c = rw c.of_levels.ensures (made_flat c.before)
-
-pub returns-clause-copy : goal.returns-clause-copy
-returns-clause-copy c = ap (λ (p : PlanData). p.distances) c.of_levels.ensures ∙ c.in_ok-copy.ensures
-
-pub returns-clause-matched : goal.returns-clause-matched
-returns-clause-matched c = rw c.of_levels.ensures (of_levels-requires-clause-matched c.before)
-
-pub returns-clause-reached : goal.returns-clause-reached
-returns-clause-reached c = rw c.of_levels.ensures (of_levels-requires-clause-reached c.before)
+pub returns : goal.returns
+returns c = grind (arith, made_flat)
