@@ -15,23 +15,13 @@ of_cover-requires-clause-spanned c =
     c.in_ok-made.ensures.exact c.requires.belongs c.requires.network c.requires.low c.covering_shape.ensures
 
 pub of_cover-requires-clause-work : goal.of_cover-requires-clause-work
-of_cover-requires-clause-work c =
-    nodes_work c.requires.metric c.args.i c.fill_balls.new.balls c.fill_balls.ensures.balls c.requires.belongs
-    c.cover.ensures.work
+of_cover-requires-clause-work c = search (rules, nodes_work)
 
 pub new-requires : goal.new-requires
 new-requires c = search (rules, homes_count, rows_few)
 
 pub returns-clause-level : goal.returns-clause-level
-returns-clause-level c =
-    IfOk-weaker c.new.result
-    (λ shape. shape ≡ shape_with c.in_ok-made.field-0.phases c.in_ok-clusters.clusters c.in_ok-made.field-0.home.items)
-    (λ shape. IsLevelOf c.args.graph.now c.args.distances.now c.args.covering c.args.i
-    (level_of c.args.i (threshold_of c.args.i) shape))
-    (level_built c.requires.metric c.args.i c.fill_balls.new.balls c.fill_balls.ensures.balls c.args.covering
-    c.in_ok-made.ensures.exact c.args.graph.now c.in_ok-clusters.clusters c.in_ok-clusters.ensures.clusters
-    c.in_ok-made.ensures.few)
-    c.new.ensures
+returns-clause-level c = search (rules, IfOk-weaker, level_built)
 
 pub returns-clause-sized : goal.returns-clause-sized
 returns-clause-sized c =

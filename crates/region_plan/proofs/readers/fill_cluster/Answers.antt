@@ -1,4 +1,4 @@
-use Rattle.std.proofs.Common.{◌∙◌, ◌<◌, ℕ, get_or, length, arith}
+use Rattle.std.proofs.Common.{rules, ◌∙◌, ◌<◌, ℕ, get_or, length, arith}
 use Rattle.std.proofs.lemmas.List.{take_all}
 use Rattle.region_plan.proofs.Rows.{length-containing}
 use Rattle.region_plan.proofs.Filling.{its_weight, next_free, next_within, reader_written}
@@ -44,7 +44,4 @@ loop-place-preserved c = elim c.if-v-taken.branch [
 ]
 
 pub returns-clause-counts : goal.returns-clause-counts
-returns-clause-counts c =
-    cluster_counted c.args.clusters.now c.args.number c.nodes-members.ensures.members c.requires.counts
-    (rw (take_all c.loop-place.place c.nodes-members.result.now (omega (arith, c.loop-place-test.false)))
-    at c.loop-place.invariant.counted)
+returns-clause-counts c = search (rules, cluster_counted, take_all)

@@ -3,11 +3,7 @@ use Rattle.region_plan.proofs.Filling.{none_written, table_made}
 use Rattle.region_plan.proofs.readers.fill_readers.Goals as goal
 
 pub loop-number-init : goal.loop-number-init
-loop-number-init c = record {
-  counts = c.requires.none;
-  filled = none_written c.args.clusters.now c.args.starts.now c.args.taken.now c.args.readers.now c.args.weights.now
-      c.requires.none;
-}
+loop-number-init c = search (rules, none_written)
 
 pub fill_cluster-requires : goal.fill_cluster-requires
 fill_cluster-requires c = search rules

@@ -21,16 +21,13 @@ made_metric : (c : After-reach) → IsMetric (made c).distances
 made_metric c = rw c.in_ok-copy.ensures c.top_for-top.ensures.metric
 
 made_bounds : (c : After-reach) → BoundsFinds (made c)
-made_bounds c = plan_bounds c.covering_shape.ensures c.covering_home_means.ensures c.graph_is_sound.ensures
-    c.requires.low (made_metric c) (made_is c)
+made_bounds c = search (rules, plan_bounds, made_metric, made_is)
 
 pub of_levels-requires : goal.of_levels-requires
 of_levels-requires c = search (rules, reach_near, made_metric, made_bounds)
 
 pub returns-clause-plan : goal.returns-clause-plan
-returns-clause-plan c = c.covered_plan_is_one.ensures c.args.covering c.args.graph.now c.of_levels.result
-    c.graph_is_sound.ensures c.requires.low
-    (subst (IsCoveredPlan c.args.covering c.args.graph.now) (sym c.of_levels.ensures) (made_is c.before))
+returns-clause-plan c = search (rules, made_is)
 
 pub returns-clause-bounding : goal.returns-clause-bounding
 returns-clause-bounding c = subst BoundsFinds (sym c.of_levels.ensures) (made_bounds c.before)
