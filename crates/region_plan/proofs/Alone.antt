@@ -96,9 +96,7 @@ same_cluster one_weight {network} {made} {d} {e} rises p q = search (rules, same
 same_clusters : (one_weight : LeastIsOne) (network : Network) (made : List Cluster) (ds es : List PlanCluster)
     → All Rises made
     → AreClustersOf network made ds → AreClustersOf network made es → ds ≡ es
-same_clusters one_weight network [] [] [] all p q = refl
-same_clusters one_weight network [] [] (e ∷ es) all p q = absurd q
-same_clusters one_weight network [] (d ∷ ds) es all p q = absurd p
+same_clusters one_weight network [] ds es all p q = grind arith
 same_clusters one_weight network (c ∷ cs) [] es all p q = absurd p
 same_clusters one_weight network (c ∷ cs) (d ∷ ds) [] all p q = absurd q
 same_clusters one_weight network (c ∷ cs) (d ∷ ds) (e ∷ es) all p q =
@@ -114,36 +112,11 @@ same_level one_weight {network} {table} {covering} {i} {one} {two} p q =
     let rise : All Rises (cluster_list table.nodes 0 (regions_of table covering i)) =
     for_each_listed Rises Ascends table.nodes (shown_rises table.nodes) 0 (regions_of table covering i)
     (covering_ascends covering _) in
-    let clusters : one.clusters ≡ two.clusters =
-    same_clusters one_weight network (cluster_list table.nodes 0 (regions_of table covering i)) one.clusters
-    two.clusters
-    rise p.clusters q.clusters in
-    let parts : ◌≡◌ {A = Level} (record {
-      exponent = one.exponent;
-      threshold = one.threshold;
-      phases = one.phases;
-      clusters = one.clusters;
-      homes = one.homes;
-      readers = one.readers;
-    })
-    (record {
-      exponent = two.exponent;
-      threshold = two.threshold;
-      phases = two.phases;
-      clusters = two.clusters;
-      homes = two.homes;
-      readers = two.readers;
-    }) = cc in
-    parts
+    search (rules, same_clusters)
 
 pub one_plan : (one_table : DistancesAreOne) (one_weight : LeastIsOne) {network : Network} {covering : Covering}
     {one two : PlanData} → IsCoveredPlan covering network one → IsCoveredPlan covering network two → one ≡ two
-one_plan one_table one_weight {network} {covering} {one} {two} p q =
-    let parts : ◌≡◌ {A = PlanData}
-    (record { k = one.k; reach = one.reach; distances = one.distances; levels = one.levels })
-    (record { k = two.k; reach = two.reach; distances = two.distances; levels = two.levels }) =
-    cc (tables, levels) in
-    parts
+one_plan one_table one_weight {network} {covering} {one} {two} p q = search (rules, tables, levels)
   where
     tables : one.distances ≡ two.distances
     tables = one_table network one.distances two.distances p.distances q.distances
@@ -158,6 +131,4 @@ one_plan one_table one_weight {network} {covering} {one} {two} p q =
     level i below = same_level one_weight (rw tables at (p.each i below)) (q.each i (omega (arith, count)))
 
     levels : one.levels ≡ two.levels
-    levels = same_lists one.levels two.levels count (λ i d below.
-        get_or_default one.levels i d no_level below ∙ level i below
-        ∙ get_or_default two.levels i no_level d (omega (arith, count)))
+    levels = same_lists one.levels two.levels count (search (rules, get_or_default, level, count))

@@ -22,11 +22,7 @@ two = omega arith
 one_exponent : (d e i : ℕ) → d ≤ 2 ^ e → 2 ^ e < 2 * d → 2 ^ i < d → d ≤ 2 ^ suc i → e ≡ suc i
 one_exponent d e i reached just above within = elim (cases_lt e (suc i)) [
   | inl less ↦ absurd (let low : 2 ^ e ≤ 2 ^ i = pow-le-pow_right two (omega arith) in omega arith)
-  | inr more ↦ elim (cases_lt (suc i) e) [
-    | inl over ↦ absurd (let high : 2 ^ suc (suc i) ≤ 2 ^ e = pow-le-pow_right two over
-        in omega (arith, pow-suc 2 (suc i)))
-    | inr same ↦ omega arith
-  ]
+  | inr more ↦ grind (arith, pow-le-pow_right, two, cases_lt (suc i) e, pow-suc 2 (suc i))
 ]
 
 -- where an exponent has no mark, no distance lies between its power and the one below

@@ -23,11 +23,7 @@ passing_place test v j zero short passes = absurd (omega arith)
 passing_place test v zero (suc k) short passes = grind (arith, add-zero)
 passing_place test v (suc j) (suc k) short passes =
     let moved : v + suc j ≡ suc v + j = omega arith in
-    let later = passing_place test (suc v) j k (omega arith) (ap test (sym moved) ∙ passes) in
-    elim (cases_Bool (test v)) [
-      | inl is ↦ rw is (omega (arith, later.0), later.1 ∙ sym moved)
-      | inr is ↦ rw is (later.0, later.1 ∙ sym moved)
-    ]
+    search (rules, cases_Bool, passing_place test (suc v) j k (omega arith) (ap test (sym moved) ∙ passes))
 
 -- the next reader of a member
 pub reader_comes : (clusters : List PlanCluster) (number v : ℕ) → number < length clusters

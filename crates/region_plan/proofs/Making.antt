@@ -62,18 +62,7 @@ pub flat_level_is : {table : DistanceTable} {top : ℕ} {clusters : List PlanClu
     → IsTop table top → IsWholeAlone table clusters → homes ≡ replicate {A = ℕ} table.nodes 0
     → level ≡ level_of top 1 (shape_with 1 clusters homes) → IsFlatLevel table level
 flat_level_is {table} {top} {homes} top_is alone zeros is =
-    rw (is, alone.alone) (record {
-      exponent = top_is;
-      threshold = refl;
-      phases = refl;
-      one = refl;
-      whole = alone.whole;
-      homes = zeros ∙ replicated table.nodes;
-      readers = ap (λ n. readers_of n (alone.cluster ∷ []))
-          (ap (length {A = ℕ}) zeros ∙ length-replicate {A = ℕ} table.nodes 0)
-          ∙ map_same (clusters_with (alone.cluster ∷ [])) (λ v. 0 ∷ []) table.nodes
-          (λ v h. ap (λ b. cond b (0 ∷ []) []) (ap (has v) alone.whole.members ∙ has_centre table.nodes v h));
-    })
+    rw (is, alone.alone) (search (rules, replicated, length-replicate, map_same, has_centre))
   where
     replicated_from : (v n : ℕ) → replicate {A = ℕ} n 0 ≡ map (λ v. 0) (sift (λ x. true) v n)
     replicated_from v zero = refl
@@ -102,15 +91,13 @@ row_is {network} made {nodes} {depth} listed is = search rules
 pub more_clusters : {network : Network} (made : List Cluster) (rows : List PlanCluster) {c : Cluster} {d : PlanCluster}
     → AreClustersOf network made rows → IsClusterOf network c d
     → AreClustersOf network (made ++ c ∷ []) (rows ++ d ∷ [])
-more_clusters [] [] are is = (is, tt)
-more_clusters [] (e ∷ es) are is = absurd are
+more_clusters [] rows are is = grind arith
 more_clusters (b ∷ bs) [] are is = absurd are
 more_clusters (b ∷ bs) (e ∷ es) are is = (are.0, more_clusters bs es are.1 is)
 
 pub clusters_count : (network : Network) (made : List Cluster) (rows : List PlanCluster)
     → AreClustersOf network made rows → length made ≡ length rows
-clusters_count network [] [] are = refl
-clusters_count network [] (e ∷ es) are = absurd are
+clusters_count network [] rows are = grind arith
 clusters_count network (b ∷ bs) [] are = absurd are
 clusters_count network (b ∷ bs) (e ∷ es) are = omega (arith, clusters_count network bs es are.1)
 

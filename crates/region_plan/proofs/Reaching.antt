@@ -62,12 +62,10 @@ module _ {network : Network} {table : DistanceTable} (metric : IsMetric table) (
       → ((y : ℕ) → y < table.nodes → dist table c y ≤ r → inside y ≡ true) → IsNoHeavier network.edges inside c x r
   near_centre inside c r x hc hx far holds =
       let walk = (least.each c x hc hx).attained in
-      record {
-        steps = walk.steps;
-        walk = stays inside c r hc holds walk.steps 0 c x hc (omega (arith, metric.zero c hc)) walk.walk
-            (omega (arith, walk.sum));
-        light = omega (arith, walk.sum);
-      }
+      grind (
+        arith,
+        stays inside c r hc holds walk.steps 0 c x hc (omega (arith, metric.zero c hc)) walk.walk (omega (arith, walk.sum)),
+      )
 
   -- ---- the balls of a radius
 

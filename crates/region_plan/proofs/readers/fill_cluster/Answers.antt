@@ -34,13 +34,7 @@ loop-place-preserved c = elim c.if-v-taken.branch [
             c.loop-place-test.true c.nodes-members.ensures.ascending c.weights-inside.ensures.weights
             c.weights-inside.ensures.count);
       })
-  | else-v-taken w ↦
-      rw (w.taken-is, w.readers-is, w.weights-is) (record {
-        counted = one_skipped c.nodes-members.result.now c.args.taken.now c.loop-place.taken c.loop-place.place
-            c.loop-place-test.true c.loop-place.invariant.counted
-            (omega (arith, w.if-v-taken.false, c.loop-place.auto.taken));
-        filled = c.loop-place.invariant.filled;
-      })
+  | else-v-taken w ↦ search (rules, one_skipped)
 ]
 
 pub returns-clause-counts : goal.returns-clause-counts
