@@ -1,5 +1,5 @@
 -- The clusters of each node, while they are written, and the weights beside them.
-use Rattle.std.proofs.Common.{rules, ◌≡◌, inl, inr, ℕ, zero, suc, ◌+◌, ◌<◌, Bool, true, List, length, take, set, get_or, sym, ◌∙◌, ap, arith, add-zero, zero-add}
+use Rattle.std.proofs.Common.{rules, ◌≡◌, ℕ, zero, suc, ◌+◌, ◌<◌, Bool, true, List, length, take, set, get_or, sym, ◌∙◌, ap, arith, add-zero, zero-add}
 use Rattle.std.proofs.lemmas.Bool.{cases_Bool}
 use Rattle.std.proofs.lemmas.List.{length-map, get_or-map}
 use Rattle.node_set.specs.Ascending.{has, IsAscending, sift}

@@ -1,5 +1,5 @@
 -- The parts of a level, step by step.
-use Rattle.std.proofs.Common.{rules, ◌≡◌, ℕ, zero, suc, ◌+◌, ◌-◌, ◌<◌, ◌≤◌, true, cond, List, [], ◌∷◌, ◌++◌, length, map, take, drop, replicate, get_or, refl, sym, ◌∙◌, ap, arith}
+use Rattle.std.proofs.Common.{rules, ◌≡◌, ℕ, zero, suc, ◌+◌, ◌-◌, ◌<◌, ◌≤◌, true, List, [], ◌∷◌, ◌++◌, length, map, take, drop, replicate, get_or, refl, sym, ◌∙◌, ap, arith}
 use Rattle.std.specs.Prelude.{All, Contains, slice_range}
 use Rattle.std.proofs.lemmas.List.{map_push, length-append, length-drop, length-replicate, get_or_default, take_all, take-append-le, drop-append-le, drop_all}
 use Rattle.net_graph.specs.Network.{Network}
@@ -11,7 +11,6 @@ use Rattle.std.proofs.lemmas.Grind.{same_number_lists}
 use Rattle.cluster_tree.specs.Inside.{AreWeightsWritten}
 use Rattle.cluster_tree.specs.Tree.{weight_beside}
 use Rattle.region_plan.specs.Plan.{PlanCluster, Level}
-use Rattle.region_plan.specs.Regions.{clusters_with, readers_of}
 use Rattle.region_plan.specs.Meanings.{IsTop, IsClusterOf, AreClustersOf}
 use Rattle.region_plan.specs.Flat.{IsWhole, IsWholeAlone, IsFlatLevel}
 use Rattle.region_plan.specs.Kept.{IsSized, level_of, shape_with}

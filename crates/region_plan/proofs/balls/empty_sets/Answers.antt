@@ -1,7 +1,6 @@
-use Rattle.std.proofs.Common.{arith, ◌≡◌, ◌+◌, ◌∙◌, ap, length}
+use Rattle.std.proofs.Common.{arith}
 use Rattle.std.proofs.lemmas.List.{length_push}
 use Rattle.std.proofs.lemmas.List.Elements.{All-push}
-use Rattle.node_set.specs.Nodes.{Nodes}
 use Rattle.region_plan.proofs.balls.empty_sets.Goals as goal
 
 pub loop-place-preserved : goal.loop-place-preserved

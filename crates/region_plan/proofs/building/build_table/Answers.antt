@@ -2,7 +2,6 @@ use Rattle.std.proofs.Common.{rules, ◌≡◌}
 use Rattle.std.proofs.lemmas.Result.{IfOk-weaker}
 use Rattle.region_plan.proofs.Levels.{balls_few, balls_rooms, balls_centred, balls_inside, balls_turned, balls_work, cover_spanned, nodes_work, homes_count, rows_few, level_built, level_fits}
 use Rattle.region_plan.specs.Kept.{IsSized, level_of, shape_with}
-use Rattle.region_plan.specs.Meanings.{IsLevelOf}
 use Rattle.region_plan.specs.Regions.{threshold_of}
 use Rattle.region_plan.proofs.building.build_table.Goals as goal
 

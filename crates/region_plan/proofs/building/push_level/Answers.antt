@@ -2,7 +2,7 @@ use Rattle.std.proofs.Common.{rules, ◌≡◌, ◌+◌, ◌-◌, ◌++◌, ◌�
 use Rattle.std.proofs.lemmas.List.{get_or_default}
 use Rattle.std.proofs.lemmas.Result.{IfOk-weaker}
 use Rattle.region_plan.specs.Plan.{level_in}
-use Rattle.region_plan.specs.Kept.{AreLevelsOf, level_of, level_with}
+use Rattle.region_plan.specs.Kept.{AreLevelsOf, level_with}
 use Rattle.region_plan.proofs.Exponents.{levels_shared}
 use Rattle.region_plan.proofs.Levels.{levels_tabled}
 use Rattle.region_plan.proofs.building.push_level.Goals as goal

@@ -1,6 +1,5 @@
-use Rattle.std.proofs.Common.{rules, ◌≡◌, ◌++◌, ◌≤◌, ◌*◌, ℕ, List, take, drop, length, ap, ◌∙◌, sym, subst, arith}
+use Rattle.std.proofs.Common.{rules, ◌≡◌, ◌++◌, ◌≤◌, ◌*◌, ℕ, List, take, drop, length, ap, ◌∙◌, sym, arith}
 use Rattle.std.specs.Prelude.{slice_index}
-use Rattle.region_plan.specs.Spread.{AreExponentsTo}
 use Rattle.region_plan.proofs.Spreading.{row_short, row_small, row_written}
 use Rattle.region_plan.proofs.spread.exponents_of.Goals as goal
 use Rattle.std.proofs.lemmas.List.{take_at}

@@ -1,9 +1,6 @@
-use Rattle.std.proofs.Common.{rules, List, ◌∷◌, ◌++◌, [], sym, ap, ◌∙◌}
+use Rattle.std.proofs.Common.{rules}
 use Rattle.std.proofs.lemmas.List.{append_assoc}
-use Rattle.std.specs.Vec.Iter.{into_iter_items}
-use Rattle.coarse_cover.specs.declared.cover.Cluster.{Cluster}
 use Rattle.region_plan.specs.Kept.{IsSpanned}
-use Rattle.region_plan.specs.Laid.{clusters_of_lists}
 use Rattle.region_plan.proofs.Lists.{next_holds}
 use Rattle.region_plan.proofs.Making.{more_clusters}
 use Rattle.region_plan.proofs.clusters.ClusterLists.push_cover.Goals as goal

@@ -1,4 +1,4 @@
-use Rattle.std.proofs.Common.{rules, arith}
+use Rattle.std.proofs.Common.{rules}
 use Rattle.region_plan.proofs.Measuring.{level_step, max_few}
 use Rattle.region_plan.proofs.plan.Plan.of_levels.Goals as goal
 

@@ -1,6 +1,5 @@
-use Rattle.std.proofs.Common.{rules, ◌<◌, length, arith}
+use Rattle.std.proofs.Common.{rules, arith}
 use Rattle.std.proofs.lemmas.List.Elements.{All-push}
-use Rattle.region_plan.specs.declared.sharing.LevelHead.{LevelHead}
 use Rattle.region_plan.proofs.Shapes.{heads_count, last_within, level_shared}
 use Rattle.region_plan.proofs.sharing.Levels.push_shared.Goals as goal
 
