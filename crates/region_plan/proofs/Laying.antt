@@ -126,7 +126,8 @@ module _ {network : Network} (made : Cluster) {old : ClusterLists} (new : Cluste
     beside,
     row_is made refl is,
     map_push (cluster_under new.nodes.items new.weights.items) old.heads.items pushed_head,
-    clusters_stay old.nodes.items made.members.members old.weights.items is.weights old.heads.items laid.count laid.each,
+    clusters_stay old.nodes.items made.members.members old.weights.items is.weights old.heads.items laid.count
+        laid.each,
   )
 
 -- ---- the cluster of all nodes

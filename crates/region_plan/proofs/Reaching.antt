@@ -64,7 +64,8 @@ module _ {network : Network} {table : DistanceTable} (metric : IsMetric table) (
       let walk = (least.each c x hc hx).attained in
       grind (
         arith,
-        stays inside c r hc holds walk.steps 0 c x hc (omega (arith, metric.zero c hc)) walk.walk (omega (arith, walk.sum)),
+        stays inside c r hc holds walk.steps 0 c x hc (omega (arith, metric.zero c hc)) walk.walk
+            (omega (arith, walk.sum)),
       )
 
   -- ---- the balls of a radius

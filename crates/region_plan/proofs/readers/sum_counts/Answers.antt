@@ -11,12 +11,15 @@ pub overflow_add-sum : goal.overflow_add-sum
 overflow_add-sum c = grind (arith, count_few)
 
 pub loop-count-preserved : goal.loop-count-preserved
-loop-count-preserved c = grind (
-  arith,
-  one_start c.args.counts.now c.loop-count.starts.items c.loop-count.count-index c.loop-count.sum c.loop-count-test.true c.loop-count.invariant.starts c.loop-count.invariant.last c.push-in-loop-count.new.self.items c.in_ok-push-2.ensures.items,
-  last_start c.args.counts.now c.loop-count.starts.items c.loop-count.count-index c.loop-count.sum c.loop-count-test.true c.loop-count.invariant.starts c.loop-count.invariant.last c.push-in-loop-count.new.self.items c.in_ok-push-2.ensures.items,
-  count_few c.args.counts.now c.loop-count.count-index c.loop-count-test.true c.requires.small,
-)
+loop-count-preserved c = record {
+  starts = one_start c.args.counts.now c.loop-count.starts.items c.loop-count.count-index c.loop-count.sum
+      c.loop-count-test.true c.loop-count.invariant.starts c.loop-count.invariant.last
+      c.push-in-loop-count.new.self.items c.in_ok-push-2.ensures.items;
+  last = last_start c.args.counts.now c.loop-count.starts.items c.loop-count.count-index c.loop-count.sum
+      c.loop-count-test.true c.loop-count.invariant.starts c.loop-count.invariant.last
+      c.push-in-loop-count.new.self.items c.in_ok-push-2.ensures.items;
+  few = grind (arith, count_few);
+}
 
 pub returns : goal.returns
 returns c = search (rules, take_all)
