@@ -1,5 +1,5 @@
 -- A network and k have one plan.
-use Rattle.std.proofs.Common.{◌≡◌, ℕ, zero, suc, ◌<◌, Bool, true, List, [], ◌∷◌, length, get_or, refl, sym, ◌∙◌, ap, subst, arith}
+use Rattle.std.proofs.Common.{rules, ◌≡◌, ℕ, zero, suc, ◌<◌, Bool, true, List, [], ◌∷◌, length, get_or, sym, ◌∙◌, arith}
 use Rattle.std.specs.Prelude.{All}
 use Rattle.std.proofs.lemmas.List.{get_or_default, same_lists}
 use Rattle.std.proofs.lemmas.List.Elements.{All-nil, All-cons, All-append, All-head, All-tail}
@@ -11,15 +11,15 @@ use Rattle.distances.specs.Table.{DistanceTable, DistancesAreOne}
 use Rattle.coarse_cover.specs.Coarsening.{all_clusters, cluster_of, phase, phases, without_home}
 use Rattle.coarse_cover.specs.Covers.{cluster_list, as_cluster}
 use Rattle.coarse_cover.specs.declared.cover.Cluster.{Cluster}
-use Rattle.cluster_tree.specs.Tree.{WeighedCluster, IsDepth, weight_beside, within, inside_weight}
+use Rattle.cluster_tree.specs.Tree.{weight_beside}
 use Rattle.cluster_tree.specs.PlaceLaws.{has_place, beside_place}
-use Rattle.region_plan.specs.Plan.{PlanCluster, Level, PlanData, level_at, levels_of, top_of, no_level}
+use Rattle.region_plan.specs.Plan.{PlanCluster, Level, PlanData, level_at, levels_of, top_of}
 use Rattle.node_set.specs.Balls.{GrownCluster}
 use Rattle.node_set.specs.BallLaws.{ascending-union_of}
 use Rattle.region_plan.specs.Regions.{regions_of}
 use Rattle.mean_cover.specs.Covering.{mean_cluster, mean_clusters, mean_covering}
 use Rattle.region_plan.specs.Coverings.{covering_of}
-use Rattle.region_plan.specs.Meanings.{IsClusterOf, AreClustersOf, IsCoveredPlan, IsLevelOf, as_tree}
+use Rattle.region_plan.specs.Meanings.{IsClusterOf, AreClustersOf, IsCoveredPlan, IsLevelOf}
 use Rattle.region_plan.specs.declared.covering.Covering.{Covering}
 use Rattle.region_plan.specs.declared.covering.Covering.TheVariants.{Phased, Mean}
 use Rattle.region_plan.proofs.Covered.{one_phase}
@@ -91,29 +91,12 @@ LeastIsOne = (edges : List Edge) (inside : ℕ → Bool) (u v w x : ℕ) → IsL
 
 same_cluster : (one_weight : LeastIsOne) {network : Network} {made : Cluster} {d e : PlanCluster} → Rises made
     → IsClusterOf network made d → IsClusterOf network made e → d ≡ e
-same_cluster one_weight {network} {made} {d} {e} rises p q =
-    let xs = made.members.members in
-    let weights : d.weights ≡ e.weights =
-    same_weights xs d.weights e.weights rises (p.count ∙ ap length p.members) (q.count ∙ ap length q.members)
-    (λ v h. ap (λ ys. weight_beside v ys d.weights) (sym p.members)
-    ∙ one_weight network.edges (within xs) made.first v (inside_weight (as_tree d) v) (inside_weight (as_tree e) v)
-    (p.tree.each v h) (q.tree.each v h)
-    ∙ ap (λ ys. weight_beside v ys e.weights) q.members) in
-    let both : as_tree d ≡ as_tree e = cc in
-    let depth : d.depth ≡ e.depth = depths_are_one (as_tree e) d.depth e.depth (subst
-    (λ (c : WeighedCluster). IsDepth c d.depth) both p.depth) q.depth in
-    let parts : ◌≡◌ {A = PlanCluster}
-    (record { leader = d.leader; phase = d.phase; members = d.members; weights = d.weights; depth = d.depth })
-    (record { leader = e.leader; phase = e.phase; members = e.members; weights = e.weights; depth = e.depth }) =
-    cc in
-    parts
+same_cluster one_weight {network} {made} {d} {e} rises p q = search (rules, same_weights, depths_are_one)
 
 same_clusters : (one_weight : LeastIsOne) (network : Network) (made : List Cluster) (ds es : List PlanCluster)
     → All Rises made
     → AreClustersOf network made ds → AreClustersOf network made es → ds ≡ es
-same_clusters one_weight network [] [] [] all p q = refl
-same_clusters one_weight network [] [] (e ∷ es) all p q = absurd q
-same_clusters one_weight network [] (d ∷ ds) es all p q = absurd p
+same_clusters one_weight network [] ds es all p q = grind arith
 same_clusters one_weight network (c ∷ cs) [] es all p q = absurd p
 same_clusters one_weight network (c ∷ cs) (d ∷ ds) [] all p q = absurd q
 same_clusters one_weight network (c ∷ cs) (d ∷ ds) (e ∷ es) all p q =
@@ -129,36 +112,11 @@ same_level one_weight {network} {table} {covering} {i} {one} {two} p q =
     let rise : All Rises (cluster_list table.nodes 0 (regions_of table covering i)) =
     for_each_listed Rises Ascends table.nodes (shown_rises table.nodes) 0 (regions_of table covering i)
     (covering_ascends covering _) in
-    let clusters : one.clusters ≡ two.clusters =
-    same_clusters one_weight network (cluster_list table.nodes 0 (regions_of table covering i)) one.clusters
-    two.clusters
-    rise p.clusters q.clusters in
-    let parts : ◌≡◌ {A = Level} (record {
-      exponent = one.exponent;
-      threshold = one.threshold;
-      phases = one.phases;
-      clusters = one.clusters;
-      homes = one.homes;
-      readers = one.readers;
-    })
-    (record {
-      exponent = two.exponent;
-      threshold = two.threshold;
-      phases = two.phases;
-      clusters = two.clusters;
-      homes = two.homes;
-      readers = two.readers;
-    }) = cc in
-    parts
+    search (rules, same_clusters)
 
 pub one_plan : (one_table : DistancesAreOne) (one_weight : LeastIsOne) {network : Network} {covering : Covering}
     {one two : PlanData} → IsCoveredPlan covering network one → IsCoveredPlan covering network two → one ≡ two
-one_plan one_table one_weight {network} {covering} {one} {two} p q =
-    let parts : ◌≡◌ {A = PlanData}
-    (record { k = one.k; reach = one.reach; distances = one.distances; levels = one.levels })
-    (record { k = two.k; reach = two.reach; distances = two.distances; levels = two.levels }) =
-    cc (tables, levels) in
-    parts
+one_plan one_table one_weight {network} {covering} {one} {two} p q = search (rules, tables, levels)
   where
     tables : one.distances ≡ two.distances
     tables = one_table network one.distances two.distances p.distances q.distances
@@ -173,6 +131,4 @@ one_plan one_table one_weight {network} {covering} {one} {two} p q =
     level i below = same_level one_weight (rw tables at (p.each i below)) (q.each i (omega (arith, count)))
 
     levels : one.levels ≡ two.levels
-    levels = same_lists one.levels two.levels count (λ i d below.
-        get_or_default one.levels i d no_level below ∙ level i below
-        ∙ get_or_default two.levels i no_level d (omega (arith, count)))
+    levels = same_lists one.levels two.levels count (search (rules, get_or_default, level, count))

@@ -54,8 +54,4 @@ pub looks_more : (levels : List Level) {shape : Shape} (v i : ℕ) {old len : �
     → len ≡ length (readers_for shape v) → old + len ≡ sum_by (λ level. length (readers_in level v))
     (take (i + 1) levels)
 looks_more levels v i {len} below before is counted =
-    ap (λ n. n + len) before
-    ∙ ap (λ n. sum_by (λ (level : Level). length (readers_in level v)) (take i levels) + n)
-    (counted ∙ ap (λ (s : Shape). length (readers_for s v)) is)
-    ∙ sym (sum_by_push (λ (level : Level). length (readers_in level v)) (take i levels) (level_in levels i))
-    ∙ sym (ap (sum_by (λ (level : Level). length (readers_in level v))) (take_more levels i no_level below))
+    grind (arith, sum_by_push, take_more levels i no_level below)

@@ -1,7 +1,7 @@
 -- The two coverings have the same laws: their clusters are shaped, and each ball has a home.
-use Rattle.std.proofs.Common.{◌≡◌, ℕ, ◌-◌, ◌*◌, ◌≤◌, List, [], ◌∷◌, map, refl, sym, ◌∙◌, ap, arith}
+use Rattle.std.proofs.Common.{rules, ◌≡◌, ℕ, ◌-◌, ◌*◌, ◌≤◌, List, [], ◌∷◌, map, refl, ap, arith}
 use Rattle.std.proofs.lemmas.List.{append-nil}
-use Rattle.node_set.specs.Balls.{GrownCluster, centres, home_of}
+use Rattle.node_set.specs.Balls.{GrownCluster}
 use Rattle.coarse_cover.specs.Coarsening.{ClustersAreShaped, HomesAreFound, all_clusters}
 use Rattle.coarse_cover.specs.Covers.{IsCover, as_cluster, cluster_list}
 use Rattle.coarse_cover.specs.declared.cover.Cluster.{Cluster}
@@ -53,8 +53,4 @@ one_list n all = append-nil (map (as_cluster n 0) all)
 pub phased_cover : {n : ℕ} {all : List GrownCluster} {cover : MeanCover} (made : Cover) → IsMeanCover n all cover
     → made.clusters.items ≡ map in_phase_0 cover.clusters.items → made.home.items ≡ cover.home.items → made.phases ≡ 1
     → IsCover n (all ∷ []) made
-phased_cover {n} {all} made is clusters homes phases = record {
-  clusters = clusters ∙ ap (map in_phase_0) is.clusters ∙ phased_clusters n all ∙ sym (one_list n all);
-  homes = homes ∙ is.homes ∙ ap (λ (cs : List GrownCluster). map (home_of cs) (centres n)) (sym (one_phase all));
-  phases = phases;
-}
+phased_cover {n} {all} made is clusters homes phases = search (rules, phased_clusters, one_list, one_phase)

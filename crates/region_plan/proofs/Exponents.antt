@@ -1,16 +1,13 @@
 -- The exponents of distances, and levels whose balls are those of the level below.
-use Rattle.std.proofs.Common.{◌≡◌, inl, inr, ℕ, zero, suc, ◌+◌, ◌-◌, ◌*◌, ◌^◌, ◌<◌, ◌≤◌, Bool, false, List, ◌++◌, ◌∷◌, [], length, map, get_or, refl, sym, ◌∙◌, ap, arith}
+use Rattle.std.proofs.Common.{rules, ◌≡◌, inl, inr, ℕ, zero, suc, ◌+◌, ◌-◌, ◌*◌, ◌^◌, ◌<◌, ◌≤◌, Bool, false, List, ◌++◌, ◌∷◌, [], length, get_or, ◌∙◌, ap, arith}
 use Rattle.std.specs.Prelude.{nat_le}
 use Rattle.std.proofs.Math.Nat.{pow-le-pow_right, pow-suc}
 use Rattle.std.proofs.lemmas.Bool.{cases_lt, false≢true, le-leb, lt-leb}
 use Rattle.net_graph.specs.Network.{Network}
-use Rattle.node_set.specs.Balls.{centres, home_of}
 use Rattle.node_set.specs.SetLaws.{passing_same}
 use Rattle.distances.specs.Table.{DistanceTable, dist}
-use Rattle.coarse_cover.specs.Coarsening.{all_clusters}
 use Rattle.region_plan.specs.Plan.{Level, level_in, no_level}
-use Rattle.region_plan.specs.Coverings.{covering_of}
-use Rattle.region_plan.specs.Regions.{balls_of, regions_of, threshold_of}
+use Rattle.region_plan.specs.Regions.{balls_of, threshold_of}
 use Rattle.region_plan.specs.declared.covering.Covering.{Covering}
 use Rattle.region_plan.specs.Meanings.{IsLevelOf}
 use Rattle.region_plan.specs.Kept.{AreLevelsOf, IsSized, level_with}
@@ -25,11 +22,7 @@ two = omega arith
 one_exponent : (d e i : ℕ) → d ≤ 2 ^ e → 2 ^ e < 2 * d → 2 ^ i < d → d ≤ 2 ^ suc i → e ≡ suc i
 one_exponent d e i reached just above within = elim (cases_lt e (suc i)) [
   | inl less ↦ absurd (let low : 2 ^ e ≤ 2 ^ i = pow-le-pow_right two (omega arith) in omega arith)
-  | inr more ↦ elim (cases_lt (suc i) e) [
-    | inl over ↦ absurd (let high : 2 ^ suc (suc i) ≤ 2 ^ e = pow-le-pow_right two over
-        in omega (arith, pow-suc 2 (suc i)))
-    | inr same ↦ omega arith
-  ]
+  | inr more ↦ grind (arith, pow-le-pow_right, two, cases_lt (suc i) e, pow-suc 2 (suc i))
 ]
 
 -- where an exponent has no mark, no distance lies between its power and the one below
@@ -43,18 +36,7 @@ module _ (table : DistanceTable) (marks : List Bool) (marked : AreMarked table m
     (none : get_or marks (suc i) false ≡ false) where
   same_test : (v w : ℕ) → v < table.nodes → w < table.nodes → nat_le (dist table v w) (2 ^ suc i)
       ≡ nat_le (dist table v w) (2 ^ i)
-  same_test v w hv hw = elim (cases_lt (2 ^ i) (dist table v w)) [
-    | inl above ↦ lt-leb (dist table v w) (2 ^ suc i) (far above) ∙ sym (lt-leb (dist table v w) (2 ^ i) above)
-    | inr within ↦ le-leb (dist table v w) (2 ^ suc i) (omega (arith, pow-suc 2 i))
-        ∙ sym (le-leb (dist table v w) (2 ^ i) within)
-  ]
-    where
-      far : 2 ^ i < dist table v w → 2 ^ suc i < dist table v w
-      far above = elim (cases_lt (2 ^ suc i) (dist table v w)) [
-        | inl over ↦ over
-        | inr within ↦ absurd (let low : dist table v w ≤ 2 ^ i =
-            none_between i (marked v w hv hw (omega arith)) none within in omega arith)
-      ]
+  same_test v w hv hw = grind (arith, cases_lt, lt-leb, le-leb, pow-suc, none_between)
 
   same_balls : balls_of table (suc i) ≡ balls_of table i
   same_balls = grind (arith, same_test, passing_same, map_same)
@@ -62,17 +44,7 @@ module _ (table : DistanceTable) (marks : List Bool) (marked : AreMarked table m
   pub level_above : (network : Network) (covering : Covering) (level : Level)
       → IsLevelOf network table covering i level
       → IsLevelOf network table covering (suc i) (level_with (suc i) (threshold_of (suc i)) level)
-  level_above network covering level is =
-      let regions : regions_of table covering i ≡ regions_of table covering (suc i) =
-      ap (covering_of covering) (sym same_balls) in
-      record {
-        exponent = refl;
-        threshold = refl;
-        phases = is.phases ∙ ap length regions;
-        clusters = rw (← regions) is.clusters;
-        homes = is.homes ∙ ap (λ r. map (home_of (all_clusters r)) (centres table.nodes)) regions;
-        readers = is.readers;
-      }
+  level_above network covering level is = search (rules, same_balls)
 
 sized_above : {n : ℕ} (exponent threshold : ℕ) {level : Level} → exponent ≤ 30 → IsSized n level
     → IsSized n (level_with exponent threshold level)

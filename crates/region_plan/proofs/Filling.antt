@@ -1,5 +1,5 @@
 -- The clusters of each node, while they are written, and the weights beside them.
-use Rattle.std.proofs.Common.{◌≡◌, inl, inr, ℕ, zero, suc, ◌+◌, ◌<◌, Bool, true, List, length, take, set, get_or, sym, ◌∙◌, ap, arith, add-zero, zero-add}
+use Rattle.std.proofs.Common.{rules, ◌≡◌, ℕ, zero, suc, ◌+◌, ◌<◌, Bool, true, List, length, take, set, get_or, sym, ◌∙◌, ap, arith, add-zero, zero-add}
 use Rattle.std.proofs.lemmas.Bool.{cases_Bool}
 use Rattle.std.proofs.lemmas.List.{length-map, get_or-map}
 use Rattle.node_set.specs.Ascending.{has, IsAscending, sift}
@@ -23,11 +23,7 @@ passing_place test v j zero short passes = absurd (omega arith)
 passing_place test v zero (suc k) short passes = grind (arith, add-zero)
 passing_place test v (suc j) (suc k) short passes =
     let moved : v + suc j ≡ suc v + j = omega arith in
-    let later = passing_place test (suc v) j k (omega arith) (ap test (sym moved) ∙ passes) in
-    elim (cases_Bool (test v)) [
-      | inl is ↦ rw is (omega (arith, later.0), later.1 ∙ sym moved)
-      | inr is ↦ rw is (later.0, later.1 ∙ sym moved)
-    ]
+    search (rules, cases_Bool, passing_place test (suc v) j k (omega arith) (ap test (sym moved) ∙ passes))
 
 -- the next reader of a member
 pub reader_comes : (clusters : List PlanCluster) (number v : ℕ) → number < length clusters
@@ -93,15 +89,8 @@ module _ {n : ℕ} {clusters : List PlanCluster} {starts taken readers weights :
   }
 
   pub table_made : AreCounts clusters (length clusters) taken → IsTable n clusters starts readers weights
-  table_made all = record {
-    rows = rows_filled (clusters_with clusters) room long readers_whole filled.numbers all;
-    beside = rows_filled (weights_beside clusters) room_beside long weights_whole filled.beside
-        (λ v short. all v short ∙ sym (as_many v));
-  }
+  table_made all = search (rules, rows_filled, room_beside, as_many)
 
 pub none_written : (clusters : List PlanCluster) (starts taken readers weights : List ℕ)
     → AreCounts clusters 0 taken → AreWritten clusters starts taken readers weights
-none_written clusters starts taken readers weights none = record {
-  numbers = none_filled (clusters_with clusters) starts taken readers none;
-  beside = none_filled (weights_beside clusters) starts taken weights none;
-}
+none_written clusters starts taken readers weights none = search (rules, none_filled)

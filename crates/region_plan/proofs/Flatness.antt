@@ -1,5 +1,5 @@
 -- The flat plan is matched.
-use Rattle.std.proofs.Common.{◌≡◌, ℕ, ◌<◌, true, List, [], ◌∷◌, get_or, length, refl, sym, ◌∙◌, ap, arith}
+use Rattle.std.proofs.Common.{rules, ◌≡◌, ℕ, ◌<◌, true, List, [], ◌∷◌, length, sym, ◌∙◌, ap, arith}
 use Rattle.node_set.specs.Ascending.{has}
 use Rattle.distances.specs.Table.{AreDistancesOf, DistanceTable, IsMetric}
 use Rattle.net_graph.specs.Network.{Network}
@@ -19,12 +19,10 @@ module _ (network : Network) (plan : PlanData) (flat : IsFlat network plan) wher
   flat_below v h = below_centre (nodes_of plan) v (ap (has v) (sym flat.level.whole.members) ∙ h)
 
   pub flat_home : (v : ℕ) → v < nodes_of plan → home plan 0 v ≡ 0
-  flat_home v h = ap (λ (xs : List ℕ). get_or xs v 0) flat.level.homes
-      ∙ get_or-map_centres (λ u. 0) (nodes_of plan) v 0 h
+  flat_home v h = search (rules, get_or-map_centres)
 
   pub flat_readers : (v : ℕ) → v < nodes_of plan → readers plan 0 v ≡ 0 ∷ []
-  flat_readers v h = ap (λ (xs : List (List ℕ)). get_or xs v []) flat.level.readers
-      ∙ get_or-map_centres (λ u. 0 ∷ []) (nodes_of plan) v [] h
+  flat_readers v h = search (rules, get_or-map_centres)
 
   pub flat_leader : leader plan 0 0 ≡ 0
   flat_leader = flat.level.whole.leader
@@ -45,22 +43,19 @@ module _ (network : Network) (plan : PlanData) (flat : IsFlat network plan) wher
   top_is = omega (arith, flat.one)
 
   pub flat_matched : IsMetric plan.distances → IsMatched plan
-  flat_matched metric = record {
-    some = omega (arith, flat.one);
-    metric = metric;
-    first = flat.level.threshold;
-    homes = λ i v h hv. rw (lone_level i h) (omega (arith, flat_home v hv, flat.level.one));
-    held = λ i v h hv. rw (lone_level i h, flat_home v hv) (flat_member v hv);
-    read = λ i v h hv. rw (lone_level i h) (flat_readers v hv ∙ sym (flat_containing v hv));
-    met = λ i u v h hu hv near. rw (lone_level i h, flat_home u hu, flat_readers v hv) refl;
-    whole = λ u v hu hv. rw (top_is, flat_home v hv) (flat_member u hu);
-    within = λ i c v h hc. rw (lone_level i h, lone_cluster i c h hc) (flat_below v);
-    led = λ i c h hc. rw (lone_level i h, lone_cluster i c h hc, flat_leader) (flat_member 0 metric.some);
-    starts = λ i c h hc. rw (lone_level i h, lone_cluster i c h hc, flat_leader)
-        (flat_inside 0 metric.some ∙ metric.zero 0 metric.some);
-    far = λ i c v h hc. rw (lone_level i h, lone_cluster i c h hc, flat_leader)
-        (λ member. omega (arith, flat_inside v (flat_below v member)));
-  }
+  flat_matched metric = grind (
+    arith,
+    lone_level,
+    flat_home,
+    flat_member,
+    flat_readers,
+    flat_containing,
+    top_is,
+    lone_cluster,
+    flat_below,
+    flat_leader,
+    flat_inside,
+  )
 
   pub flat_reached : IsWithinReach plan
   flat_reached i c v h hc = grind (arith, lone_level, lone_cluster, flat_below, flat_inside)
@@ -69,10 +64,4 @@ module _ (network : Network) (plan : PlanData) (flat : IsFlat network plan) wher
 pub flat_made : {network : Network} {table copy : DistanceTable} (levels : List Level) → AreDistancesOf network table
     → copy ≡ table → length levels ≡ 1 → IsFlatLevel table (level_in levels 0)
     → IsFlat network (plan_with 1 1 copy levels)
-flat_made {network} levels belongs same one level = record {
-  distances = rw same belongs;
-  trade_off = refl;
-  reach = refl;
-  one = one;
-  level = rw same level;
-}
+flat_made {network} levels belongs same one level = search rules

@@ -1,5 +1,5 @@
 -- The clusters of each node, while they are counted.
-use Rattle.std.proofs.Common.{◌≡◌, ℕ, zero, suc, ◌+◌, ◌<◌, ◌≤◌, Bool, true, false, cond, ◌||◌, List, [], ◌∷◌, ◌++◌, length, take, set, get_or, refl, ◌∙◌, ap, arith, add-zero, zero-add}
+use Rattle.std.proofs.Common.{rules, ◌≡◌, ℕ, zero, suc, ◌+◌, ◌<◌, ◌≤◌, Bool, true, false, cond, ◌||◌, List, [], ◌∷◌, ◌++◌, length, take, set, get_or, refl, ◌∙◌, ap, arith, add-zero, zero-add}
 use Rattle.std.specs.Prelude.{◌==◌, All}
 use Rattle.std.proofs.lemmas.Bool.{cases_eq, eq-eqb, ne_eqb}
 use Rattle.std.proofs.lemmas.Grind.{get_or_default_zero}
@@ -36,8 +36,7 @@ module _ (members old counts : List ℕ) (i : ℕ) (short : i < length members)
   more v = ap (has v) (take_more members i 0 short) ∙ has_push v (get_or members i 0) (take i members)
 
   other_node : (v : ℕ) → (v ≡ m → ⊥) → has v (take (i + 1) members) ≡ has v (take i members)
-  other_node v other = more v ∙ ap (λ b. has v (take i members) || b) (ne_eqb v m other)
-      ∙ or-false (has v (take i members))
+  other_node v other = search (rules, more, ne_eqb, m, or-false)
 
   this_node : has m (take (i + 1) members) ≡ true
   this_node = more m ∙ ap (λ b. has m (take i members) || b) (eq-eqb m m refl) ∙ or-true (has m (take i members))
@@ -56,10 +55,7 @@ module _ (members old counts : List ℕ) (i : ℕ) (short : i < length members)
   -- the member is none of the nodes
   pub one_skipped : length old ≤ get_or members i 0 → IsCounted (take (i + 1) members) old counts
   unfolding m
-  one_skipped over = record {
-    count = before.count;
-    each = λ v below. rw (other_node v (λ same. omega (arith, same, below, over))) (before.each v below);
-  }
+  one_skipped over = search (rules, other_node)
 
 -- ---- one cluster more
 

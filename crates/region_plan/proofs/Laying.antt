@@ -1,5 +1,5 @@
 -- Clusters in flat lists, as they are pushed.
-use Rattle.std.proofs.Common.{◌≡◌, ◌<◌, ◌≤◌, ℕ, suc, ◌+◌, ◌-◌, true, List, [], ◌∷◌, ◌++◌, get_or, length, refl, subst, sym, ◌∙◌, ap, arith, drop}
+use Rattle.std.proofs.Common.{rules, ◌≡◌, ◌<◌, ◌≤◌, ℕ, suc, ◌+◌, ◌-◌, List, [], ◌∷◌, ◌++◌, get_or, length, refl, subst, sym, ◌∙◌, ap, arith, drop}
 use Rattle.std.specs.Prelude.{All, Contains, slice_range}
 use Rattle.std.proofs.lemmas.List.{get_or-map, length-append, length-drop, length-map, length-take, map_push, take_all}
 use Rattle.std.proofs.lemmas.List.Elements.{All-cons, All-nil, All-push}
@@ -54,14 +54,7 @@ module _ {lists : ClusterLists} {clusters : List PlanCluster} (c : ℕ) {head : 
 
 old_laid : (nodes members : List ℕ) (heads : List ClusterHead) → All (IsLaid nodes) heads
     → All (IsLaid (nodes ++ members)) heads
-old_laid nodes members heads each i d short =
-    let old = each i d short in
-    record {
-      order = old.order;
-      within = omega (arith, old.within, length-append nodes members);
-      ascending = rw (range_old nodes members (get_or heads i d).start (get_or heads i d).end old.order old.within)
-          old.ascending;
-    }
+old_laid nodes members heads each i d short = search (rules, length-append, range_old)
 
 -- the clusters stay where nodes and weights are appended
 clusters_stay : (nodes members weights more : List ℕ) (heads : List ClusterHead) → length weights ≡ length nodes
@@ -101,8 +94,7 @@ module _ {network : Network} (made : Cluster) {old : ClusterLists} (new : Cluste
   long = ap (length {A = ℕ}) nodes_now ∙ length-append old.nodes.items made.members.members
 
   here : slice_range new.nodes.items start end ≡ made.members.members
-  here = ap (λ (xs : List ℕ). slice_range xs start end) nodes_now
-      ∙ range_new old.nodes.items made.members.members begins (ends ∙ ap (length {A = ℕ}) nodes_now)
+  here = search (rules, range_new)
 
   beside : slice_range new.weights.items start end ≡ is.weights
   beside = grind (arith, long, length-append, range_new)
@@ -128,26 +120,15 @@ module _ {network : Network} (made : Cluster) {old : ClusterLists} (new : Cluste
   }
 
   pub made_pushed : IsPushed network made old new
-  made_pushed = record {
-    cluster = record {
-      leader = made.first;
-      phase = made.phase;
-      members = made.members.members;
-      weights = is.weights;
-      depth = depth;
-    };
-    is = row_is made refl is;
-    pushed = rw (
-      heads_now,
-      map_push (cluster_under new.nodes.items new.weights.items) old.heads.items pushed_head,
-      here,
-      beside,
-      nodes_now,
-      is.appended,
-      clusters_stay old.nodes.items made.members.members old.weights.items is.weights old.heads.items laid.count
-          laid.each,
-    ) refl;
-  }
+  made_pushed = grind (
+    arith,
+    here,
+    beside,
+    row_is made refl is,
+    map_push (cluster_under new.nodes.items new.weights.items) old.heads.items pushed_head,
+    clusters_stay old.nodes.items made.members.members old.weights.items is.weights old.heads.items laid.count
+        laid.each,
+  )
 
 -- ---- the cluster of all nodes
 
@@ -163,31 +144,13 @@ module _ {table : DistanceTable} (metric : IsMetric table) (lists : ClusterLists
   whole_range xs same = take_all (end - 0) xs (omega arith)
 
   pub whole_made : AreLaid lists × IsWholeAlone table (clusters_of_lists lists)
-  whole_made = (
-    record {
-      count = count;
-      each = rw heads_now
-          (All-cons (IsLaid lists.nodes.items)
-          (record { leader = 0; phase = 0; depth = depth; start = 0; end = end }) [] (record {
-            order = omega arith;
-            within = omega (arith, ends);
-            ascending = subst IsAscending (sym (whole_range lists.nodes.items (sym ends) ∙ all))
-                (ascending-passing (λ x. true) 0 table.nodes);
-          }) (All-nil (IsLaid lists.nodes.items)));
-    },
-    record {
-      cluster = record {
-        leader = 0;
-        phase = 0;
-        members = lists.nodes.items;
-        weights = lists.weights.items;
-        depth = depth;
-      };
-      alone = rw (
-        heads_now,
-        whole_range lists.nodes.items (sym ends),
-        whole_range lists.weights.items (omega (arith, count, ends)),
-      ) refl;
-      whole = whole_is metric all row bound attained;
-    },
+  whole_made = grind (
+    arith,
+    count,
+    ascending-passing,
+    All-cons (IsLaid lists.nodes.items) (record { leader = 0; phase = 0; depth = depth; start = 0; end = end }),
+    whole_range lists.nodes.items (sym ends),
+    All-nil (IsLaid lists.nodes.items),
+    whole_range lists.weights.items (omega (arith, count, ends)),
+    whole_is metric all row bound attained,
   )

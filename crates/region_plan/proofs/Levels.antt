@@ -1,12 +1,12 @@
 -- A level as it is built, and the plan of all levels.
-use Rattle.std.proofs.Common.{◌≡◌, ℕ, ◌+◌, ◌-◌, ◌^◌, ◌<◌, ◌≤◌, List, [], ◌∷◌, ◌++◌, length, refl, sym, ◌∙◌, ap, subst, arith}
-use Rattle.std.specs.Prelude.{All, nat_le}
+use Rattle.std.proofs.Common.{rules, ◌≡◌, ℕ, ◌+◌, ◌^◌, ◌<◌, ◌≤◌, List, [], ◌∷◌, ◌++◌, length, refl, sym, ◌∙◌, ap, subst, arith}
+use Rattle.std.specs.Prelude.{All}
 use Rattle.std.proofs.lemmas.Bool.{cases_lt}
 use Rattle.std.proofs.lemmas.List.{get_or_append_left, get_or_push, length_push}
 use Rattle.std.proofs.lemmas.List.Elements.{All-push}
 use Rattle.net_graph.specs.Network.{Network, IsNetwork}
 use Rattle.node_set.specs.Nodes.{Nodes}
-use Rattle.distances.specs.Table.{DistanceTable, AreDistancesOf, IsMetric, ball_of, dist}
+use Rattle.distances.specs.Table.{DistanceTable, AreDistancesOf, IsMetric, ball_of}
 use Rattle.coarse_cover.specs.Coarsening.{all_clusters}
 use Rattle.coarse_cover.specs.Covers.{IsCover}
 use Rattle.coarse_cover.specs.declared.cover.Cover.{Cover}
@@ -19,8 +19,7 @@ use Rattle.region_plan.specs.Kept.{AreLevelsOf, IsSpanned, IsSized, Shape, level
 use Rattle.region_plan.specs.Coverings.{CoveringsAreShaped, covering_of, reach_of, trade_off_of}
 use Rattle.region_plan.specs.declared.covering.Covering.{Covering}
 use Rattle.region_plan.proofs.Spanning.{centred, inside, listed_spanned}
-use Rattle.node_set.specs.Ascending.{has}
-use Rattle.node_set.specs.Balls.{ball, home_of, sets, AreCentred, AreInside}
+use Rattle.node_set.specs.Balls.{home_of, sets, AreCentred, AreInside}
 use Rattle.node_set.specs.BallLaws.{length-sets, length-map_centres, get_or-map_centres}
 use Rattle.node_set.specs.SetLaws.{has-passing}
 use Rattle.node_set.specs.Turned.{AreTurned}
@@ -29,16 +28,7 @@ use Rattle.region_plan.proofs.Making.{clusters_count, level_sized}
 -- a node is in a ball just where the ball's centre is in the node's ball
 balls_are_rows : {table : DistanceTable} → IsMetric table → (i : ℕ) → AreTurned (balls_of table i) (balls_of table i)
 balls_are_rows {table} metric i u v u_below v_below =
-    let n : length (balls_of table i) ≡ table.nodes = length-map_centres (λ w. ball_of table w (2 ^ i)) table.nodes in
-    member u v (omega (arith, n)) (omega (arith, n))
-    ∙ ap (λ d. nat_le d (2 ^ i)) (metric.turned v u (omega (arith, n)) (omega (arith, n)))
-    ∙ sym (member v u (omega (arith, n)) (omega (arith, n)))
-  where
-    member : (x w : ℕ) → x < table.nodes → w < table.nodes → has x (ball (balls_of table i) w)
-        ≡ nat_le (dist table w x) (2 ^ i)
-    member x w x_below w_below =
-        ap (has x) (get_or-map_centres (λ y. ball_of table y (2 ^ i)) table.nodes w [] w_below)
-        ∙ has-passing (λ y. nat_le (dist table w y) (2 ^ i)) x 0 table.nodes (omega arith) (omega arith)
+    grind (arith, length-map_centres, get_or-map_centres, has-passing)
 
 module _ {table : DistanceTable} (metric : IsMetric table) (i : ℕ) (now : List Nodes)
     (are : sets now ≡ balls_of table i) where
@@ -141,12 +131,4 @@ pub plan_built : {network : Network} {table copy : DistanceTable} {covering : Co
     → ((j : ℕ) → j < top + 1 → IsLevelOf network table covering j (level_in levels j))
     → IsCoveredPlan covering network plan
 plan_built {network} {table} {covering} {k} {reach} {top} levels least same k_is reach_is is count top_is each =
-    let last : top ≡ length levels - 1 = omega (arith, count) in
-    rw (is, same) (record {
-      distances = least;
-      trade_off = k_is;
-      reach = reach_is;
-      some = omega (arith, count);
-      top = subst (IsTop table) last top_is;
-      each = λ j h. each j (omega (arith, count));
-    })
+    search (rules, count)

@@ -1,5 +1,5 @@
 -- The parts of a level, step by step.
-use Rattle.std.proofs.Common.{◌≡◌, ℕ, zero, suc, ◌+◌, ◌-◌, ◌<◌, ◌≤◌, true, cond, List, [], ◌∷◌, ◌++◌, length, map, take, drop, replicate, get_or, refl, sym, ◌∙◌, ap, subst, arith}
+use Rattle.std.proofs.Common.{rules, ◌≡◌, ℕ, zero, suc, ◌+◌, ◌-◌, ◌<◌, ◌≤◌, true, List, [], ◌∷◌, ◌++◌, length, map, take, drop, replicate, get_or, refl, sym, ◌∙◌, ap, arith}
 use Rattle.std.specs.Prelude.{All, Contains, slice_range}
 use Rattle.std.proofs.lemmas.List.{map_push, length-append, length-drop, length-replicate, get_or_default, take_all, take-append-le, drop-append-le, drop_all}
 use Rattle.net_graph.specs.Network.{Network}
@@ -8,10 +8,9 @@ use Rattle.node_set.specs.Nodes.{Nodes}
 use Rattle.distances.specs.Table.{DistanceTable, IsRowOf, dist, ball_of, IsMetric}
 use Rattle.coarse_cover.specs.declared.cover.Cluster.{Cluster}
 use Rattle.std.proofs.lemmas.Grind.{same_number_lists}
-use Rattle.cluster_tree.specs.Inside.{AreWeightsWritten, make_cluster}
-use Rattle.cluster_tree.specs.Tree.{weight_beside, IsTreeOf}
+use Rattle.cluster_tree.specs.Inside.{AreWeightsWritten}
+use Rattle.cluster_tree.specs.Tree.{weight_beside}
 use Rattle.region_plan.specs.Plan.{PlanCluster, Level}
-use Rattle.region_plan.specs.Regions.{clusters_with, readers_of}
 use Rattle.region_plan.specs.Meanings.{IsTop, IsClusterOf, AreClustersOf}
 use Rattle.region_plan.specs.Flat.{IsWhole, IsWholeAlone, IsFlatLevel}
 use Rattle.region_plan.specs.Kept.{IsSized, level_of, shape_with}
@@ -51,30 +50,10 @@ module _ {table : DistanceTable} (metric : IsMetric table) {cells nodes : List �
   below v h = below_centre table.nodes v (ap (has v) (sym all) ∙ h)
 
   beside : (v : ℕ) → has v nodes ≡ true → weight_beside v nodes cells ≡ dist table 0 v
-  beside v h =
-      ap (λ xs. weight_beside v xs cells) all ∙ ap (λ ws. weight_beside v (centres table.nodes) ws) filled
-      ∙ beside_map (λ u. dist table 0 u) v (centres table.nodes) (has_centre table.nodes v (below v h))
+  beside v h = search (rules, filled, beside_map, has_centre, below)
 
   pub whole_is : IsWhole table (record { leader = 0; phase = 0; members = nodes; weights = cells; depth = depth })
-  whole_is = record {
-    leader = refl;
-    phase = refl;
-    members = all;
-    weights = filled;
-    depth = record {
-      greatest = λ v h. rw (beside v h, ← row.each v (below v h)) (bound v 0 (omega (arith, row.count, below v h)));
-      attained =
-          let at = attained (omega (arith, row.count, metric.some)) in
-          let short : at.0 < table.nodes = omega (arith, at.1, row.count) in
-          let member : has at.0 nodes ≡ true = ap (has at.0) all ∙ has_centre table.nodes at.0 short in
-          record {
-            node = at.0;
-            member = member;
-            far = beside at.0 member ∙ sym (row.each at.0 short)
-                ∙ get_or_default cells at.0 0 depth at.1 ∙ at.2;
-          };
-    };
-  }
+  whole_is = grind (arith, filled, beside, below, has_centre, get_or_default)
 
 -- ---- the flat level and the flat plan
 
@@ -82,18 +61,7 @@ pub flat_level_is : {table : DistanceTable} {top : ℕ} {clusters : List PlanClu
     → IsTop table top → IsWholeAlone table clusters → homes ≡ replicate {A = ℕ} table.nodes 0
     → level ≡ level_of top 1 (shape_with 1 clusters homes) → IsFlatLevel table level
 flat_level_is {table} {top} {homes} top_is alone zeros is =
-    rw (is, alone.alone) (record {
-      exponent = top_is;
-      threshold = refl;
-      phases = refl;
-      one = refl;
-      whole = alone.whole;
-      homes = zeros ∙ replicated table.nodes;
-      readers = ap (λ n. readers_of n (alone.cluster ∷ []))
-          (ap (length {A = ℕ}) zeros ∙ length-replicate {A = ℕ} table.nodes 0)
-          ∙ map_same (clusters_with (alone.cluster ∷ [])) (λ v. 0 ∷ []) table.nodes
-          (λ v h. ap (λ b. cond b (0 ∷ []) []) (ap (has v) alone.whole.members ∙ has_centre table.nodes v h));
-    })
+    rw (is, alone.alone) (search (rules, replicated, length-replicate, map_same, has_centre))
   where
     replicated_from : (v n : ℕ) → replicate {A = ℕ} n 0 ≡ map (λ v. 0) (sift (λ x. true) v n)
     replicated_from v zero = refl
@@ -105,13 +73,7 @@ flat_level_is {table} {top} {homes} top_is alone zeros is =
 pub level_sized : {n : ℕ} (exponent threshold phases : ℕ) (clusters : List PlanCluster) (homes : List ℕ) {level : Level}
     → level ≡ level_of exponent threshold (shape_with phases clusters homes) → length homes ≡ n → length clusters ≤ n
     → exponent ≤ 30 → IsSized n level
-level_sized exponent threshold phases clusters homes is nodes few light =
-    rw is (record {
-      homes = nodes;
-      readers = length-map_centres (clusters_with clusters) (length homes) ∙ nodes;
-      clusters = few;
-      exponent = light;
-    })
+level_sized exponent threshold phases clusters homes is nodes few light = search (rules, length-map_centres)
 
 -- ---- a cluster of a cover, as a row
 
@@ -123,27 +85,18 @@ pub row_is : {network : Network} (made : Cluster) {nodes old new : List ℕ} {de
       weights = is.weights;
       depth = depth;
     })
-row_is {network} made {nodes} {depth} listed is = record {
-  leader = refl;
-  phase = refl;
-  members = listed;
-  tree = subst (λ xs. IsTreeOf network xs made.first (make_cluster made.first nodes is.weights)) listed is.tree;
-  count = is.sound.count;
-  depth = is.sound.depth_is;
-}
+row_is {network} made {nodes} {depth} listed is = search rules
 
 pub more_clusters : {network : Network} (made : List Cluster) (rows : List PlanCluster) {c : Cluster} {d : PlanCluster}
     → AreClustersOf network made rows → IsClusterOf network c d
     → AreClustersOf network (made ++ c ∷ []) (rows ++ d ∷ [])
-more_clusters [] [] are is = (is, tt)
-more_clusters [] (e ∷ es) are is = absurd are
+more_clusters [] rows are is = grind arith
 more_clusters (b ∷ bs) [] are is = absurd are
 more_clusters (b ∷ bs) (e ∷ es) are is = (are.0, more_clusters bs es are.1 is)
 
 pub clusters_count : (network : Network) (made : List Cluster) (rows : List PlanCluster)
     → AreClustersOf network made rows → length made ≡ length rows
-clusters_count network [] [] are = refl
-clusters_count network [] (e ∷ es) are = absurd are
+clusters_count network [] rows are = grind arith
 clusters_count network (b ∷ bs) [] are = absurd are
 clusters_count network (b ∷ bs) (e ∷ es) are = omega (arith, clusters_count network bs es are.1)
 

@@ -1,5 +1,5 @@
 -- The plan of a network is matched, and its clusters are within their radius.
-use Rattle.std.proofs.Common.{◌≡◌, ℕ, ◌*◌, ◌^◌, ◌<◌, ◌≤◌, true, List, [], length, get_or, refl, sym, ◌∙◌, ap, arith}
+use Rattle.std.proofs.Common.{rules, ◌≡◌, ℕ, ◌*◌, ◌^◌, ◌<◌, ◌≤◌, true, List, [], length, get_or, refl, sym, ◌∙◌, ap, arith}
 use Rattle.std.proofs.lemmas.List.{get_or-map}
 use Rattle.net_graph.specs.Walks.{IsLeastWeight, weight_of, everywhere}
 use Rattle.net_graph.specs.Network.{Network, IsNetwork}
@@ -12,7 +12,7 @@ use Rattle.coarse_cover.specs.Covers.{cluster_list}
 use Rattle.coarse_cover.specs.declared.cover.Cluster.{Cluster}
 use Rattle.coarse_cover.specs.CoverLaws.{cluster_list_nodes, length-cluster_list}
 use Rattle.cluster_tree.specs.Tree.{within}
-use Rattle.region_plan.specs.Plan.{PlanData, nodes_of, levels_of, top_of, distance, level_at, no_cluster, cluster_at, clusters_of, members_of, home, readers, leader, inside}
+use Rattle.region_plan.specs.Plan.{PlanData, nodes_of, levels_of, top_of, distance, level_at, cluster_at, clusters_of, members_of, home, readers, leader, inside}
 use Rattle.region_plan.specs.Regions.{balls_of, regions_of, clusters_with}
 use Rattle.region_plan.specs.Coverings.{CoveringsAreShaped, CoveringsHaveHomes, reach_of, trade_off_of}
 use Rattle.region_plan.specs.Meanings.{IsClusterOf, IsCoveredPlan, IsLevelOf}
@@ -45,8 +45,7 @@ module _ (shape : CoveringsAreShaped) (found : CoveringsHaveHomes) {network : Ne
     as_many = clusters_count network made (level_at plan i).clusters level.clusters
 
     cluster_is : (c : ℕ) → c < clusters_of plan i → IsClusterOf network (get_or made c no_made) (cluster_at plan i c)
-    cluster_is c h = clusters_at network made (level_at plan i).clusters level.clusters c no_made no_cluster
-        (omega (arith, as_many))
+    cluster_is c h = search (rules, clusters_at, as_many)
 
     close : (c : ℕ) → c < clusters_of plan i → IsClose network (reach_of covering * 2 ^ i) (get_or made c no_made)
     close c h = listed_close metric is.distances sound i covering low shape c no_made (omega (arith, as_many))
@@ -89,10 +88,7 @@ module _ (shape : CoveringsAreShaped) (found : CoveringsHaveHomes) {network : Ne
 
     pub inside_near : (c v : ℕ) → c < clusters_of plan i → has v (members_of plan i c) ≡ true
         → inside plan i c v ≤ reach_of covering * 2 ^ i
-    inside_near c v h member =
-        let near = (close c h).near v (made_member c v h member) in
-        let least = (weighs c v h member).least near.steps near.walk in
-        omega (arith, least, near.light)
+    inside_near c v h member = grind (arith, close c h, made_member c v h member, weighs c v h member)
 
     -- ---- homes
 
@@ -103,8 +99,7 @@ module _ (shape : CoveringsAreShaped) (found : CoveringsHaveHomes) {network : Ne
     groups_count = sym (length-cluster_list (nodes_of plan) 0 (regions_of plan.distances covering i)) ∙ as_many
 
     home_is : (v : ℕ) → v < nodes_of plan → home plan i v ≡ home_of groups v
-    home_is v h = ap (λ (xs : List ℕ). get_or xs v 0) level.homes
-        ∙ get_or-map_centres (home_of groups) (nodes_of plan) v 0 h
+    home_is v h = search (rules, get_or-map_centres)
 
     ball_below : (v : ℕ) → v < nodes_of plan → v < length (balls_of plan.distances i)
     ball_below v h = omega (arith, length-map_centres (λ u. ball_of plan.distances u (2 ^ i)) (nodes_of plan))
@@ -143,8 +138,7 @@ module _ (shape : CoveringsAreShaped) (found : CoveringsHaveHomes) {network : Ne
         in_home u v hu (to_ball metric is.distances sound.limits.edges (2 ^ i) u v hu hv near)
 
     pub reads : (v : ℕ) → v < nodes_of plan → readers plan i v ≡ clusters_with (level_at plan i).clusters v
-    reads v h = ap (λ (xs : List (List ℕ)). get_or xs v []) level.readers
-        ∙ get_or-map_centres (clusters_with (level_at plan i).clusters) (nodes_of plan) v [] h
+    reads v h = search (rules, get_or-map_centres)
 
     pub own_home : (v : ℕ) → v < nodes_of plan → has v (members_of plan i (home plan i v)) ≡ true
     own_home v h = near_home v v h h (omega (arith, metric.zero v h))
@@ -159,31 +153,21 @@ module _ (shape : CoveringsAreShaped) (found : CoveringsHaveHomes) {network : Ne
         near_home v u hv hu (rw last (omega (arith, is.top.greatest.greatest v u hv hu, is.top.enough)))
 
   plan_matched : IsMatched plan
-  plan_matched =
-      let last : top_of plan < levels_of plan = omega (arith, is.some) in
-      record {
-        some = is.some;
-        metric = metric;
-        first = (is.each 0 is.some).threshold;
-        homes = λ i v h. home_below i h v;
-        held = λ i v h. own_home i h v;
-        read = λ i v h. reads i h v;
-        met = λ i u v h. meets i h u v;
-        whole = λ u v hu hv. all_home (top_of plan) last u v hu hv refl;
-        within = λ i c v h. member_below i h c v;
-        led = λ i c h. leader_member i h c;
-        starts = λ i c h. leader_inside i h c;
-        far = λ i c v h. inside_far i h c v;
-      }
+  plan_matched = search (
+    rules,
+    home_below,
+    own_home,
+    reads,
+    meets,
+    all_home,
+    member_below,
+    leader_member,
+    leader_inside,
+    inside_far,
+  )
 
   plan_near : IsWithinReach plan
   plan_near i c v h hc member = rw (is.reach, (is.each i h).exponent) (inside_near i h c v hc member)
 
   pub plan_bounds : BoundsFinds plan
-  plan_bounds = record {
-    matched = plan_matched;
-    exponents = λ i h. (is.each i h).exponent;
-    thresholds = λ i h. (is.each i h).threshold;
-    reached = plan_near;
-    read = λ i v. degree_bounds plan i v;
-  }
+  plan_bounds = search (rules, plan_matched, plan_near, degree_bounds)

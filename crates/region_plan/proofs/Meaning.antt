@@ -1,5 +1,5 @@
 -- The plan of a network is what its parts say in words of walks, and the only plan that is.
-use Rattle.std.proofs.Common.{◌≡◌, ℕ, zero, suc, ◌+◌, ◌-◌, ◌*◌, ◌/◌, ◌%◌, ◌^◌, ◌<◌, ◌≤◌, Bool, true, List, [], ◌∷◌, get_or, length, map, refl, sym, ◌∙◌, ap, subst, inl, inr, arith, nat_le}
+use Rattle.std.proofs.Common.{rules, ◌≡◌, ℕ, zero, suc, ◌+◌, ◌-◌, ◌*◌, ◌/◌, ◌%◌, ◌^◌, ◌<◌, ◌≤◌, Bool, true, List, [], ◌∷◌, get_or, length, map, refl, sym, ◌∙◌, ap, subst, inl, inr, arith, nat_le}
 use Rattle.std.specs.Prelude.{All}
 use Rattle.std.proofs.lemmas.Bool.{cases_lt, leb-false, leb-true}
 use Rattle.std.proofs.lemmas.List.{length-map, get_or-map}
@@ -120,10 +120,8 @@ module _ (found : LeastWeightsAreFound) (network : Network) (sound : IsNetwork n
   clusters_are : (made : List Cluster) → All (IsSpanned network) made
       → AreClustersOf network made (map (weighed network) made)
   clusters_are [] all = tt
-  clusters_are (c ∷ cs) all = (
-    cluster_is c (All-head (IsSpanned network) c cs all),
-    clusters_are cs (All-tail (IsSpanned network) c cs all),
-  )
+  clusters_are (c ∷ cs) all =
+      search (rules, cluster_is, All-head, All-tail, clusters_are cs (All-tail (IsSpanned network) c cs all))
 
 -- ---- a level, and the plan
 

@@ -25,8 +25,7 @@ most_push (x ∷ xs) y = ap (λ n. max x n) (most_push xs y) ∙ sym (max_both x
 
 most_more : (xs : List ℕ) (i : ℕ) {y : ℕ} → i < length xs → get_or xs i 0 ≡ y
     → most (take (i + 1) xs) ≡ max (most (take i xs)) y
-most_more xs i below is = ap most (take_more xs i 0 below) ∙ most_push (take i xs) (get_or xs i 0)
-    ∙ ap (λ n. max (most (take i xs)) n) is
+most_more xs i below is = grind (arith, take_more xs i 0 below, most_push (take i xs) (get_or xs i 0))
 
 pub degree_step : (shape : Shape) (v : ℕ) {old len new : ℕ} {row : List ℕ} → v < length shape.readers
     → old ≡ most (take v (map length shape.readers)) → len ≡ length row → row ≡ readers_for shape v
@@ -40,8 +39,7 @@ degree_step shape v {len} below before is reads now =
 
 pub degree_done : (shape : Shape) (v : ℕ) {degree : ℕ} → length shape.readers ≤ v
     → degree ≡ most (take v (map length shape.readers)) → degree ≡ most (map length shape.readers)
-degree_done shape v past is = is
-    ∙ ap most (take_all v (map length shape.readers) (omega (arith, length-map shape.readers (length {A = ℕ}))))
+degree_done shape v past is = search (rules, take_all, length-map)
 
 pub level_step : (levels : List Level) (i : ℕ) {old d new : ℕ} {shape : Shape} → i < length levels
     → old ≡ most (take i (map degree_in levels)) → shape ≡ shape_of (level_in levels i)

@@ -1,5 +1,5 @@
 -- Walks inside unions of balls: a least walk from a centre stays in its ball, so a cluster is spanned from its leader.
-use Rattle.std.proofs.Common.{◌≡◌, ℕ, zero, suc, ◌+◌, ◌*◌, ◌<◌, ◌≤◌, Bool, true, false, ◌||◌, List, [], ◌∷◌, ◌++◌, map, refl, sym, ◌∙◌, ap, subst, inl, inr, arith, eqb, eq-eqb}
+use Rattle.std.proofs.Common.{rules, ◌≡◌, ℕ, zero, suc, ◌+◌, ◌*◌, ◌<◌, ◌≤◌, Bool, true, false, ◌||◌, List, [], ◌∷◌, map, refl, sym, ◌∙◌, ap, subst, arith, eq-eqb}
 use Rattle.std.specs.Prelude.{All}
 use Rattle.std.proofs.lemmas.Bool.{cases_lt, eqb-true, false≢true, or_cases}
 use Rattle.std.proofs.lemmas.List.{get_or_past}
@@ -19,17 +19,11 @@ use Rattle.node_set.specs.Balls.{ball, union_of, growth, centres}
 
 near_back : {edges : List Edge} {inside : ℕ → Bool} {u v w : ℕ} → IsNoHeavier edges inside u v w
     → IsNoHeavier edges inside v u w
-near_back {edges} {inside} {u} {v} near =
-    let back = walk_turned edges inside u near.steps v near.walk in
-    record { steps = back.steps; walk = back.walk; light = omega (arith, back.sum, near.light) }
+near_back {edges} {inside} {u} {v} near = search (rules, walk_turned)
 
 near_on : {edges : List Edge} {inside : ℕ → Bool} {u v x a b : ℕ} → IsNoHeavier edges inside u v a
     → IsNoHeavier edges inside v x b → IsNoHeavier edges inside u x (a + b)
-near_on {edges} {inside} {u} {v} {x} here there = record {
-  steps = here.steps ++ there.steps;
-  walk = walk-append edges inside u here.steps v there.steps x here.walk there.walk;
-  light = omega (arith, weight_of-append here.steps there.steps, here.light, there.light);
-}
+near_on {edges} {inside} {u} {v} {x} here there = search (rules, walk-append, weight_of-append)
 
 pub near_more : {edges : List Edge} {inside : ℕ → Bool} {u v a : ℕ} (b : ℕ) → a ≤ b → IsNoHeavier edges inside u v a
     → IsNoHeavier edges inside u v b
@@ -68,12 +62,11 @@ module _ {network : Network} {table : DistanceTable} (metric : IsMetric table) (
       → ((y : ℕ) → y < table.nodes → dist table c y ≤ r → inside y ≡ true) → IsNoHeavier network.edges inside c x r
   near_centre inside c r x hc hx far holds =
       let walk = (least.each c x hc hx).attained in
-      record {
-        steps = walk.steps;
-        walk = stays inside c r hc holds walk.steps 0 c x hc (omega (arith, metric.zero c hc)) walk.walk
-            (omega (arith, walk.sum));
-        light = omega (arith, walk.sum);
-      }
+      grind (
+        arith,
+        stays inside c r hc holds walk.steps 0 c x hc (omega (arith, metric.zero c hc)) walk.walk
+            (omega (arith, walk.sum)),
+      )
 
   -- ---- the balls of a radius
 
@@ -97,8 +90,7 @@ module _ {network : Network} {table : DistanceTable} (metric : IsMetric table) (
 
     module _ (waiting : List ℕ) (a : ℕ) (below : a < table.nodes) (waits : has a waiting ≡ true) where
       only : (v : ℕ) → has v (a ∷ []) ≡ true → a ≡ v
-      only v h = elim (or_cases (eqb v a) false h)
-          [ inl same ↦ sym (eqb-true v a same) | inr none ↦ absurd (false≢true none) ]
+      only v h = search (rules, or_cases, eqb-true, false≢true)
 
       taken : (j v : ℕ) → has v (growth balls waiting a j) ≡ true → (v < table.nodes) × (has v waiting ≡ true)
       taken zero v h = grind (arith, growth_first, only)

@@ -1,5 +1,5 @@
 -- A cluster's row, and a table's readers, as they are read.
-use Rattle.std.proofs.Common.{◌≡◌, Ok, Err, ℕ, zero, suc, ◌+◌, ◌<◌, ◌≤◌, true, false, List, [], ◌∷◌, length, get_or, sym, ◌∙◌, ap, subst, arith}
+use Rattle.std.proofs.Common.{rules, ◌≡◌, Ok, Err, ℕ, zero, suc, ◌+◌, ◌<◌, ◌≤◌, true, false, List, [], ◌∷◌, length, get_or, sym, ◌∙◌, ap, subst, arith}
 use Rattle.std.specs.List.Sorted.{IsBinarySearchResult}
 use Rattle.std.specs.Ordering.{nat_cmp}
 use Rattle.std.proofs.lemmas.List.Sorted.{searched}
@@ -28,8 +28,7 @@ rising (x ∷ xs) ascending (suc i) (suc j) order short = rising xs ascending.1 
 pub found_member : (xs : List ℕ) (v k : ℕ) → IsAscending xs → IsBinarySearchResult (λ y. nat_cmp y v) xs (Ok k)
     → true ≡ has v xs
 found_member xs v k ascending result =
-    let at = searched xs v (Ok k) result (rising xs ascending) in
-    sym (rw at.1 at (has_place xs k at.0))
+    grind (arith, rising, has_place, searched xs v (Ok k) result (rising xs ascending))
 
 pub missed_member : (xs : List ℕ) (v : ℕ) {k : ℕ} → IsAscending xs → IsBinarySearchResult (λ y. nat_cmp y v) xs (Err k)
     → false ≡ has v xs
@@ -51,8 +50,7 @@ module _ {phases : ℕ} {clusters : List PlanCluster} {homes : List ℕ} {shape 
   short = subst (λ (l : Shape). v < length l.homes) (sym view) below
 
   in_shape : clusters_with clusters v ≡ readers_for shape v
-  in_shape = sym (get_or-map_centres (clusters_with clusters) (length homes) v [] short)
-      ∙ ap (λ (l : Shape). readers_for l v) view
+  in_shape = search (rules, get_or-map_centres, short)
 
   module _ {starts readers : List ℕ} (rows : AreRowsOf (length homes) (clusters_with clusters) starts readers) where
     pub node_start : v + 1 < length starts

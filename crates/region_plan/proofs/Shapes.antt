@@ -1,5 +1,5 @@
 -- Levels over the shapes that they share.
-use Rattle.std.proofs.Common.{◌≡◌, ℕ, suc, ◌<◌, List, [], ◌∷◌, ◌++◌, length, get_or, refl, sym, ◌∙◌, ap, arith, ◌-◌}
+use Rattle.std.proofs.Common.{rules, ◌≡◌, ℕ, suc, ◌<◌, List, [], ◌∷◌, ◌++◌, length, get_or, refl, sym, ◌∙◌, ap, arith, ◌-◌}
 use Rattle.std.specs.Prelude.{All}
 use Rattle.std.proofs.lemmas.List.{get_or-map, get_or_append_left, get_or_push, length-map, map_push}
 use Rattle.region_plan.specs.Plan.{Level, level_in, no_level}
@@ -29,15 +29,7 @@ pub level_pushed : (shapes : List Shape) {new_shapes : List Shape} (shape : Shap
     → new_heads ≡ heads ++ record { exponent = exponent; threshold = threshold; table = place } ∷ []
     → levels_over new_shapes new_heads ≡ levels ++ level_of exponent threshold shape ∷ []
 level_pushed shapes shape heads {new_heads} {levels} exponent threshold {place} view below grown last now =
-    rw (
-      grown,
-      now,
-      map_push (level_under (shapes ++ shape ∷ [])) heads
-          (record { exponent = exponent; threshold = threshold; table = place }),
-      shape_added shapes shape heads below,
-      view,
-      get_or_push shapes shape (shape_of no_level) place (sym last),
-    ) refl
+    search (rules, map_push, shape_added, get_or_push)
 
 -- ---- a level that shares the shape of the last one
 
@@ -56,16 +48,4 @@ module _ (shapes : List Shape) (heads : List LevelHead) {levels : List Level} {a
       ≡ heads ++ record { exponent = exponent; threshold = threshold; table = last.table } ∷ []
       → levels_over shapes new_heads
       ≡ levels ++ level_with exponent threshold (level_in levels (length levels - 1)) ∷ []
-  level_shared exponent threshold now =
-      let same : level_under shapes last ≡ level_in levels (length levels - 1) =
-      ap (level_under shapes) here
-      ∙ sym (get_or-map (level_under shapes) heads at last no_level
-      (omega (arith, heads_count shapes heads view)))
-      ∙ ap (λ (ls : List Level). level_in ls at) view
-      ∙ ap (level_in levels) (omega (arith, heads_count shapes heads view))
-      in
-      ap (levels_over shapes) now
-      ∙ map_push (level_under shapes) heads
-      (record { exponent = exponent; threshold = threshold; table = last.table })
-      ∙ ap (λ (ls : List Level). ls ++ level_of exponent threshold (shape_in shapes last.table) ∷ []) view
-      ∙ ap (λ (l : Level). levels ++ level_with exponent threshold l ∷ []) same
+  level_shared exponent threshold now = search (rules, get_or-map, heads_count, map_push)

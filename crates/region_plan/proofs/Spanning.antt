@@ -1,5 +1,5 @@
 -- The clusters of a level: each is spanned from its leader, within its radius.
-use Rattle.std.proofs.Common.{◌≡◌, ℕ, suc, ◌+◌, ◌-◌, ◌*◌, ◌^◌, ◌<◌, ◌≤◌, true, List, [], ◌∷◌, ◌++◌, length, map, get_or, sym, ◌∙◌, ap, subst, arith}
+use Rattle.std.proofs.Common.{rules, ◌≡◌, ℕ, suc, ◌+◌, ◌-◌, ◌*◌, ◌^◌, ◌<◌, ◌≤◌, true, List, [], ◌∷◌, ◌++◌, length, map, get_or, sym, ◌∙◌, ap, arith}
 use Rattle.std.specs.Prelude.{All}
 use Rattle.std.proofs.Math.Nat.{mul-le-mul_right}
 use Rattle.std.proofs.lemmas.List.{length-append, get_or_append_left, get_or-append-add}
@@ -24,12 +24,10 @@ use Rattle.region_plan.proofs.Reaching.{near_more, in_ball, own_ball, near_leade
 -- ---- what holds of each part of a list
 
 All-left : {X : Type 0} (P : X → Type 0) (xs ys : List X) → All P (xs ++ ys) → All P xs
-All-left P xs ys all k d below = subst P (get_or_append_left xs ys d k below) (all k d
-    (omega (arith, length-append xs ys)))
+All-left P xs ys all k d below = search (rules, get_or_append_left, length-append)
 
 All-right : {X : Type 0} (P : X → Type 0) (xs ys : List X) → All P (xs ++ ys) → All P ys
-All-right P xs ys all k d below = subst P (get_or-append-add xs ys k d) (all (length xs + k) d
-    (omega (arith, length-append xs ys)))
+All-right P xs ys all k d below = search (rules, get_or-append-add, length-append)
 
 pub for_each_listed : (P : Cluster → Type 0) (Q : GrownCluster → Type 0) (n : ℕ)
     → ((p : ℕ) (c : GrownCluster) → Q c → P (as_cluster n p c))
@@ -50,11 +48,7 @@ pub record IsClose (network : Network) (radius : ℕ) (c : Cluster) : Type 0 whe
       → IsNoHeavier network.edges (within c.members.members) c.first v radius
 
 pub close_spans : {network : Network} {radius : ℕ} {c : Cluster} → IsClose network radius c → IsSpanned network c
-close_spans close = record {
-  room = close.room;
-  leads = close.leads;
-  reached = λ v h. let near = close.near v h in record { steps = near.steps; walk = near.walk };
-}
+close_spans close = search rules
 
 module _ {network : Network} {table : DistanceTable} (metric : IsMetric table) (least : AreDistancesOf network table)
     (sound : IsNetwork network) (i : ℕ) where

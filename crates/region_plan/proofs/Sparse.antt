@@ -128,15 +128,4 @@ module _ (sparse : CoversAreSparse) {network : Network} (sound : IsNetwork netwo
   wide i below = grind (arith, is.each i below, length-map_centres)
 
   pub few_readers : HasFewReaders plan
-  few_readers =
-      let top = attained plan is.some wide in
-      let reads : degree_of plan ≤ (level_at plan top.level).phases = omega (
-        arith,
-        top.reads,
-        read_few top.level top.node top.below,
-      ) in
-      record {
-        phases = λ i h. rw is.trade_off (phases_few i h);
-        read = read_few;
-        degree = rw is.trade_off (omega (arith, pow-le-pow_left reads k, phases_few top.level top.below));
-      }
+  few_readers = grind (arith, wide, read_few, phases_few, pow-le-pow_left, attained plan is.some wide)

@@ -1,5 +1,5 @@
 -- The exponents of distances, as they are written and read.
-use Rattle.std.proofs.Common.{◌≡◌, inl, inr, ℕ, zero, suc, ◌+◌, ◌*◌, ◌^◌, ◌<◌, ◌≤◌, Bool, true, false, List, get_or, length, map, set, sym, take, ◌∙◌, arith}
+use Rattle.std.proofs.Common.{rules, ◌≡◌, inl, inr, ℕ, zero, suc, ◌+◌, ◌*◌, ◌^◌, ◌<◌, ◌≤◌, Bool, true, false, List, get_or, length, map, set, sym, take, ◌∙◌, arith}
 use Rattle.std.specs.Prelude.{All, nat_le, slice_index, slice_range}
 use Rattle.std.proofs.Math.Nat.{pow-le-pow_right, pow-suc}
 use Rattle.std.proofs.lemmas.Bool.{cases_lt, false≢true, le-leb, leb-true, lt-leb}
@@ -90,11 +90,7 @@ row_within {table} {v} radius {row} is = grind (arith, passing_same)
 pub ball_within : {table : DistanceTable} {exponents row : List ℕ} (v i : ℕ) → AreExponents table exponents
     → v < table.nodes → row ≡ slice_range exponents (v * table.nodes) ((v + 1) * table.nodes)
     → sift (λ x. nat_le (slice_index row x) i) 0 (length row) ≡ ball_of table v (2 ^ i)
-ball_within {table} {exponents} v i are below is =
-    let as_table : DistanceTable = record { nodes = table.nodes; cells = exponents } in
-    row_within i (rw is (part_is_row table.nodes v exponents are.count below))
-    ∙ passing_same (λ w. nat_le (dist as_table v w) i) (λ w. nat_le (dist table v w) (2 ^ i)) 0 table.nodes
-    (λ w low high. are.each v w below (omega arith) i)
+ball_within {table} {exponents} v i are below is = search (rules, row_within, part_is_row, passing_same)
 
 -- one ball more
 pub ball_filled : {table : DistanceTable} {exponents row : List ℕ} (v i : ℕ) (balls : List Nodes) (ball : Nodes)

@@ -1,4 +1,4 @@
-use Rattle.std.proofs.Common.{◌≡◌, ◌≤◌, ◌∙◌, ℕ, length, replicate, ap, arith}
+use Rattle.std.proofs.Common.{rules, ◌≡◌, ◌≤◌, ◌∙◌, ℕ, length, replicate, ap, arith}
 use Rattle.std.proofs.lemmas.List.{length-replicate}
 use Rattle.std.proofs.lemmas.Result.{IfOk-weaker}
 use Rattle.region_plan.specs.Plan.{PlanCluster}
@@ -10,8 +10,7 @@ use Rattle.region_plan.proofs.flat.flat_table.Goals as goal
 use Rattle.region_plan.proofs.flat.flat_table.Goals.{After-new}
 
 zeros : (c : After-new) → c.in_ok-homes.homes.items ≡ replicate {A = ℕ} c.args.distances.now.nodes 0
-zeros c = c.in_ok-homes.ensures.items_if_clones_equal (λ y e. e)
-    ∙ ap (λ n. replicate {A = ℕ} n 0) c.nodes.ensures.count
+zeros c = search rules
 
 pub returns-clause-level : goal.returns-clause-level
 returns-clause-level c =

@@ -1,4 +1,4 @@
-use Rattle.std.proofs.Common.{◌∙◌, ◌<◌, ℕ, get_or, length, arith}
+use Rattle.std.proofs.Common.{rules, ◌∙◌, ◌<◌, ℕ, get_or, length, arith}
 use Rattle.std.proofs.lemmas.List.{take_all}
 use Rattle.region_plan.proofs.Rows.{length-containing}
 use Rattle.region_plan.proofs.Filling.{its_weight, next_free, next_within, reader_written}
@@ -34,17 +34,8 @@ loop-place-preserved c = elim c.if-v-taken.branch [
             c.loop-place-test.true c.nodes-members.ensures.ascending c.weights-inside.ensures.weights
             c.weights-inside.ensures.count);
       })
-  | else-v-taken w ↦
-      rw (w.taken-is, w.readers-is, w.weights-is) (record {
-        counted = one_skipped c.nodes-members.result.now c.args.taken.now c.loop-place.taken c.loop-place.place
-            c.loop-place-test.true c.loop-place.invariant.counted
-            (omega (arith, w.if-v-taken.false, c.loop-place.auto.taken));
-        filled = c.loop-place.invariant.filled;
-      })
+  | else-v-taken w ↦ search (rules, one_skipped)
 ]
 
 pub returns-clause-counts : goal.returns-clause-counts
-returns-clause-counts c =
-    cluster_counted c.args.clusters.now c.args.number c.nodes-members.ensures.members c.requires.counts
-    (rw (take_all c.loop-place.place c.nodes-members.result.now (omega (arith, c.loop-place-test.false)))
-    at c.loop-place.invariant.counted)
+returns-clause-counts c = search (rules, cluster_counted, take_all)

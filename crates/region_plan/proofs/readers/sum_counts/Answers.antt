@@ -5,11 +5,7 @@ use Rattle.region_plan.proofs.Gathering.{count_few}
 use Rattle.region_plan.proofs.readers.sum_counts.Goals as goal
 
 pub loop-count-init : goal.loop-count-init
-loop-count-init c = record {
-  starts = no_starts c.push.new.self.items (search rules);
-  last = search rules;
-  few = omega arith;
-}
+loop-count-init c = search (rules, no_starts)
 
 pub overflow_add-sum : goal.overflow_add-sum
 overflow_add-sum c = grind (arith, count_few)
@@ -22,13 +18,8 @@ loop-count-preserved c = record {
   last = last_start c.args.counts.now c.loop-count.starts.items c.loop-count.count-index c.loop-count.sum
       c.loop-count-test.true c.loop-count.invariant.starts c.loop-count.invariant.last
       c.push-in-loop-count.new.self.items c.in_ok-push-2.ensures.items;
-  few = omega (
-    arith,
-    c.loop-count.invariant.few,
-    count_few c.args.counts.now c.loop-count.count-index c.loop-count-test.true c.requires.small,
-  );
+  few = grind (arith, count_few);
 }
 
 pub returns : goal.returns
-returns c = rw (take_all c.loop-count.count-index c.args.counts.now (omega (arith, c.loop-count-test.false)))
-    at c.loop-count.invariant.starts
+returns c = search (rules, take_all)

@@ -1,6 +1,5 @@
-use Rattle.std.proofs.Common.{◌≡◌, ◌++◌, ◌≤◌, ◌*◌, ℕ, List, take, drop, length, ap, ◌∙◌, sym, subst, arith}
+use Rattle.std.proofs.Common.{rules, ◌≡◌, ◌++◌, ◌≤◌, ◌*◌, ℕ, List, take, drop, length, ap, ◌∙◌, sym, arith}
 use Rattle.std.specs.Prelude.{slice_index}
-use Rattle.region_plan.specs.Spread.{AreExponentsTo}
 use Rattle.region_plan.proofs.Spreading.{row_short, row_small, row_written}
 use Rattle.region_plan.proofs.spread.exponents_of.Goals as goal
 use Rattle.std.proofs.lemmas.List.{take_at}
@@ -46,11 +45,4 @@ loop-u-preserved c =
     })
 
 pub returns : goal.returns
-returns c =
-    let all : c.loop-u.u ≡ c.args.distances.now.nodes =
-    omega (arith, c.loop-u-test.false, c.loop-u.auto.u-end, c.nodes-nodes.ensures.count) in
-    record {
-      count = c.loop-u.invariant.count;
-      few = c.loop-u.invariant.few;
-      each = subst (AreExponentsTo c.args.distances.now c.loop-u.exponents.items) all c.loop-u.invariant.each;
-    }
+returns c = search rules

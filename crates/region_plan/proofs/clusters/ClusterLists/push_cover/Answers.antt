@@ -1,9 +1,6 @@
-use Rattle.std.proofs.Common.{List, ◌∷◌, ◌++◌, [], sym, ap, ◌∙◌}
+use Rattle.std.proofs.Common.{rules}
 use Rattle.std.proofs.lemmas.List.{append_assoc}
-use Rattle.std.specs.Vec.Iter.{into_iter_items}
-use Rattle.coarse_cover.specs.declared.cover.Cluster.{Cluster}
 use Rattle.region_plan.specs.Kept.{IsSpanned}
-use Rattle.region_plan.specs.Laid.{clusters_of_lists}
 use Rattle.region_plan.proofs.Lists.{next_holds}
 use Rattle.region_plan.proofs.Making.{more_clusters}
 use Rattle.region_plan.proofs.clusters.ClusterLists.push_cover.Goals as goal
@@ -21,10 +18,6 @@ loop-cluster-preserved c = record {
       c.in-Some.ensures.steps.0 c.requires.spanned in
       c.give_back.ensures.sized c.args.graph.now.nodes c.loop-cluster.invariant.work spanned.room;
   laid = c.in_ok-push.ensures.laid;
-  done = rw c.in_ok-push.ensures.pushed.pushed
-      (more_clusters c.loop-cluster.yielded (clusters_of_lists c.loop-cluster.self) c.loop-cluster.invariant.done
-      c.in_ok-push.ensures.pushed.is);
-  all = c.loop-cluster.invariant.all ∙ ap (λ (rest : List Cluster). c.loop-cluster.yielded ++ rest)
-      c.in-Some.ensures.steps.0
-      ∙ sym (append_assoc c.loop-cluster.yielded (c.in-Some.cluster ∷ []) (into_iter_items c.next.new.self));
+  done = search (rules, more_clusters);
+  all = search (rules, append_assoc);
 }

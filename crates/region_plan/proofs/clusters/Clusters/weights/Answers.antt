@@ -1,4 +1,4 @@
-use Rattle.std.proofs.Common.{arith}
+use Rattle.std.proofs.Common.{rules, arith}
 use Rattle.region_plan.proofs.Laying.{head_count, head_laid, head_read, head_short}
 use Rattle.region_plan.proofs.clusters.Clusters.weights.Goals as goal
 
@@ -9,8 +9,5 @@ pub slice_bounds-result-count : goal.slice_bounds-result-count
 slice_bounds-result-count c =
     (head_laid c.args.c c.self.invariant c.self.view_is c.requires c.index-head.ensures).order
 
-pub returns-clause-weights : goal.returns-clause-weights
-returns-clause-weights c = grind (arith, head_read)
-
-pub returns-clause-count : goal.returns-clause-count
-returns-clause-count c = grind (arith, head_count)
+pub returns : goal.returns
+returns c = search (rules, head_read, head_count)

@@ -1,4 +1,4 @@
-use Rattle.std.proofs.Common.{arith}
+use Rattle.std.proofs.Common.{rules, arith}
 use Rattle.region_plan.proofs.Rows.{node_order, node_start, read_row, row_short}
 use Rattle.region_plan.proofs.level.LevelTable.readers_at.Goals as goal
 
@@ -12,12 +12,5 @@ pub slice_bounds-result-count : goal.slice_bounds-result-count
 slice_bounds-result-count c =
     node_order c.args.v c.self.view_is c.requires c.self.invariant.rows c.index.ensures c.index-2.ensures
 
-pub returns-clause-numbers : goal.returns-clause-numbers
-returns-clause-numbers c =
-    read_row c.args.v c.self.view_is c.requires c.self.invariant.rows c.index.ensures c.index-2.ensures
-    c.deref.ensures.value
-
-pub returns-clause-few : goal.returns-clause-few
-returns-clause-few c =
-    row_short c.args.v c.self.view_is c.requires c.self.invariant.rows c.index.ensures c.index-2.ensures
-    c.deref.ensures.value
+pub returns : goal.returns
+returns c = search (rules, read_row, row_short)
