@@ -54,15 +54,9 @@ begun-shows : {setting : Setting} {handset : HandsetData} (after : HandsetData) 
     → Shows setting handset (take made (visits setting handset.sub steps))
     → Shows setting after (take made (visits setting handset.sub (steps ++ step ∷ [])))
 begun-shows {setting} {handset} after steps made step sub place number off few shows =
-    let same : take made (visits setting handset.sub (steps ++ step ∷ []))
-    ≡ take made (visits setting handset.sub steps) =
-    ap (take made) (visits-more setting handset.sub steps step)
-    ∙ take-append-le made (visits setting handset.sub steps) (map (visit_of handset.sub) (step_writes setting
-    (course_of setting handset.sub steps) step)) few in
-    subst (Shows setting after) (sym same)
-    (record {
-      place = place ∙ (shows.place ∙ ap (λ s. fold (λ node commit. commit.to) (start setting s) (commits_in
-          (take made (visits setting handset.sub steps)))) (sym sub));
+    rw (visits-more setting handset.sub steps step, take-append-le made (visits setting handset.sub steps)
+    (map (visit_of handset.sub) (step_writes setting (course_of setting handset.sub steps) step)) few) (record {
+      place = rw (place, sub) shows.place;
       number = number ∙ shows.number;
       is_off = off ∙ shows.is_off;
     })

@@ -24,33 +24,23 @@ pub commits-is : MarksUnpack → {plan : PlanData} {handset : HandsetData} {visi
     → is_committing handset.stage ≡ is_commit visit.act
 commits-is unpack {plan} {handset} {visit} goes small wants = at_stage handset.stage goes.counted wants
   where
-    by_mark : (node : ℕ) (mark : PresenceMark) (commits : Bool) → IsSmallMark mark
-        → is_some (commit_of node mark) ≡ commits → Some (visit_of handset.sub (mark_at node mark)) ≡ Some visit
-        → commits ≡ is_commit visit.act
-    by_mark node mark commits fits says is =
-        sym says ∙ (ap (λ m. is_some (commit_of node m)) (sym (read-mark unpack mark fits))
-        ∙ ap (λ (v : Visit). is_commit v.act) (same_some is))
+    its : {put : Visit} → Some put ≡ Some visit → is_commit put.act ≡ is_commit visit.act
+    its is = ap (λ (v : Visit). is_commit v.act) (same_some is)
 
-    by_entry : (put : Visit) → is_commit put.act ≡ false → Some put ≡ Some visit → false ≡ is_commit visit.act
-    by_entry put quiet is = sym quiet ∙ ap (λ (v : Visit). is_commit v.act) (same_some is)
+    by_mark : (node : ℕ) (mark : PresenceMark) → IsSmallMark mark
+        → Some (visit_of handset.sub (mark_at node mark)) ≡ Some visit
+        → is_some (commit_of node mark) ≡ is_commit visit.act
+    by_mark node mark fits is = ap (λ m. is_some (commit_of node m)) (sym (read-mark unpack mark fits)) ∙ its is
 
     at_stage : (stage : Stage) → handset.last.number ≡ begun_at stage handset.number
         → option_map (visit_of handset.sub) (due_at (setting_of plan []) handset stage) ≡ Some visit
         → is_committing stage ≡ is_commit visit.act
     at_stage Resting counted h = cc
-    at_stage Coming counted h =
-        by_mark handset.last.to (ComingMark handset.last.number handset.last.from) false
-        (goes.numbered, omega (arith, goes.from, small)) refl h
-    at_stage (Renewing level) counted h =
-        by_entry (visit_of handset.sub (new_address (setting_of plan []) handset.last level)) refl h
-    at_stage Committing counted h =
-        by_mark handset.last.from (Gone handset.last.number handset.last.to) true
-        (goes.numbered, omega (arith, goes.to, small)) refl h
-    at_stage Confirming counted h = by_mark handset.last.to (Here handset.last.number) false goes.numbered refl h
-    at_stage (Erasing level) counted h =
-        by_entry (visit_of handset.sub (erasure (setting_of plan []) handset level)) refl h
-    at_stage (Purging node) counted h = by_mark node Empty false tt refl h
-    at_stage (Switching true) counted h =
-        by_mark handset.place (Off handset.number) false (omega (arith, counted, goes.numbered)) refl h
-    at_stage (Switching false) counted h =
-        by_mark handset.place (Here handset.number) false (omega (arith, counted, goes.numbered)) refl h
+    at_stage Coming counted h = by_mark handset.last.to (ComingMark handset.last.number handset.last.from) (omega arith) h
+    at_stage (Renewing level) counted h = its h
+    at_stage Committing counted h = by_mark handset.last.from (Gone handset.last.number handset.last.to) (omega arith) h
+    at_stage Confirming counted h = by_mark handset.last.to (Here handset.last.number) goes.numbered h
+    at_stage (Erasing level) counted h = its h
+    at_stage (Purging node) counted h = by_mark node Empty tt h
+    at_stage (Switching true) counted h = by_mark handset.place (Off handset.number) (omega arith) h
+    at_stage (Switching false) counted h = by_mark handset.place (Here handset.number) (omega arith) h

@@ -44,18 +44,18 @@ has-last : (xs : List ℕ) (x y : ℕ) → has x (xs ++ y ∷ []) ≡ (has x xs 
 has-last xs x y = has-append x xs (y ∷ []) ∙ ap (λ b. has x xs || b) (or-false (x == y))
 
 -- the trail after a move
-pub trail-after : (setting : Setting) (sub : ℕ) (steps : List Step) (to after node : ℕ) {renews : Bool}
-    → nat_le setting.top (next_move setting (course_of setting sub steps) to).renewed ≡ renews
+pub trail-after : (setting : Setting) (sub : ℕ) (steps : List Step) (to after node : ℕ)
     → has node (trail setting (after_step setting (course_of setting sub steps) (move_to to))
     (next_move setting (after_step setting (course_of setting sub steps) (move_to to)) after))
-    ≡ (cond renews false (has node (trail setting (course_of setting sub steps)
-    (next_move setting (course_of setting sub steps) to))) || node == to)
-trail-after setting sub steps to after node {renews} same =
+    ≡ (cond (nat_le setting.top (next_move setting (course_of setting sub steps) to).renewed) false
+    (has node (trail setting (course_of setting sub steps) (next_move setting (course_of setting sub steps) to)))
+    || node == to)
+trail-after setting sub steps to after node =
     ap (λ b. has node (map (λ (m : Move). m.from) (drop b ((course.moves ++ move ∷ []) ++ later ∷ []))))
     (base-more setting.top course.moves move)
-    ∙ (ap (λ b. has node (map (λ (m : Move). m.from) (drop (cond b move.number (base setting.top course.moves))
-    ((course.moves ++ move ∷ []) ++ later ∷ [])))) same
-    ∙ at_test renews)
+    ∙ (at_test (nat_le setting.top move.renewed)
+    ∙ ap (λ n. (cond (nat_le setting.top move.renewed) false (has node (trail setting course move)) || node == n))
+    (last_stop-moved setting course to))
   where
     course : Course
     course = course_of setting sub steps
@@ -66,25 +66,13 @@ trail-after setting sub steps to after node {renews} same =
     later : Move
     later = next_move setting (after_step setting course (move_to to)) after
 
-    count : length (course.moves ++ move ∷ []) ≡ suc (length course.moves)
-    count = omega (arith, length-append course.moves (move ∷ []))
-
     at_test : (b : Bool) → has node (map (λ (m : Move). m.from) (drop (cond b move.number
         (base setting.top course.moves)) ((course.moves ++ move ∷ []) ++ later ∷ [])))
-        ≡ (cond b false (has node (trail setting course move)) || node == to)
-    at_test true =
-        ap (λ ms. has node (map (λ (m : Move). m.from) ms)) (drop_at (course.moves ++ move ∷ []) (later ∷ []) (suc
-        (length course.moves)) count)
-        ∙ (or-false (node == later.from) ∙ ap (λ n. node == n) (last_stop-moved setting course to))
-    at_test false =
-        let low : base setting.top course.moves ≤ length (course.moves ++ move ∷ []) = omega (
-          arith,
-          count,
-          base-within setting sub steps setting.top,
-        ) in
-        ap (λ ms. has node (map (λ (m : Move). m.from) ms)) (drop-append-le (base setting.top course.moves)
-        (course.moves ++ move ∷ []) (later ∷ []) low)
-        ∙ (ap (has node) (map-append (λ (m : Move). m.from) (drop (base setting.top course.moves)
-        (course.moves ++ move ∷ [])) (later ∷ []))
-        ∙ (has-last (trail setting course move) node later.from
-        ∙ ap (λ n. has node (trail setting course move) || node == n) (last_stop-moved setting course to)))
+        ≡ (cond b false (has node (trail setting course move)) || node == later.from)
+    at_test true = rw (drop_at (course.moves ++ move ∷ []) (later ∷ []) (suc (length course.moves))
+        (omega (arith, length-append course.moves (move ∷ []))), or-false)
+    at_test false = rw (drop-append-le (base setting.top course.moves) (course.moves ++ move ∷ []) (later ∷ []) (omega (
+      arith,
+      length-append course.moves (move ∷ []),
+      base-within setting sub steps setting.top,
+    )), map-append, has-last)

@@ -1,18 +1,20 @@
 -- What a handset stands for when its move is over.
-use Rattle.std.proofs.Common.{◌≡◌, ℕ, ◌+◌, ◌<◌, ◌≤◌, Bool, true, false, cond, List, [], ◌∷◌, ◌++◌, length, take, drop, replicate, refl, sym, ap, ◌∙◌, arith, length-append}
+use Rattle.std.proofs.Common.{◌≡◌, ℕ, suc, map, ◌+◌, ◌<◌, ◌≤◌, Bool, true, false, cond, List, [], ◌∷◌, ◌++◌, length, take, drop, replicate, refl, sym, ap, ◌∙◌, arith, length-append}
 use Rattle.std.specs.Prelude.{get_or, nat_le, nat_lt, slice_set, ◌==◌, ◌||◌}
 use Rattle.std.proofs.lemmas.Bool.Decides.{nat_tests}
 use Rattle.std.proofs.lemmas.List.{append-nil, get_or-set_same, get_or-set_other, get_or-replicate, length-replicate}
 use Rattle.node_set.specs.Ascending.{has}
 use Rattle.directory.specs.Settings.{Setting, start}
 use Rattle.directory.specs.Courses.{Step, move_to, Course, course_at, last_stop, address_node, gathered_weight, next_move, after_step, after_steps}
-use Rattle.directory.specs.Writes.{visits, trail}
+use Rattle.directory.specs.Writes.{Write, visit_of, visits, trail}
 use Rattle.handset.specs.declared.stage.Stage.{Stage}
 use Rattle.handset.specs.declared.stage.Stage.TheVariants.{Confirming}
 use Rattle.handset.specs.Condition.{HandsetData}
 use Rattle.handset.specs.StepWrites.{settle}
 use Rattle.directory.specs.Amid.{course_of}
 use Rattle.handset.specs.Stands.{IsNextMove, Shows, StandsAt, StandsForSteps}
+use Rattle.entry_word.specs.declared.visit.Visit.{Visit}
+use Rattle.handset.proofs.Lists.{drop-inside, drop-tail}
 use Rattle.handset.proofs.Going.{readdressed}
 use Rattle.handset.proofs.CourseLaws.{course-more, trail-after}
 use Rattle.handset.proofs.Keeping.{AreAlike, Fits}
@@ -47,13 +49,13 @@ pub marked : (trail : List Bool) (renews : Bool) (to node : ℕ) → to < length
 marked trail renews to node h l = grind (arith, length-replicate, get_or-set_same, get_or-set_other, get_or-replicate)
 
 -- a move that is over
-pub settled-stands : {setting : Setting} {handset : HandsetData} {stage : Stage} {steps : List Step} {before : ℕ}
-    (made : ℕ) → AddressLaw setting → Fits setting handset → AreAlike setting handset.last stage Confirming
-    → StandsAt setting handset stage steps before
-    → Shows setting handset (take made (visits setting handset.sub steps))
-    → made ≤ length (visits setting handset.sub steps) → drop made (visits setting handset.sub steps) ≡ []
-    → StandsForSteps setting (settle setting handset) steps made
-settled-stands {setting} {handset} {steps} made law fits same f shows few left = record {
+pub settled-stands : {setting : Setting} {handset : HandsetData} {stage : Stage} {steps : List Step} {made : ℕ}
+    {visit : Visit} {rest : List Write} → AddressLaw setting → Fits setting handset
+    → AreAlike setting handset.last stage Confirming → StandsAt setting handset stage steps made
+    → Shows setting handset (take (suc made) (visits setting handset.sub steps))
+    → drop made (visits setting handset.sub steps) ≡ visit ∷ map (visit_of handset.sub) rest → rest ≡ []
+    → StandsForSteps setting (settle setting handset) steps (suc made)
+settled-stands {setting} {handset} {steps = steps} {made} law fits same f shows left none = record {
   over = steps;
   begun = sym (append-nil steps);
   move = tt;
@@ -80,10 +82,10 @@ settled-stands {setting} {handset} {steps} made law fits same f shows few left =
       ∙ (ap (λ b. cond (nat_le setting.top (next_move setting before handset.last.to).renewed) false b || node ==
       handset.last.to) (f.trail handset.last.to node h)
       ∙ sym (ap (λ c. has node (trail setting c (next_move setting c to))) course_is
-      ∙ trail-after setting handset.sub f.over handset.last.to to node refl)));
+      ∙ trail-after setting handset.sub f.over handset.last.to to node)));
   shows = record { place = shows.place; number = shows.number; is_off = shows.is_off };
-  few = few;
-  left = left;
+  few = drop-inside made _ left;
+  left = drop-tail made _ left ∙ ap (map (visit_of handset.sub)) none;
 }
   where
     before : Course

@@ -61,13 +61,11 @@ renewing-left setting handset level = at_test (nat_lt level handset.last.renewed
     at_test : (b : Bool) → nat_lt level handset.last.renewed ≡ b → renew_from setting handset (suc level)
         ≡ left_at setting handset (cond b (Renewing (suc level)) Committing)
     at_test true test =
-        let below : level < handset.last.renewed = grind (arith, nat_tests) in
         let e : suc handset.last.renewed - suc level ≡ suc (suc handset.last.renewed - suc (suc level)) =
-        omega arith in
+        grind (arith, nat_tests) in
         ap (λ n. map (new_address setting handset.last) (numbers_from (suc level) n) ++ commit setting handset) e
     at_test false test =
-        let over : handset.last.renewed ≤ level = grind (arith, nat_tests) in
-        let e : suc handset.last.renewed - suc level ≡ 0 = omega arith in
+        let e : suc handset.last.renewed - suc level ≡ 0 = grind (arith, nat_tests) in
         ap (λ n. map (new_address setting handset.last) (numbers_from (suc level) n) ++ commit setting handset) e
 
 pub renewing-first : (setting : Setting) (handset : HandsetData) → renew_from setting handset 0
