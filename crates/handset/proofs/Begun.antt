@@ -42,10 +42,8 @@ switch-writes {setting} {handset} {steps} off f = grind (arith, append-nil, swit
 switch-gathered : (setting : Setting) (sub : ℕ) (steps : List Step) (off : Bool) (level : ℕ)
     → gathered_weight (course_of setting sub (steps ++ switch_to off ∷ [])) level
     ≡ gathered_weight (course_of setting sub steps) level
-switch-gathered setting sub steps true level =
-    ap (λ c. gathered_weight c level) (course-more setting sub steps switch_off)
-switch-gathered setting sub steps false level =
-    ap (λ c. gathered_weight c level) (course-more setting sub steps switch_on)
+switch-gathered setting sub steps true level = grind (arith, nat_tests, course-more)
+switch-gathered setting sub steps false level = grind (arith, nat_tests, course-more)
 
 -- a step that begins changes nothing that is shown
 begun-shows : {setting : Setting} {handset : HandsetData} (after : HandsetData) (steps : List Step) (made : ℕ)
@@ -54,12 +52,7 @@ begun-shows : {setting : Setting} {handset : HandsetData} (after : HandsetData) 
     → Shows setting handset (take made (visits setting handset.sub steps))
     → Shows setting after (take made (visits setting handset.sub (steps ++ step ∷ [])))
 begun-shows {setting} {handset} after steps made step sub place number off few shows =
-    rw (visits-more setting handset.sub steps step, take-append-le made (visits setting handset.sub steps)
-    (map (visit_of handset.sub) (step_writes setting (course_of setting handset.sub steps) step)) few) (record {
-      place = rw (place, sub) shows.place;
-      number = number ∙ shows.number;
-      is_off = off ∙ shows.is_off;
-    })
+    grind (arith, nat_tests, visits-more, take-append-le)
 
 -- its writes are what is left
 few-more : (setting : Setting) (sub : ℕ) (steps : List Step) (made : ℕ) (step : Step)
@@ -70,8 +63,7 @@ left-more : (setting : Setting) (sub : ℕ) (steps : List Step) (made : ℕ) (st
     → made ≤ length (visits setting sub steps) → drop made (visits setting sub steps) ≡ []
     → drop made (visits setting sub (steps ++ step ∷ []))
     ≡ map (visit_of sub) (step_writes setting (course_of setting sub steps) step)
-left-more setting sub steps made step few left =
-    ap (drop made) (visits-more setting sub steps step) ∙ drop-spent made (visits setting sub steps) _ few left
+left-more setting sub steps made step few left = grind (arith, nat_tests, visits-more, drop-spent)
 
 pub switch-stands : (setting : Setting) (handset : HandsetData) (steps : List Step) (made : ℕ) (off : Bool)
     → handset.stage ≡ Resting → StandsForSteps setting handset steps made
@@ -108,12 +100,9 @@ begin-stands setting handset steps made to address_law gathered_law count rests 
     let before : Course = course_of setting handset.sub f.over in
     let over : steps ≡ f.over = f.begun ∙ append-nil f.over in
     let kept : (level : ℕ) → level < levels setting
-    → get_or handset.gathered level 0 ≡ gathered_weight before level =
-    λ level h. f.gathered level h ∙ ap (λ xs. gathered_weight (course_of setting handset.sub xs) level) over in
-    let far : setting.distance handset.place to ≡ setting.distance (last_stop before) to =
-    ap (λ n. setting.distance n to) f.place in
-    let is_move : move ≡ next_move setting before to = same-move to (ap suc f.number) f.place far
-    (same-renewal setting before handset.gathered far kept) in
+    → get_or handset.gathered level 0 ≡ gathered_weight before level = grind (arith, nat_tests) in
+    let far : setting.distance handset.place to ≡ setting.distance (last_stop before) to = grind (arith, nat_tests) in
+    let is_move : move ≡ next_move setting before to = grind (arith, nat_tests, same-move, same-renewal) in
     let all : map (visit_of handset.sub) (move_writes setting (course_of setting handset.sub steps)
     (next_move setting (course_of setting handset.sub steps) to)) ≡ map (visit_of handset.sub)
     (left_at setting (begin_move setting handset to) Coming) =
@@ -184,18 +173,4 @@ new-stands setting plan sub {home} nodes count starts inside = record {
 -- it goes with its plan
 pub new-goes : {plan : PlanData} (sub home : ℕ) → IsKept plan → home < nodes_of plan
     → GoesWith plan (handset_at plan sub home)
-new-goes {plan} sub home kept inside = record {
-  addresses = length-replicate (levels_of plan) home;
-  gathered = length-replicate (levels_of plan) 0;
-  trail = length-set (replicate (nodes_of plan) false) home true ∙ length-replicate (nodes_of plan) false;
-  place = inside;
-  from = inside;
-  to = inside;
-  renewed = kept.some;
-  inside = λ level low.
-      subst (λ n. n < nodes_of plan) (sym (get_or-replicate (levels_of plan) level home 0 low)) inside;
-  light = λ level low. omega (arith, get_or-replicate {A = ℕ} (levels_of plan) level 0 0 low);
-  counted = refl;
-  numbered = omega arith;
-  stage = tt;
-}
+new-goes {plan} sub home kept inside = grind (arith, nat_tests, length-replicate, length-set, get_or-replicate)

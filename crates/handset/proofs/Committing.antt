@@ -1,4 +1,5 @@
 -- The write that commits a move is that of the stage Committing.
+use Rattle.std.proofs.lemmas.Bool.Decides.{nat_tests}
 use Rattle.std.proofs.Common.{◌≡◌, ℕ, ◌≤◌, ◌^◌, Bool, true, false, [], refl, sym, ap, ◌∙◌, arith}
 use Rattle.std.specs.Option.{is_some}
 use Rattle.std.specs.Prelude.{Some, option_map}
@@ -22,25 +23,4 @@ use Rattle.handset.specs.Stands.{is_commit}
 pub commits-is : MarksUnpack → {plan : PlanData} {handset : HandsetData} {visit : Visit} → GoesWith plan handset
     → nodes_of plan ≤ 2 ^ 16 → due (setting_of plan []) handset ≡ Some visit
     → is_committing handset.stage ≡ is_commit visit.act
-commits-is unpack {plan} {handset} {visit} goes small wants = at_stage handset.stage goes.counted wants
-  where
-    its : {put : Visit} → Some put ≡ Some visit → is_commit put.act ≡ is_commit visit.act
-    its is = ap (λ (v : Visit). is_commit v.act) (same_some is)
-
-    by_mark : (node : ℕ) (mark : PresenceMark) → IsSmallMark mark
-        → Some (visit_of handset.sub (mark_at node mark)) ≡ Some visit
-        → is_some (commit_of node mark) ≡ is_commit visit.act
-    by_mark node mark fits is = ap (λ m. is_some (commit_of node m)) (sym (read-mark unpack mark fits)) ∙ its is
-
-    at_stage : (stage : Stage) → handset.last.number ≡ begun_at stage handset.number
-        → option_map (visit_of handset.sub) (due_at (setting_of plan []) handset stage) ≡ Some visit
-        → is_committing stage ≡ is_commit visit.act
-    at_stage Resting counted h = cc
-    at_stage Coming counted h = by_mark handset.last.to (ComingMark handset.last.number handset.last.from) (omega arith) h
-    at_stage (Renewing level) counted h = its h
-    at_stage Committing counted h = by_mark handset.last.from (Gone handset.last.number handset.last.to) (omega arith) h
-    at_stage Confirming counted h = by_mark handset.last.to (Here handset.last.number) goes.numbered h
-    at_stage (Erasing level) counted h = its h
-    at_stage (Purging node) counted h = by_mark node Empty tt h
-    at_stage (Switching true) counted h = by_mark handset.place (Off handset.number) (omega arith) h
-    at_stage (Switching false) counted h = by_mark handset.place (Here handset.number) (omega arith) h
+commits-is unpack {plan} {handset} {visit} goes small wants = grind (arith, nat_tests, same_some, read-mark)

@@ -1,4 +1,5 @@
 -- Courses: what one step more makes of the visits, the place, the levels and the trail.
+use Rattle.std.proofs.lemmas.Bool.Decides.{nat_tests}
 use Rattle.std.proofs.Common.{◌≡◌, ℕ, suc, ◌≤◌, Bool, true, false, cond, List, [], ◌∷◌, ◌++◌, length, map, drop, ap, ◌∙◌, arith, length-append}
 use Rattle.std.specs.Prelude.{nat_le, ◌==◌, ◌||◌}
 use Rattle.std.proofs.lemmas.List.{map-append, drop-append-le, drop_at}
@@ -15,13 +16,11 @@ use Rattle.directory.specs.StepLaws.{last_stop-moved}
 -- one step more
 pub course-more : (setting : Setting) (sub : ℕ) (steps : List Step) (step : Step)
     → course_of setting sub (steps ++ step ∷ []) ≡ after_step setting (course_of setting sub steps) step
-course-more setting sub steps step = fold-append (after_step setting) (course_at (start setting sub)) steps
-    (step ∷ [])
+course-more setting sub steps step = grind (arith, nat_tests, fold-append)
 
 pub base-more : (level : ℕ) (moves : List Move) (move : Move) → base level (moves ++ move ∷ [])
     ≡ cond (nat_le level move.renewed) move.number (base level moves)
-base-more level moves move = fold-append (λ last (m : Move). cond (nat_le level m.renewed) m.number last) 0 moves
-    (move ∷ [])
+base-more level moves move = grind (arith, nat_tests, fold-append)
 
 -- a level was renewed by a move of the course, if by any
 base-small : (setting : Setting) (course : Course) (steps : List Step) (level : ℕ)
@@ -50,29 +49,16 @@ pub trail-after : (setting : Setting) (sub : ℕ) (steps : List Step) (to after 
     ≡ (cond (nat_le setting.top (next_move setting (course_of setting sub steps) to).renewed) false
     (has node (trail setting (course_of setting sub steps) (next_move setting (course_of setting sub steps) to)))
     || node == to)
-trail-after setting sub steps to after node =
-    ap (λ b. has node (map (λ (m : Move). m.from) (drop b ((course.moves ++ move ∷ []) ++ later ∷ []))))
-    (base-more setting.top course.moves move)
-    ∙ (at_test (nat_le setting.top move.renewed)
-    ∙ ap (λ n. (cond (nat_le setting.top move.renewed) false (has node (trail setting course move)) || node == n))
-    (last_stop-moved setting course to))
-  where
-    course : Course
-    course = course_of setting sub steps
-
-    move : Move
-    move = next_move setting course to
-
-    later : Move
-    later = next_move setting (after_step setting course (move_to to)) after
-
-    at_test : (b : Bool) → has node (map (λ (m : Move). m.from) (drop (cond b move.number
-        (base setting.top course.moves)) ((course.moves ++ move ∷ []) ++ later ∷ [])))
-        ≡ (cond b false (has node (trail setting course move)) || node == later.from)
-    at_test true = rw (drop_at (course.moves ++ move ∷ []) (later ∷ []) (suc (length course.moves))
-        (omega (arith, length-append course.moves (move ∷ []))), or-false)
-    at_test false = rw (drop-append-le (base setting.top course.moves) (course.moves ++ move ∷ []) (later ∷ []) (omega (
-      arith,
-      length-append course.moves (move ∷ []),
-      base-within setting sub steps setting.top,
-    )), map-append, has-last)
+trail-after setting sub steps to after node = grind (
+  arith,
+  nat_tests,
+  base-more,
+  last_stop-moved,
+  drop_at,
+  length-append,
+  or-false,
+  drop-append-le,
+  base-within,
+  map-append,
+  has-last,
+)

@@ -27,8 +27,7 @@ IsLate nodes move stage = ⊥
 late-purging : (nodes : ℕ) (handset : HandsetData) (node : ℕ) (o : Option ℕ)
     → first_with (is_behind handset) node (nodes - node) ≡ o → IsLate nodes handset.last (purging_at o)
 late-purging nodes handset node None h = tt
-late-purging nodes handset node (Some x) h = let inside : (node ≤ x) × (x < node + (nodes - node)) =
-    first-inside _ _ _ h in omega (arith, inside.0, inside.1)
+late-purging nodes handset node (Some x) h = grind (arith, nat_tests, first-inside)
 
 pub purging-is-late : (plan : PlanData) (handset : HandsetData) (node : ℕ) → IsLate (nodes_of plan) handset.last
     (purging_from (setting_of plan []) handset node)
@@ -43,8 +42,7 @@ late-erasing : (plan : PlanData) (handset : HandsetData) (level : ℕ) (o : Opti
     → first_with (is_old (setting_of plan []) handset) level (suc handset.last.renewed - level) ≡ o
     → IsLate (nodes_of plan) handset.last (erasing_at (setting_of plan []) handset o)
 late-erasing plan handset level None h = late-ending plan handset _
-late-erasing plan handset level (Some x) h = let inside : (level ≤ x)
-    × (x < level + (suc handset.last.renewed - level)) = first-inside _ _ _ h in omega (arith, inside.0, inside.1)
+late-erasing plan handset level (Some x) h = grind (arith, nat_tests, first-inside)
 
 pub erasing-is-late : (plan : PlanData) (handset : HandsetData) (level : ℕ) → IsLate (nodes_of plan) handset.last
     (erasing_from (setting_of plan []) handset level)
@@ -59,8 +57,7 @@ readdressed xs renewed to level h =
 
 trail-length : (b : Bool) (trail : List Bool) (to : ℕ) → length (slice_set (cond b (replicate
     (length trail) false) trail) to true) ≡ length trail
-trail-length true trail to = length-set (replicate (length trail) false) to true
-    ∙ length-replicate (length trail) false
+trail-length true trail to = grind (arith, nat_tests, length-set, length-replicate)
 trail-length false trail to = length-set trail to true
 
 pub goes-settled : {plan : PlanData} {handset : HandsetData} → GoesWith plan handset
@@ -89,8 +86,7 @@ goes-next {plan} {handset} next goes at committed late same = grind (arith, goes
 
 pub purging-by-count : (plan : PlanData) (handset : HandsetData) (node : ℕ) {count : ℕ} → count ≡ nodes_of plan
     → IsLate (nodes_of plan) handset.last (purging_at (first_with (is_behind handset) node (count - node)))
-purging-by-count plan handset node same =
-    rw same (purging-is-late plan handset node)
+purging-by-count plan handset node same = grind (arith, nat_tests, purging-is-late)
 
 -- what the levels have gathered stays light
 pub light-after : (xs : List ℕ) {ys : List ℕ} {levels : ℕ} (n : ℕ) {more : ℕ} (renewed weight : ℕ) → length xs ≡ levels
@@ -110,12 +106,7 @@ goes-begun {plan} {handset} to kept goes inside rests few =
     let gathered = length-map (numbers_from 0 (length handset.gathered)) (λ k. gathered_then
     (get_or handset.gathered k 0) move.renewed move.weight k) ∙ (length-passing_all 0 (length handset.gathered)
     ∙ goes.gathered) in
-    let renewed : move.renewed < levels_of plan = omega (
-      arith,
-      kept.some,
-      highest-low (λ level. nat_le ((setting_of plan []).threshold level)
-          (get_or handset.gathered level 0 + move.weight)) (levels_of plan - 1),
-    ) in
+    let renewed : move.renewed < levels_of plan = grind (arith, nat_tests, highest-low) in
     let after = begin_move (setting_of plan []) handset to in
     let light : (level : ℕ) → level < levels_of plan → get_or after.gathered level 0 ≤ after.last.number * 2 ^ 30 =
     light-after handset.gathered handset.number move.renewed move.weight goes.gathered

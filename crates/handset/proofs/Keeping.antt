@@ -1,5 +1,6 @@
 -- What a handset stands for at a stage, and at the stages that follow it.
-use Rattle.std.proofs.Common.{◌≡◌, ℕ, suc, ◌∷◌, ◌^◌, ◌<◌, ◌≤◌, List, ◌++◌, length, map, take, drop, refl, ap, ◌∙◌}
+use Rattle.std.proofs.lemmas.Bool.Decides.{nat_tests}
+use Rattle.std.proofs.Common.{◌≡◌, ℕ, suc, ◌∷◌, ◌^◌, ◌<◌, ◌≤◌, List, ◌++◌, length, map, take, drop, refl, ap, ◌∙◌, arith}
 use Rattle.directory.specs.Settings.{Setting, levels}
 use Rattle.directory.specs.Courses.{Step, Move, Course}
 use Rattle.directory.specs.Writes.{Write, visit_of, visits}
@@ -41,11 +42,4 @@ pub stands-of : {setting : Setting} {handset : HandsetData} {stage : Stage} (nex
     → drop made (visits setting handset.sub steps) ≡ visit ∷ map (visit_of handset.sub) rest
     → rest ≡ left_at setting (record handset { stage = next }) next
     → StandsForSteps setting (record handset { stage = next }) steps (suc made)
-stands-of {setting} {handset} next {made = made} same f shows due on =
-    let begun = f.begun ∙ ap (λ under. f.over ++ under) same.0 in
-    let move = same.1 (course_of setting handset.sub f.over) f.move in
-    let place = f.place ∙ same.2 (course_of setting handset.sub f.over) in
-    let number = f.number ∙ same.3 (course_of setting handset.sub f.over) in
-    let few = drop-inside made _ due in
-    let left = drop-tail made _ due ∙ ap (map (visit_of handset.sub)) on in
-    search
+stands-of {setting} {handset} next {made = made} same f shows due on = grind (arith, nat_tests, drop-inside, drop-tail)

@@ -1,4 +1,5 @@
 -- What a handset stands for goes on with each of its writes.
+use Rattle.std.proofs.lemmas.Bool.Decides.{nat_tests}
 use Rattle.std.proofs.Common.{◌≡◌, ℕ, suc, ◌+◌, ◌^◌, ◌<◌, ◌≤◌, Bool, true, false, cond, List, [], ◌∷◌, Some, None, length, map, take, drop, refl, sym, ap, ◌∙◌, subst, arith}
 use Rattle.std.specs.Prelude.{nat_lt, slice_get, IsSome, option_map}
 use Rattle.std.proofs.lemmas.List.{append-nil}
@@ -36,8 +37,7 @@ head-due setting handset stage n vs h = drop-head n vs h
 pub next-stands : (setting : Setting) (handset : HandsetData) (steps : List Step) (made : ℕ)
     → StandsForSteps setting handset steps made
     → due setting handset ≡ slice_get (visits setting handset.sub steps) made
-next-stands setting handset steps made stands = sym (head-due setting handset handset.stage made
-    (visits setting handset.sub steps) stands.left)
+next-stands setting handset steps made stands = grind (arith, nat_tests, head-due)
 
 -- a handset that goes on behind the confirm
 gone-on-stands : {setting : Setting} {handset : HandsetData} {stage : Stage} (next : Stage) (nodes : ℕ)
@@ -47,8 +47,7 @@ gone-on-stands : {setting : Setting} {handset : HandsetData} {stage : Stage} (ne
     → drop made (visits setting handset.sub steps) ≡ visit ∷ map (visit_of handset.sub) rest
     → rest ≡ left_at setting handset next → StandsForSteps setting (go_on setting handset next) steps (suc made)
 gone-on-stands Resting nodes law fits same f shows late left on = settled-stands law fits same f shows left on
-gone-on-stands (Erasing level) nodes law fits same f shows late left on =
-    stands-of (Erasing level) same f shows left on
+gone-on-stands (Erasing level) nodes law fits same f shows late left on = grind (arith, nat_tests, stands-of)
 gone-on-stands (Purging node) nodes law fits same f shows late left on = stands-of (Purging node) same f shows left on
 gone-on-stands stage nodes law fits same f shows late left on = absurd late
 
@@ -144,18 +143,12 @@ few-commits stage number same few = omega (arith, same, few)
 
 fits-plan : {plan : PlanData} (starts : List ℕ) {handset : HandsetData} → IsKept plan → GoesWith plan handset
     → Fits (setting_of plan starts) handset
-fits-plan starts {handset} kept goes = omega (
-  arith,
-  kept.some,
-  kept.metric.few,
-  few-commits handset.stage handset.number goes.counted goes.numbered,
-)
+fits-plan starts {handset} kept goes = grind (arith, nat_tests, few-commits)
 
 -- a handset that has a write left isn't at rest
 going-on : (plan : PlanData) (handset : HandsetData) → IsSome (due (setting_of plan []) handset)
     → handset.stage ≡ Resting → ⊥
-going-on plan handset some rests = let impossible = subst (λ s. IsSome (option_map (visit_of handset.sub) (due_at
-    (setting_of plan []) handset s))) rests some in cc
+going-on plan handset some rests = grind (arith, nat_tests)
 
 -- so a write that is left leaves a handset that stands for one visit more
 pub made-stands : {plan : PlanData} (starts : List ℕ) {handset : HandsetData} (steps : List Step) (made : ℕ)

@@ -60,18 +60,9 @@ settled-stands {setting} {handset} {steps = steps} {made} law fits same f shows 
   begun = sym (append-nil steps);
   move = tt;
   place = f.place ∙ same.2 before ∙ sym (ap last_stop course_is ∙ last_stop-moved setting before handset.last.to);
-  number =
-      let longer = length-append before.moves (next_move setting before handset.last.to ∷ []) in
-      let moves = ap (λ c. length c.moves) course_is in
-      omega (arith, f.number, same.3 before, ap (λ m. m.number) next.0);
+  number = grind (arith, nat_tests, length-append, course_is);
   is_off = f.is_off ∙ sym (ap (λ c. c.is_off) course_is);
-  addresses = λ level h.
-      readdressed handset.addresses handset.last.renewed handset.last.to level (omega (arith, h, fits.addresses))
-      ∙ (turned handset.last.renewed level (get_or handset.addresses level 0) handset.last.to
-      ∙ (ap (λ n. cond (nat_le level handset.last.renewed) handset.last.to n) (f.addresses level h)
-      ∙ (ap (λ r. cond (nat_le level r) handset.last.to (address_node before level)) (ap (λ m. m.renewed) next.0)
-      ∙ sym (ap (λ c. address_node c level) course_is
-      ∙ law (start setting handset.sub) f.over handset.last.to level))));
+  addresses = grind (arith, nat_tests, readdressed, turned, course_is);
   gathered = f.gathered;
   trail = λ to node h.
       ap (λ b. get_or (slice_set (cond b (replicate (length handset.trail) false) handset.trail) handset.last.to

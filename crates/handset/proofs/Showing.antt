@@ -1,4 +1,5 @@
 -- What one put more tells of its subscriber.
+use Rattle.std.proofs.lemmas.Bool.Decides.{nat_tests}
 use Rattle.std.proofs.Common.{◌≡◌, ℕ, suc, ◌+◌, Bool, false, List, [], ◌∷◌, ◌++◌, Option, None, length, drop, take, fold, refl, sym, ap, ◌∙◌, subst, arith, length-append}
 use Rattle.std.specs.Prelude.{unwrap_or}
 use Rattle.std.specs.List.{cons_option}
@@ -20,8 +21,7 @@ use Rattle.handset.proofs.Lists.{take-next}
 -- the commits and the state after one put more
 commits-more : (puts : List Visit) (visit : Visit) → commits_in (puts ++ visit ∷ [])
     ≡ commits_in puts ++ cons_option (commit_of (node_put visit.act) (mark_put visit.act)) []
-commits-more puts visit = filter_map-append (λ (v : Visit). commit_of (node_put v.act) (mark_put v.act)) puts
-    (visit ∷ [])
+commits-more puts visit = grind (arith, nat_tests, filter_map-append)
 
 off-more : (puts : List Visit) (visit : Visit) → ends_off (puts ++ visit ∷ []) ≡ says_off (mark_put visit.act)
 off-more puts visit = fold-append (λ (off : Bool) (v : Visit). says_off (mark_put v.act)) false puts (visit ∷ [])
@@ -35,15 +35,7 @@ pub put-shown : {setting : Setting} {handset : HandsetData} (after : HandsetData
     → after.is_off ≡ says_off mark → Shows setting handset (take made puts)
     → Shows setting after (take (suc made) puts)
 put-shown {setting} {handset} after puts made {visit} mark left puts_mark same place number off shows =
-    let more = commits-more (take made puts) visit in
-    let ends = off-more (take made puts) visit in
-    let commits = cons_option (commit_of (node_put visit.act) mark) [] in
-    rw (take-next made puts left) (record {
-      place = rw (place, shows.place, same, more, puts_mark) (sym (fold-append
-          (λ node (commit : Commit). commit.to) (start setting handset.sub) (commits_in (take made puts)) commits));
-      number = rw (number, shows.number, more, puts_mark) (sym (length-append (commits_in (take made puts)) commits));
-      is_off = rw (off, ends, puts_mark);
-    })
+    grind (arith, nat_tests, commits-more, off-more, take-next, fold-append, length-append)
 
 -- a mark that is put
 pub mark-shown : MarksUnpack → {setting : Setting} {handset : HandsetData} (after : HandsetData) (puts : List Visit)

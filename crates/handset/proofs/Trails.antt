@@ -16,8 +16,7 @@ use Rattle.handset.proofs.Lists.{differ}
 -- one flag for each node
 pub flag-count : (trail : Nodes) → length (flags trail) ≡ trail.room
 unfolding flags
-flag-count trail =
-    length-map (numbers_from 0 trail.room) (λ v. has v trail.members) ∙ length-passing_all 0 trail.room
+flag-count trail = grind (arith, nat_tests, length-map, length-passing_all)
 
 -- which tells whether the node is there
 pub flag-at : (trail : Nodes) (x : ℕ) → x < trail.room → get_or (flags trail) x false ≡ has x trail.members
@@ -42,15 +41,7 @@ flags-more trail v inside =
     ext_get_or false (flags more) (set (flags trail) v true)
     (flag-count more ∙ sym (length-set (flags trail) v true ∙ flag-count trail))
     (λ i h. let below : i < trail.room = omega (arith, h, flag-count more) in
-    grind (
-      arith,
-      nat_tests,
-      flag-at more i below,
-      has-inserted i v trail.members,
-      get_or-set_same (flags trail) v true false here,
-      get_or-set_other (flags trail) v i true false,
-      flag-at trail i below,
-    ))
+    grind (arith, nat_tests, flag-at, has-inserted, get_or-set_same, get_or-set_other))
 
 -- the first number that passes, where none before it does
 pub first-found : (test : ℕ → Bool) (from k v : ℕ) → from ≤ v → v < from + k → test v ≡ true
@@ -85,8 +76,7 @@ new-node trail same = grind (arith, nat_tests)
 -- another node of the trail
 still-there : (trail : Nodes) (to x : ℕ) → x < trail.room → has x trail.members ≡ true → x ≢ to
     → is_left trail to x ≡ true
-still-there trail to x below there other =
-    ap (λ b. b && not (x == to)) (flag-at trail x below ∙ there) ∙ differ x to other
+still-there trail to x below there other = grind (arith, nat_tests, flag-at, differ)
 
 -- where no node is left from one on
 pub none-behind : (trail : Nodes) (to from : ℕ) → IsNoneFrom trail.members from

@@ -17,14 +17,11 @@ purge-left : (setting : Setting) (handset : HandsetData) (node : ℕ) (o : Optio
     → first_with (is_behind handset) node (setting.nodes - node) ≡ o
     → map (λ x. mark_at x Empty) (sift (is_behind handset) node (setting.nodes - node))
     ≡ left_at setting handset (purging_at o)
-purge-left setting handset node None h = ap (map (λ x. mark_at x Empty)) (passing-none (is_behind handset) node
-    (setting.nodes - node) h)
+purge-left setting handset node None h = grind (arith, nat_tests, passing-none)
 purge-left setting handset node (Some x) h =
-    let inside : (node ≤ x) × (x < node + (setting.nodes - node)) = first-inside (is_behind handset) node
-    (setting.nodes - node) h in
+    let inside : (node ≤ x) × (x < node + (setting.nodes - node)) = grind (arith, nat_tests, first-inside) in
     let e : node + (setting.nodes - node) - suc x ≡ setting.nodes - suc x = omega (arith, inside.0, inside.1) in
-    ap (map (λ y. mark_at y Empty)) (passing-some (is_behind handset) node (setting.nodes - node) h
-    ∙ ap (λ n. x ∷ sift (is_behind handset) (suc x) n) e)
+    grind (arith, nat_tests, passing-some)
 
 pub purging-left : (setting : Setting) (handset : HandsetData) (node : ℕ)
     → map (λ x. mark_at x Empty) (sift (is_behind handset) node (setting.nodes - node))
@@ -56,17 +53,7 @@ erasing-left setting handset level = erase-left setting handset level _ refl
 pub renewing-left : (setting : Setting) (handset : HandsetData) (level : ℕ)
     → renew_from setting handset (suc level) ≡ left_at setting handset (cond (nat_lt level handset.last.renewed)
     (Renewing (suc level)) Committing)
-renewing-left setting handset level = at_test (nat_lt level handset.last.renewed) refl
-  where
-    at_test : (b : Bool) → nat_lt level handset.last.renewed ≡ b → renew_from setting handset (suc level)
-        ≡ left_at setting handset (cond b (Renewing (suc level)) Committing)
-    at_test true test =
-        let e : suc handset.last.renewed - suc level ≡ suc (suc handset.last.renewed - suc (suc level)) =
-        grind (arith, nat_tests) in
-        ap (λ n. map (new_address setting handset.last) (numbers_from (suc level) n) ++ commit setting handset) e
-    at_test false test =
-        let e : suc handset.last.renewed - suc level ≡ 0 = grind (arith, nat_tests) in
-        ap (λ n. map (new_address setting handset.last) (numbers_from (suc level) n) ++ commit setting handset) e
+renewing-left setting handset level = grind (arith, nat_tests)
 
 pub renewing-first : (setting : Setting) (handset : HandsetData) → renew_from setting handset 0
     ≡ left_at setting handset (Renewing 0)
@@ -111,13 +98,7 @@ coming-left setting course handset low addresses trails =
     purged : purge_writes setting course handset.last ≡ purge_from setting handset 0
     purged =
         let none : setting.nodes ≡ setting.nodes - 0 = omega arith in
-        ap (λ ws. cond (handset.last.renewed == setting.top) ws [])
-        (map-passing-same (λ node. has node (trail setting course handset.last) && not (node == handset.last.to))
-        (is_behind handset)
-        (λ x. mark_at x Empty) (λ x. mark_at x Empty) 0 setting.nodes
-        (λ node h l. ap (λ b. b && not (node == handset.last.to)) (sym (trails node (omega (arith, l)))))
-        (λ node h l. refl)
-        ∙ ap (λ n. map (λ x. mark_at x Empty) (sift (is_behind handset) 0 n)) none)
+        grind (arith, nat_tests, map-passing-same)
 
     both : erasure_writes setting course handset.last ++ purge_writes setting course handset.last ≡ erase_from setting
         handset 0

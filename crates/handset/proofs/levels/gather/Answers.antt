@@ -1,3 +1,4 @@
+use Rattle.std.proofs.lemmas.Bool.Decides.{nat_tests}
 use Rattle.std.proofs.Common.{◌<◌, length, arith, ◌∙◌, sym, get_or}
 use Rattle.std.proofs.lemmas.List.{ext_get_or, length-map}
 use Rattle.directory.specs.Writes.{numbers_from}
@@ -15,6 +16,4 @@ returns c =
     ∙ length-passing_all 0 (length c.args.gathered.now)))
     (λ k h. let low : k < c.loop-level.level = omega arith in let small : k < length c.args.gathered.now =
     omega arith in
-    c.loop-level.invariant.over k low
-    ∙ sym (numbers-from-zero (λ k. gathered_then (get_or c.args.gathered.now k 0) c.args.renewed c.args.weight k)
-    (length c.args.gathered.now) k small))
+    grind (arith, nat_tests, numbers-from-zero))
