@@ -1,23 +1,16 @@
 -- The write that commits a move is that of the stage Committing.
 use Rattle.std.proofs.lemmas.Bool.Decides.{nat_tests}
-use Rattle.std.proofs.Common.{◌≡◌, ℕ, ◌≤◌, ◌^◌, Bool, true, false, [], refl, sym, ap, ◌∙◌, arith}
-use Rattle.std.specs.Option.{is_some}
-use Rattle.std.specs.Prelude.{Some, option_map}
-use Rattle.entry_word.specs.Marks.{IsSmallMark, MarksUnpack}
+use Rattle.std.proofs.Common.{◌≡◌, ◌≤◌, ◌^◌, [], arith}
+use Rattle.std.specs.Prelude.{Some}
+use Rattle.entry_word.specs.Marks.{MarksUnpack}
 use Rattle.entry_word.specs.MarkLaws.{read-mark}
-use Rattle.entry_word.specs.declared.mark.PresenceMark.{PresenceMark}
-use Rattle.entry_word.specs.declared.mark.PresenceMark.TheVariants.{Empty, Here, Gone, Coming as ComingMark, Off}
 use Rattle.entry_word.specs.declared.visit.Visit.{Visit}
 use Rattle.directory.specs.ListLaws.{same_some}
-use Rattle.directory.specs.Standing.{commit_of}
-use Rattle.directory.specs.Writes.{mark_at, new_address, visit_of}
 use Rattle.region_plan.specs.Plan.{PlanData, nodes_of}
 use Rattle.region_plan.specs.Settings.{setting_of}
-use Rattle.handset.specs.declared.stage.Stage.{Stage}
-use Rattle.handset.specs.declared.stage.Stage.TheVariants.{Resting, Coming, Renewing, Committing, Confirming, Erasing, Purging, Switching}
 use Rattle.handset.specs.Beginning.{is_committing}
-use Rattle.handset.specs.Condition.{GoesWith, HandsetData, begun_at}
-use Rattle.handset.specs.StepWrites.{due, due_at, erasure}
+use Rattle.handset.specs.Condition.{GoesWith, HandsetData}
+use Rattle.handset.specs.StepWrites.{due}
 use Rattle.handset.specs.Stands.{is_commit}
 
 pub commits-is : MarksUnpack → {plan : PlanData} {handset : HandsetData} {visit : Visit} → GoesWith plan handset

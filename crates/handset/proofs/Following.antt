@@ -1,15 +1,14 @@
 -- The write of an entry that has another of its kind behind it: it is the one that comes next, and what follows it.
-use Rattle.std.proofs.Common.{◌≡◌, ℕ, suc, ◌+◌, ◌-◌, ◌<◌, ◌≤◌, Bool, true, false, cond, [], Option, Some, None, refl, sym, ap, arith}
-use Rattle.std.specs.Prelude.{IfSome, nat_lt, option_map}
+use Rattle.std.proofs.Common.{◌≡◌, [], Some, arith}
+use Rattle.std.specs.Prelude.{IfSome}
 use Rattle.std.proofs.lemmas.Bool.Decides.{nat_tests}
 use Rattle.region_plan.specs.Plan.{PlanData}
 use Rattle.region_plan.specs.Settings.{setting_of}
-use Rattle.handset.specs.Entries.{EntryWrite, at_entry, entry_put, entry_write, erasure_to, stage_at}
+use Rattle.handset.specs.Entries.{EntryWrite, at_entry, entry_put, entry_write, stage_at}
 use Rattle.handset.specs.Condition.{GoesWith, HandsetData}
-use Rattle.handset.specs.StepWrites.{after_write, due, erasing_at, first_with, go_on, is_old}
+use Rattle.handset.specs.StepWrites.{after_write, due}
 use Rattle.handset.specs.declared.entries.EntryStage.{EntryStage}
 use Rattle.handset.specs.declared.entries.EntryStage.TheVariants as entries
-use Rattle.handset.specs.declared.stage.Stage.TheVariants.{Renewing, Committing, Erasing}
 use Rattle.handset.proofs.Going.{goes-late}
 use Rattle.handset.proofs.Lists.{first-inside}
 

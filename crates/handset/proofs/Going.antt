@@ -1,6 +1,6 @@
 -- A handset goes with its plan after each of its writes.
 use Rattle.std.proofs.Common.{◌≡◌, ℕ, suc, ◌+◌, ◌*◌, ◌-◌, ◌^◌, ◌<◌, ◌≤◌, Bool, true, false, cond, List, [], ◌++◌, Option, Some, None, length, drop, replicate, refl, ap, ◌∙◌, subst, arith, length-append}
-use Rattle.std.specs.Prelude.{get_or, nat_le, nat_lt, slice_set}
+use Rattle.std.specs.Prelude.{get_or, nat_lt, slice_set}
 use Rattle.std.proofs.lemmas.Bool.Decides.{nat_tests}
 use Rattle.std.proofs.lemmas.List.{length-map, length-set, length-drop, length-replicate, get_or_append_left, get_or-replicate, get_or-append_right, get_or-drop}
 use Rattle.directory.specs.Courses.{Move}

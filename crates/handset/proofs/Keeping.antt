@@ -1,6 +1,6 @@
 -- What a handset stands for at a stage, and at the stages that follow it.
 use Rattle.std.proofs.lemmas.Bool.Decides.{nat_tests}
-use Rattle.std.proofs.Common.{◌≡◌, ℕ, suc, ◌∷◌, ◌^◌, ◌<◌, ◌≤◌, List, ◌++◌, length, map, take, drop, refl, ap, ◌∙◌, arith}
+use Rattle.std.proofs.Common.{◌≡◌, ℕ, suc, ◌∷◌, ◌^◌, ◌<◌, ◌≤◌, List, length, map, take, drop, refl, arith}
 use Rattle.directory.specs.Settings.{Setting, levels}
 use Rattle.directory.specs.Courses.{Step, Move, Course}
 use Rattle.directory.specs.Writes.{Write, visit_of, visits}
@@ -9,7 +9,6 @@ use Rattle.handset.proofs.Lists.{drop-inside, drop-tail}
 use Rattle.handset.specs.declared.stage.Stage.{Stage}
 use Rattle.handset.specs.Condition.{HandsetData}
 use Rattle.handset.specs.StepWrites.{left_at}
-use Rattle.directory.specs.Amid.{course_of}
 use Rattle.handset.specs.Stands.{ComesNext, Shows, StandsAt, StandsForSteps, number_at, place_at, under_way}
 
 -- what a handset and its setting have in common

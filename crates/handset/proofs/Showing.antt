@@ -1,6 +1,6 @@
 -- What one put more tells of its subscriber.
 use Rattle.std.proofs.lemmas.Bool.Decides.{nat_tests}
-use Rattle.std.proofs.Common.{◌≡◌, ℕ, suc, ◌+◌, Bool, false, List, [], ◌∷◌, ◌++◌, Option, None, length, drop, take, fold, refl, sym, ap, ◌∙◌, subst, arith, length-append}
+use Rattle.std.proofs.Common.{◌≡◌, ℕ, suc, ◌+◌, Bool, false, List, [], ◌∷◌, ◌++◌, length, drop, take, fold, ap, arith, length-append}
 use Rattle.std.specs.Prelude.{unwrap_or}
 use Rattle.std.specs.List.{cons_option}
 use Rattle.std.proofs.lemmas.List.Elements.{filter_map-append}
@@ -8,12 +8,11 @@ use Rattle.std.proofs.lemmas.List.Sums.{fold-append}
 use Rattle.entry_word.specs.Marks.{says_off, IsSmallMark, MarksUnpack}
 use Rattle.entry_word.specs.declared.mark.PresenceMark.{PresenceMark}
 use Rattle.entry_word.specs.declared.mark.PresenceMark.TheVariants.{Empty}
-use Rattle.entry_word.specs.declared.address.Address.{Address}
 use Rattle.entry_word.specs.declared.visit.Visit.{Visit}
-use Rattle.directory.specs.Settings.{Setting, start}
+use Rattle.directory.specs.Settings.{Setting}
 use Rattle.directory.specs.Puts.{ends_off, mark_put, node_put}
 use Rattle.directory.specs.Standing.{Commit, commit_of}
-use Rattle.directory.specs.Writes.{mark_at, entry_at, visit_of}
+use Rattle.directory.specs.Writes.{mark_at, visit_of}
 use Rattle.handset.specs.Condition.{HandsetData}
 use Rattle.handset.specs.Stands.{commits_in, Shows}
 use Rattle.handset.proofs.Lists.{take-next}

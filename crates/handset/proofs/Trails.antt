@@ -8,7 +8,6 @@ use Rattle.node_set.specs.Ascending.{has, with_number}
 use Rattle.node_set.specs.Nodes.{Nodes}
 use Rattle.node_set.specs.Scan.{IsNext, IsNoneFrom}
 use Rattle.node_set.specs.SetLaws.{has-inserted, length-passing_all, passing_all-each}
-use Rattle.directory.specs.Writes.{numbers_from}
 use Rattle.handset.specs.StepWrites.{first_with}
 use Rattle.handset.specs.Trails.{flags}
 use Rattle.handset.proofs.Lists.{differ}

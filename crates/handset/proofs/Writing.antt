@@ -1,6 +1,6 @@
 -- What a handset has left to write: at the beginning of a step all its writes, and after each write the rest.
 use Rattle.std.proofs.Common.{◌≡◌, ℕ, suc, ◌+◌, ◌-◌, ◌<◌, ◌≤◌, Bool, true, false, cond, List, [], ◌∷◌, ◌++◌, Option, Some, None, map, refl, sym, ap, ◌∙◌, arith}
-use Rattle.std.specs.Prelude.{get_or, nat_lt, not, ◌==◌, ◌&&◌}
+use Rattle.std.specs.Prelude.{get_or, nat_lt, not, ◌==◌}
 use Rattle.std.proofs.lemmas.Bool.Decides.{nat_tests}
 use Rattle.node_set.specs.Ascending.{has, sift}
 use Rattle.entry_word.specs.declared.mark.PresenceMark.TheVariants.{Empty, Gone, Here, Coming as ComingMark}
@@ -9,7 +9,7 @@ use Rattle.directory.specs.Courses.{Course, address_node}
 use Rattle.directory.specs.Writes.{Write, mark_at, entry_at, new_address, numbers_from, old_home, erasure_writes, purge_writes, trail, move_writes}
 use Rattle.handset.specs.declared.stage.Stage.TheVariants.{Resting, Coming, Renewing, Committing}
 use Rattle.handset.specs.Condition.{HandsetData}
-use Rattle.handset.specs.StepWrites.{erasure, is_old, is_behind, purge_from, erase_from, commit, renew_from, left_at, first_with, purging_at, purging_from, erasing_at, erasing_from}
+use Rattle.handset.specs.StepWrites.{erasure, is_old, is_behind, purge_from, erase_from, renew_from, left_at, first_with, purging_at, purging_from, erasing_at, erasing_from}
 use Rattle.handset.proofs.Lists.{first-inside, passing-none, passing-some, map-passing-same}
 
 -- the purge

@@ -1,5 +1,5 @@
 use Rattle.std.proofs.lemmas.Bool.Decides.{nat_tests}
-use Rattle.std.proofs.Common.{◌≡◌, ℕ, ◌+◌, ◌-◌, ◌<◌, ◌≤◌, suc, arith, ◌∙◌, ap, get_or, List, Bool}
+use Rattle.std.proofs.Common.{◌≡◌, ℕ, ◌+◌, ◌-◌, ◌≤◌, suc, arith, get_or, List, Bool}
 use Rattle.std.specs.Prelude.{nat_le}
 use Rattle.directory.specs.Courses.{highest}
 use Rattle.region_plan.specs.Plan.{PlanData, levels_of, threshold}

@@ -1,6 +1,5 @@
 use Rattle.std.proofs.lemmas.Bool.Decides.{nat_tests}
-use Rattle.std.proofs.Common.{[], arith, ap, length}
-use Rattle.handset.specs.Trails.{flags}
+use Rattle.std.proofs.Common.{arith}
 use Rattle.handset.proofs.Trails.{flag-count, flags-none}
 use Rattle.handset.proofs.trail.trail_at.Goals as goal
 

@@ -1,4 +1,3 @@
-use Rattle.std.proofs.lemmas.Bool.Decides.{nat_tests}
 use Rattle.std.proofs.Common.{◌≡◌, arith, ◌∙◌, ap, subst, sym}
 use Rattle.region_plan.specs.Settings.{setting_of}
 use Rattle.handset.proofs.Begun.{begin-stands}
