@@ -28,16 +28,11 @@ at_rest : (setting : Setting) (handset : HandsetData) (steps : List Step) (made 
 at_rest setting handset steps made rests f = subst (λ s. StandsAt setting handset s steps made) rests f
 
 -- a switch
-switch-is : (setting : Setting) (course : Course) (off : Bool) → step_writes setting course (switch_to off)
-    ≡ mark_at (last_stop course) (cond off (Off (length course.moves)) (Here (length course.moves))) ∷ []
-switch-is setting course true = refl
-switch-is setting course false = refl
-
 switch-writes : {setting : Setting} {handset : HandsetData} {steps : List Step} {made : ℕ} (off : Bool)
     → StandsAt setting handset Resting steps made → map (visit_of handset.sub)
     (step_writes setting (course_of setting handset.sub steps) (switch_to off)) ≡ map (visit_of handset.sub)
     (left_at setting handset (Switching off))
-switch-writes {setting} {handset} {steps} off f = grind (arith, append-nil, switch-is)
+switch-writes {setting} {handset} {steps} off f = grind (arith, append-nil)
 
 switch-gathered : (setting : Setting) (sub : ℕ) (steps : List Step) (off : Bool) (level : ℕ)
     → gathered_weight (course_of setting sub (steps ++ switch_to off ∷ [])) level
@@ -80,11 +75,6 @@ switch-stands setting handset steps made off rests stands =
     search
 
 -- a move
-same-move : {a b c d e f g h : ℕ} (to : ℕ) → a ≡ b → c ≡ d → e ≡ f → g ≡ h
-    → (let move : Move = record { number = a; from = c; to = to; weight = e; renewed = g } in move)
-    ≡ record { number = b; from = d; to = to; weight = f; renewed = h }
-same-move to p q r s = cc
-
 same-renewal : (setting : Setting) (course : Course) (xs : List ℕ) {weight other : ℕ} → weight ≡ other
     → ((level : ℕ) → level < levels setting → get_or xs level 0 ≡ gathered_weight course level)
     → renewal_in setting xs weight ≡ renewal setting course other
@@ -102,7 +92,7 @@ begin-stands setting handset steps made to address_law gathered_law count rests 
     let kept : (level : ℕ) → level < levels setting
     → get_or handset.gathered level 0 ≡ gathered_weight before level = grind (arith, nat_tests) in
     let far : setting.distance handset.place to ≡ setting.distance (last_stop before) to = grind (arith, nat_tests) in
-    let is_move : move ≡ next_move setting before to = grind (arith, nat_tests, same-move, same-renewal) in
+    let is_move : move ≡ next_move setting before to = grind (arith, nat_tests, same-renewal) in
     let all : map (visit_of handset.sub) (move_writes setting (course_of setting handset.sub steps)
     (next_move setting (course_of setting handset.sub steps) to)) ≡ map (visit_of handset.sub)
     (left_at setting (begin_move setting handset to) Coming) =

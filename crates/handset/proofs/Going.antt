@@ -24,29 +24,13 @@ IsLate nodes move (Erasing level) = level ≤ move.renewed
 IsLate nodes move (Purging node) = node < nodes
 IsLate nodes move stage = ⊥
 
-late-purging : (nodes : ℕ) (handset : HandsetData) (node : ℕ) (o : Option ℕ)
-    → first_with (is_behind handset) node (nodes - node) ≡ o → IsLate nodes handset.last (purging_at o)
-late-purging nodes handset node None h = tt
-late-purging nodes handset node (Some x) h = grind (arith, nat_tests, first-inside)
-
 pub purging-is-late : (plan : PlanData) (handset : HandsetData) (node : ℕ) → IsLate (nodes_of plan) handset.last
     (purging_from (setting_of plan []) handset node)
-purging-is-late plan handset node = late-purging (nodes_of plan) handset node _ refl
-
-late-ending : (plan : PlanData) (handset : HandsetData) (b : Bool) → IsLate (nodes_of plan) handset.last (cond b
-    (purging_from (setting_of plan []) handset 0) Resting)
-late-ending plan handset true = purging-is-late plan handset 0
-late-ending plan handset false = tt
-
-late-erasing : (plan : PlanData) (handset : HandsetData) (level : ℕ) (o : Option ℕ)
-    → first_with (is_old (setting_of plan []) handset) level (suc handset.last.renewed - level) ≡ o
-    → IsLate (nodes_of plan) handset.last (erasing_at (setting_of plan []) handset o)
-late-erasing plan handset level None h = late-ending plan handset _
-late-erasing plan handset level (Some x) h = grind (arith, nat_tests, first-inside)
+purging-is-late plan handset node = grind (arith, first-inside)
 
 pub erasing-is-late : (plan : PlanData) (handset : HandsetData) (level : ℕ) → IsLate (nodes_of plan) handset.last
     (erasing_from (setting_of plan []) handset level)
-erasing-is-late plan handset level = late-erasing plan handset level _ refl
+erasing-is-late plan handset level = grind (arith, first-inside, purging-is-late plan handset 0)
 
 -- the addresses after a move
 pub readdressed : (xs : List ℕ) (renewed to level : ℕ) → level < length xs

@@ -29,12 +29,6 @@ pub first-next : (test : ℕ → Bool) (x limit : ℕ) → x < limit → test x 
     (x + 1)) ≡ first_with test x (limit - x)
 first-next test x limit h fails = rw add-one (first-later test x limit h fails)
 
-pub differ : (a b : ℕ) → a ≢ b → not (a == b) ≡ true
-differ a b h = grind (arith, nat_tests)
-
-pub agree : {a b : ℕ} → a ≡ b → not (a == b) ≡ false
-agree h = grind (arith, nat_tests)
-
 pub highest-here : (test : ℕ → Bool) (limit : ℕ) → 0 < limit → test (limit - 1) ≡ true → limit - 1
     ≡ highest test limit
 unfolding highest
@@ -51,10 +45,6 @@ pub highest-none : (test : ℕ → Bool) (limit : ℕ) → limit ≤ 0 → 0 ≡
 unfolding highest
 highest-none test zero h = refl
 highest-none test (suc limit) h = absurd (omega arith)
-
--- tests
-pub le-passes : (a b : ℕ) → a ≤ b → nat_le a b ≡ true
-le-passes a b h = grind (arith, nat_tests)
 
 pub numbers-from-zero : (f : ℕ → ℕ) (count k : ℕ) → k < count → get_or (map f (numbers_from 0 count)) k 0 ≡ f k
 numbers-from-zero f count k h =

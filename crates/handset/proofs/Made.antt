@@ -28,16 +28,10 @@ use Rattle.handset.proofs.Writing.{purging-left, erasing-left, renewing-left, re
 use Rattle.entry_word.specs.Marks.{MarksUnpack}
 
 -- the next visit is the first of those that are left
-head-due : (setting : Setting) (handset : HandsetData) (stage : Stage) (n : ℕ) (vs : List Visit)
-    → drop n vs ≡ map (visit_of handset.sub) (left_at setting handset stage) → slice_get vs n
-    ≡ option_map (visit_of handset.sub) (due_at setting handset stage)
-head-due setting handset Resting n vs h = drop-none n vs h
-head-due setting handset stage n vs h = drop-head n vs h
-
 pub next-stands : (setting : Setting) (handset : HandsetData) (steps : List Step) (made : ℕ)
     → StandsForSteps setting handset steps made
     → due setting handset ≡ slice_get (visits setting handset.sub steps) made
-next-stands setting handset steps made stands = grind (arith, nat_tests, head-due)
+next-stands setting handset steps made stands = grind (arith, drop-none, drop-head)
 
 -- a handset that goes on behind the confirm
 gone-on-stands : {setting : Setting} {handset : HandsetData} {stage : Stage} (next : Stage) (nodes : ℕ)

@@ -34,10 +34,6 @@ GatheredLaw setting = (first : ℕ) (steps : List Step) (node level : ℕ)
     (gathered_weight (after_steps setting (course_at first) steps) level
     + setting.distance (last_stop (after_steps setting (course_at first) steps)) node)
 
--- the tests of a level that is renewed
-turned : (a b x y : ℕ) → cond (nat_lt a b) x y ≡ cond (nat_le b a) y x
-turned a b x y = grind (arith, nat_tests)
-
 -- where the highest level is the top, the top is renewed
 top-renewed : (top renewed : ℕ) → renewed ≤ top → (renewed == top) ≡ nat_le top renewed
 top-renewed top renewed h = grind (arith, nat_tests)
@@ -62,7 +58,7 @@ settled-stands {setting} {handset} {steps = steps} {made} law fits same f shows 
   place = f.place ∙ same.2 before ∙ sym (ap last_stop course_is ∙ last_stop-moved setting before handset.last.to);
   number = grind (arith, nat_tests, length-append, course_is);
   is_off = f.is_off ∙ sym (ap (λ c. c.is_off) course_is);
-  addresses = grind (arith, nat_tests, readdressed, turned, course_is);
+  addresses = grind (arith, nat_tests, readdressed, course_is);
   gathered = f.gathered;
   trail = λ to node h.
       ap (λ b. get_or (slice_set (cond b (replicate (length handset.trail) false) handset.trail) handset.last.to

@@ -10,7 +10,6 @@ use Rattle.node_set.specs.Scan.{IsNext, IsNoneFrom}
 use Rattle.node_set.specs.SetLaws.{has-inserted, length-passing_all, passing_all-each}
 use Rattle.handset.specs.StepWrites.{first_with}
 use Rattle.handset.specs.Trails.{flags}
-use Rattle.handset.proofs.Lists.{differ}
 
 -- one flag for each node
 pub flag-count : (trail : Nodes) → length (flags trail) ≡ trail.room
@@ -68,14 +67,10 @@ is_left trail to node = get_or (flags trail) node false && not (node == to)
 not-there : (trail : Nodes) (to x : ℕ) → x < trail.room → has x trail.members ≡ false → is_left trail to x ≡ false
 not-there trail to x below none = ap (λ b. b && not (x == to)) (flag-at trail x below ∙ none)
 
--- the new node
-new-node : (trail : Nodes) {to x : ℕ} → x ≡ to → is_left trail to x ≡ false
-new-node trail same = grind (arith, nat_tests)
-
 -- another node of the trail
 still-there : (trail : Nodes) (to x : ℕ) → x < trail.room → has x trail.members ≡ true → x ≢ to
     → is_left trail to x ≡ true
-still-there trail to x below there other = grind (arith, nat_tests, flag-at, differ)
+still-there trail to x below there other = grind (arith, nat_tests, flag-at)
 
 -- where no node is left from one on
 pub none-behind : (trail : Nodes) (to from : ℕ) → IsNoneFrom trail.members from
@@ -94,7 +89,7 @@ next-behind trail to {from} {node} next below other =
 -- between a number and the next node behind the new one no node is left
 between : (trail : Nodes) {to from node : ℕ} → IsNext trail.members from node → node < trail.room → node ≡ to → (x : ℕ)
     → from ≤ x → x < trail.room → (node + 1 ≤ x → has x trail.members ≡ false) → is_left trail to x ≡ false
-between trail {to} {node} next inside same x low below later = grind (arith, cases_lt, not-there, cases_eq, new-node)
+between trail {to} {node} next inside same x low below later = grind (arith, nat_tests, not-there)
 
 -- where the next node is the new one, the one behind it is the first
 pub behind-next : (trail : Nodes) {to from node : ℕ} (rest : Option ℕ) → IsNext trail.members from node
