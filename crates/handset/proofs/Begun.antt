@@ -1,13 +1,12 @@
 -- What a handset stands for goes on with each step that it begins.
-use Rattle.std.proofs.Common.{◌≡◌, ℕ, ◌+◌, ◌<◌, ◌≤◌, Bool, true, false, cond, List, [], ◌∷◌, ◌++◌, length, map, take, drop, replicate, refl, sym, ap, ◌∙◌, subst, arith, length-append}
+use Rattle.std.proofs.Common.{◌≡◌, ℕ, ◌+◌, ◌<◌, ◌≤◌, Bool, true, false, List, [], ◌∷◌, ◌++◌, length, map, take, drop, replicate, refl, sym, ap, ◌∙◌, subst, arith, length-append}
 use Rattle.std.specs.Prelude.{get_or, nat_le, slice_set, ◌==◌, ◌||◌}
 use Rattle.std.proofs.lemmas.Bool.Decides.{nat_tests}
 use Rattle.std.proofs.lemmas.List.{append-nil, take-append-le, get_or-replicate, length-replicate, length-set}
 use Rattle.node_set.specs.Ascending.{has}
-use Rattle.entry_word.specs.declared.mark.PresenceMark.TheVariants.{Off, Here}
 use Rattle.directory.specs.Settings.{Setting, levels, start}
 use Rattle.directory.specs.Courses.{Step, move_to, Move, Course, last_stop, gathered_weight, renewal, next_move}
-use Rattle.directory.specs.Writes.{visit_of, visits, step_writes, trail, mark_at, move_writes, writes}
+use Rattle.directory.specs.Writes.{visit_of, visits, step_writes, trail, move_writes, writes}
 use Rattle.region_plan.specs.Kept.{IsKept}
 use Rattle.region_plan.specs.Plan.{PlanData, nodes_of, levels_of}
 use Rattle.handset.specs.declared.stage.Stage.TheVariants.{Resting, Coming, Switching}

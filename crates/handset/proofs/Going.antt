@@ -1,5 +1,5 @@
 -- A handset goes with its plan after each of its writes.
-use Rattle.std.proofs.Common.{◌≡◌, ℕ, suc, ◌+◌, ◌*◌, ◌-◌, ◌^◌, ◌<◌, ◌≤◌, Bool, true, false, cond, List, [], ◌++◌, Option, Some, None, length, drop, replicate, refl, ap, ◌∙◌, subst, arith, length-append}
+use Rattle.std.proofs.Common.{◌≡◌, ℕ, suc, ◌+◌, ◌*◌, ◌-◌, ◌^◌, ◌<◌, ◌≤◌, Bool, true, false, cond, List, [], ◌++◌, length, drop, replicate, refl, ap, ◌∙◌, subst, arith, length-append}
 use Rattle.std.specs.Prelude.{get_or, nat_lt, slice_set}
 use Rattle.std.proofs.lemmas.Bool.Decides.{nat_tests}
 use Rattle.std.proofs.lemmas.List.{length-map, length-set, length-drop, length-replicate, get_or_append_left, get_or-replicate, get_or-append_right, get_or-drop}
@@ -11,7 +11,7 @@ use Rattle.region_plan.specs.Settings.{setting_of}
 use Rattle.handset.specs.declared.stage.Stage.{Stage}
 use Rattle.handset.specs.declared.stage.Stage.TheVariants.{Resting, Erasing, Purging}
 use Rattle.handset.specs.Condition.{HandsetData, GoesWith, IsMoveStage, begun_at}
-use Rattle.handset.specs.StepWrites.{first_with, is_old, is_behind, purging_at, purging_from, erasing_at, erasing_from, settle, go_on}
+use Rattle.handset.specs.StepWrites.{first_with, is_behind, purging_at, purging_from, erasing_from, settle, go_on}
 use Rattle.handset.specs.Beginning.{gathered_then, gathered_after, journey_to, begin_move}
 use Rattle.handset.proofs.Lists.{first-inside, numbers-from-zero}
 use Rattle.directory.specs.StepLaws.{highest-low}

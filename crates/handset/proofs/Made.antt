@@ -1,7 +1,7 @@
 -- What a handset stands for goes on with each of its writes.
 use Rattle.std.proofs.lemmas.Bool.Decides.{nat_tests}
 use Rattle.std.proofs.Common.{◌≡◌, ℕ, suc, ◌^◌, ◌<◌, Bool, true, false, cond, List, [], ◌∷◌, length, map, take, drop, refl, sym, ap, ◌∙◌, arith}
-use Rattle.std.specs.Prelude.{nat_lt, slice_get, IsSome, option_map}
+use Rattle.std.specs.Prelude.{nat_lt, slice_get, IsSome}
 use Rattle.std.proofs.lemmas.List.{append-nil}
 use Rattle.node_set.specs.Ascending.{has}
 use Rattle.entry_word.specs.declared.mark.PresenceMark.TheVariants.{Empty, Gone, Off, Here, Coming as ComingMark}
@@ -15,7 +15,7 @@ use Rattle.handset.specs.declared.stage.Stage.TheVariants.{Resting, Coming, Rene
 use Rattle.region_plan.specs.Kept.{IsKept}
 use Rattle.region_plan.specs.Settings.{setting_of}
 use Rattle.handset.specs.Condition.{HandsetData, GoesWith, begun_at}
-use Rattle.handset.specs.StepWrites.{due_at, due, left_at, go_on, after_write, erasing_from, purging_from}
+use Rattle.handset.specs.StepWrites.{due, left_at, go_on, after_write, erasing_from, purging_from}
 use Rattle.directory.specs.Amid.{course_of}
 use Rattle.handset.specs.Stands.{switch_to, Shows, StandsAt, StandsForSteps}
 use Rattle.handset.proofs.Lists.{drop-head, drop-tail, drop-inside, drop-none}

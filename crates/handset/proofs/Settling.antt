@@ -1,6 +1,6 @@
 -- What a handset stands for when its move is over.
 use Rattle.std.proofs.Common.{◌≡◌, ℕ, suc, map, ◌+◌, ◌<◌, ◌≤◌, Bool, true, false, cond, List, [], ◌∷◌, ◌++◌, length, take, drop, replicate, sym, ap, ◌∙◌, arith, length-append}
-use Rattle.std.specs.Prelude.{get_or, nat_le, nat_lt, slice_set, ◌==◌, ◌||◌}
+use Rattle.std.specs.Prelude.{get_or, nat_le, slice_set, ◌==◌, ◌||◌}
 use Rattle.std.proofs.lemmas.Bool.Decides.{nat_tests}
 use Rattle.std.proofs.lemmas.List.{append-nil, get_or-set_same, get_or-set_other, get_or-replicate, length-replicate}
 use Rattle.node_set.specs.Ascending.{has}

@@ -1,8 +1,7 @@
 use Rattle.std.proofs.lemmas.Bool.Decides.{nat_tests}
-use Rattle.std.proofs.Common.{◌≡◌, ℕ, ◌+◌, ◌-◌, ◌≤◌, suc, arith, get_or, List, Bool}
+use Rattle.std.proofs.Common.{ℕ, ◌+◌, arith, get_or, List, Bool}
 use Rattle.std.specs.Prelude.{nat_le}
-use Rattle.directory.specs.Courses.{highest}
-use Rattle.region_plan.specs.Plan.{PlanData, levels_of, threshold}
+use Rattle.region_plan.specs.Plan.{PlanData, threshold}
 use Rattle.handset.proofs.Lists.{highest-here, highest-later, highest-none}
 use Rattle.handset.proofs.levels.renewal.Goals as goal
 use Rattle.std.proofs.lemmas.Bool.{lt-leb}
