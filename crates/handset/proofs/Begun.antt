@@ -1,7 +1,6 @@
 -- What a handset stands for goes on with each step that it begins.
 use Rattle.std.proofs.Common.{◌≡◌, ℕ, ◌+◌, ◌<◌, ◌≤◌, Bool, true, false, List, [], ◌∷◌, ◌++◌, length, map, take, drop, replicate, refl, sym, ap, ◌∙◌, subst, arith, length-append}
 use Rattle.std.specs.Prelude.{get_or, nat_le, slice_set, ◌==◌, ◌||◌}
-use Rattle.std.proofs.lemmas.Bool.Decides.{nat_tests}
 use Rattle.std.proofs.lemmas.List.{append-nil, take-append-le, get_or-replicate, length-replicate, length-set}
 use Rattle.node_set.specs.Ascending.{has}
 use Rattle.directory.specs.Settings.{Setting, levels, start}
@@ -36,8 +35,8 @@ switch-writes {setting} {handset} {steps} off f = grind (arith, append-nil)
 switch-gathered : (setting : Setting) (sub : ℕ) (steps : List Step) (off : Bool) (level : ℕ)
     → gathered_weight (course_of setting sub (steps ++ switch_to off ∷ [])) level
     ≡ gathered_weight (course_of setting sub steps) level
-switch-gathered setting sub steps true level = grind (arith, nat_tests, course-more)
-switch-gathered setting sub steps false level = grind (arith, nat_tests, course-more)
+switch-gathered setting sub steps true level = grind (arith, course-more)
+switch-gathered setting sub steps false level = grind (arith, course-more)
 
 -- a step that begins changes nothing that is shown
 begun-shows : {setting : Setting} {handset : HandsetData} (after : HandsetData) (steps : List Step) (made : ℕ)
@@ -46,7 +45,7 @@ begun-shows : {setting : Setting} {handset : HandsetData} (after : HandsetData) 
     → Shows setting handset (take made (visits setting handset.sub steps))
     → Shows setting after (take made (visits setting handset.sub (steps ++ step ∷ [])))
 begun-shows {setting} {handset} after steps made step sub place number off few shows =
-    grind (arith, nat_tests, visits-more, take-append-le)
+    grind (arith, visits-more, take-append-le)
 
 -- its writes are what is left
 few-more : (setting : Setting) (sub : ℕ) (steps : List Step) (made : ℕ) (step : Step)
@@ -57,7 +56,7 @@ left-more : (setting : Setting) (sub : ℕ) (steps : List Step) (made : ℕ) (st
     → made ≤ length (visits setting sub steps) → drop made (visits setting sub steps) ≡ []
     → drop made (visits setting sub (steps ++ step ∷ []))
     ≡ map (visit_of sub) (step_writes setting (course_of setting sub steps) step)
-left-more setting sub steps made step few left = grind (arith, nat_tests, visits-more, drop-spent)
+left-more setting sub steps made step few left = grind (arith, visits-more, drop-spent)
 
 pub switch-stands : (setting : Setting) (handset : HandsetData) (steps : List Step) (made : ℕ) (off : Bool)
     → handset.stage ≡ Resting → StandsForSteps setting handset steps made
@@ -89,9 +88,9 @@ begin-stands setting handset steps made to address_law gathered_law count rests 
     let before : Course = course_of setting handset.sub f.over in
     let over : steps ≡ f.over = f.begun ∙ append-nil f.over in
     let kept : (level : ℕ) → level < levels setting
-    → get_or handset.gathered level 0 ≡ gathered_weight before level = grind (arith, nat_tests) in
-    let far : setting.distance handset.place to ≡ setting.distance (last_stop before) to = grind (arith, nat_tests) in
-    let is_move : move ≡ next_move setting before to = grind (arith, nat_tests, same-renewal) in
+    → get_or handset.gathered level 0 ≡ gathered_weight before level = grind arith in
+    let far : setting.distance handset.place to ≡ setting.distance (last_stop before) to = grind arith in
+    let is_move : move ≡ next_move setting before to = grind (arith, same-renewal) in
     let all : map (visit_of handset.sub) (move_writes setting (course_of setting handset.sub steps)
     (next_move setting (course_of setting handset.sub steps) to)) ≡ map (visit_of handset.sub)
     (left_at setting (begin_move setting handset to) Coming) =
@@ -157,9 +156,9 @@ new-stands setting plan sub {home} nodes count starts inside = record {
         let told = marked (replicate (nodes_of plan) false) false home node (omega (arith, inside, count))
         (omega (arith, h, count)) in
         let none = get_or-replicate (nodes_of plan) node false false h in
-        grind (arith, nat_tests)
+        grind arith
 
 -- it goes with its plan
 pub new-goes : {plan : PlanData} (sub home : ℕ) → IsKept plan → home < nodes_of plan
     → GoesWith plan (handset_at plan sub home)
-new-goes {plan} sub home kept inside = grind (arith, nat_tests, length-replicate, length-set, get_or-replicate)
+new-goes {plan} sub home kept inside = grind (arith, length-replicate, length-set, get_or-replicate)

@@ -1,5 +1,4 @@
 -- The write that commits a move is that of the stage Committing.
-use Rattle.std.proofs.lemmas.Bool.Decides.{nat_tests}
 use Rattle.std.proofs.Common.{◌≡◌, ◌≤◌, ◌^◌, [], arith}
 use Rattle.std.specs.Prelude.{Some}
 use Rattle.entry_word.specs.Marks.{MarksUnpack}
@@ -16,4 +15,4 @@ use Rattle.handset.specs.Stands.{is_commit}
 pub commits-is : MarksUnpack → {plan : PlanData} {handset : HandsetData} {visit : Visit} → GoesWith plan handset
     → nodes_of plan ≤ 2 ^ 16 → due (setting_of plan []) handset ≡ Some visit
     → is_committing handset.stage ≡ is_commit visit.act
-commits-is unpack {plan} {handset} {visit} goes small wants = grind (arith, nat_tests, same_some, read-mark)
+commits-is unpack {plan} {handset} {visit} goes small wants = grind (arith, same_some, read-mark)

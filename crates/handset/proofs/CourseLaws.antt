@@ -16,11 +16,11 @@ use Rattle.directory.specs.StepLaws.{last_stop-moved}
 -- one step more
 pub course-more : (setting : Setting) (sub : ℕ) (steps : List Step) (step : Step)
     → course_of setting sub (steps ++ step ∷ []) ≡ after_step setting (course_of setting sub steps) step
-course-more setting sub steps step = grind (arith, nat_tests, fold-append)
+course-more setting sub steps step = grind (arith, fold-append)
 
 pub base-more : (level : ℕ) (moves : List Move) (move : Move) → base level (moves ++ move ∷ [])
     ≡ cond (nat_le level move.renewed) move.number (base level moves)
-base-more level moves move = grind (arith, nat_tests, fold-append)
+base-more level moves move = grind (arith, fold-append)
 
 -- a level was renewed by a move of the course, if by any
 base-small : (setting : Setting) (course : Course) (steps : List Step) (level : ℕ)

@@ -1,7 +1,6 @@
 -- The write of an entry that has another of its kind behind it: it is the one that comes next, and what follows it.
 use Rattle.std.proofs.Common.{◌≡◌, [], Some, arith}
 use Rattle.std.specs.Prelude.{IfSome}
-use Rattle.std.proofs.lemmas.Bool.Decides.{nat_tests}
 use Rattle.region_plan.specs.Plan.{PlanData}
 use Rattle.region_plan.specs.Settings.{setting_of}
 use Rattle.handset.specs.Entries.{EntryWrite, at_entry, entry_put, entry_write, stage_at}
@@ -20,5 +19,5 @@ pub record IsNextEntry (plan : PlanData) (handset : HandsetData) (at : EntryStag
 
 pub next-entry : {plan : PlanData} (handset : HandsetData) (at : EntryStage) → GoesWith plan (at_entry handset at)
     → IfSome (entry_write (setting_of plan []) handset at) (IsNextEntry plan handset at)
-next-entry {plan} handset (entries.Renewing level) goes = grind (arith, nat_tests, goes-late)
-next-entry {plan} handset (entries.Erasing level) goes = grind (arith, nat_tests, first-inside, goes-late)
+next-entry {plan} handset (entries.Renewing level) goes = grind (arith, goes-late)
+next-entry {plan} handset (entries.Erasing level) goes = grind (arith, first-inside, goes-late)

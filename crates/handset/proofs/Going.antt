@@ -1,7 +1,6 @@
 -- A handset goes with its plan after each of its writes.
 use Rattle.std.proofs.Common.{◌≡◌, ℕ, suc, ◌+◌, ◌*◌, ◌-◌, ◌^◌, ◌<◌, ◌≤◌, Bool, true, false, cond, List, [], ◌++◌, length, drop, replicate, refl, ap, ◌∙◌, subst, arith, length-append}
 use Rattle.std.specs.Prelude.{get_or, nat_lt, slice_set}
-use Rattle.std.proofs.lemmas.Bool.Decides.{nat_tests}
 use Rattle.std.proofs.lemmas.List.{length-map, length-set, length-drop, length-replicate, get_or_append_left, get_or-replicate, get_or-append_right, get_or-drop}
 use Rattle.directory.specs.Courses.{Move}
 use Rattle.directory.specs.Writes.{numbers_from}
@@ -41,7 +40,7 @@ readdressed xs renewed to level h =
 
 trail-length : (b : Bool) (trail : List Bool) (to : ℕ) → length (slice_set (cond b (replicate
     (length trail) false) trail) to true) ≡ length trail
-trail-length true trail to = grind (arith, nat_tests, length-set, length-replicate)
+trail-length true trail to = grind (arith, length-set, length-replicate)
 trail-length false trail to = length-set trail to true
 
 pub goes-settled : {plan : PlanData} {handset : HandsetData} → GoesWith plan handset
@@ -70,7 +69,7 @@ goes-next {plan} {handset} next goes at committed late same = grind (arith, goes
 
 pub purging-by-count : (plan : PlanData) (handset : HandsetData) (node : ℕ) {count : ℕ} → count ≡ nodes_of plan
     → IsLate (nodes_of plan) handset.last (purging_at (first_with (is_behind handset) node (count - node)))
-purging-by-count plan handset node same = grind (arith, nat_tests, purging-is-late)
+purging-by-count plan handset node same = grind (arith, purging-is-late)
 
 -- what the levels have gathered stays light
 pub light-after : (xs : List ℕ) {ys : List ℕ} {levels : ℕ} (n : ℕ) {more : ℕ} (renewed weight : ℕ) → length xs ≡ levels
@@ -80,7 +79,7 @@ light-after xs {ys} n {more} renewed weight count light small next same level h 
 
 -- a handset that begins a move goes with its plan
 light-weight : {plan : PlanData} (u v : ℕ) → IsKept plan → (setting_of plan []).distance u v ≤ 2 ^ 30
-light-weight {plan} u v kept = grind (arith, nat_tests, kept.metric.bounded u v, kept.metric.few)
+light-weight {plan} u v kept = grind (arith, kept.metric.bounded u v, kept.metric.few)
 
 pub goes-begun : {plan : PlanData} {handset : HandsetData} (to : ℕ) → IsKept plan → GoesWith plan handset
     → to < nodes_of plan → handset.stage ≡ Resting → suc handset.number < 2 ^ 32
@@ -90,7 +89,7 @@ goes-begun {plan} {handset} to kept goes inside rests few =
     let gathered = length-map (numbers_from 0 (length handset.gathered)) (λ k. gathered_then
     (get_or handset.gathered k 0) move.renewed move.weight k) ∙ (length-passing_all 0 (length handset.gathered)
     ∙ goes.gathered) in
-    let renewed : move.renewed < levels_of plan = grind (arith, nat_tests, highest-low) in
+    let renewed : move.renewed < levels_of plan = grind (arith, highest-low) in
     let after = begin_move (setting_of plan []) handset to in
     let light : (level : ℕ) → level < levels_of plan → get_or after.gathered level 0 ≤ after.last.number * 2 ^ 30 =
     light-after handset.gathered handset.number move.renewed move.weight goes.gathered

@@ -1,5 +1,4 @@
 -- What a handset stands for at a stage, and at the stages that follow it.
-use Rattle.std.proofs.lemmas.Bool.Decides.{nat_tests}
 use Rattle.std.proofs.Common.{◌≡◌, ℕ, suc, ◌∷◌, ◌^◌, ◌<◌, ◌≤◌, List, length, map, take, drop, refl, arith}
 use Rattle.directory.specs.Settings.{Setting, levels}
 use Rattle.directory.specs.Courses.{Step, Move, Course}
@@ -41,4 +40,4 @@ pub stands-of : {setting : Setting} {handset : HandsetData} {stage : Stage} (nex
     → drop made (visits setting handset.sub steps) ≡ visit ∷ map (visit_of handset.sub) rest
     → rest ≡ left_at setting (record handset { stage = next }) next
     → StandsForSteps setting (record handset { stage = next }) steps (suc made)
-stands-of {setting} {handset} next {made = made} same f shows due on = grind (arith, nat_tests, drop-inside, drop-tail)
+stands-of {setting} {handset} next {made = made} same f shows due on = grind (arith, drop-inside, drop-tail)

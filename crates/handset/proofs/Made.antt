@@ -1,5 +1,4 @@
 -- What a handset stands for goes on with each of its writes.
-use Rattle.std.proofs.lemmas.Bool.Decides.{nat_tests}
 use Rattle.std.proofs.Common.{◌≡◌, ℕ, suc, ◌^◌, ◌<◌, Bool, true, false, cond, List, [], ◌∷◌, length, map, take, drop, refl, sym, ap, ◌∙◌, arith}
 use Rattle.std.specs.Prelude.{nat_lt, slice_get, IsSome}
 use Rattle.std.proofs.lemmas.List.{append-nil}
@@ -41,7 +40,7 @@ gone-on-stands : {setting : Setting} {handset : HandsetData} {stage : Stage} (ne
     → drop made (visits setting handset.sub steps) ≡ visit ∷ map (visit_of handset.sub) rest
     → rest ≡ left_at setting handset next → StandsForSteps setting (go_on setting handset next) steps (suc made)
 gone-on-stands Resting nodes law fits same f shows late left on = settled-stands law fits same f shows left on
-gone-on-stands (Erasing level) nodes law fits same f shows late left on = grind (arith, nat_tests, stands-of)
+gone-on-stands (Erasing level) nodes law fits same f shows late left on = grind (arith, stands-of)
 gone-on-stands (Purging node) nodes law fits same f shows late left on = stands-of (Purging node) same f shows left on
 gone-on-stands stage nodes law fits same f shows late left on = absurd late
 
@@ -137,12 +136,12 @@ few-commits stage number same few = omega (arith, same, few)
 
 fits-plan : {plan : PlanData} (starts : List ℕ) {handset : HandsetData} → IsKept plan → GoesWith plan handset
     → Fits (setting_of plan starts) handset
-fits-plan starts {handset} kept goes = grind (arith, nat_tests, few-commits)
+fits-plan starts {handset} kept goes = grind (arith, few-commits)
 
 -- a handset that has a write left isn't at rest
 going-on : (plan : PlanData) (handset : HandsetData) → IsSome (due (setting_of plan []) handset)
     → handset.stage ≡ Resting → ⊥
-going-on plan handset some rests = grind (arith, nat_tests)
+going-on plan handset some rests = grind arith
 
 -- so a write that is left leaves a handset that stands for one visit more
 pub made-stands : {plan : PlanData} (starts : List ℕ) {handset : HandsetData} (steps : List Step) (made : ℕ)

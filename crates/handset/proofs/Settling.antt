@@ -36,7 +36,7 @@ GatheredLaw setting = (first : ℕ) (steps : List Step) (node level : ℕ)
 
 -- where the highest level is the top, the top is renewed
 top-renewed : (top renewed : ℕ) → renewed ≤ top → (renewed == top) ≡ nat_le top renewed
-top-renewed top renewed h = grind (arith, nat_tests)
+top-renewed top renewed h = grind arith
 
 -- the trail that is kept after a move
 pub marked : (trail : List Bool) (renews : Bool) (to node : ℕ) → to < length trail → node < length trail
@@ -56,7 +56,7 @@ settled-stands {setting} {handset} {steps = steps} {made} law fits same f shows 
   begun = sym (append-nil steps);
   move = tt;
   place = f.place ∙ same.2 before ∙ sym (ap last_stop course_is ∙ last_stop-moved setting before handset.last.to);
-  number = grind (arith, nat_tests, length-append, course_is);
+  number = grind (arith, length-append, course_is);
   is_off = f.is_off ∙ sym (ap (λ c. c.is_off) course_is);
   addresses = grind (arith, nat_tests, readdressed, course_is);
   gathered = f.gathered;

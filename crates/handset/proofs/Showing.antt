@@ -1,5 +1,4 @@
 -- What one put more tells of its subscriber.
-use Rattle.std.proofs.lemmas.Bool.Decides.{nat_tests}
 use Rattle.std.proofs.Common.{◌≡◌, ℕ, suc, ◌+◌, Bool, false, List, [], ◌∷◌, ◌++◌, length, drop, take, fold, ap, arith, length-append}
 use Rattle.std.specs.Prelude.{unwrap_or}
 use Rattle.std.specs.List.{cons_option}
@@ -20,7 +19,7 @@ use Rattle.handset.proofs.Lists.{take-next}
 -- the commits and the state after one put more
 commits-more : (puts : List Visit) (visit : Visit) → commits_in (puts ++ visit ∷ [])
     ≡ commits_in puts ++ cons_option (commit_of (node_put visit.act) (mark_put visit.act)) []
-commits-more puts visit = grind (arith, nat_tests, filter_map-append)
+commits-more puts visit = grind (arith, filter_map-append)
 
 off-more : (puts : List Visit) (visit : Visit) → ends_off (puts ++ visit ∷ []) ≡ says_off (mark_put visit.act)
 off-more puts visit = fold-append (λ (off : Bool) (v : Visit). says_off (mark_put v.act)) false puts (visit ∷ [])
@@ -34,7 +33,7 @@ pub put-shown : {setting : Setting} {handset : HandsetData} (after : HandsetData
     → after.is_off ≡ says_off mark → Shows setting handset (take made puts)
     → Shows setting after (take (suc made) puts)
 put-shown {setting} {handset} after puts made {visit} mark left puts_mark same place number off shows =
-    grind (arith, nat_tests, commits-more, off-more, take-next, fold-append, length-append)
+    grind (arith, commits-more, off-more, take-next, fold-append, length-append)
 
 -- a mark that is put
 pub mark-shown : MarksUnpack → {setting : Setting} {handset : HandsetData} (after : HandsetData) (puts : List Visit)

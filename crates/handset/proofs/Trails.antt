@@ -1,7 +1,6 @@
 -- The trail as a set of nodes: what is told of each node, and the first of those that are left.
 use Rattle.std.proofs.Common.{◌≡◌, ◌≢◌, ℕ, zero, suc, ◌+◌, ◌-◌, ◌<◌, ◌≤◌, Bool, true, false, cond, [], Option, Some, None, IfSome, IfNone, length, replicate, set, refl, sym, ap, ◌∙◌, arith}
 use Rattle.std.specs.Prelude.{get_or, not, ◌==◌, ◌&&◌}
-use Rattle.std.proofs.lemmas.Bool.Decides.{nat_tests}
 use Rattle.std.proofs.lemmas.List.{ext_get_or, get_or-map, get_or-replicate, get_or-set_same, get_or-set_other, length-map, length-replicate, length-set}
 use Rattle.node_set.specs.Ascending.{has, with_number}
 use Rattle.node_set.specs.Nodes.{Nodes}
@@ -13,7 +12,7 @@ use Rattle.handset.specs.Trails.{flags}
 -- one flag for each node
 pub flag-count : (trail : Nodes) → length (flags trail) ≡ trail.room
 unfolding flags
-flag-count trail = grind (arith, nat_tests, length-map, length-passing_all)
+flag-count trail = grind (arith, length-map, length-passing_all)
 
 -- which tells whether the node is there
 pub flag-at : (trail : Nodes) (x : ℕ) → x < trail.room → get_or (flags trail) x false ≡ has x trail.members
@@ -38,7 +37,7 @@ flags-more trail v inside =
     ext_get_or false (flags more) (set (flags trail) v true)
     (flag-count more ∙ sym (length-set (flags trail) v true ∙ flag-count trail))
     (λ i h. let below : i < trail.room = omega (arith, h, flag-count more) in
-    grind (arith, nat_tests, flag-at, has-inserted, get_or-set_same, get_or-set_other))
+    grind (arith, flag-at, has-inserted, get_or-set_same, get_or-set_other))
 
 -- the first number that passes, where none before it does
 pub first-found : (test : ℕ → Bool) (from k v : ℕ) → from ≤ v → v < from + k → test v ≡ true
@@ -69,7 +68,7 @@ not-there trail to x below none = ap (λ b. b && not (x == to)) (flag-at trail x
 -- another node of the trail
 still-there : (trail : Nodes) (to x : ℕ) → x < trail.room → has x trail.members ≡ true → x ≢ to
     → is_left trail to x ≡ true
-still-there trail to x below there other = grind (arith, nat_tests, flag-at)
+still-there trail to x below there other = grind (arith, flag-at)
 
 -- where no node is left from one on
 pub none-behind : (trail : Nodes) (to from : ℕ) → IsNoneFrom trail.members from
@@ -88,7 +87,7 @@ next-behind trail to {from} {node} next below other =
 -- between a number and the next node behind the new one no node is left
 between : (trail : Nodes) {to from node : ℕ} → IsNext trail.members from node → node < trail.room → node ≡ to → (x : ℕ)
     → from ≤ x → x < trail.room → (node + 1 ≤ x → has x trail.members ≡ false) → is_left trail to x ≡ false
-between trail {to} {node} next inside same x low below later = grind (arith, nat_tests, not-there)
+between trail {to} {node} next inside same x low below later = grind (arith, not-there)
 
 -- where the next node is the new one, the one behind it is the first
 pub behind-next : (trail : Nodes) {to from node : ℕ} (rest : Option ℕ) → IsNext trail.members from node

@@ -1,7 +1,6 @@
 -- What a handset has left to write: at the beginning of a step all its writes, and after each write the rest.
 use Rattle.std.proofs.Common.{◌≡◌, ℕ, suc, ◌+◌, ◌-◌, ◌<◌, ◌≤◌, Bool, true, false, cond, List, [], ◌∷◌, ◌++◌, Option, Some, None, map, refl, sym, ap, ◌∙◌, arith}
 use Rattle.std.specs.Prelude.{get_or, nat_lt, not, ◌==◌}
-use Rattle.std.proofs.lemmas.Bool.Decides.{nat_tests}
 use Rattle.node_set.specs.Ascending.{has, sift}
 use Rattle.entry_word.specs.declared.mark.PresenceMark.TheVariants.{Empty, Gone, Here, Coming as ComingMark}
 use Rattle.directory.specs.Settings.{Setting, levels}
@@ -17,11 +16,11 @@ purge-left : (setting : Setting) (handset : HandsetData) (node : ℕ) (o : Optio
     → first_with (is_behind handset) node (setting.nodes - node) ≡ o
     → map (λ x. mark_at x Empty) (sift (is_behind handset) node (setting.nodes - node))
     ≡ left_at setting handset (purging_at o)
-purge-left setting handset node None h = grind (arith, nat_tests, passing-none)
+purge-left setting handset node None h = grind (arith, passing-none)
 purge-left setting handset node (Some x) h =
-    let inside : (node ≤ x) × (x < node + (setting.nodes - node)) = grind (arith, nat_tests, first-inside) in
+    let inside : (node ≤ x) × (x < node + (setting.nodes - node)) = grind (arith, first-inside) in
     let e : node + (setting.nodes - node) - suc x ≡ setting.nodes - suc x = omega (arith, inside.0, inside.1) in
-    grind (arith, nat_tests, passing-some)
+    grind (arith, passing-some)
 
 pub purging-left : (setting : Setting) (handset : HandsetData) (node : ℕ)
     → map (λ x. mark_at x Empty) (sift (is_behind handset) node (setting.nodes - node))
@@ -53,7 +52,7 @@ erasing-left setting handset level = erase-left setting handset level _ refl
 pub renewing-left : (setting : Setting) (handset : HandsetData) (level : ℕ)
     → renew_from setting handset (suc level) ≡ left_at setting handset (cond (nat_lt level handset.last.renewed)
     (Renewing (suc level)) Committing)
-renewing-left setting handset level = grind (arith, nat_tests)
+renewing-left setting handset level = grind arith
 
 pub renewing-first : (setting : Setting) (handset : HandsetData) → renew_from setting handset 0
     ≡ left_at setting handset (Renewing 0)
@@ -98,7 +97,7 @@ coming-left setting course handset low addresses trails =
     purged : purge_writes setting course handset.last ≡ purge_from setting handset 0
     purged =
         let none : setting.nodes ≡ setting.nodes - 0 = omega arith in
-        grind (arith, nat_tests, map-passing-same)
+        grind (arith, map-passing-same)
 
     both : erasure_writes setting course handset.last ++ purge_writes setting course handset.last ≡ erase_from setting
         handset 0

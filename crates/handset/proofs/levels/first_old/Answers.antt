@@ -9,7 +9,7 @@ abbrev moved : PlanData → List ℕ → ℕ → ℕ → Bool
 moved plan addresses to level = not (home plan level (get_or addresses level 0) == home plan level to)
 
 pub returns-then-home : goal.returns-then-home
-returns-then-home c = grind (arith, nat_tests, moved, first-here)
+returns-then-home c = grind (arith, moved, first-here)
 
 pub loop-level-preserved : goal.loop-level-preserved
 loop-level-preserved c =

@@ -1,4 +1,3 @@
-use Rattle.std.proofs.lemmas.Bool.Decides.{nat_tests}
 use Rattle.std.proofs.Common.{◌<◌, length, arith, ◌∙◌, sym, get_or}
 use Rattle.std.proofs.lemmas.List.{ext_get_or, length-map}
 use Rattle.directory.specs.Writes.{numbers_from}
@@ -16,4 +15,4 @@ returns c =
     ∙ length-passing_all 0 (length c.args.gathered.now)))
     (λ k h. let low : k < c.loop-level.level = omega arith in let small : k < length c.args.gathered.now =
     omega arith in
-    grind (arith, nat_tests, numbers-from-zero))
+    grind (arith, numbers-from-zero))

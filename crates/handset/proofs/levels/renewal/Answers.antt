@@ -1,4 +1,3 @@
-use Rattle.std.proofs.lemmas.Bool.Decides.{nat_tests}
 use Rattle.std.proofs.Common.{ℕ, ◌+◌, arith, get_or, List, Bool}
 use Rattle.std.specs.Prelude.{nat_le}
 use Rattle.region_plan.specs.Plan.{PlanData, threshold}
@@ -11,13 +10,13 @@ abbrev reaches : PlanData → List ℕ → ℕ → ℕ → Bool
 reaches plan gathered weight level = nat_le (threshold plan level) (get_or gathered level 0 + weight)
 
 pub loop-limit-init : goal.loop-limit-init
-loop-limit-init c = grind (arith, nat_tests)
+loop-limit-init c = grind arith
 
 pub returns-then-threshold-gathered-clause-highest : goal.returns-then-threshold-gathered-clause-highest
-returns-then-threshold-gathered-clause-highest c = grind (arith, nat_tests, reaches, highest-here)
+returns-then-threshold-gathered-clause-highest c = grind (arith, reaches, highest-here)
 
 pub loop-limit-preserved : goal.loop-limit-preserved
-loop-limit-preserved c = grind (arith, nat_tests, highest-later, lt-leb)
+loop-limit-preserved c = grind (arith, highest-later, lt-leb)
 
 pub returns-clause-highest : goal.returns-clause-highest
 returns-clause-highest c = grind (arith, reaches, highest-none)

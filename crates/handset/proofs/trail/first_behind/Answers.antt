@@ -1,4 +1,3 @@
-use Rattle.std.proofs.lemmas.Bool.Decides.{nat_tests}
 use Rattle.std.proofs.Common.{◌∙◌, arith}
 use Rattle.handset.proofs.Trails.{behind-next, flag-count, next-behind, none-behind}
 use Rattle.handset.proofs.trail.first_behind.Goals as goal
@@ -12,7 +11,7 @@ returns-then-node-to c =
     next-behind c.args.trail.now c.args.to c.in_ok-node.ensures.some c.in_ok-node.ensures.below c.if-node-to.true
 
 pub overflow_add-node : goal.overflow_add-node
-overflow_add-node c = grind (arith, nat_tests, flag-count)
+overflow_add-node c = grind (arith, flag-count)
 
 pub returns : goal.returns
 returns c =
