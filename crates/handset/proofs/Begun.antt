@@ -1,13 +1,11 @@
 -- What a handset stands for goes on with each step that it begins.
-use Rattle.std.proofs.Common.{◌≡◌, ℕ, suc, ◌+◌, ◌<◌, ◌≤◌, Bool, true, false, cond, List, [], ◌∷◌, ◌++◌, length, map, fold, take, drop, replicate, refl, sym, ap, ◌∙◌, subst, arith, length-append}
+use Rattle.std.proofs.Common.{◌≡◌, ℕ, ◌+◌, ◌<◌, ◌≤◌, Bool, true, false, List, [], ◌∷◌, ◌++◌, length, map, take, drop, replicate, refl, sym, ap, ◌∙◌, subst, arith, length-append}
 use Rattle.std.specs.Prelude.{get_or, nat_le, slice_set, ◌==◌, ◌||◌}
-use Rattle.std.proofs.lemmas.Bool.Decides.{nat_tests}
 use Rattle.std.proofs.lemmas.List.{append-nil, take-append-le, get_or-replicate, length-replicate, length-set}
 use Rattle.node_set.specs.Ascending.{has}
-use Rattle.entry_word.specs.declared.mark.PresenceMark.TheVariants.{Off, Here}
 use Rattle.directory.specs.Settings.{Setting, levels, start}
-use Rattle.directory.specs.Courses.{Step, move_to, switch_off, switch_on, Move, Course, last_stop, gathered_weight, renewal, next_move}
-use Rattle.directory.specs.Writes.{visit_of, visits, step_writes, trail, mark_at, move_writes, writes}
+use Rattle.directory.specs.Courses.{Step, move_to, Move, Course, last_stop, gathered_weight, renewal, next_move}
+use Rattle.directory.specs.Writes.{visit_of, visits, step_writes, trail, move_writes, writes}
 use Rattle.region_plan.specs.Kept.{IsKept}
 use Rattle.region_plan.specs.Plan.{PlanData, nodes_of, levels_of}
 use Rattle.handset.specs.declared.stage.Stage.TheVariants.{Resting, Coming, Switching}
@@ -15,7 +13,7 @@ use Rattle.handset.specs.Condition.{GoesWith, HandsetData}
 use Rattle.handset.specs.StepWrites.{left_at}
 use Rattle.handset.specs.Beginning.{begin_move, handset_at, journey_to, renewal_in, gathered_then}
 use Rattle.directory.specs.Amid.{course_of}
-use Rattle.handset.specs.Stands.{switch_to, commits_in, Shows, StandsAt, StandsForSteps}
+use Rattle.handset.specs.Stands.{switch_to, Shows, StandsAt, StandsForSteps}
 use Rattle.handset.proofs.Lists.{drop-spent, highest-same, numbers-from-zero}
 use Rattle.handset.proofs.CourseLaws.{course-more}
 use Rattle.handset.proofs.Settling.{AddressLaw, GatheredLaw, marked}
@@ -28,24 +26,17 @@ at_rest : (setting : Setting) (handset : HandsetData) (steps : List Step) (made 
 at_rest setting handset steps made rests f = subst (λ s. StandsAt setting handset s steps made) rests f
 
 -- a switch
-switch-is : (setting : Setting) (course : Course) (off : Bool) → step_writes setting course (switch_to off)
-    ≡ mark_at (last_stop course) (cond off (Off (length course.moves)) (Here (length course.moves))) ∷ []
-switch-is setting course true = refl
-switch-is setting course false = refl
-
 switch-writes : {setting : Setting} {handset : HandsetData} {steps : List Step} {made : ℕ} (off : Bool)
     → StandsAt setting handset Resting steps made → map (visit_of handset.sub)
     (step_writes setting (course_of setting handset.sub steps) (switch_to off)) ≡ map (visit_of handset.sub)
     (left_at setting handset (Switching off))
-switch-writes {setting} {handset} {steps} off f = grind (arith, append-nil, switch-is)
+switch-writes {setting} {handset} {steps} off f = grind (arith, append-nil)
 
 switch-gathered : (setting : Setting) (sub : ℕ) (steps : List Step) (off : Bool) (level : ℕ)
     → gathered_weight (course_of setting sub (steps ++ switch_to off ∷ [])) level
     ≡ gathered_weight (course_of setting sub steps) level
-switch-gathered setting sub steps true level =
-    ap (λ c. gathered_weight c level) (course-more setting sub steps switch_off)
-switch-gathered setting sub steps false level =
-    ap (λ c. gathered_weight c level) (course-more setting sub steps switch_on)
+switch-gathered setting sub steps true level = grind (arith, course-more)
+switch-gathered setting sub steps false level = grind (arith, course-more)
 
 -- a step that begins changes nothing that is shown
 begun-shows : {setting : Setting} {handset : HandsetData} (after : HandsetData) (steps : List Step) (made : ℕ)
@@ -54,18 +45,7 @@ begun-shows : {setting : Setting} {handset : HandsetData} (after : HandsetData) 
     → Shows setting handset (take made (visits setting handset.sub steps))
     → Shows setting after (take made (visits setting handset.sub (steps ++ step ∷ [])))
 begun-shows {setting} {handset} after steps made step sub place number off few shows =
-    let same : take made (visits setting handset.sub (steps ++ step ∷ []))
-    ≡ take made (visits setting handset.sub steps) =
-    ap (take made) (visits-more setting handset.sub steps step)
-    ∙ take-append-le made (visits setting handset.sub steps) (map (visit_of handset.sub) (step_writes setting
-    (course_of setting handset.sub steps) step)) few in
-    subst (Shows setting after) (sym same)
-    (record {
-      place = place ∙ (shows.place ∙ ap (λ s. fold (λ node commit. commit.to) (start setting s) (commits_in
-          (take made (visits setting handset.sub steps)))) (sym sub));
-      number = number ∙ shows.number;
-      is_off = off ∙ shows.is_off;
-    })
+    grind (arith, visits-more, take-append-le)
 
 -- its writes are what is left
 few-more : (setting : Setting) (sub : ℕ) (steps : List Step) (made : ℕ) (step : Step)
@@ -76,8 +56,7 @@ left-more : (setting : Setting) (sub : ℕ) (steps : List Step) (made : ℕ) (st
     → made ≤ length (visits setting sub steps) → drop made (visits setting sub steps) ≡ []
     → drop made (visits setting sub (steps ++ step ∷ []))
     ≡ map (visit_of sub) (step_writes setting (course_of setting sub steps) step)
-left-more setting sub steps made step few left =
-    ap (drop made) (visits-more setting sub steps step) ∙ drop-spent made (visits setting sub steps) _ few left
+left-more setting sub steps made step few left = grind (arith, visits-more, drop-spent)
 
 pub switch-stands : (setting : Setting) (handset : HandsetData) (steps : List Step) (made : ℕ) (off : Bool)
     → handset.stage ≡ Resting → StandsForSteps setting handset steps made
@@ -94,11 +73,6 @@ switch-stands setting handset steps made off rests stands =
     search
 
 -- a move
-same-move : {a b c d e f g h : ℕ} (to : ℕ) → a ≡ b → c ≡ d → e ≡ f → g ≡ h
-    → (let move : Move = record { number = a; from = c; to = to; weight = e; renewed = g } in move)
-    ≡ record { number = b; from = d; to = to; weight = f; renewed = h }
-same-move to p q r s = cc
-
 same-renewal : (setting : Setting) (course : Course) (xs : List ℕ) {weight other : ℕ} → weight ≡ other
     → ((level : ℕ) → level < levels setting → get_or xs level 0 ≡ gathered_weight course level)
     → renewal_in setting xs weight ≡ renewal setting course other
@@ -114,12 +88,9 @@ begin-stands setting handset steps made to address_law gathered_law count rests 
     let before : Course = course_of setting handset.sub f.over in
     let over : steps ≡ f.over = f.begun ∙ append-nil f.over in
     let kept : (level : ℕ) → level < levels setting
-    → get_or handset.gathered level 0 ≡ gathered_weight before level =
-    λ level h. f.gathered level h ∙ ap (λ xs. gathered_weight (course_of setting handset.sub xs) level) over in
-    let far : setting.distance handset.place to ≡ setting.distance (last_stop before) to =
-    ap (λ n. setting.distance n to) f.place in
-    let is_move : move ≡ next_move setting before to = same-move to (ap suc f.number) f.place far
-    (same-renewal setting before handset.gathered far kept) in
+    → get_or handset.gathered level 0 ≡ gathered_weight before level = grind arith in
+    let far : setting.distance handset.place to ≡ setting.distance (last_stop before) to = grind arith in
+    let is_move : move ≡ next_move setting before to = grind (arith, same-renewal) in
     let all : map (visit_of handset.sub) (move_writes setting (course_of setting handset.sub steps)
     (next_move setting (course_of setting handset.sub steps) to)) ≡ map (visit_of handset.sub)
     (left_at setting (begin_move setting handset to) Coming) =
@@ -185,23 +156,9 @@ new-stands setting plan sub {home} nodes count starts inside = record {
         let told = marked (replicate (nodes_of plan) false) false home node (omega (arith, inside, count))
         (omega (arith, h, count)) in
         let none = get_or-replicate (nodes_of plan) node false false h in
-        grind (arith, nat_tests)
+        grind arith
 
 -- it goes with its plan
 pub new-goes : {plan : PlanData} (sub home : ℕ) → IsKept plan → home < nodes_of plan
     → GoesWith plan (handset_at plan sub home)
-new-goes {plan} sub home kept inside = record {
-  addresses = length-replicate (levels_of plan) home;
-  gathered = length-replicate (levels_of plan) 0;
-  trail = length-set (replicate (nodes_of plan) false) home true ∙ length-replicate (nodes_of plan) false;
-  place = inside;
-  from = inside;
-  to = inside;
-  renewed = kept.some;
-  inside = λ level low.
-      subst (λ n. n < nodes_of plan) (sym (get_or-replicate (levels_of plan) level home 0 low)) inside;
-  light = λ level low. omega (arith, get_or-replicate {A = ℕ} (levels_of plan) level 0 0 low);
-  counted = refl;
-  numbered = omega arith;
-  stage = tt;
-}
+new-goes {plan} sub home kept inside = grind (arith, length-replicate, length-set, get_or-replicate)

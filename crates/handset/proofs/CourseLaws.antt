@@ -1,5 +1,6 @@
 -- Courses: what one step more makes of the visits, the place, the levels and the trail.
-use Rattle.std.proofs.Common.{◌≡◌, ℕ, suc, ◌≤◌, Bool, true, false, cond, List, [], ◌∷◌, ◌++◌, length, map, drop, ap, ◌∙◌, arith, length-append}
+use Rattle.std.proofs.lemmas.Bool.Decides.{nat_tests}
+use Rattle.std.proofs.Common.{◌≡◌, ℕ, ◌≤◌, false, cond, List, [], ◌∷◌, ◌++◌, length, ap, ◌∙◌, arith, length-append}
 use Rattle.std.specs.Prelude.{nat_le, ◌==◌, ◌||◌}
 use Rattle.std.proofs.lemmas.List.{map-append, drop-append-le, drop_at}
 use Rattle.std.proofs.lemmas.List.Sums.{fold-append}
@@ -15,13 +16,11 @@ use Rattle.directory.specs.StepLaws.{last_stop-moved}
 -- one step more
 pub course-more : (setting : Setting) (sub : ℕ) (steps : List Step) (step : Step)
     → course_of setting sub (steps ++ step ∷ []) ≡ after_step setting (course_of setting sub steps) step
-course-more setting sub steps step = fold-append (after_step setting) (course_at (start setting sub)) steps
-    (step ∷ [])
+course-more setting sub steps step = grind (arith, fold-append)
 
 pub base-more : (level : ℕ) (moves : List Move) (move : Move) → base level (moves ++ move ∷ [])
     ≡ cond (nat_le level move.renewed) move.number (base level moves)
-base-more level moves move = fold-append (λ last (m : Move). cond (nat_le level m.renewed) m.number last) 0 moves
-    (move ∷ [])
+base-more level moves move = grind (arith, fold-append)
 
 -- a level was renewed by a move of the course, if by any
 base-small : (setting : Setting) (course : Course) (steps : List Step) (level : ℕ)
@@ -44,47 +43,22 @@ has-last : (xs : List ℕ) (x y : ℕ) → has x (xs ++ y ∷ []) ≡ (has x xs 
 has-last xs x y = has-append x xs (y ∷ []) ∙ ap (λ b. has x xs || b) (or-false (x == y))
 
 -- the trail after a move
-pub trail-after : (setting : Setting) (sub : ℕ) (steps : List Step) (to after node : ℕ) {renews : Bool}
-    → nat_le setting.top (next_move setting (course_of setting sub steps) to).renewed ≡ renews
+pub trail-after : (setting : Setting) (sub : ℕ) (steps : List Step) (to after node : ℕ)
     → has node (trail setting (after_step setting (course_of setting sub steps) (move_to to))
     (next_move setting (after_step setting (course_of setting sub steps) (move_to to)) after))
-    ≡ (cond renews false (has node (trail setting (course_of setting sub steps)
-    (next_move setting (course_of setting sub steps) to))) || node == to)
-trail-after setting sub steps to after node {renews} same =
-    ap (λ b. has node (map (λ (m : Move). m.from) (drop b ((course.moves ++ move ∷ []) ++ later ∷ []))))
-    (base-more setting.top course.moves move)
-    ∙ (ap (λ b. has node (map (λ (m : Move). m.from) (drop (cond b move.number (base setting.top course.moves))
-    ((course.moves ++ move ∷ []) ++ later ∷ [])))) same
-    ∙ at_test renews)
-  where
-    course : Course
-    course = course_of setting sub steps
-
-    move : Move
-    move = next_move setting course to
-
-    later : Move
-    later = next_move setting (after_step setting course (move_to to)) after
-
-    count : length (course.moves ++ move ∷ []) ≡ suc (length course.moves)
-    count = omega (arith, length-append course.moves (move ∷ []))
-
-    at_test : (b : Bool) → has node (map (λ (m : Move). m.from) (drop (cond b move.number
-        (base setting.top course.moves)) ((course.moves ++ move ∷ []) ++ later ∷ [])))
-        ≡ (cond b false (has node (trail setting course move)) || node == to)
-    at_test true =
-        ap (λ ms. has node (map (λ (m : Move). m.from) ms)) (drop_at (course.moves ++ move ∷ []) (later ∷ []) (suc
-        (length course.moves)) count)
-        ∙ (or-false (node == later.from) ∙ ap (λ n. node == n) (last_stop-moved setting course to))
-    at_test false =
-        let low : base setting.top course.moves ≤ length (course.moves ++ move ∷ []) = omega (
-          arith,
-          count,
-          base-within setting sub steps setting.top,
-        ) in
-        ap (λ ms. has node (map (λ (m : Move). m.from) ms)) (drop-append-le (base setting.top course.moves)
-        (course.moves ++ move ∷ []) (later ∷ []) low)
-        ∙ (ap (has node) (map-append (λ (m : Move). m.from) (drop (base setting.top course.moves)
-        (course.moves ++ move ∷ [])) (later ∷ []))
-        ∙ (has-last (trail setting course move) node later.from
-        ∙ ap (λ n. has node (trail setting course move) || node == n) (last_stop-moved setting course to)))
+    ≡ (cond (nat_le setting.top (next_move setting (course_of setting sub steps) to).renewed) false
+    (has node (trail setting (course_of setting sub steps) (next_move setting (course_of setting sub steps) to)))
+    || node == to)
+trail-after setting sub steps to after node = grind (
+  arith,
+  nat_tests,
+  base-more,
+  last_stop-moved,
+  drop_at,
+  length-append,
+  or-false,
+  drop-append-le,
+  base-within,
+  map-append,
+  has-last,
+)

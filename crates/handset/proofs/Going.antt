@@ -1,7 +1,6 @@
 -- A handset goes with its plan after each of its writes.
-use Rattle.std.proofs.Common.{◌≡◌, ℕ, suc, ◌+◌, ◌*◌, ◌-◌, ◌^◌, ◌<◌, ◌≤◌, Bool, true, false, cond, List, [], ◌++◌, Option, Some, None, length, drop, replicate, refl, ap, ◌∙◌, subst, arith, length-append}
-use Rattle.std.specs.Prelude.{get_or, nat_le, nat_lt, slice_set}
-use Rattle.std.proofs.lemmas.Bool.Decides.{nat_tests}
+use Rattle.std.proofs.Common.{◌≡◌, ℕ, suc, ◌+◌, ◌*◌, ◌-◌, ◌^◌, ◌<◌, ◌≤◌, Bool, true, false, cond, List, [], ◌++◌, length, drop, replicate, refl, ap, ◌∙◌, subst, arith, length-append}
+use Rattle.std.specs.Prelude.{get_or, nat_lt, slice_set}
 use Rattle.std.proofs.lemmas.List.{length-map, length-set, length-drop, length-replicate, get_or_append_left, get_or-replicate, get_or-append_right, get_or-drop}
 use Rattle.directory.specs.Courses.{Move}
 use Rattle.directory.specs.Writes.{numbers_from}
@@ -11,7 +10,7 @@ use Rattle.region_plan.specs.Settings.{setting_of}
 use Rattle.handset.specs.declared.stage.Stage.{Stage}
 use Rattle.handset.specs.declared.stage.Stage.TheVariants.{Resting, Erasing, Purging}
 use Rattle.handset.specs.Condition.{HandsetData, GoesWith, IsMoveStage, begun_at}
-use Rattle.handset.specs.StepWrites.{first_with, is_old, is_behind, purging_at, purging_from, erasing_at, erasing_from, settle, go_on}
+use Rattle.handset.specs.StepWrites.{first_with, is_behind, purging_at, purging_from, erasing_from, settle, go_on}
 use Rattle.handset.specs.Beginning.{gathered_then, gathered_after, journey_to, begin_move}
 use Rattle.handset.proofs.Lists.{first-inside, numbers-from-zero}
 use Rattle.directory.specs.StepLaws.{highest-low}
@@ -24,31 +23,13 @@ IsLate nodes move (Erasing level) = level ≤ move.renewed
 IsLate nodes move (Purging node) = node < nodes
 IsLate nodes move stage = ⊥
 
-late-purging : (nodes : ℕ) (handset : HandsetData) (node : ℕ) (o : Option ℕ)
-    → first_with (is_behind handset) node (nodes - node) ≡ o → IsLate nodes handset.last (purging_at o)
-late-purging nodes handset node None h = tt
-late-purging nodes handset node (Some x) h = let inside : (node ≤ x) × (x < node + (nodes - node)) =
-    first-inside _ _ _ h in omega (arith, inside.0, inside.1)
-
 pub purging-is-late : (plan : PlanData) (handset : HandsetData) (node : ℕ) → IsLate (nodes_of plan) handset.last
     (purging_from (setting_of plan []) handset node)
-purging-is-late plan handset node = late-purging (nodes_of plan) handset node _ refl
-
-late-ending : (plan : PlanData) (handset : HandsetData) (b : Bool) → IsLate (nodes_of plan) handset.last (cond b
-    (purging_from (setting_of plan []) handset 0) Resting)
-late-ending plan handset true = purging-is-late plan handset 0
-late-ending plan handset false = tt
-
-late-erasing : (plan : PlanData) (handset : HandsetData) (level : ℕ) (o : Option ℕ)
-    → first_with (is_old (setting_of plan []) handset) level (suc handset.last.renewed - level) ≡ o
-    → IsLate (nodes_of plan) handset.last (erasing_at (setting_of plan []) handset o)
-late-erasing plan handset level None h = late-ending plan handset _
-late-erasing plan handset level (Some x) h = let inside : (level ≤ x)
-    × (x < level + (suc handset.last.renewed - level)) = first-inside _ _ _ h in omega (arith, inside.0, inside.1)
+purging-is-late plan handset node = grind (arith, first-inside)
 
 pub erasing-is-late : (plan : PlanData) (handset : HandsetData) (level : ℕ) → IsLate (nodes_of plan) handset.last
     (erasing_from (setting_of plan []) handset level)
-erasing-is-late plan handset level = late-erasing plan handset level _ refl
+erasing-is-late plan handset level = grind (arith, first-inside, purging-is-late plan handset 0)
 
 -- the addresses after a move
 pub readdressed : (xs : List ℕ) (renewed to level : ℕ) → level < length xs
@@ -59,8 +40,7 @@ readdressed xs renewed to level h =
 
 trail-length : (b : Bool) (trail : List Bool) (to : ℕ) → length (slice_set (cond b (replicate
     (length trail) false) trail) to true) ≡ length trail
-trail-length true trail to = length-set (replicate (length trail) false) to true
-    ∙ length-replicate (length trail) false
+trail-length true trail to = grind (arith, length-set, length-replicate)
 trail-length false trail to = length-set trail to true
 
 pub goes-settled : {plan : PlanData} {handset : HandsetData} → GoesWith plan handset
@@ -89,8 +69,7 @@ goes-next {plan} {handset} next goes at committed late same = grind (arith, goes
 
 pub purging-by-count : (plan : PlanData) (handset : HandsetData) (node : ℕ) {count : ℕ} → count ≡ nodes_of plan
     → IsLate (nodes_of plan) handset.last (purging_at (first_with (is_behind handset) node (count - node)))
-purging-by-count plan handset node same =
-    rw same (purging-is-late plan handset node)
+purging-by-count plan handset node same = grind (arith, purging-is-late)
 
 -- what the levels have gathered stays light
 pub light-after : (xs : List ℕ) {ys : List ℕ} {levels : ℕ} (n : ℕ) {more : ℕ} (renewed weight : ℕ) → length xs ≡ levels
@@ -100,7 +79,7 @@ light-after xs {ys} n {more} renewed weight count light small next same level h 
 
 -- a handset that begins a move goes with its plan
 light-weight : {plan : PlanData} (u v : ℕ) → IsKept plan → (setting_of plan []).distance u v ≤ 2 ^ 30
-light-weight {plan} u v kept = grind (arith, nat_tests, kept.metric.bounded u v, kept.metric.few)
+light-weight {plan} u v kept = grind (arith, kept.metric.bounded u v, kept.metric.few)
 
 pub goes-begun : {plan : PlanData} {handset : HandsetData} (to : ℕ) → IsKept plan → GoesWith plan handset
     → to < nodes_of plan → handset.stage ≡ Resting → suc handset.number < 2 ^ 32
@@ -110,12 +89,7 @@ goes-begun {plan} {handset} to kept goes inside rests few =
     let gathered = length-map (numbers_from 0 (length handset.gathered)) (λ k. gathered_then
     (get_or handset.gathered k 0) move.renewed move.weight k) ∙ (length-passing_all 0 (length handset.gathered)
     ∙ goes.gathered) in
-    let renewed : move.renewed < levels_of plan = omega (
-      arith,
-      kept.some,
-      highest-low (λ level. nat_le ((setting_of plan []).threshold level)
-          (get_or handset.gathered level 0 + move.weight)) (levels_of plan - 1),
-    ) in
+    let renewed : move.renewed < levels_of plan = grind (arith, highest-low) in
     let after = begin_move (setting_of plan []) handset to in
     let light : (level : ℕ) → level < levels_of plan → get_or after.gathered level 0 ≤ after.last.number * 2 ^ 30 =
     light-after handset.gathered handset.number move.renewed move.weight goes.gathered

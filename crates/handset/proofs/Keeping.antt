@@ -1,18 +1,18 @@
 -- What a handset stands for at a stage, and at the stages that follow it.
-use Rattle.std.proofs.Common.{◌≡◌, ℕ, ◌^◌, ◌<◌, ◌≤◌, List, ◌++◌, length, map, take, drop, refl, ap, ◌∙◌}
+use Rattle.std.proofs.Common.{◌≡◌, ℕ, suc, ◌∷◌, ◌^◌, ◌<◌, ◌≤◌, List, length, map, take, drop, refl, arith}
 use Rattle.directory.specs.Settings.{Setting, levels}
 use Rattle.directory.specs.Courses.{Step, Move, Course}
-use Rattle.directory.specs.Writes.{visit_of, visits}
+use Rattle.directory.specs.Writes.{Write, visit_of, visits}
+use Rattle.entry_word.specs.declared.visit.Visit.{Visit}
+use Rattle.handset.proofs.Lists.{drop-inside, drop-tail}
 use Rattle.handset.specs.declared.stage.Stage.{Stage}
 use Rattle.handset.specs.Condition.{HandsetData}
 use Rattle.handset.specs.StepWrites.{left_at}
-use Rattle.directory.specs.Amid.{course_of}
 use Rattle.handset.specs.Stands.{ComesNext, Shows, StandsAt, StandsForSteps, number_at, place_at, under_way}
 
 -- what a handset and its setting have in common
 pub record Fits (setting : Setting) (handset : HandsetData) : Type 0 where
   pub addresses : length handset.addresses ≡ levels setting
-  pub gathered : length handset.gathered ≡ levels setting
   pub trail : length handset.trail ≡ setting.nodes
   pub to : handset.last.to < setting.nodes
   pub renewed : handset.last.renewed ≤ setting.top
@@ -32,16 +32,12 @@ AreAlike setting move stage next =
 pub alike : (setting : Setting) (move : Move) (stage : Stage) → AreAlike setting move stage stage
 alike setting move stage = (refl, λ c m. m, λ c. refl, λ c. refl)
 
--- so a handset that stands for something at one stands for it at the other, with the visits that are made then
+-- so a handset that stands for something at one stands for it at the other, when it has made the visit that came next
 pub stands-of : {setting : Setting} {handset : HandsetData} {stage : Stage} (next : Stage) {steps : List Step}
-    {before : ℕ} → AreAlike setting handset.last stage next → (made : ℕ)
-    → StandsAt setting handset stage steps before → Shows setting handset (take made (visits setting handset.sub steps))
-    → made ≤ length (visits setting handset.sub steps) → drop made (visits setting handset.sub steps)
-    ≡ map (visit_of handset.sub) (left_at setting (record handset { stage = next }) next)
-    → StandsForSteps setting (record handset { stage = next }) steps made
-stands-of {setting} {handset} next same made f shows few left =
-    let begun = f.begun ∙ ap (λ under. f.over ++ under) same.0 in
-    let move = same.1 (course_of setting handset.sub f.over) f.move in
-    let place = f.place ∙ same.2 (course_of setting handset.sub f.over) in
-    let number = f.number ∙ same.3 (course_of setting handset.sub f.over) in
-    search
+    {made : ℕ} {visit : Visit} {rest : List Write} → AreAlike setting handset.last stage next
+    → StandsAt setting handset stage steps made
+    → Shows setting handset (take (suc made) (visits setting handset.sub steps))
+    → drop made (visits setting handset.sub steps) ≡ visit ∷ map (visit_of handset.sub) rest
+    → rest ≡ left_at setting (record handset { stage = next }) next
+    → StandsForSteps setting (record handset { stage = next }) steps (suc made)
+stands-of {setting} {handset} next {made = made} same f shows due on = grind (arith, drop-inside, drop-tail)

@@ -1,10 +1,9 @@
 -- Lists: the first number that passes a test, numbers one after another, and what is left of a list.
-use Rattle.std.proofs.Common.{◌≡◌, ◌≢◌, ℕ, zero, suc, ◌+◌, ◌-◌, ◌<◌, ◌≤◌, Bool, true, false, cond, List, [], ◌∷◌, ◌++◌, Some, None, length, map, take, drop, refl, ap, ◌∙◌, arith, add-one}
+use Rattle.std.proofs.Common.{◌≡◌, ℕ, zero, suc, ◌+◌, ◌-◌, ◌<◌, ◌≤◌, Bool, true, false, cond, List, [], ◌∷◌, ◌++◌, Some, None, length, map, take, drop, refl, ap, ◌∙◌, arith, add-one}
 use Rattle.std.proofs.Math.Seq.{drop-cons}
 use Rattle.std.proofs.lemmas.List.{drop-append-le, drop-drop, get_or-map, length-drop}
 use Rattle.std.proofs.lemmas.Option.{slice_get-get_or, slice_get_past}
-use Rattle.std.proofs.lemmas.Bool.Decides.{nat_tests}
-use Rattle.std.specs.Prelude.{slice_get, get_or, not, nat_le, ◌==◌}
+use Rattle.std.specs.Prelude.{slice_get, get_or}
 use Rattle.node_set.specs.Ascending.{sift}
 use Rattle.node_set.specs.SetLaws.{length-passing_all, passing_all-each}
 use Rattle.directory.specs.Courses.{highest}
@@ -29,12 +28,6 @@ pub first-next : (test : ℕ → Bool) (x limit : ℕ) → x < limit → test x 
     (x + 1)) ≡ first_with test x (limit - x)
 first-next test x limit h fails = rw add-one (first-later test x limit h fails)
 
-pub differ : (a b : ℕ) → a ≢ b → not (a == b) ≡ true
-differ a b h = grind (arith, nat_tests)
-
-pub agree : {a b : ℕ} → a ≡ b → not (a == b) ≡ false
-agree h = grind (arith, nat_tests)
-
 pub highest-here : (test : ℕ → Bool) (limit : ℕ) → 0 < limit → test (limit - 1) ≡ true → limit - 1
     ≡ highest test limit
 unfolding highest
@@ -51,10 +44,6 @@ pub highest-none : (test : ℕ → Bool) (limit : ℕ) → limit ≤ 0 → 0 ≡
 unfolding highest
 highest-none test zero h = refl
 highest-none test (suc limit) h = absurd (omega arith)
-
--- tests
-pub le-passes : (a b : ℕ) → a ≤ b → nat_le a b ≡ true
-le-passes a b h = grind (arith, nat_tests)
 
 pub numbers-from-zero : (f : ℕ → ℕ) (count k : ℕ) → k < count → get_or (map f (numbers_from 0 count)) k 0 ≡ f k
 numbers-from-zero f count k h =

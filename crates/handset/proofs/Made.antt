@@ -1,25 +1,25 @@
 -- What a handset stands for goes on with each of its writes.
-use Rattle.std.proofs.Common.{◌≡◌, ℕ, suc, ◌+◌, ◌^◌, ◌<◌, ◌≤◌, Bool, true, false, cond, List, [], Some, None, length, map, take, drop, refl, sym, ap, ◌∙◌, subst, arith}
-use Rattle.std.specs.Prelude.{nat_lt, slice_get, IsSome, option_map}
+use Rattle.std.proofs.Common.{◌≡◌, ℕ, suc, ◌^◌, ◌<◌, Bool, true, false, cond, List, [], ◌∷◌, length, map, take, drop, refl, sym, ap, ◌∙◌, arith}
+use Rattle.std.specs.Prelude.{nat_lt, slice_get, IsSome}
 use Rattle.std.proofs.lemmas.List.{append-nil}
 use Rattle.node_set.specs.Ascending.{has}
 use Rattle.entry_word.specs.declared.mark.PresenceMark.TheVariants.{Empty, Gone, Off, Here, Coming as ComingMark}
 use Rattle.entry_word.specs.declared.visit.Visit.{Visit}
 use Rattle.directory.specs.Settings.{Setting}
-use Rattle.directory.specs.Courses.{Step, Course, last_stop, address_node, next_move, after_step}
-use Rattle.directory.specs.Writes.{visit_of, visits, trail}
+use Rattle.directory.specs.Courses.{Step, Move, Course, last_stop, address_node, next_move, after_step}
+use Rattle.directory.specs.Writes.{Write, visit_of, visits, trail}
 use Rattle.region_plan.specs.Plan.{PlanData, nodes_of}
 use Rattle.handset.specs.declared.stage.Stage.{Stage}
 use Rattle.handset.specs.declared.stage.Stage.TheVariants.{Resting, Coming, Renewing, Committing, Confirming, Erasing, Purging, Switching}
 use Rattle.region_plan.specs.Kept.{IsKept}
 use Rattle.region_plan.specs.Settings.{setting_of}
 use Rattle.handset.specs.Condition.{HandsetData, GoesWith, begun_at}
-use Rattle.handset.specs.StepWrites.{renew_from, due_at, due, left_at, go_on, after_write, erasing_from, purging_from}
+use Rattle.handset.specs.StepWrites.{due, left_at, go_on, after_write, erasing_from, purging_from}
 use Rattle.directory.specs.Amid.{course_of}
 use Rattle.handset.specs.Stands.{switch_to, Shows, StandsAt, StandsForSteps}
 use Rattle.handset.proofs.Lists.{drop-head, drop-tail, drop-inside, drop-none}
 use Rattle.handset.proofs.Going.{IsLate, erasing-is-late, purging-is-late}
-use Rattle.handset.proofs.Showing.{mark-shown, entry-shown, commit-shown}
+use Rattle.handset.proofs.Showing.{mark-shown, put-shown}
 use Rattle.handset.proofs.CourseLaws.{course-more}
 use Rattle.handset.proofs.Keeping.{AreAlike, Fits, alike, stands-of}
 use Rattle.handset.proofs.Settling.{AddressLaw, settled-stands}
@@ -27,56 +27,28 @@ use Rattle.handset.proofs.Writing.{purging-left, erasing-left, renewing-left, re
 use Rattle.entry_word.specs.Marks.{MarksUnpack}
 
 -- the next visit is the first of those that are left
-head-due : (setting : Setting) (handset : HandsetData) (stage : Stage) (n : ℕ) (vs : List Visit)
-    → drop n vs ≡ map (visit_of handset.sub) (left_at setting handset stage) → slice_get vs n
-    ≡ option_map (visit_of handset.sub) (due_at setting handset stage)
-head-due setting handset Resting n vs h = drop-none n vs h
-head-due setting handset stage n vs h = drop-head n vs h
-
 pub next-stands : (setting : Setting) (handset : HandsetData) (steps : List Step) (made : ℕ)
     → StandsForSteps setting handset steps made
     → due setting handset ≡ slice_get (visits setting handset.sub steps) made
-next-stands setting handset steps made stands = sym (head-due setting handset handset.stage made
-    (visits setting handset.sub steps) stands.left)
+next-stands setting handset steps made stands = grind (arith, drop-none, drop-head)
 
 -- a handset that goes on behind the confirm
 gone-on-stands : {setting : Setting} {handset : HandsetData} {stage : Stage} (next : Stage) (nodes : ℕ)
-    {steps : List Step} {before : ℕ} (made : ℕ) → AddressLaw setting → Fits setting handset
-    → AreAlike setting handset.last stage Confirming → StandsAt setting handset stage steps before
-    → Shows setting handset (take made (visits setting handset.sub steps)) → IsLate nodes handset.last next
-    → made ≤ length (visits setting handset.sub steps) → drop made (visits setting handset.sub steps) ≡ map
-    (visit_of handset.sub) (left_at setting handset next) → StandsForSteps setting (go_on setting handset next) steps
-    made
-gone-on-stands Resting nodes made law fits same f shows late few left =
-    settled-stands made law fits same f shows few left
-gone-on-stands (Erasing level) nodes made law fits same f shows late few left =
-    stands-of (Erasing level) same made f shows few left
-gone-on-stands (Purging node) nodes made law fits same f shows late few left =
-    stands-of (Purging node) same made f shows few left
-gone-on-stands stage nodes made law fits same f shows late few left = absurd late
+    {steps : List Step} {made : ℕ} {visit : Visit} {rest : List Write} → AddressLaw setting → Fits setting handset
+    → AreAlike setting handset.last stage Confirming → StandsAt setting handset stage steps made
+    → Shows setting handset (take (suc made) (visits setting handset.sub steps)) → IsLate nodes handset.last next
+    → drop made (visits setting handset.sub steps) ≡ visit ∷ map (visit_of handset.sub) rest
+    → rest ≡ left_at setting handset next → StandsForSteps setting (go_on setting handset next) steps (suc made)
+gone-on-stands Resting nodes law fits same f shows late left on = settled-stands law fits same f shows left on
+gone-on-stands (Erasing level) nodes law fits same f shows late left on = grind (arith, stands-of)
+gone-on-stands (Purging node) nodes law fits same f shows late left on = stands-of (Purging node) same f shows left on
+gone-on-stands stage nodes law fits same f shows late left on = absurd late
 
--- a handset goes on before the commit
-renewing-stands : {setting : Setting} {handset : HandsetData} {stage : Stage} (level : ℕ) {steps : List Step}
-    {before : ℕ} (made : ℕ) → AreAlike setting handset.last stage Coming → StandsAt setting handset stage steps before
-    → Shows setting handset (take made (visits setting handset.sub steps))
-    → made ≤ length (visits setting handset.sub steps) → drop made (visits setting handset.sub steps) ≡ map
-    (visit_of handset.sub) (renew_from setting handset (suc level))
-    → StandsForSteps setting (after_write setting handset (Renewing level)) steps made
-renewing-stands {setting} {handset} level {steps} made alike f shows few left =
-    at_test (nat_lt level handset.last.renewed) refl
-  where
-    left_then : (b : Bool) → nat_lt level handset.last.renewed ≡ b → drop made (visits setting handset.sub steps)
-        ≡ map (visit_of handset.sub) (left_at setting handset (cond b (Renewing (suc level)) Committing))
-    left_then b same = left ∙ ap (map (visit_of handset.sub)) (renewing-left setting handset level
-        ∙ ap (λ t. left_at setting handset (cond t (Renewing (suc level)) Committing)) same)
-
-    at_test : (b : Bool) → nat_lt level handset.last.renewed ≡ b → StandsForSteps setting (record handset {
-      stage = cond b (Renewing (suc level)) Committing;
-    }) steps made
-    at_test true same = stands-of (Renewing (suc level)) alike made f shows few
-        (left_then true same)
-    at_test false same = stands-of Committing alike made f shows few
-        (left_then false same)
+-- the stages before the commit are alike
+before-commit : (setting : Setting) (move : Move) (level : ℕ) (b : Bool)
+    → AreAlike setting move (Renewing level) (cond b (Renewing (suc level)) Committing)
+before-commit setting move level true = alike setting move Coming
+before-commit setting move level false = alike setting move Coming
 
 -- a switch leaves the course but for whether it is off
 switched-is : (setting : Setting) (course : Course) (off : Bool)
@@ -120,53 +92,43 @@ after-stands : {setting : Setting} {handset : HandsetData} (stage : Stage) (node
     → StandsAt setting handset stage steps made → StandsForSteps setting (after_write setting handset stage) steps
     (suc made)
 after-stands Resting nodes unpacks law fits erasing purging going f = absurd (going refl)
-after-stands {setting} {handset} Coming nodes {steps} {made} unpacks law fits erasing purging going f =
-    stands-of (Renewing 0) (alike setting handset.last Coming) (suc made) f
-    (mark-shown unpacks (visits setting handset.sub steps) made handset.last.to
-    (ComingMark handset.last.number handset.last.from) f.left (fits.numbered, omega (arith, fits.low, fits.from)) refl
-    (f.is_off ∙ f.move.1) f.shows) (drop-inside made _ f.left)
-    (drop-tail made _ f.left ∙ ap (map (visit_of handset.sub)) (renewing-first setting handset))
-after-stands {setting} {handset} (Renewing level) nodes {steps} {made} unpacks law fits erasing purging going f =
-    renewing-stands level (suc made) (alike setting handset.last Coming) f
-    (entry-shown (visits setting handset.sub steps) made level _
-    (Some (record { number = handset.last.number; node = handset.last.to })) f.left (f.is_off ∙ f.move.1) f.shows)
-    (drop-inside made _ f.left) (drop-tail made _ f.left)
-after-stands {setting} {handset} Committing nodes {steps} {made} unpacks law fits erasing purging going f =
+after-stands {setting} {handset} Coming nodes {made = made} unpacks law fits erasing purging going f =
+    stands-of (Renewing 0) (alike setting handset.last Coming) f
+    (mark-shown unpacks handset _ made handset.last.to (ComingMark handset.last.number handset.last.from) f.left
+    (omega (arith, fits)) refl refl (omega arith) (f.is_off ∙ f.move.1) f.shows) f.left (renewing-first setting handset)
+after-stands {setting} {handset} (Renewing level) nodes {made = made} unpacks law fits erasing purging going f =
+    let more : Bool = nat_lt level handset.last.renewed in
+    let next : Stage = cond more (Renewing (suc level)) Committing in
+    stands-of next (before-commit setting handset.last level more) f
+    (put-shown handset _ made Empty f.left refl refl refl (omega arith) (f.is_off ∙ f.move.1) f.shows) f.left
+    (renewing-left setting (record handset { stage = next }) level)
+after-stands {setting} {handset} Committing nodes {made = made} unpacks law fits erasing purging going f =
     let first : handset.last.number ≡ suc (length (course_of setting handset.sub f.over).moves) =
     ap (λ m. m.number) f.move.0 in
-    let more : handset.last.number ≡ handset.number + 1 = omega (arith, first, f.number) in
-    let shows = commit-shown unpacks (after_write setting handset Committing) (visits setting handset.sub steps) made
-    handset.last.from (Gone handset.last.number handset.last.to) f.left
-    (fits.numbered, omega (arith, fits.low, fits.to)) refl refl more (f.is_off ∙ f.move.1) f.shows in
+    let shows = mark-shown unpacks (after_write setting handset Committing) _ made handset.last.from
+    (Gone handset.last.number handset.last.to) f.left (omega (arith, fits)) refl refl (omega (arith, first, f.number))
+    (f.is_off ∙ f.move.1) f.shows in
     let few = drop-inside made _ f.left in
     let left = drop-tail made _ f.left in
     search
-after-stands {setting} {handset} Confirming nodes {steps} {made} unpacks law fits erasing purging going f =
-    gone-on-stands (erasing_from setting handset 0) nodes (suc made) law fits
-    (alike setting handset.last Confirming) f
-    (mark-shown unpacks (visits setting handset.sub steps) made handset.last.to (Here handset.last.number) f.left
-    fits.numbered refl (f.is_off ∙ f.move.1) f.shows) (erasing 0) (drop-inside made _ f.left)
-    (drop-tail made _ f.left ∙ ap (map (visit_of handset.sub)) (erasing-left setting handset 0))
-after-stands {setting} {handset} (Erasing level) nodes {steps} {made} unpacks law fits erasing purging going f =
-    gone-on-stands (erasing_from setting handset (suc level)) nodes (suc made) law fits
-    (alike setting handset.last Confirming) f
-    (entry-shown (visits setting handset.sub steps) made level _ None f.left (f.is_off ∙ f.move.1) f.shows)
-    (erasing (suc level)) (drop-inside made _ f.left) (drop-tail made _ f.left
-    ∙ ap (map (visit_of handset.sub)) (erasing-left setting handset (suc level)))
-after-stands {setting} {handset} (Purging node) nodes {steps} {made} unpacks law fits erasing purging going f =
-    gone-on-stands (purging_from setting handset (suc node)) nodes (suc made) law fits
-    (alike setting handset.last Confirming) f
-    (mark-shown unpacks (visits setting handset.sub steps) made node Empty f.left tt refl (f.is_off ∙ f.move.1) f.shows)
-    (purging (suc node)) (drop-inside made _ f.left) (drop-tail made _ f.left
-    ∙ ap (map (visit_of handset.sub)) (purging-left setting handset (suc node)))
-after-stands {setting} {handset} (Switching true) nodes {steps} {made} unpacks law fits erasing purging going f =
-    let same : handset.number ≡ handset.number + 0 = omega arith in
-    switched-stands f (commit-shown unpacks _ (visits setting handset.sub steps) made handset.place (Off handset.number)
-    f.left fits.number refl refl same refl f.shows)
-after-stands {setting} {handset} (Switching false) nodes {steps} {made} unpacks law fits erasing purging going f =
-    let same : handset.number ≡ handset.number + 0 = omega arith in
-    switched-stands f (commit-shown unpacks _ (visits setting handset.sub steps) made handset.place
-    (Here handset.number) f.left fits.number refl refl same refl f.shows)
+after-stands {setting} {handset} Confirming nodes {made = made} unpacks law fits erasing purging going f =
+    gone-on-stands (erasing_from setting handset 0) nodes law fits (alike setting handset.last Confirming) f
+    (mark-shown unpacks handset _ made handset.last.to (Here handset.last.number) f.left fits.numbered refl refl
+    (omega arith) (f.is_off ∙ f.move.1) f.shows) (erasing 0) f.left (erasing-left setting handset 0)
+after-stands {setting} {handset} (Erasing level) nodes {made = made} unpacks law fits erasing purging going f =
+    gone-on-stands (erasing_from setting handset (suc level)) nodes law fits (alike setting handset.last Confirming) f
+    (put-shown handset _ made Empty f.left refl refl refl (omega arith) (f.is_off ∙ f.move.1) f.shows)
+    (erasing (suc level)) f.left (erasing-left setting handset (suc level))
+after-stands {setting} {handset} (Purging node) nodes {made = made} unpacks law fits erasing purging going f =
+    gone-on-stands (purging_from setting handset (suc node)) nodes law fits (alike setting handset.last Confirming) f
+    (mark-shown unpacks handset _ made node Empty f.left tt refl refl (omega arith) (f.is_off ∙ f.move.1) f.shows)
+    (purging (suc node)) f.left (purging-left setting handset (suc node))
+after-stands {handset = handset} (Switching true) nodes {made = made} unpacks law fits erasing purging going f =
+    switched-stands f (mark-shown unpacks _ _ made handset.place (Off handset.number) f.left fits.number refl refl
+    (omega arith) refl f.shows)
+after-stands {handset = handset} (Switching false) nodes {made = made} unpacks law fits erasing purging going f =
+    switched-stands f (mark-shown unpacks _ _ made handset.place (Here handset.number) f.left fits.number refl refl
+    (omega arith) refl f.shows)
 
 few-commits : (stage : Stage) {last : ℕ} (number : ℕ) → last ≡ begun_at stage number → last < 2 ^ 32 → number < 2 ^ 32
 few-commits Resting number same few = omega (arith, same, few)
@@ -174,23 +136,12 @@ few-commits stage number same few = omega (arith, same, few)
 
 fits-plan : {plan : PlanData} (starts : List ℕ) {handset : HandsetData} → IsKept plan → GoesWith plan handset
     → Fits (setting_of plan starts) handset
-fits-plan starts {handset} kept goes = record {
-  addresses = omega (arith, goes.addresses, kept.some);
-  gathered = omega (arith, goes.gathered, kept.some);
-  trail = goes.trail;
-  to = goes.to;
-  renewed = omega (arith, goes.renewed, kept.some);
-  low = omega (arith, kept.metric.few);
-  from = goes.from;
-  numbered = goes.numbered;
-  number = few-commits handset.stage handset.number goes.counted goes.numbered;
-}
+fits-plan starts {handset} kept goes = grind (arith, few-commits)
 
 -- a handset that has a write left isn't at rest
 going-on : (plan : PlanData) (handset : HandsetData) → IsSome (due (setting_of plan []) handset)
     → handset.stage ≡ Resting → ⊥
-going-on plan handset some rests = let impossible = subst (λ s. IsSome (option_map (visit_of handset.sub) (due_at
-    (setting_of plan []) handset s))) rests some in cc
+going-on plan handset some rests = grind arith
 
 -- so a write that is left leaves a handset that stands for one visit more
 pub made-stands : {plan : PlanData} (starts : List ℕ) {handset : HandsetData} (steps : List Step) (made : ℕ)

@@ -1,23 +1,18 @@
 -- The trail as a set of nodes: what is told of each node, and the first of those that are left.
 use Rattle.std.proofs.Common.{◌≡◌, ◌≢◌, ℕ, zero, suc, ◌+◌, ◌-◌, ◌<◌, ◌≤◌, Bool, true, false, cond, [], Option, Some, None, IfSome, IfNone, length, replicate, set, refl, sym, ap, ◌∙◌, arith}
 use Rattle.std.specs.Prelude.{get_or, not, ◌==◌, ◌&&◌}
-use Rattle.std.proofs.lemmas.Bool.{cases_eq, cases_lt}
-use Rattle.std.proofs.lemmas.Bool.Decides.{nat_tests}
 use Rattle.std.proofs.lemmas.List.{ext_get_or, get_or-map, get_or-replicate, get_or-set_same, get_or-set_other, length-map, length-replicate, length-set}
 use Rattle.node_set.specs.Ascending.{has, with_number}
 use Rattle.node_set.specs.Nodes.{Nodes}
 use Rattle.node_set.specs.Scan.{IsNext, IsNoneFrom}
 use Rattle.node_set.specs.SetLaws.{has-inserted, length-passing_all, passing_all-each}
-use Rattle.directory.specs.Writes.{numbers_from}
 use Rattle.handset.specs.StepWrites.{first_with}
 use Rattle.handset.specs.Trails.{flags}
-use Rattle.handset.proofs.Lists.{differ}
 
 -- one flag for each node
 pub flag-count : (trail : Nodes) → length (flags trail) ≡ trail.room
 unfolding flags
-flag-count trail =
-    length-map (numbers_from 0 trail.room) (λ v. has v trail.members) ∙ length-passing_all 0 trail.room
+flag-count trail = grind (arith, length-map, length-passing_all)
 
 -- which tells whether the node is there
 pub flag-at : (trail : Nodes) (x : ℕ) → x < trail.room → get_or (flags trail) x false ≡ has x trail.members
@@ -42,15 +37,7 @@ flags-more trail v inside =
     ext_get_or false (flags more) (set (flags trail) v true)
     (flag-count more ∙ sym (length-set (flags trail) v true ∙ flag-count trail))
     (λ i h. let below : i < trail.room = omega (arith, h, flag-count more) in
-    grind (
-      arith,
-      nat_tests,
-      flag-at more i below,
-      has-inserted i v trail.members,
-      get_or-set_same (flags trail) v true false here,
-      get_or-set_other (flags trail) v i true false,
-      flag-at trail i below,
-    ))
+    grind (arith, flag-at, has-inserted, get_or-set_same, get_or-set_other))
 
 -- the first number that passes, where none before it does
 pub first-found : (test : ℕ → Bool) (from k v : ℕ) → from ≤ v → v < from + k → test v ≡ true
@@ -78,15 +65,10 @@ is_left trail to node = get_or (flags trail) node false && not (node == to)
 not-there : (trail : Nodes) (to x : ℕ) → x < trail.room → has x trail.members ≡ false → is_left trail to x ≡ false
 not-there trail to x below none = ap (λ b. b && not (x == to)) (flag-at trail x below ∙ none)
 
--- the new node
-new-node : (trail : Nodes) {to x : ℕ} → x ≡ to → is_left trail to x ≡ false
-new-node trail same = grind (arith, nat_tests)
-
 -- another node of the trail
 still-there : (trail : Nodes) (to x : ℕ) → x < trail.room → has x trail.members ≡ true → x ≢ to
     → is_left trail to x ≡ true
-still-there trail to x below there other =
-    ap (λ b. b && not (x == to)) (flag-at trail x below ∙ there) ∙ differ x to other
+still-there trail to x below there other = grind (arith, flag-at)
 
 -- where no node is left from one on
 pub none-behind : (trail : Nodes) (to from : ℕ) → IsNoneFrom trail.members from
@@ -105,7 +87,7 @@ next-behind trail to {from} {node} next below other =
 -- between a number and the next node behind the new one no node is left
 between : (trail : Nodes) {to from node : ℕ} → IsNext trail.members from node → node < trail.room → node ≡ to → (x : ℕ)
     → from ≤ x → x < trail.room → (node + 1 ≤ x → has x trail.members ≡ false) → is_left trail to x ≡ false
-between trail {to} {node} next inside same x low below later = grind (arith, cases_lt, not-there, cases_eq, new-node)
+between trail {to} {node} next inside same x low below later = grind (arith, not-there)
 
 -- where the next node is the new one, the one behind it is the first
 pub behind-next : (trail : Nodes) {to from node : ℕ} (rest : Option ℕ) → IsNext trail.members from node

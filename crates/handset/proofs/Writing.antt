@@ -1,7 +1,6 @@
 -- What a handset has left to write: at the beginning of a step all its writes, and after each write the rest.
 use Rattle.std.proofs.Common.{◌≡◌, ℕ, suc, ◌+◌, ◌-◌, ◌<◌, ◌≤◌, Bool, true, false, cond, List, [], ◌∷◌, ◌++◌, Option, Some, None, map, refl, sym, ap, ◌∙◌, arith}
-use Rattle.std.specs.Prelude.{get_or, nat_lt, not, ◌==◌, ◌&&◌}
-use Rattle.std.proofs.lemmas.Bool.Decides.{nat_tests}
+use Rattle.std.specs.Prelude.{get_or, nat_lt, not, ◌==◌}
 use Rattle.node_set.specs.Ascending.{has, sift}
 use Rattle.entry_word.specs.declared.mark.PresenceMark.TheVariants.{Empty, Gone, Here, Coming as ComingMark}
 use Rattle.directory.specs.Settings.{Setting, levels}
@@ -9,7 +8,7 @@ use Rattle.directory.specs.Courses.{Course, address_node}
 use Rattle.directory.specs.Writes.{Write, mark_at, entry_at, new_address, numbers_from, old_home, erasure_writes, purge_writes, trail, move_writes}
 use Rattle.handset.specs.declared.stage.Stage.TheVariants.{Resting, Coming, Renewing, Committing}
 use Rattle.handset.specs.Condition.{HandsetData}
-use Rattle.handset.specs.StepWrites.{erasure, is_old, is_behind, purge_from, erase_from, commit, renew_from, left_at, first_with, purging_at, purging_from, erasing_at, erasing_from}
+use Rattle.handset.specs.StepWrites.{erasure, is_old, is_behind, purge_from, erase_from, renew_from, left_at, first_with, purging_at, purging_from, erasing_at, erasing_from}
 use Rattle.handset.proofs.Lists.{first-inside, passing-none, passing-some, map-passing-same}
 
 -- the purge
@@ -17,14 +16,11 @@ purge-left : (setting : Setting) (handset : HandsetData) (node : ℕ) (o : Optio
     → first_with (is_behind handset) node (setting.nodes - node) ≡ o
     → map (λ x. mark_at x Empty) (sift (is_behind handset) node (setting.nodes - node))
     ≡ left_at setting handset (purging_at o)
-purge-left setting handset node None h = ap (map (λ x. mark_at x Empty)) (passing-none (is_behind handset) node
-    (setting.nodes - node) h)
+purge-left setting handset node None h = grind (arith, passing-none)
 purge-left setting handset node (Some x) h =
-    let inside : (node ≤ x) × (x < node + (setting.nodes - node)) = first-inside (is_behind handset) node
-    (setting.nodes - node) h in
+    let inside : (node ≤ x) × (x < node + (setting.nodes - node)) = grind (arith, first-inside) in
     let e : node + (setting.nodes - node) - suc x ≡ setting.nodes - suc x = omega (arith, inside.0, inside.1) in
-    ap (map (λ y. mark_at y Empty)) (passing-some (is_behind handset) node (setting.nodes - node) h
-    ∙ ap (λ n. x ∷ sift (is_behind handset) (suc x) n) e)
+    grind (arith, passing-some)
 
 pub purging-left : (setting : Setting) (handset : HandsetData) (node : ℕ)
     → map (λ x. mark_at x Empty) (sift (is_behind handset) node (setting.nodes - node))
@@ -56,19 +52,7 @@ erasing-left setting handset level = erase-left setting handset level _ refl
 pub renewing-left : (setting : Setting) (handset : HandsetData) (level : ℕ)
     → renew_from setting handset (suc level) ≡ left_at setting handset (cond (nat_lt level handset.last.renewed)
     (Renewing (suc level)) Committing)
-renewing-left setting handset level = at_test (nat_lt level handset.last.renewed) refl
-  where
-    at_test : (b : Bool) → nat_lt level handset.last.renewed ≡ b → renew_from setting handset (suc level)
-        ≡ left_at setting handset (cond b (Renewing (suc level)) Committing)
-    at_test true test =
-        let below : level < handset.last.renewed = grind (arith, nat_tests) in
-        let e : suc handset.last.renewed - suc level ≡ suc (suc handset.last.renewed - suc (suc level)) =
-        omega arith in
-        ap (λ n. map (new_address setting handset.last) (numbers_from (suc level) n) ++ commit setting handset) e
-    at_test false test =
-        let over : handset.last.renewed ≤ level = grind (arith, nat_tests) in
-        let e : suc handset.last.renewed - suc level ≡ 0 = omega arith in
-        ap (λ n. map (new_address setting handset.last) (numbers_from (suc level) n) ++ commit setting handset) e
+renewing-left setting handset level = grind arith
 
 pub renewing-first : (setting : Setting) (handset : HandsetData) → renew_from setting handset 0
     ≡ left_at setting handset (Renewing 0)
@@ -113,13 +97,7 @@ coming-left setting course handset low addresses trails =
     purged : purge_writes setting course handset.last ≡ purge_from setting handset 0
     purged =
         let none : setting.nodes ≡ setting.nodes - 0 = omega arith in
-        ap (λ ws. cond (handset.last.renewed == setting.top) ws [])
-        (map-passing-same (λ node. has node (trail setting course handset.last) && not (node == handset.last.to))
-        (is_behind handset)
-        (λ x. mark_at x Empty) (λ x. mark_at x Empty) 0 setting.nodes
-        (λ node h l. ap (λ b. b && not (node == handset.last.to)) (sym (trails node (omega (arith, l)))))
-        (λ node h l. refl)
-        ∙ ap (λ n. map (λ x. mark_at x Empty) (sift (is_behind handset) 0 n)) none)
+        grind (arith, map-passing-same)
 
     both : erasure_writes setting course handset.last ++ purge_writes setting course handset.last ≡ erase_from setting
         handset 0

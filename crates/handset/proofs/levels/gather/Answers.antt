@@ -15,6 +15,4 @@ returns c =
     ∙ length-passing_all 0 (length c.args.gathered.now)))
     (λ k h. let low : k < c.loop-level.level = omega arith in let small : k < length c.args.gathered.now =
     omega arith in
-    c.loop-level.invariant.over k low
-    ∙ sym (numbers-from-zero (λ k. gathered_then (get_or c.args.gathered.now k 0) c.args.renewed c.args.weight k)
-    (length c.args.gathered.now) k small))
+    grind (arith, numbers-from-zero))

@@ -11,9 +11,7 @@ returns-then-node-to c =
     next-behind c.args.trail.now c.args.to c.in_ok-node.ensures.some c.in_ok-node.ensures.below c.if-node-to.true
 
 pub overflow_add-node : goal.overflow_add-node
-overflow_add-node c = record {
-  fits = omega (arith, c.in_ok-node.ensures.below, c.requires, flag-count c.args.trail.now);
-}
+overflow_add-node c = grind (arith, flag-count)
 
 pub returns : goal.returns
 returns c =
