@@ -85,11 +85,8 @@ loop-index-preserved c =
     omega (arith, c.loop-index-test.true, c.len.ensures, ap length c.readers-readers.ensures) in
     let held = reader-held plan level node index c.plan_is_sound.ensures.matched c.requires.level c.requires.node short
     in
-    let its = c.loop-index.self-inside in
-    let next : RouteData =
-    row_of its.levels its.starts c.push_reserved.new.self its.level_of c.push_reserved-in-loop-index.new.self in
     record {
-      adding = adding-more next c.loop-index.invariant.adding refl refl refl c.push_reserved.ensures.items
+      adding = adding-more c.loop-index.invariant.adding c.push_reserved.ensures.items
           c.push_reserved-in-loop-index.ensures.items (omega (
             arith,
             c.first-first.ensures,
@@ -129,8 +126,6 @@ overflow_cast-len c =
 pub returns : goal.returns
 returns c =
     let plan = c.args.plan.now in
-    let its = c.loop-index.self-inside in
-    let next : RouteData = row_of its.levels c.push.new.self its.places c.resize.new.self its.ways in
     let all : c.loop-index.index ≡ length (readers plan c.args.level c.args.node) =
     omega (
       arith,
@@ -148,9 +143,9 @@ returns c =
     omega (arith, c.len-3.ensures, c.loop-index.self-inside.places.ok.0) in
     let filled : c.len-2.result ≡ length c.loop-index.self-inside.places.items =
     omega (arith, c.len-2.ensures, c.loop-index.self-inside.places.ok.0) in
-    adding-done next c.requires.level c.requires.parts c.loop-index.invariant.adding all (omega (arith, some, all))
-    (omega (arith, few, all)) refl (c.in_ok-push.ensures.items
-    ∙ ap (λ n. c.loop-index.self-inside.starts.items ++ n ∷ []) size) refl refl (record {
+    adding-done c.requires.level c.requires.parts c.loop-index.invariant.adding all (omega (arith, some, all))
+    (omega (arith, few, all)) (c.in_ok-push.ensures.items
+    ∙ ap (λ n. c.loop-index.self-inside.starts.items ++ n ∷ []) size) (record {
       filled = omega (arith, c.in_ok-resize.ensures.len, c.resize.new.self.ok.0, filled);
       before = λ i low. c.in_ok-resize.ensures.by_index.0 i 0 (omega (
         arith,
