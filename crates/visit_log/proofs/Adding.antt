@@ -1,4 +1,5 @@
 -- How the row grows: by the readers of a node at a level, one after another.
+use Rattle.std.proofs.lemmas.Bool.Decides.{nat_tests}
 use Rattle.std.specs.Prelude.{slice_index}
 use Rattle.std.proofs.Common.{◌≡◌, ℕ, suc, ◌+◌, ◌*◌, ◌^◌, ◌<◌, ◌≤◌, List, [], ◌∷◌, ◌++◌, length, sym, ap, ◌∙◌, inl, inr, arith, Vec, Global}
 use Rattle.std.proofs.lemmas.Bool.{cases_lt}
@@ -24,12 +25,7 @@ row_of levels starts places level_of ways =
 -- parts are few
 pub parts-few : {plan : PlanData} (node level : ℕ) → IsKept plan → node < nodes_of plan → level < levels_of plan
     → node * levels_of plan + level < 31744
-parts-few {plan} node level kept inside low =
-    omega (
-      arith,
-      mul-add-lt node (levels_of plan) level (nodes_of plan) inside low,
-      mul-le-mul kept.few kept.metric.few,
-    )
+parts-few {plan} node level kept inside low = grind (arith, nat_tests, mul-add-lt, mul-le-mul)
 
 -- a number is pushed to a list
 pub record IsPushed (old new : List ℕ) (n : ℕ) : Type 0 where
@@ -38,11 +34,7 @@ pub record IsPushed (old new : List ℕ) (n : ℕ) : Type 0 where
   pub last : (i : ℕ) → i ≡ length old → slice_index new i ≡ n
 
 pub pushed : {old new : List ℕ} {n : ℕ} → new ≡ old ++ n ∷ [] → IsPushed old new n
-pushed {old} {n = n} is = rw is (record {
-  size = omega (arith, length_push old n);
-  before = λ i low. get_or_append_left old (n ∷ []) 0 i low;
-  last = λ i same. get_or_push old n 0 i (sym same);
-})
+pushed {old} {n = n} is = grind (arith, nat_tests, length_push, get_or_append_left, get_or_push)
 
 -- so many readers of a node at a level stand behind what was there
 pub record IsAdding (plan : PlanData) (old new : RouteData) (node level count : ℕ) : Type 0 where

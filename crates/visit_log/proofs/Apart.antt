@@ -1,4 +1,5 @@
 -- Places of cells: below the count, and different for different cells.
+use Rattle.std.proofs.lemmas.Bool.Decides.{nat_tests}
 use Rattle.std.proofs.Common.{◌≡◌, ℕ, ◌+◌, ◌*◌, ◌<◌, ◌≤◌, List, length, take, sym, ap, ◌∙◌, subst, arith, inl, inr}
 use Rattle.std.specs.Prelude.{get_or, sum_by, ◌/◌}
 use Rattle.std.proofs.lemmas.List.{take-take}
@@ -55,8 +56,7 @@ level-apart plan i c j d hi hc hj hd same = elim (cases_lt i j) [
 
 -- a place and a subscriber in one number
 pub number-below : (place total subs sub : ℕ) → place < total → sub < subs → place * subs + sub < total * subs
-number-below place total subs sub h l =
-    omega (arith, mul-le-mul_left subs h, l)
+number-below place total subs sub h l = grind (arith, nat_tests, mul-le-mul_left)
 
 -- one part of a row is another where node and level are
 pub same-part : (width node level other above : ℕ) → level < width → above < width
@@ -90,12 +90,7 @@ cell-apart plan subs key other h l same =
 -- slots of cells
 pub slot-within : {plan : PlanData} {cells : CellData} {key : Key} → GoWith plan cells → IsCell plan cells.subs key
     → slot_of plan key < length cells.words
-slot-within {plan} {cells} {key} goes h =
-    omega (
-      arith,
-      goes.words,
-      number-below (key_sub key) cells.subs (width_of plan) (key_place plan key) h.known (place-below plan key h.place),
-    )
+slot-within {plan} {cells} {key} goes h = grind (arith, nat_tests, number-below, place-below)
 
 pub slot-apart : {plan : PlanData} {subs : ℕ} {key other : Key} → IsCell plan subs key → IsCell plan subs other
     → slot_of plan key ≡ slot_of plan other → key ≡ other
@@ -108,5 +103,4 @@ slot-apart {plan} {key} {other} h l same =
 -- where the word of a cell is, by its place
 pub slot-at : {plan : PlanData} {cells : CellData} {sub at width : ℕ} {key : Key} → GoWith plan cells
     → width ≡ cells.width → IsPlaceOf plan cells.subs sub at key → sub * width + at ≡ slot_of plan key
-slot-at {plan} {sub} {width} {key} goes wide its =
-    rw (its.place, wide, goes.width, its.owner)
+slot-at {plan} {sub} {width} {key} goes wide its = grind (arith, nat_tests)

@@ -1,4 +1,5 @@
 -- What plain cells hold after a put, and at the opening: subscriber by subscriber, a mark and an address at each level.
+use Rattle.std.proofs.lemmas.Bool.Decides.{nat_tests}
 use Rattle.std.proofs.Common.{◌≡◌, ℕ, ◌<◌, Bool, true, false, cond, List, [], ◌∷◌, ◌++◌, length, refl, sym, subst, suc, ◌+◌, ◌-◌, ◌≤◌, Some, None, ap, ◌∙◌, arith, get_or, ◌≢◌, inl, inr}
 use Rattle.std.specs.Prelude.{get_or, slice_set, nat_lt, ◌==◌, ◌&&◌}
 use Rattle.std.proofs.lemmas.List.{get_or-set_same, get_or-set_other}
@@ -40,26 +41,17 @@ pub hold-after : SameKey → CellAfter → {plan : PlanData} {starts : List ℕ}
     (actor word : ℕ) {key : Key} → GoWith plan cells → IsCell plan cells.subs key → Hold plan starts cells history
     → Hold plan starts (record cells { words = slice_set cells.words (slot_of plan key) word })
     (history ++ record { actor = actor; act = Put key word } ∷ [])
-hold-after law after {plan} {starts} {history} actor word {key} goes mine hold = record {
-  subs = hold.subs;
-  words = λ other its.
-      rw (word-after law word goes mine (subst (λ n. IsCell plan n other) (sym hold.subs) its), hold.words other its)
-      (sym (after (setting_of plan starts) history (record { actor = actor; act = Put key word }) other));
-}
+hold-after law after {plan} {starts} {history} actor word {key} goes mine hold = grind (arith, nat_tests, word-after)
 
 -- tests of one number more
 below-more : (t n : ℕ) → t ≢ n → nat_lt t (n + 1) ≡ nat_lt t n
-below-more t n other = elim (cases_lt t n) [
-  | inl low ↦ rw (lt-ltb t (n + 1) (omega (arith, low)), lt-ltb t n low)
-  | inr high ↦ rw (le-ltb t (n + 1) (omega (arith, high, other)), le-ltb t n high)
-]
+below-more t n other = grind (arith, nat_tests, cases_lt, lt-ltb, le-ltb)
 
 -- the mark that is put first
 first-opened : (plan : PlanData) (sub start : ℕ) (key : Key) (word : ℕ) → cond (same_key key (Presence start sub))
     (mark_word (Here 0)) word ≡ open_word plan sub start 0 key word
 first-opened plan sub start (Presence node other) word = refl
-first-opened plan sub start (Entry level cluster other) word =
-    rw (le-ltb level 0 (omega arith))
+first-opened plan sub start (Entry level cluster other) word = grind (arith, nat_tests, le-ltb)
 
 -- the address of one level more
 chosen : (x y : Bool) (new old : ℕ) → cond ((true && x) && y) new (cond (false && (x && y)) new old)
@@ -75,13 +67,8 @@ more-opened : (plan : PlanData) (sub start level : ℕ) {cluster : ℕ} (key : K
       node = start;
     }))) (open_word plan sub start level key word) ≡ open_word plan sub start (level + 1) key word
 more-opened plan sub start level (Presence node other) word same = refl
-more-opened plan sub start level {cluster} (Entry l c other) word same = elim (cases_eq l level) [
-  | inl e ↦
-      let here : home plan l start ≡ cluster = ap (λ i. home plan i start) e ∙ sym same in
-      rw (eq-eqb l level e, le-ltb l level (omega (arith, e)), lt-ltb l (level + 1) (omega (arith, e)), here)
-      (chosen (c == cluster) (other == sub) (address_word (Some (record { number = 0; node = start }))) word)
-  | inr apart ↦ rw (ne_eqb l level apart, below-more l level apart)
-]
+more-opened plan sub start level {cluster} (Entry l c other) word same =
+    grind (arith, nat_tests, cases_eq, eq-eqb, le-ltb, lt-ltb, chosen, ne_eqb, below-more)
 
 -- the cells after a put of an opening word
 pub set-first : SameKey → {plan : PlanData} {cells : CellData} {sub start word : ℕ} {key : Key} → GoWith plan cells
@@ -120,31 +107,7 @@ pub opened-more : (plan : PlanData) (starts : List ℕ) (sub : ℕ) {start : ℕ
     → open_word plan sub start (levels_of plan) key (cond (nat_lt (key_sub key) sub)
     (opening (setting_of plan starts) key) 0) ≡ cond (nat_lt (key_sub key) (sub + 1))
     (opening (setting_of plan starts) key) 0
-opened-more plan starts sub {start} (Presence node other) some place inside begins = elim (cases_eq other sub) [
-  | inl e ↦
-      let here : start ≡ get_or starts other 0 = begins ∙ ap (λ s. get_or starts s 0) (sym e) in
-      rw (
-        eq-eqb other sub e,
-        le-ltb other sub (omega (arith, e)),
-        here,
-        lt-ltb other (sub + 1) (omega (arith, e)),
-        lt-ltb other (length starts) (omega (arith, e, inside)),
-      ) (picked mark_word (node == get_or starts other 0) (Here 0) Empty)
-  | inr apart ↦ rw (ne_eqb other sub apart, below-more other sub apart) (unmarked true (node == start) _ _)
-]
-opened-more plan starts sub {start} (Entry level cluster other) some place inside begins = elim (cases_eq other sub) [
-  | inl e ↦
-      let here : start ≡ get_or starts other 0 = begins ∙ ap (λ s. get_or starts s 0) (sym e) in
-      rw (
-        eq-eqb other sub e,
-        le-ltb other sub (omega (arith, e)),
-        lt-ltb level (levels_of plan) place.0,
-        here,
-        lt-ltb other (sub + 1) (omega (arith, e)),
-        lt-ltb other (length starts) (omega (arith, e, inside)),
-        lt-ltb level (suc (levels_of plan - 1)) (omega (arith, place.0, some)),
-      ) (picked address_word (cluster == home plan level (get_or starts other 0))
-      (Some (record { number = 0; node = get_or starts other 0 })) None)
-  | inr apart ↦ rw (ne_eqb other sub apart, below-more other sub apart)
-      (unmarked (nat_lt level (levels_of plan)) (cluster == home plan level start) _ _)
-]
+opened-more plan starts sub {start} (Presence node other) some place inside begins =
+    grind (arith, nat_tests, cases_eq, eq-eqb, le-ltb, lt-ltb, picked, ne_eqb, below-more, unmarked)
+opened-more plan starts sub {start} (Entry level cluster other) some place inside begins =
+    grind (arith, nat_tests, cases_eq, eq-eqb, le-ltb, lt-ltb, picked, ne_eqb, below-more, unmarked)

@@ -1,3 +1,4 @@
+use Rattle.std.proofs.lemmas.Bool.Decides.{nat_tests}
 use Rattle.std.proofs.Common.{◌≡◌, ℕ, ◌+◌, ◌*◌, ◌<◌, ◌≤◌, List, [], ◌∷◌, ◌++◌, length, get_or, ap, sym, ◌∙◌, inl, inr, arith}
 use Rattle.std.proofs.Math.Nat.{le_antisymm}
 use Rattle.std.proofs.lemmas.Bool.{cases_lt}
@@ -34,32 +35,7 @@ more-firsts {plan} {level = level} kept low have items = record {
 }
 
 pub loop-level-preserved : goal.loop-level-preserved
-loop-level-preserved c =
-    let plan = c.args.plan.now in
-    let more = more-firsts c.nodes-first.ensures.sound (omega
-    (arith, c.loop-level-test.true, c.levels-level-end.ensures)) (record {
-      count = sym c.loop-level.firsts.ok.0 ∙ c.loop-level.invariant.count;
-      each = c.loop-level.invariant.firsts;
-      next = c.loop-level.invariant.first;
-      few = c.loop-level.invariant.few;
-    }) c.push_reserved.ensures.items in
-    record {
-      count = c.push_reserved.new.self.ok.0 ∙ more.count;
-      firsts = more.each;
-      first = ap (λ n. c.loop-level.first + n) c.clusters-first.ensures ∙ more.next;
-      few = rw c.clusters-first.ensures more.few;
-      room = c.push_reserved.ensures.capacity ∙ c.loop-level.invariant.room;
-    }
+loop-level-preserved c = grind (arith, nat_tests, more-firsts)
 
 pub returns : goal.returns
-returns c =
-    let plan = c.args.plan.now in
-    let all : c.loop-level.level ≡ levels_of plan =
-    le_antisymm c.loop-level.auto.level-end c.loop-level-test.false ∙ c.levels-level-end.ensures in
-    record {
-      width = c.loop-level.invariant.first ∙ ap (λ n. nodes_of plan + n)
-          (ap (sum_by size) (take_all c.loop-level.level plan.levels (omega (arith, all))));
-      few = omega (arith, c.loop-level.invariant.few, all, c.nodes-first.ensures.sound.few);
-      levels = sym c.loop-level.firsts.ok.0 ∙ (c.loop-level.invariant.count ∙ all);
-      firsts = λ level low. c.loop-level.invariant.firsts level (rw all low);
-    }
+returns c = grind (arith, nat_tests, le_antisymm, size, take_all)

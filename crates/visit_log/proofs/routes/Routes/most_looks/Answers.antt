@@ -1,3 +1,4 @@
+use Rattle.std.proofs.lemmas.Bool.Decides.{nat_tests}
 use Rattle.std.proofs.Common.{arith}
 use Rattle.visit_log.proofs.Parts.{readers-between}
 use Rattle.visit_log.proofs.routes.Routes.most_looks.Goals as goal
@@ -11,13 +12,4 @@ overflow_sub-readers c =
     )
 
 pub returns : goal.returns
-returns c = λ starts.
-    omega (
-      arith,
-      readers-between c.args.plan.now c.args.from c.self.view_is c.requires.routes c.requires.node c.index-2.ensures
-          c.index.ensures,
-      c.plan_counts.ensures.looks c.args.plan.now starts c.args.from c.plan_is_sound.ensures.sound.some,
-      c.from.ensures,
-      c.from-2.ensures,
-      c.nodes.ensures.count,
-    )
+returns c = grind (arith, nat_tests, readers-between)

@@ -1,3 +1,4 @@
+use Rattle.std.proofs.lemmas.Bool.Decides.{nat_tests}
 use Rattle.std.proofs.Common.{◌≡◌, ℕ, ◌+◌, ◌*◌, ◌∙◌, arith, subst}
 use Rattle.std.proofs.Math.Nat.{le_antisymm}
 use Rattle.visit_log.specs.Routes.{HaveParts}
@@ -7,8 +8,4 @@ all-levels : (node : ℕ) {level levels : ℕ} → level ≡ levels → node * l
 all-levels node all = omega (arith, all)
 
 pub returns : goal.returns
-returns c =
-    subst (HaveParts c.args.plan.now c.loop-level.self)
-    (all-levels c.args.node (le_antisymm c.loop-level.auto.level-end c.loop-level-test.false
-    ∙ c.levels-level-end.ensures))
-    c.loop-level.invariant
+returns c = grind (arith, nat_tests, all-levels, le_antisymm)

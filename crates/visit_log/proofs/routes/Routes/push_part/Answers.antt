@@ -1,3 +1,4 @@
+use Rattle.std.proofs.lemmas.Bool.Decides.{nat_tests}
 use Rattle.std.proofs.Common.{◌≡◌, ℕ, ◌^◌, ◌<◌, ◌≤◌, [], ◌∷◌, ◌++◌, length, get_or, refl, sym, ap, ◌∙◌, arith}
 use Rattle.std.specs.Prelude.{slice_index}
 use Rattle.entry_word.specs.declared.visit.Key.TheVariants.{Entry}
@@ -29,16 +30,7 @@ overflow_add-first c =
     )
 
 pub overflow_cast-index : goal.overflow_cast-index
-overflow_cast-index c =
-    omega (
-      arith,
-      c.loop-index-test.true,
-      c.loop-index.auto.index-end,
-      c.len.ensures,
-      ap length c.readers-readers.ensures,
-      readers-few c.args.plan.now c.args.level c.args.node c.plan_is_sound.ensures.matched
-          c.plan_is_sound.ensures.sound c.requires.level c.requires.node,
-    )
+overflow_cast-index c = grind (arith, nat_tests, readers-few)
 
 -- the reader is one of those of the node at the level
 short-here : (c : After-reader_weight)
@@ -47,16 +39,7 @@ short-here c = omega (arith, c.loop-index-test.true, c.len.ensures, ap length c.
 
 -- the way to it is light
 light-here : (c : After-reader_weight) → c.reader_weight.result ≤ 2 ^ 35
-light-here c =
-    let plan = c.args.plan.now in
-    let held = reader-held plan c.args.level c.args.node c.loop-index.index c.plan_is_sound.ensures.matched
-    c.requires.level c.requires.node (short-here c) in
-    omega (
-      arith,
-      c.reader_weight.ensures,
-      way-light plan c.args.level (slice_index (readers plan c.args.level c.args.node) c.loop-index.index) c.args.node
-          c.plan_is_sound.ensures.sound c.plan_is_sound.ensures.reached c.requires.level held.1 held.0,
-    )
+light-here c = grind (arith, nat_tests, reader-held, short-here, way-light)
 
 pub overflow_mul-sum : goal.overflow_mul-sum
 overflow_mul-sum c = omega (arith, light-here c)
@@ -76,52 +59,10 @@ overflow_add-sum c = omega (
 )
 
 pub loop-index-preserved : goal.loop-index-preserved
-loop-index-preserved c =
-    let plan = c.args.plan.now in
-    let level : ℕ = c.args.level in
-    let node : ℕ = c.args.node in
-    let index : ℕ = c.loop-index.index in
-    let short : index < length (readers plan level node) =
-    omega (arith, c.loop-index-test.true, c.len.ensures, ap length c.readers-readers.ensures) in
-    let held = reader-held plan level node index c.plan_is_sound.ensures.matched c.requires.level c.requires.node short
-    in
-    record {
-      adding = adding-more c.loop-index.invariant.adding c.push_reserved.ensures.items
-          c.push_reserved-in-loop-index.ensures.items (omega (
-            arith,
-            c.first-first.ensures,
-            c.requires.places.firsts level c.requires.level,
-            ap (λ rs. slice_index rs index) c.readers-readers.ensures,
-          )) (omega (arith, c.loop-index.invariant.sum, c.reader_weight.ensures)) (omega (
-            arith,
-            c.loop-index.invariant.sum,
-            c.reader_weight.ensures,
-            c.loop-index.invariant.adding.light,
-            way-light plan level (slice_index (readers plan level node) index) node c.plan_is_sound.ensures.sound
-                c.plan_is_sound.ensures.reached c.requires.level held.1 held.0,
-          ));
-      sum =
-          let row = pushed c.push_reserved.ensures.items in
-          sym ((pushed c.push_reserved-in-loop-index.ensures.items).last (length c.push_reserved.new.self.items)
-          (omega (arith, row.size, c.loop-index.invariant.adding.ways_size)));
-      room = omega (arith, c.push_reserved.ensures.capacity, c.loop-index.invariant.room);
-      ways_room = omega (arith, c.push_reserved-in-loop-index.ensures.capacity, c.loop-index.invariant.ways_room);
-    }
+loop-index-preserved c = grind (arith, nat_tests, reader-held, adding-more, way-light, pushed)
 
 pub overflow_cast-len : goal.overflow_cast-len
-overflow_cast-len c =
-    omega (
-      arith,
-      c.len-2.ensures,
-      c.loop-index.invariant.adding.size,
-      c.requires.parts.few,
-      parts-few c.args.node c.args.level c.plan_is_sound.ensures.sound c.requires.node c.requires.level,
-      readers-few c.args.plan.now c.args.level c.args.node c.plan_is_sound.ensures.matched
-          c.plan_is_sound.ensures.sound c.requires.level c.requires.node,
-      c.loop-index.auto.index-end,
-      c.len.ensures,
-      ap length c.readers-readers.ensures,
-    )
+overflow_cast-len c = grind (arith, nat_tests, parts-few, readers-few)
 
 pub returns : goal.returns
 returns c =
