@@ -62,29 +62,7 @@ pub adding-more : {plan : PlanData} {old new : RouteData} {places ways : List �
 adding-more {old = old} {places = places} adding places_are ways_are is way light =
     let row = pushed places_are in
     let sums = pushed ways_are in
-    record {
-      levels = adding.levels;
-      starts = adding.starts;
-      level_of = adding.level_of;
-      size = omega (arith, row.size, adding.size);
-      ways_size = omega (arith, row.size, sums.size, adding.ways_size);
-      places_before = λ i low. grind (arith, row.before i, adding.places_before i);
-      ways_before = λ i low. grind (arith, sums.before i, adding.ways_before i);
-      places = λ i low. grind (
-        arith,
-        row.before (length old.places + i),
-        row.last (length old.places + i),
-        adding.places i,
-      );
-      ways = λ i low. grind (
-        arith,
-        sums.before (length old.places + i + 1),
-        sums.before (length old.places + i),
-        sums.last (length old.places + i + 1),
-        adding.ways i,
-      );
-      light = grind (arith, sums.last (length places));
-    }
+    grind (arith, nat_tests)
 
 -- a list is filled with a level up to a size
 pub record IsTold (old new : List ℕ) (size level : ℕ) : Type 0 where
@@ -104,8 +82,7 @@ adding-done {plan} {old} {starts = starts} {node = node} {level} low have adding
     let start = pushed are in
     let start_before : (k : ℕ) → k < length old.starts → slice_index starts k ≡ slice_index old.starts k =
     λ k less. rw (← adding.starts) (start.before k (rw adding.starts less)) in
-    let here : slice_index starts parts ≡ length old.places =
-    start_before parts (omega (arith, have.starts)) ∙ have.last in
+    let here : slice_index starts parts ≡ length old.places = grind (arith, nat_tests) in
     record {
       levels = adding.levels ∙ have.levels;
       thin = omega (arith, adding.levels, have.thin);

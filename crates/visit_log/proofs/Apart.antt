@@ -62,8 +62,7 @@ number-below place total subs sub h l = grind (arith, nat_tests, mul-le-mul_left
 pub same-part : (width node level other above : ℕ) → level < width → above < width
     → other * width + above ≡ node * width + level → (other ≡ node) × (above ≡ level)
 same-part width node level other above low high same =
-    let nodes : other ≡ node =
-    sym (div-mul-add other width above high) ∙ (ap (λ n. n / width) same ∙ div-mul-add node width level low) in
+    let nodes : other ≡ node = grind (arith, nat_tests, div-mul-add) in
     (nodes, omega (arith, ap (λ n. n * width) nodes, same))
 
 -- keys

@@ -82,12 +82,10 @@ module _ (plan : PlanData) (routes : RouteData) (node : ℕ) (are : AreRoutes pl
       let here = past-is rung is count (omega (arith, before)) in (
         next-is (rung_past plan node rung count) here.0 (λ top over. omega (
           arith,
-          next-start (rung_past plan node rung count).level here.0.level,
+          next-start,
           ap (λ n. slice_index routes.starts (base + n)) top,
           before,
-          here.1,
           over,
-          here.0.index,
         )),
         next-place (rung_past plan node rung count) here.0 ∙ omega (arith, here.1),
       )
@@ -204,8 +202,7 @@ module _ (plan : PlanData) (routes : RouteData) (node : ℕ) (rung : Rung) (at :
       let here = goes-along count (omega (arith, low, next-rises plan node (rung_past plan node rung count))) in
       let s = rung_past plan node rung count in (
         next-is plan routes node at.are at.inside s here.0 (λ top over.
-            let next : next_rung plan node s ≡ rung_at (suc s.level) 0 =
-            rw (le-ltb (suc s.index) (length (readers plan s.level node)) over) refl in
+            let next : next_rung plan node s ≡ rung_at (suc s.level) 0 = grind (arith, nat_tests, le-ltb) in
             omega (arith, low, top, ap (λ (t : Rung). t.level) next)),
         next-place plan routes node at.are at.inside (rung_past plan node rung count) here.0 ∙ omega (arith, here.1),
       )
@@ -215,13 +212,7 @@ module _ (plan : PlanData) (routes : RouteData) (node : ℕ) (rung : Rung) (at :
   going count on =
       let there = goes-along count on.level in
       let before : place_in routes (node * levels_of plan) rung + count
-      < slice_index routes.starts (node * levels_of plan + levels_of plan) =
-      omega (
-        arith,
-        there.1,
-        before-end plan routes node at.are at.inside (rung_past plan node rung count) on,
-      )
-      in
+      < slice_index routes.starts (node * levels_of plan + levels_of plan) = grind (arith, nat_tests, before-end) in
       record {
         before = omega (
           arith,

@@ -10,7 +10,6 @@ replace-requires c = grind (arith, nat_tests, slot-at, slot-within)
 
 pub returns-clause-history : goal.returns-clause-history
 returns-clause-history c = λ plan key goes its starts history actor hold.
-    let wide : c.width.result ≡ c.args.self.now.width =
-    c.width.ensures ∙ ap (λ (cells : CellData). cells.width) c.self.view_is in
+    let wide : c.width.result ≡ c.args.self.now.width = grind (arith, nat_tests) in
     rw (c.replace.ensures, slot-at goes wide its)
     (hold-after c.same_key_means.ensures c.cell_after.ensures actor c.args.word goes its.cell hold)

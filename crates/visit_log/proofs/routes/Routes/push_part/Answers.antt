@@ -15,8 +15,7 @@ overflow_add-first c =
     let plan = c.args.plan.now in
     let level : ℕ = c.args.level in
     let reader : ℕ = get_or (readers plan level c.args.node) c.loop-index.index 0 in
-    let short : c.loop-index.index < length (readers plan level c.args.node) =
-    omega (arith, c.loop-index-test.true, c.len.ensures, ap length c.readers-readers.ensures) in
+    let short : c.loop-index.index < length (readers plan level c.args.node) = grind (arith, nat_tests) in
     let held = reader-held plan level c.args.node c.loop-index.index c.plan_is_sound.ensures.matched c.requires.level
     c.requires.node short in
     omega (
@@ -67,23 +66,13 @@ overflow_cast-len c = grind (arith, nat_tests, parts-few, readers-few)
 pub returns : goal.returns
 returns c =
     let plan = c.args.plan.now in
-    let all : c.loop-index.index ≡ length (readers plan c.args.level c.args.node) =
-    omega (
-      arith,
-      c.loop-index-test.false,
-      c.loop-index.auto.index-end,
-      c.len.ensures,
-      ap length c.readers-readers.ensures,
-    )
-    in
+    let all : c.loop-index.index ≡ length (readers plan c.args.level c.args.node) = grind (arith, nat_tests) in
     let few = readers-few plan c.args.level c.args.node c.plan_is_sound.ensures.matched c.plan_is_sound.ensures.sound
     c.requires.level c.requires.node in
     let some = readers-some plan c.args.level c.args.node c.plan_is_sound.ensures.matched c.requires.level
     c.requires.node in
-    let size : c.len-3.result ≡ length c.loop-index.self-inside.places.items =
-    omega (arith, c.len-3.ensures, c.loop-index.self-inside.places.ok.0) in
-    let filled : c.len-2.result ≡ length c.loop-index.self-inside.places.items =
-    omega (arith, c.len-2.ensures, c.loop-index.self-inside.places.ok.0) in
+    let size : c.len-3.result ≡ length c.loop-index.self-inside.places.items = grind (arith, nat_tests) in
+    let filled : c.len-2.result ≡ length c.loop-index.self-inside.places.items = grind (arith, nat_tests) in
     adding-done c.requires.level c.requires.parts c.loop-index.invariant.adding all (omega (arith, some, all))
     (omega (arith, few, all)) (c.in_ok-push.ensures.items
     ∙ ap (λ n. c.loop-index.self-inside.starts.items ++ n ∷ []) size) (record {

@@ -25,8 +25,4 @@ returns-clause-within c =
     let plan = c.requires.at.0 in
     let at = c.requires.at.1 in
     let both = returns-clause-exact c plan at in
-    omega (
-      arith,
-      ap (λ (p : ℕ × ℕ). p.1) both,
-      end-within plan c.args.self.now c.args.node at.are at.inside (omega (arith, at.is.level)),
-    )
+    omega (arith, ap (λ (p : ℕ × ℕ). p.1) both, end-within)
