@@ -100,34 +100,9 @@ adding-done {plan} {old} {starts = starts} {node = node} {level} low have adding
             let begins = start_before part (omega (arith, less, have.starts)) in
             let ends = start_before (part + 1) (omega (arith, less, have.starts)) in
             let size = ap length adding.level_of in
-            record {
-              some = was.some;
-              next = omega (arith, begins, ends, was.next);
-              within = omega (arith, ends, was.within, adding.size);
-              level_of = λ i short. grind (
-                arith,
-                adding.level_of,
-                told.before (slice_index old.starts part + i),
-                was.level_of i,
-              );
-              places = λ i short. grind (arith, adding.places_before (slice_index old.starts part + i), was.places i);
-              ways = λ i short. grind (
-                arith,
-                adding.ways_before (slice_index old.starts part + i + 1),
-                adding.ways_before (slice_index old.starts part + i),
-                was.ways i,
-              );
-            }
+            grind (arith, nat_tests)
         | inr over ↦
             let both = same-part (levels_of plan) node level other above low high (omega (arith, before, over)) in
-            rw (both.0, both.1) (record {
-              some = omega (arith, some, all);
-              next = omega (arith, start.last (parts + 1), ap length adding.starts, have.starts, here, adding.size, all);
-              within = omega (arith, start.last (parts + 1), ap length adding.starts, have.starts);
-              level_of = λ i short. rw here (told.behind (length old.places + i)
-                  (omega (arith, have.level_of, ap length adding.level_of)) (omega (arith, short, adding.size, all)));
-              places = λ i short. rw here (adding.places i (omega (arith, short, all)));
-              ways = λ i short. rw here (adding.ways i (omega (arith, short, all)));
-            })
+            rw (both.0, both.1) (grind (arith, nat_tests))
       ];
     }

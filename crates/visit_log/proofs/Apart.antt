@@ -44,15 +44,8 @@ place-below plan (Entry level cluster sub) h = omega (arith, h.1, below-all plan
 level-apart : (plan : PlanData) (i c j d : ℕ) → i < levels_of plan → c < clusters_of plan i → j < levels_of plan
     → d < clusters_of plan j
     → clusters_below plan i + c ≡ clusters_below plan j + d → (i ≡ j) × (c ≡ d)
-level-apart plan i c j d hi hc hj hd same = elim (cases_lt i j) [
-  | inl low ↦ absurd (omega (arith, below-later plan.levels i j low (omega (arith, hj)), hc, same))
-  | inr high ↦ elim (cases_lt j i) [
-    | inl low ↦ absurd (omega (arith, below-later plan.levels j i low (omega (arith, hi)), hd, same))
-    | inr low ↦
-        let e : i ≡ j = omega (arith, high, low) in
-        (e, omega (arith, ap (clusters_below plan) e, same))
-  ]
-]
+level-apart plan i c j d hi hc hj hd same =
+    grind (arith, cases_lt i j, cases_lt j i, below-later plan.levels i j, below-later plan.levels j i)
 
 -- a place and a subscriber in one number
 pub number-below : (place total subs sub : ℕ) → place < total → sub < subs → place * subs + sub < total * subs
@@ -72,9 +65,7 @@ same-key plan (Presence node sub) (Presence other t) h l same subs = cc
 same-key plan (Presence node sub) (Entry level cluster t) h l same subs = absurd (omega (arith, h, same))
 same-key plan (Entry level cluster sub) (Presence node t) h l same subs = absurd (omega (arith, l, same))
 same-key plan (Entry level cluster sub) (Entry other c t) h l same subs =
-    let both : (level ≡ other) × (cluster ≡ c) = level-apart plan level cluster other c h.0 h.1 l.0 l.1 (omega
-    (arith, same)) in
-    let e = both.0 in let f = both.1 in cc
+    grind (arith, level-apart plan level cluster other c)
 
 pub cell-below : NumbersBelow
 cell-below plan subs key h = number-below (key_place plan key) (nodes_of plan + cluster_count plan) subs
@@ -82,9 +73,11 @@ cell-below plan subs key h = number-below (key_place plan key) (nodes_of plan + 
 
 pub cell-apart : NumbersApart
 cell-apart plan subs key other h l same =
-    let both : (key_place plan key ≡ key_place plan other) × (key_sub key ≡ key_sub other) =
-    same-part subs (key_place plan other) (key_sub other) (key_place plan key) (key_sub key) l.known h.known same in
-    same-key plan key other h.place l.place both.0 both.1
+    grind (
+      arith,
+      same-part subs (key_place plan other) (key_sub other) (key_place plan key) (key_sub key),
+      same-key plan key other,
+    )
 
 -- slots of cells
 pub slot-within : {plan : PlanData} {cells : CellData} {key : Key} → GoWith plan cells → IsCell plan cells.subs key

@@ -23,19 +23,8 @@ pub word-after : SameKey → {plan : PlanData} {cells : CellData} {key other : K
     → IsCell plan cells.subs key → IsCell plan cells.subs other
     → word_at plan (record cells { words = slice_set cells.words (slot_of plan key) word }) other ≡ cond
     (same_key other key) word (word_at plan cells other)
-word-after law {plan} {cells} {key} {other} word goes mine its = at_test (same_key other key) refl
-  where
-    at_test : (b : Bool) → same_key other key ≡ b → get_or (slice_set cells.words
-        (slot_of plan key) word) (slot_of plan other) 0
-        ≡ cond b word (word_at plan cells other)
-    at_test true test =
-        let same : other ≡ key = (law other key).0 test in
-        let inside : slot_of plan key < length cells.words = slot-within goes mine in
-        rw (same, get_or-set_same cells.words (slot_of plan key) word 0 inside)
-    at_test false test =
-        let apart : slot_of plan other ≡ slot_of plan key → ⊥ =
-        λ e. (let yes : same_key other key ≡ true = (law other key).1 (slot-apart its mine e) in cc) in
-        get_or-set_other cells.words (slot_of plan key) (slot_of plan other) word 0 apart
+word-after law {plan} {cells} {key} {other} word goes mine its =
+    grind (arith, law other key, slot-within goes mine, slot-apart its mine, get_or-set_same, get_or-set_other)
 
 pub hold-after : SameKey → CellAfter → {plan : PlanData} {starts : List ℕ} {cells : CellData} {history : History}
     (actor word : ℕ) {key : Key} → GoWith plan cells → IsCell plan cells.subs key → Hold plan starts cells history
@@ -56,10 +45,7 @@ first-opened plan sub start (Entry level cluster other) word = grind (arith, nat
 -- the address of one level more
 chosen : (x y : Bool) (new old : ℕ) → cond ((true && x) && y) new (cond (false && (x && y)) new old)
     ≡ cond (true && (x && y)) new old
-chosen true true new old = refl
-chosen true false new old = refl
-chosen false true new old = refl
-chosen false false new old = refl
+chosen x y new old = grind arith
 
 more-opened : (plan : PlanData) (sub start level : ℕ) {cluster : ℕ} (key : Key) (word : ℕ)
     → cluster ≡ home plan level start → cond (same_key key (Entry level cluster sub)) (address_word (Some (record {
@@ -91,15 +77,12 @@ set-more law {plan} {sub = sub} start {level} {word = word} old {key} goes mine 
 
 -- where the last test fails the word stays
 unmarked : (a b : Bool) (x y : ℕ) → cond (a && (b && false)) x y ≡ y
-unmarked true true x y = refl
-unmarked true false x y = refl
-unmarked false b x y = refl
+unmarked a b x y = grind arith
 
 -- the word of what is picked
 picked : {A : Type 0} (word_of : A → ℕ) (b : Bool) (x y : A) → cond (b && true) (word_of x) (word_of y)
     ≡ word_of (cond b x y)
-picked word_of true x y = refl
-picked word_of false x y = refl
+picked word_of b x y = grind arith
 
 -- the opening words of one subscriber more
 pub opened-more : (plan : PlanData) (starts : List ℕ) (sub : ℕ) {start : ℕ} (key : Key) → 1 ≤ levels_of plan

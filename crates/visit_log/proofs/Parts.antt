@@ -31,14 +31,11 @@ module _ (plan : PlanData) (routes : RouteData) (node : ℕ) (are : AreRoutes pl
   rise-by : (level k : ℕ) → level + k ≤ levels_of plan
       → slice_index routes.starts (base + level) ≤ slice_index routes.starts (base + (level + k))
   rise-by level zero short = grind (arith, nat_tests)
-  rise-by level (suc k) short =
-      let one : level + suc k ≡ suc (level + k) = omega arith in
-      rw one (omega (arith, rise-by level k (omega arith), next-start (level + k) (omega arith)))
+  rise-by level (suc k) short = grind (arith, rise-by level k, next-start (level + k))
 
   pub starts-rise : (level above : ℕ) → level ≤ above → above ≤ levels_of plan
       → slice_index routes.starts (base + level) ≤ slice_index routes.starts (base + above)
-  starts-rise level above order short =
-      let e : level + (above - level) ≡ above = omega arith in rw e at (rise-by level (above - level) (omega arith))
+  starts-rise level above order short = grind (arith, rise-by level (above - level))
 
   -- so many readers stand before a level
   readers-below : (level : ℕ) → level ≤ levels_of plan
@@ -93,13 +90,7 @@ module _ (plan : PlanData) (routes : RouteData) (node : ℕ) (are : AreRoutes pl
   -- a reader lies before the end of its node
   pub before-end : (rung : Rung) → IsRung plan node rung
       → place_in routes base rung < slice_index routes.starts (base + levels_of plan)
-  before-end rung is =
-      omega (
-        arith,
-        next-start rung.level is.level,
-        starts-rise (suc rung.level) (levels_of plan) (omega (arith, is.level)) (omega arith),
-        is.index,
-      )
+  before-end rung is = grind (arith, next-start, starts-rise (suc rung.level) (levels_of plan))
 
   -- what is at its place
   pub place-holds : (rung : Rung) → IsRung plan node rung
@@ -119,15 +110,7 @@ module _ (plan : PlanData) (routes : RouteData) (node : ℕ) (are : AreRoutes pl
   ways-hold rung is zero before = grind (arith, nat_tests)
   ways-hold rung is (suc count) before =
       let here = past-is rung is count (omega (arith, before)) in
-      let next : place_in routes base (rung_past plan node rung count) + 1 ≡ place_in routes base rung + suc count =
-      omega (arith, here.1) in
-      omega (
-        arith,
-        ways-hold rung is count (omega (arith, before)),
-        ap (slice_index routes.ways) here.1,
-        ap (slice_index routes.ways) next,
-        way-holds (rung_past plan node rung count) here.0,
-      )
+      grind (arith, ways-hold rung is count, way-holds (rung_past plan node rung count))
 
   -- and its level
   pub level-holds : (rung : Rung) → IsRung plan node rung
@@ -160,25 +143,15 @@ end-read {plan} {routes = routes} node view are inside read = grind (arith, nat_
 pub end-within : (plan : PlanData) (routes : RouteData) (node : ℕ) → AreRoutes plan routes → node < nodes_of plan
     → 1 ≤ levels_of plan → slice_index routes.starts (node * levels_of plan + levels_of plan) ≤ length routes.places
 end-within plan routes node are inside some =
-    let last : node * levels_of plan + (levels_of plan - 1) + 1 ≡ node * levels_of plan + levels_of plan =
-    omega (arith, some) in
-    rw last at (its-part plan routes node (levels_of plan - 1) are inside (omega (arith, some))).within
+    grind (arith, its-part plan routes node (levels_of plan - 1) are inside)
 
 -- between the starts that are read lie the readers of a node
 pub readers-between : (plan : PlanData) {held routes : RouteData} (node : ℕ) {first end : ℕ} → held ≡ routes
     → AreRoutes plan routes → node < nodes_of plan → first ≡ get_or held.starts (node * held.levels) first
     → end ≡ get_or held.starts (node * held.levels + held.levels) end
     → end ≡ first + sum_by (λ l. length (readers_in l node)) plan.levels
-readers-between plan {held} {routes} node view are inside reads_first reads_end =
-    let none : node * held.levels ≡ node * held.levels + 0 = omega arith in
-    let same : node * levels_of plan + 0 ≡ node * levels_of plan = omega arith in
-    omega (
-      arith,
-      start-read node 0 view are inside (omega arith) (rw none at reads_first),
-      ap (slice_index routes.starts) same,
-      end-read node view are inside reads_end,
-      readers-summed plan routes node are inside,
-    )
+readers-between plan {held} {routes} node {first} view are inside reads_first reads_end =
+    grind (arith, start-read node 0 {v = first} view are inside, end-read, readers-summed plan routes node are inside)
 
 -- levels don't fall
 next-rises : (plan : PlanData) (node : ℕ) (rung : Rung) → rung.level ≤ (next_rung plan node rung).level
@@ -200,12 +173,7 @@ module _ (plan : PlanData) (routes : RouteData) (node : ℕ) (rung : Rung) (at :
   goes-along zero low = (at.is, omega arith)
   goes-along (suc count) low =
       let here = goes-along count (omega (arith, low, next-rises plan node (rung_past plan node rung count))) in
-      let s = rung_past plan node rung count in (
-        next-is plan routes node at.are at.inside s here.0 (λ top over.
-            let next : next_rung plan node s ≡ rung_at (suc s.level) 0 = grind (arith, nat_tests, le-ltb) in
-            omega (arith, low, top, ap (λ (t : Rung). t.level) next)),
-        next-place plan routes node at.are at.inside (rung_past plan node rung count) here.0 ∙ omega (arith, here.1),
-      )
+      grind (arith, nat_tests, next-is, next-place)
 
   pub going : (count : ℕ) → IsRung plan node (rung_past plan node rung count)
       → Going plan routes node rung count

@@ -40,16 +40,5 @@ loop-level-preserved c =
 
 pub overflow_add-place : goal.overflow_add-place
 overflow_add-place c =
-    let plan = c.args.plan.now in
     let level : ℕ = c.loop-level.level in
-    let low : level < levels_of plan = omega (arith, c.loop-level-test.true, c.levels-level-end.ensures) in
-    omega (
-      arith,
-      c.first.ensures,
-      c.requires.places.firsts level low,
-      c.home.ensures,
-      place-below plan (Entry level (home plan level c.args.node) 0)
-          (low, c.plan_is_sound.ensures.matched.homes level c.args.node low c.requires.node),
-      c.requires.places.width,
-      c.requires.places.few,
-    )
+    grind (arith, place-below c.args.plan.now (Entry level (home c.args.plan.now level c.args.node) 0))

@@ -22,17 +22,9 @@ record HaveFirsts (plan : PlanData) (firsts : List ℕ) (level first : ℕ) : Ty
 more-firsts : {plan : PlanData} {old new : List ℕ} {level first : ℕ} → IsKept plan → level < levels_of plan
     → HaveFirsts plan old level first → new ≡ old ++ first ∷ []
     → HaveFirsts plan new (level + 1) (first + clusters_of plan level)
-more-firsts {plan} {level = level} kept low have items = record {
-  count = omega (arith, have.count, (pushed items).size);
-  each = λ k below. elim (cases_lt k level) [
-    | inl less ↦ (pushed items).before k (omega (arith, less, have.count)) ∙ have.each k less
-    | inr over ↦
-        let at : k ≡ level = omega (arith, below, over) in
-        rw at ((pushed items).last level (omega (arith, have.count)) ∙ have.next)
-  ];
-  next = omega (arith, have.next, sum_by_more size plan.levels level no_level low);
-  few = omega (arith, have.few, (kept.levels level no_level low).clusters, kept.metric.few);
-}
+more-firsts {plan} {level = level} kept low have items =
+    let row = pushed items in
+    grind (arith, sum_by_more, kept.levels level no_level low)
 
 pub loop-level-preserved : goal.loop-level-preserved
 loop-level-preserved c = grind (arith, nat_tests, more-firsts)

@@ -28,16 +28,5 @@ returns c =
           ∙ rw (row, ap (λ (p : ℕ × ℕ). p.0) both, ← there.1) (place-holds plan c.args.self.now c.args.node at.are
           at.inside (rung_past plan c.args.node rung i) there.0);
       -- past the last of them there is none
-      all = λ plan at on.
-          let both = c.span-first.ensures.exact plan at in
-          absurd (omega (
-            arith,
-            before-end plan c.args.self.now c.args.node at.are at.inside _ on,
-            (goes-along plan c.args.self.now c.args.node rung at
-                (length (take count (drop first c.deref.result.now))) on.level).1,
-            size,
-            c.span-first.ensures.order,
-            ap (λ (p : ℕ × ℕ). p.0) both,
-            ap (λ (p : ℕ × ℕ). p.1) both,
-          ));
+      all = λ plan at on. absurd (grind (arith, before-end, goes-along, c.span-first.ensures.exact plan at));
     }

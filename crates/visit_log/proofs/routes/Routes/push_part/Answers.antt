@@ -4,7 +4,7 @@ use Rattle.std.specs.Prelude.{slice_index}
 use Rattle.entry_word.specs.declared.visit.Key.TheVariants.{Entry}
 use Rattle.region_plan.specs.Plan.{readers}
 use Rattle.visit_log.specs.Routes.{RouteData}
-use Rattle.visit_log.proofs.Adding.{adding-done, adding-more, parts-few, pushed, row_of}
+use Rattle.visit_log.proofs.Adding.{IsTold, adding-done, adding-more, parts-few, pushed, row_of}
 use Rattle.visit_log.proofs.Apart.{place-below}
 use Rattle.region_plan.specs.ReaderLaws.{reader-held, readers-few, readers-some, way-light}
 use Rattle.visit_log.proofs.routes.Routes.push_part.Goals as goal
@@ -20,12 +20,9 @@ overflow_add-first c =
     c.requires.node short in
     omega (
       arith,
-      c.first-first.ensures,
       c.requires.places.firsts level c.requires.level,
       ap (λ rs. get_or rs c.loop-index.index 0) c.readers-readers.ensures,
       place-below plan (Entry level reader 0) (c.requires.level, held.1),
-      c.requires.places.width,
-      c.requires.places.few,
     )
 
 pub overflow_cast-index : goal.overflow_cast-index
@@ -44,18 +41,7 @@ pub overflow_mul-sum : goal.overflow_mul-sum
 overflow_mul-sum c = omega (arith, light-here c)
 
 pub overflow_add-sum : goal.overflow_add-sum
-overflow_add-sum c = omega (
-  arith,
-  light-here c,
-  c.loop-index.invariant.sum,
-  c.loop-index.invariant.adding.light,
-  c.loop-index.invariant.adding.size,
-  c.requires.parts.few,
-  parts-few c.args.node c.args.level c.plan_is_sound.ensures.sound c.requires.node c.requires.level,
-  readers-few c.args.plan.now c.args.level c.args.node c.plan_is_sound.ensures.matched c.plan_is_sound.ensures.sound
-      c.requires.level c.requires.node,
-  short-here c,
-)
+overflow_add-sum c = grind (arith, light-here c, short-here c, parts-few, readers-few)
 
 pub loop-index-preserved : goal.loop-index-preserved
 loop-index-preserved c = grind (arith, nat_tests, reader-held, adding-more, way-light, pushed)
@@ -65,33 +51,14 @@ overflow_cast-len c = grind (arith, nat_tests, parts-few, readers-few)
 
 pub returns : goal.returns
 returns c =
-    let plan = c.args.plan.now in
-    let all : c.loop-index.index ≡ length (readers plan c.args.level c.args.node) = grind (arith, nat_tests) in
-    let few = readers-few plan c.args.level c.args.node c.plan_is_sound.ensures.matched c.plan_is_sound.ensures.sound
-    c.requires.level c.requires.node in
-    let some = readers-some plan c.args.level c.args.node c.plan_is_sound.ensures.matched c.requires.level
+    let row = c.loop-index.self-inside in
+    let all : c.loop-index.index ≡ length (readers c.args.plan.now c.args.level c.args.node) = grind (arith, nat_tests) in
+    let few = readers-few c.args.plan.now c.args.level c.args.node c.plan_is_sound.ensures.matched
+    c.plan_is_sound.ensures.sound c.requires.level c.requires.node in
+    let some = readers-some c.args.plan.now c.args.level c.args.node c.plan_is_sound.ensures.matched c.requires.level
     c.requires.node in
-    let size : c.len-3.result ≡ length c.loop-index.self-inside.places.items = grind (arith, nat_tests) in
-    let filled : c.len-2.result ≡ length c.loop-index.self-inside.places.items = grind (arith, nat_tests) in
+    let size : c.len-3.result ≡ length row.places.items = grind (arith, nat_tests) in
+    let told : IsTold row.level_of.items c.resize.new.self.items (length row.places.items) c.args.level =
+    grind (arith, c.in_ok-resize.ensures.by_index) in
     adding-done c.requires.level c.requires.parts c.loop-index.invariant.adding all (omega (arith, some, all))
-    (omega (arith, few, all)) (c.in_ok-push.ensures.items
-    ∙ ap (λ n. c.loop-index.self-inside.starts.items ++ n ∷ []) size) (record {
-      filled = omega (arith, c.in_ok-resize.ensures.len, c.resize.new.self.ok.0, filled);
-      before = λ i low. c.in_ok-resize.ensures.by_index.0 i 0 (omega (
-        arith,
-        low,
-        filled,
-        ap length c.loop-index.invariant.adding.level_of,
-        c.requires.parts.level_of,
-        c.loop-index.invariant.adding.size,
-      )) (omega (arith, low, c.loop-index.self-inside.level_of.ok.0));
-      behind = λ i high low. c.in_ok-resize.ensures.by_index.1 i 0 refl
-          (omega (arith, high, c.loop-index.self-inside.level_of.ok.0)) (omega (arith, low, filled));
-    }) (omega (
-      arith,
-      c.loop-index.invariant.adding.size,
-      c.requires.parts.few,
-      parts-few c.args.node c.args.level c.plan_is_sound.ensures.sound c.requires.node c.requires.level,
-      all,
-      few,
-    ))
+    (omega (arith, few, all)) (rw size at c.in_ok-push.ensures.items) told (grind (arith, parts-few))
