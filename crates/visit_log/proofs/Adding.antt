@@ -60,9 +60,7 @@ pub adding-more : {plan : PlanData} {old new : RouteData} {places ways : List �
     node (rung_at level count) → sum ≤ suc (length new.places) * 2 ^ 36
     → IsAdding plan old (record new { places = places; ways = ways }) node level (count + 1)
 adding-more {old = old} {places = places} adding places_are ways_are is way light =
-    let row = pushed places_are in
-    let sums = pushed ways_are in
-    grind (arith, nat_tests)
+    grind (arith, nat_tests, pushed places_are, pushed ways_are)
 
 -- a list is filled with a level up to a size
 pub record IsTold (old new : List ℕ) (size level : ℕ) : Type 0 where

@@ -21,8 +21,4 @@ returns-clause-order c =
     )
 
 pub returns-clause-within : goal.returns-clause-within
-returns-clause-within c =
-    let plan = c.requires.at.0 in
-    let at = c.requires.at.1 in
-    let both = returns-clause-exact c plan at in
-    omega (arith, ap (λ (p : ℕ × ℕ). p.1) both, end-within)
+returns-clause-within c = grind (arith, nat_tests, returns-clause-exact, end-within, c.requires.at.0, c.requires.at.1)
