@@ -1,7 +1,7 @@
 -- What plain cells hold after a put, and at the opening: subscriber by subscriber, a mark and an address at each level.
 use Rattle.std.proofs.lemmas.Bool.Decides.{nat_tests}
-use Rattle.std.proofs.Common.{◌≡◌, ℕ, ◌<◌, Bool, true, false, cond, List, [], ◌∷◌, ◌++◌, length, refl, sym, subst, suc, ◌+◌, ◌-◌, ◌≤◌, Some, None, ap, ◌∙◌, arith, get_or, ◌≢◌, inl, inr}
-use Rattle.std.specs.Prelude.{get_or, slice_set, nat_lt, ◌==◌, ◌&&◌}
+use Rattle.std.proofs.Common.{◌≡◌, ℕ, ◌<◌, Bool, true, false, cond, List, [], ◌∷◌, ◌++◌, length, refl, ◌+◌, ◌≤◌, Some, arith, get_or, ◌≢◌}
+use Rattle.std.specs.Prelude.{get_or, slice_set, nat_lt, ◌&&◌}
 use Rattle.std.proofs.lemmas.List.{get_or-set_same, get_or-set_other}
 use Rattle.entry_word.specs.declared.visit.Key.{Key}
 use Rattle.entry_word.specs.declared.visit.Act.TheVariants.{Put}
@@ -15,7 +15,7 @@ use Rattle.visit_log.proofs.Apart.{slot-apart, slot-within}
 use Rattle.directory.specs.Statements.{SameKey, CellAfter}
 use Rattle.entry_word.specs.Marks.{mark_word}
 use Rattle.entry_word.specs.Addresses.{address_word}
-use Rattle.entry_word.specs.declared.mark.PresenceMark.TheVariants.{Here, Empty}
+use Rattle.entry_word.specs.declared.mark.PresenceMark.TheVariants.{Here}
 use Rattle.entry_word.specs.declared.visit.Key.TheVariants.{Presence, Entry}
 use Rattle.std.proofs.lemmas.Bool.{cases_eq, cases_lt, lt-ltb, le-ltb, eq-eqb, ne_eqb}
 

@@ -1,7 +1,7 @@
 -- The readers of a node in the row: one after another, level by level; what the code reads of them; and a climb that
 -- comes to a reader with so many looks more, as places of the row.
 use Rattle.std.proofs.lemmas.Bool.Decides.{nat_tests}
-use Rattle.std.proofs.Common.{◌≡◌, ℕ, zero, suc, ◌+◌, ◌-◌, ◌*◌, ◌<◌, ◌≤◌, length, take, ap, ◌∙◌, inl, inr, arith, List, get_or, refl}
+use Rattle.std.proofs.Common.{◌≡◌, ℕ, zero, suc, ◌+◌, ◌-◌, ◌*◌, ◌<◌, ◌≤◌, length, take, ap, ◌∙◌, arith, List, get_or}
 use Rattle.std.specs.List.{sum_by}
 use Rattle.std.specs.Prelude.{slice_index}
 use Rattle.std.proofs.lemmas.Bool.{cases_lt, le-ltb, lt-ltb}
@@ -9,7 +9,7 @@ use Rattle.std.proofs.lemmas.List.{take_all, take_more, get_or_default}
 use Rattle.std.proofs.lemmas.List.Sums.{sum_by_push}
 use Rattle.std.proofs.lemmas.Nat.{mul-add-lt}
 use Rattle.region_plan.specs.Plan.{Level, PlanData, level_at, levels_of, no_level, nodes_of, readers, readers_in}
-use Rattle.visit_log.specs.Routes.{AreRoutes, IsPart, IsRung, RouteData, Rung, entry_place, next_rung, place_in, rung_past, way_at, ways_past, IsAt, rung_at}
+use Rattle.visit_log.specs.Routes.{AreRoutes, IsPart, IsRung, RouteData, Rung, entry_place, next_rung, place_in, rung_past, way_at, ways_past, IsAt}
 use Rattle.std.proofs.Math.Nat.{mul-le-mul_right}
 
 -- each level of a node has its part

@@ -1,5 +1,5 @@
 use Rattle.std.proofs.lemmas.Bool.Decides.{nat_tests}
-use Rattle.std.proofs.Common.{length, ap, arith}
+use Rattle.std.proofs.Common.{arith}
 use Rattle.region_plan.specs.ReaderLaws.{readers-few}
 use Rattle.visit_log.proofs.routes.count_readers.Goals as goal
 

@@ -1,6 +1,5 @@
 use Rattle.std.proofs.lemmas.Bool.Decides.{nat_tests}
-use Rattle.std.proofs.Common.{◌≡◌, ◌==◌, ℕ, ◌+◌, ◌*◌, ◌<◌, ap, arith, get_or, length, true, ◌∙◌}
-use Rattle.std.specs.Prelude.{slice_index}
+use Rattle.std.proofs.Common.{◌≡◌, ℕ, ◌+◌, ◌*◌, ◌<◌, ap, arith, get_or, length, ◌∙◌}
 use Rattle.visit_log.specs.Cells.{CellData}
 use Rattle.visit_log.proofs.Apart.{number-below}
 use Rattle.visit_log.proofs.cells.PlainCells.count_empty.Goals as goal

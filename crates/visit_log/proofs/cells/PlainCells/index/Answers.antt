@@ -1,5 +1,5 @@
 use Rattle.std.proofs.lemmas.Bool.Decides.{nat_tests}
-use Rattle.std.proofs.Common.{rules, ◌<◌, length, subst, sym, arith}
+use Rattle.std.proofs.Common.{rules, arith}
 use Rattle.visit_log.proofs.Apart.{slot-within}
 use Rattle.visit_log.proofs.cells.PlainCells.index.Goals as goal
 

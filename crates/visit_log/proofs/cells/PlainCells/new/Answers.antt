@@ -1,9 +1,7 @@
 use Rattle.std.proofs.lemmas.Bool.Decides.{nat_tests}
-use Rattle.std.proofs.Common.{◌≡◌, ◌*◌, ℕ, zero, suc, arith, ◌∙◌, refl, length, zero-le}
+use Rattle.std.proofs.Common.{◌≡◌, ℕ, zero, suc, arith, refl, zero-le}
 use Rattle.std.specs.Prelude.{replicate, slice_index}
 use Rattle.std.proofs.lemmas.Bool.{le-ltb, lt-ltb}
-use Rattle.directory.specs.Keys.{key_sub}
-use Rattle.visit_log.specs.Cells.{slot_of, width_of}
 use Rattle.visit_log.proofs.Opening.{opened-more}
 use Rattle.visit_log.proofs.cells.PlainCells.new.Goals as goal
 

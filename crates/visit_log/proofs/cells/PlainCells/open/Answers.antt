@@ -1,7 +1,5 @@
 use Rattle.std.proofs.lemmas.Bool.Decides.{nat_tests}
-use Rattle.std.proofs.Common.{◌<◌, arith, ap, ◌∙◌}
-use Rattle.region_plan.specs.Plan.{levels_of, clusters_of}
-use Rattle.visit_log.specs.Cells.{CellData, word_at}
+use Rattle.std.proofs.Common.{arith}
 use Rattle.visit_log.proofs.Opening.{set-first, set-more}
 use Rattle.visit_log.proofs.cells.PlainCells.open.Goals as goal
 

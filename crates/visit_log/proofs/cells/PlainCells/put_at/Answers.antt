@@ -1,6 +1,5 @@
 use Rattle.std.proofs.lemmas.Bool.Decides.{nat_tests}
-use Rattle.std.proofs.Common.{◌≡◌, ◌∙◌, ap, arith}
-use Rattle.visit_log.specs.Cells.{CellData}
+use Rattle.std.proofs.Common.{◌≡◌, arith}
 use Rattle.visit_log.proofs.Apart.{slot-within, slot-at}
 use Rattle.visit_log.proofs.Opening.{hold-after}
 use Rattle.visit_log.proofs.cells.PlainCells.put_at.Goals as goal

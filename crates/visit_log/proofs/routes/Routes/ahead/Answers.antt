@@ -1,7 +1,7 @@
 use Rattle.std.proofs.lemmas.Bool.Decides.{nat_tests}
 use Rattle.std.proofs.Common.{◌≡◌, ℕ, ◌-◌, length, ap, ◌∙◌, arith, take, drop}
 use Rattle.std.proofs.lemmas.List.{get_or-drop, get_or-take, length-drop, length-take-le}
-use Rattle.visit_log.specs.Routes.{RouteData, rung_at, rung_past}
+use Rattle.visit_log.specs.Routes.{rung_at, rung_past}
 use Rattle.visit_log.proofs.Parts.{goes-along, before-end, past-is, place-holds}
 use Rattle.visit_log.proofs.routes.Routes.ahead.Goals as goal
 
@@ -11,7 +11,7 @@ returns c =
     let count = c.span-first.result.1 - first in
     let row : c.deref.result.now ≡ c.args.self.now.places = grind (arith, nat_tests) in
     let size : length (take count (drop first c.deref.result.now)) ≡ count =
-        grind (arith, nat_tests, length-take-le, length-drop) in
+    grind (arith, nat_tests, length-take-le, length-drop) in
     let rung = rung_at c.args.level c.args.index in
     record {
       some = omega (arith, size, c.span-first.ensures.order);

@@ -1,10 +1,10 @@
 use Rattle.std.proofs.lemmas.Bool.Decides.{nat_tests}
-use Rattle.std.proofs.Common.{◌≡◌, ℕ, ◌+◌, ◌*◌, ◌^◌, ◌<◌, length, ap, refl, ◌∙◌, arith}
-use Rattle.std.specs.Prelude.{get_or, slice_index}
+use Rattle.std.proofs.Common.{◌≡◌, ℕ, ◌+◌, ◌*◌, ◌^◌, ◌<◌, length, ◌∙◌, arith}
+use Rattle.std.specs.Prelude.{get_or}
 use Rattle.std.proofs.lemmas.List.{get_or_default}
-use Rattle.region_plan.specs.Plan.{PlanData, levels_of}
+use Rattle.region_plan.specs.Plan.{PlanData}
 use Rattle.visit_log.specs.declared.routes.Height.{Height}
-use Rattle.visit_log.specs.Routes.{ComesTo, RouteData, place_in, span_of, rung_at, rung_past, ways_past}
+use Rattle.visit_log.specs.Routes.{ComesTo, RouteData, span_of, rung_at, rung_past, ways_past}
 use Rattle.visit_log.proofs.Parts.{going, level-holds, part-within, reads}
 use Rattle.visit_log.proofs.routes.Routes.past.Goals as goal
 

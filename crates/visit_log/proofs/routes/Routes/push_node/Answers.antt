@@ -1,7 +1,6 @@
 use Rattle.std.proofs.lemmas.Bool.Decides.{nat_tests}
-use Rattle.std.proofs.Common.{◌≡◌, ℕ, ◌+◌, ◌*◌, ◌∙◌, arith, subst}
+use Rattle.std.proofs.Common.{◌≡◌, ℕ, ◌+◌, ◌*◌, arith}
 use Rattle.std.proofs.Math.Nat.{le_antisymm}
-use Rattle.visit_log.specs.Routes.{HaveParts}
 use Rattle.visit_log.proofs.routes.Routes.push_node.Goals as goal
 
 all-levels : (node : ℕ) {level levels : ℕ} → level ≡ levels → node * levels + level ≡ (node + 1) * levels

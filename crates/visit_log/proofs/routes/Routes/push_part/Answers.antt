@@ -1,10 +1,8 @@
 use Rattle.std.proofs.lemmas.Bool.Decides.{nat_tests}
-use Rattle.std.proofs.Common.{◌≡◌, ℕ, ◌^◌, ◌<◌, ◌≤◌, [], ◌∷◌, ◌++◌, length, get_or, refl, sym, ap, ◌∙◌, arith}
-use Rattle.std.specs.Prelude.{slice_index}
+use Rattle.std.proofs.Common.{◌≡◌, ℕ, ◌^◌, ◌<◌, ◌≤◌, length, get_or, ap, arith}
 use Rattle.entry_word.specs.declared.visit.Key.TheVariants.{Entry}
 use Rattle.region_plan.specs.Plan.{readers}
-use Rattle.visit_log.specs.Routes.{RouteData}
-use Rattle.visit_log.proofs.Adding.{IsTold, adding-done, adding-more, parts-few, pushed, row_of}
+use Rattle.visit_log.proofs.Adding.{IsTold, adding-done, adding-more, parts-few, pushed}
 use Rattle.visit_log.proofs.Apart.{place-below}
 use Rattle.region_plan.specs.ReaderLaws.{reader-held, readers-few, readers-some, way-light}
 use Rattle.visit_log.proofs.routes.Routes.push_part.Goals as goal

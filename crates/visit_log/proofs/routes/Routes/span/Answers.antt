@@ -1,7 +1,6 @@
 use Rattle.std.proofs.lemmas.Bool.Decides.{nat_tests}
-use Rattle.std.proofs.Common.{◌≡◌, ℕ, ◌+◌, ◌*◌, ap, arith}
-use Rattle.region_plan.specs.Plan.{levels_of}
-use Rattle.visit_log.specs.Routes.{place_in, rung_at}
+use Rattle.std.proofs.Common.{ℕ, ap, arith}
+use Rattle.visit_log.specs.Routes.{rung_at}
 use Rattle.visit_log.proofs.Parts.{before-end, end-read, end-within, start-read}
 use Rattle.visit_log.proofs.routes.Routes.span.Goals as goal
 

@@ -1,5 +1,5 @@
 use Rattle.std.proofs.lemmas.Bool.Decides.{nat_tests}
-use Rattle.std.proofs.Common.{◌≡◌, ℕ, List, [], ◌∷◌, length, map, rules, ◌∙◌, ap, set, arith}
+use Rattle.std.proofs.Common.{◌≡◌, ℕ, List, [], ◌∷◌, length, set, arith}
 use Rattle.std.proofs.lemmas.List.{append-nil, map-set}
 use Rattle.visit_log.specs.Words.{word_of_narrow, words_of}
 use Rattle.visit_log.proofs.words.Words.set.Goals as goal
