@@ -50,7 +50,8 @@ overflow_cast-len c = grind (arith, nat_tests, parts-few, readers-few)
 pub returns : goal.returns
 returns c =
     let row = c.loop-index.self-inside in
-    let all : c.loop-index.index ≡ length (readers c.args.plan.now c.args.level c.args.node) = grind (arith, nat_tests) in
+    let all : c.loop-index.index ≡ length (readers c.args.plan.now c.args.level c.args.node) =
+    grind (arith, nat_tests) in
     let few = readers-few c.args.plan.now c.args.level c.args.node c.plan_is_sound.ensures.matched
     c.plan_is_sound.ensures.sound c.requires.level c.requires.node in
     let some = readers-some c.args.plan.now c.args.level c.args.node c.plan_is_sound.ensures.matched c.requires.level
