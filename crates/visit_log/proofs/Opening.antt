@@ -1,7 +1,7 @@
 -- What plain cells hold after a put, and at the opening: subscriber by subscriber, a mark and an address at each level.
 use Rattle.std.proofs.lemmas.Bool.Decides.{nat_tests}
-use Rattle.std.proofs.Common.{◌≡◌, ℕ, ◌<◌, Bool, true, false, cond, List, [], ◌∷◌, ◌++◌, length, refl, ◌+◌, ◌≤◌, Some, arith, get_or, ◌≢◌}
-use Rattle.std.specs.Prelude.{get_or, slice_set, nat_lt, ◌&&◌}
+use Rattle.std.proofs.Common.{◌≡◌, ℕ, ◌<◌, cond, List, [], ◌∷◌, ◌++◌, length, refl, ◌+◌, ◌≤◌, Some, arith, get_or}
+use Rattle.std.specs.Prelude.{get_or, slice_set, nat_lt}
 use Rattle.std.proofs.lemmas.List.{get_or-set_same, get_or-set_other}
 use Rattle.entry_word.specs.declared.visit.Key.{Key}
 use Rattle.entry_word.specs.declared.visit.Act.TheVariants.{Put}
@@ -17,7 +17,6 @@ use Rattle.entry_word.specs.Marks.{mark_word}
 use Rattle.entry_word.specs.Addresses.{address_word}
 use Rattle.entry_word.specs.declared.mark.PresenceMark.TheVariants.{Here}
 use Rattle.entry_word.specs.declared.visit.Key.TheVariants.{Presence, Entry}
-use Rattle.std.proofs.lemmas.Bool.{cases_eq, cases_lt, lt-ltb, le-ltb, eq-eqb, ne_eqb}
 
 pub word-after : SameKey → {plan : PlanData} {cells : CellData} {key other : Key} (word : ℕ) → GoWith plan cells
     → IsCell plan cells.subs key → IsCell plan cells.subs other
@@ -32,29 +31,20 @@ pub hold-after : SameKey → CellAfter → {plan : PlanData} {starts : List ℕ}
     (history ++ record { actor = actor; act = Put key word } ∷ [])
 hold-after law after {plan} {starts} {history} actor word {key} goes mine hold = grind (arith, nat_tests, word-after)
 
--- tests of one number more
-below-more : (t n : ℕ) → t ≢ n → nat_lt t (n + 1) ≡ nat_lt t n
-below-more t n other = grind (arith, nat_tests, cases_lt, lt-ltb, le-ltb)
-
 -- the mark that is put first
 first-opened : (plan : PlanData) (sub start : ℕ) (key : Key) (word : ℕ) → cond (same_key key (Presence start sub))
     (mark_word (Here 0)) word ≡ open_word plan sub start 0 key word
 first-opened plan sub start (Presence node other) word = refl
-first-opened plan sub start (Entry level cluster other) word = grind (arith, nat_tests, le-ltb)
+first-opened plan sub start (Entry level cluster other) word = grind (arith, nat_tests)
 
 -- the address of one level more
-chosen : (x y : Bool) (new old : ℕ) → cond ((true && x) && y) new (cond (false && (x && y)) new old)
-    ≡ cond (true && (x && y)) new old
-chosen x y new old = grind arith
-
 more-opened : (plan : PlanData) (sub start level : ℕ) {cluster : ℕ} (key : Key) (word : ℕ)
     → cluster ≡ home plan level start → cond (same_key key (Entry level cluster sub)) (address_word (Some (record {
       number = 0;
       node = start;
     }))) (open_word plan sub start level key word) ≡ open_word plan sub start (level + 1) key word
 more-opened plan sub start level (Presence node other) word same = refl
-more-opened plan sub start level {cluster} (Entry l c other) word same =
-    grind (arith, nat_tests, cases_eq, eq-eqb, le-ltb, lt-ltb, chosen, ne_eqb, below-more)
+more-opened plan sub start level {cluster} (Entry l c other) word same = grind (arith, nat_tests)
 
 -- the cells after a put of an opening word
 pub set-first : SameKey → {plan : PlanData} {cells : CellData} {sub start word : ℕ} {key : Key} → GoWith plan cells
@@ -75,22 +65,11 @@ pub set-more : SameKey → {plan : PlanData} {cells : CellData} {sub : ℕ} (sta
 set-more law {plan} {sub = sub} start {level} {word = word} old {key} goes mine same at its so_far =
     rw (word-after law word goes mine its, same, so_far) (more-opened plan sub start level key old at)
 
--- where the last test fails the word stays
-unmarked : (a b : Bool) (x y : ℕ) → cond (a && (b && false)) x y ≡ y
-unmarked a b x y = grind arith
-
--- the word of what is picked
-picked : {A : Type 0} (word_of : A → ℕ) (b : Bool) (x y : A) → cond (b && true) (word_of x) (word_of y)
-    ≡ word_of (cond b x y)
-picked word_of b x y = grind arith
-
 -- the opening words of one subscriber more
 pub opened-more : (plan : PlanData) (starts : List ℕ) (sub : ℕ) {start : ℕ} (key : Key) → 1 ≤ levels_of plan
     → IsPlace plan key → sub < length starts → start ≡ get_or starts sub 0
     → open_word plan sub start (levels_of plan) key (cond (nat_lt (key_sub key) sub)
     (opening (setting_of plan starts) key) 0) ≡ cond (nat_lt (key_sub key) (sub + 1))
     (opening (setting_of plan starts) key) 0
-opened-more plan starts sub {start} (Presence node other) some place inside begins =
-    grind (arith, nat_tests, cases_eq, eq-eqb, le-ltb, lt-ltb, picked, ne_eqb, below-more, unmarked)
-opened-more plan starts sub {start} (Entry level cluster other) some place inside begins =
-    grind (arith, nat_tests, cases_eq, eq-eqb, le-ltb, lt-ltb, picked, ne_eqb, below-more, unmarked)
+opened-more plan starts sub {start} (Presence node other) some place inside begins = grind (arith, nat_tests)
+opened-more plan starts sub {start} (Entry level cluster other) some place inside begins = grind (arith, nat_tests)

@@ -4,7 +4,6 @@ use Rattle.std.proofs.lemmas.Bool.Decides.{nat_tests}
 use Rattle.std.proofs.Common.{◌≡◌, ℕ, zero, suc, ◌+◌, ◌-◌, ◌*◌, ◌<◌, ◌≤◌, length, take, ap, ◌∙◌, arith, List, get_or}
 use Rattle.std.specs.List.{sum_by}
 use Rattle.std.specs.Prelude.{slice_index}
-use Rattle.std.proofs.lemmas.Bool.{cases_lt, le-ltb, lt-ltb}
 use Rattle.std.proofs.lemmas.List.{take_all, take_more, get_or_default}
 use Rattle.std.proofs.lemmas.List.Sums.{sum_by_push}
 use Rattle.std.proofs.lemmas.Nat.{mul-add-lt}
@@ -61,13 +60,13 @@ module _ (plan : PlanData) (routes : RouteData) (node : ℕ) (are : AreRoutes pl
   -- the reader that comes next has the next place
   pub next-place : (rung : Rung) → IsRung plan node rung
       → place_in routes base (next_rung plan node rung) ≡ suc (place_in routes base rung)
-  next-place rung is = grind (arith, nat_tests, cases_lt, lt-ltb, le-ltb, next-start)
+  next-place rung is = grind (arith, nat_tests, next-start)
 
   -- and is one of the node's, unless this one is the last
   pub next-is : (rung : Rung) → IsRung plan node rung
       → (suc rung.level ≡ levels_of plan → length (readers plan rung.level node) ≤ suc rung.index → ⊥)
       → IsRung plan node (next_rung plan node rung)
-  next-is rung is other = grind (arith, nat_tests, cases_lt, lt-ltb, le-ltb, its-part)
+  next-is rung is other = grind (arith, nat_tests, its-part)
 
   -- so many readers on, before the end
   pub past-is : (rung : Rung) → IsRung plan node rung → (count : ℕ)
@@ -120,7 +119,7 @@ module _ (plan : PlanData) (routes : RouteData) (node : ℕ) (are : AreRoutes pl
 -- a number that is read
 pub reads : {items held : List ℕ} {k at v : ℕ} → v ≡ get_or items k v → items ≡ held → k ≡ at → at < length held
     → v ≡ slice_index held at
-reads {held} {k} {at} {v} read same there short = grind (arith, nat_tests, there, get_or_default)
+reads {held} {k} {at} {v} read same there short = grind (arith, nat_tests, get_or_default)
 
 -- the starts of a node's parts are there, and the last one's end
 pub part-within : (plan : PlanData) (routes : RouteData) (node level : ℕ) → AreRoutes plan routes → node < nodes_of plan
@@ -155,7 +154,7 @@ readers-between plan {held} {routes} node {first} view are inside reads_first re
 
 -- levels don't fall
 next-rises : (plan : PlanData) (node : ℕ) (rung : Rung) → rung.level ≤ (next_rung plan node rung).level
-next-rises plan node rung = grind (arith, nat_tests, cases_lt, lt-ltb, le-ltb)
+next-rises plan node rung = grind (arith, nat_tests)
 
 -- where it is then, and what the ways weigh
 pub record Going (plan : PlanData) (routes : RouteData) (node : ℕ) (rung : Rung) (count : ℕ) : Type 0 where
