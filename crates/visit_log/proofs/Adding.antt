@@ -1,5 +1,4 @@
 -- How the row grows: by the readers of a node at a level, one after another.
-use Rattle.std.proofs.lemmas.Bool.Decides.{nat_tests}
 use Rattle.std.specs.Prelude.{slice_index}
 use Rattle.std.proofs.Common.{◌≡◌, ℕ, suc, ◌+◌, ◌*◌, ◌^◌, ◌<◌, ◌≤◌, List, [], ◌∷◌, ◌++◌, length, ap, ◌∙◌, inl, inr, arith, Vec, Global}
 use Rattle.std.proofs.lemmas.Bool.{cases_lt}
@@ -25,7 +24,7 @@ row_of levels starts places level_of ways =
 -- parts are few
 pub parts-few : {plan : PlanData} (node level : ℕ) → IsKept plan → node < nodes_of plan → level < levels_of plan
     → node * levels_of plan + level < 31744
-parts-few {plan} node level kept inside low = grind (arith, nat_tests, mul-add-lt, mul-le-mul)
+parts-few {plan} node level kept inside low = grind (arith, mul-add-lt, mul-le-mul)
 
 -- a number is pushed to a list
 pub record IsPushed (old new : List ℕ) (n : ℕ) : Type 0 where
@@ -34,7 +33,7 @@ pub record IsPushed (old new : List ℕ) (n : ℕ) : Type 0 where
   pub last : (i : ℕ) → i ≡ length old → slice_index new i ≡ n
 
 pub pushed : {old new : List ℕ} {n : ℕ} → new ≡ old ++ n ∷ [] → IsPushed old new n
-pushed {old} {n = n} is = grind (arith, nat_tests, length_push, get_or_append_left, get_or_push)
+pushed {old} {n = n} is = grind (arith, length_push, get_or_append_left, get_or_push)
 
 -- so many readers of a node at a level stand behind what was there
 pub record IsAdding (plan : PlanData) (old new : RouteData) (node level count : ℕ) : Type 0 where
@@ -60,7 +59,7 @@ pub adding-more : {plan : PlanData} {old new : RouteData} {places ways : List �
     node (rung_at level count) → sum ≤ suc (length new.places) * 2 ^ 36
     → IsAdding plan old (record new { places = places; ways = ways }) node level (count + 1)
 adding-more {old = old} {places = places} adding places_are ways_are is way light =
-    grind (arith, nat_tests, pushed places_are, pushed ways_are)
+    grind (arith, pushed places_are, pushed ways_are)
 
 -- a list is filled with a level up to a size
 pub record IsTold (old new : List ℕ) (size level : ℕ) : Type 0 where
@@ -80,7 +79,7 @@ adding-done {plan} {old} {starts = starts} {node = node} {level} low have adding
     let start = pushed are in
     let start_before : (k : ℕ) → k < length old.starts → slice_index starts k ≡ slice_index old.starts k =
     λ k less. rw (← adding.starts) (start.before k (rw adding.starts less)) in
-    let here : slice_index starts parts ≡ length old.places = grind (arith, nat_tests) in
+    let here : slice_index starts parts ≡ length old.places = grind arith in
     record {
       levels = adding.levels ∙ have.levels;
       thin = omega (arith, adding.levels, have.thin);
@@ -98,9 +97,9 @@ adding-done {plan} {old} {starts = starts} {node = node} {level} low have adding
             let begins = start_before part (omega (arith, less, have.starts)) in
             let ends = start_before (part + 1) (omega (arith, less, have.starts)) in
             let size = ap length adding.level_of in
-            grind (arith, nat_tests)
+            grind arith
         | inr over ↦
             let both = same-part (levels_of plan) node level other above low high (omega (arith, before, over)) in
-            rw (both.0, both.1) (grind (arith, nat_tests))
+            rw (both.0, both.1) (grind arith)
       ];
     }

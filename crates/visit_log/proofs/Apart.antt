@@ -1,5 +1,4 @@
 -- Places of cells: below the count, and different for different cells.
-use Rattle.std.proofs.lemmas.Bool.Decides.{nat_tests}
 use Rattle.std.proofs.Common.{◌≡◌, ℕ, ◌+◌, ◌*◌, ◌<◌, ◌≤◌, List, length, take, ap, ◌∙◌, subst, arith}
 use Rattle.std.specs.Prelude.{get_or, sum_by}
 use Rattle.std.proofs.lemmas.List.{take-take}
@@ -49,13 +48,13 @@ level-apart plan i c j d hi hc hj hd same =
 
 -- a place and a subscriber in one number
 pub number-below : (place total subs sub : ℕ) → place < total → sub < subs → place * subs + sub < total * subs
-number-below place total subs sub h l = grind (arith, nat_tests, mul-le-mul_left)
+number-below place total subs sub h l = grind (arith, mul-le-mul_left)
 
 -- one part of a row is another where node and level are
 pub same-part : (width node level other above : ℕ) → level < width → above < width
     → other * width + above ≡ node * width + level → (other ≡ node) × (above ≡ level)
 same-part width node level other above low high same =
-    let nodes : other ≡ node = grind (arith, nat_tests, div-mul-add) in
+    let nodes : other ≡ node = grind (arith, div-mul-add) in
     (nodes, omega (arith, ap (λ n. n * width) nodes, same))
 
 -- keys
@@ -82,7 +81,7 @@ cell-apart plan subs key other h l same =
 -- slots of cells
 pub slot-within : {plan : PlanData} {cells : CellData} {key : Key} → GoWith plan cells → IsCell plan cells.subs key
     → slot_of plan key < length cells.words
-slot-within {plan} {cells} {key} goes h = grind (arith, nat_tests, number-below, place-below)
+slot-within {plan} {cells} {key} goes h = grind (arith, number-below, place-below)
 
 pub slot-apart : {plan : PlanData} {subs : ℕ} {key other : Key} → IsCell plan subs key → IsCell plan subs other
     → slot_of plan key ≡ slot_of plan other → key ≡ other
@@ -95,4 +94,4 @@ slot-apart {plan} {key} {other} h l same =
 -- where the word of a cell is, by its place
 pub slot-at : {plan : PlanData} {cells : CellData} {sub at width : ℕ} {key : Key} → GoWith plan cells
     → width ≡ cells.width → IsPlaceOf plan cells.subs sub at key → sub * width + at ≡ slot_of plan key
-slot-at {plan} {sub} {width} {key} goes wide its = grind (arith, nat_tests)
+slot-at {plan} {sub} {width} {key} goes wide its = grind arith

@@ -1,5 +1,4 @@
 -- What plain cells hold after a put, and at the opening: subscriber by subscriber, a mark and an address at each level.
-use Rattle.std.proofs.lemmas.Bool.Decides.{nat_tests}
 use Rattle.std.proofs.Common.{◌≡◌, ℕ, ◌<◌, cond, List, [], ◌∷◌, ◌++◌, length, refl, ◌+◌, ◌≤◌, Some, arith, get_or}
 use Rattle.std.specs.Prelude.{get_or, slice_set, nat_lt}
 use Rattle.std.proofs.lemmas.List.{get_or-set_same, get_or-set_other}
@@ -29,13 +28,13 @@ pub hold-after : SameKey → CellAfter → {plan : PlanData} {starts : List ℕ}
     (actor word : ℕ) {key : Key} → GoWith plan cells → IsCell plan cells.subs key → Hold plan starts cells history
     → Hold plan starts (record cells { words = slice_set cells.words (slot_of plan key) word })
     (history ++ record { actor = actor; act = Put key word } ∷ [])
-hold-after law after {plan} {starts} {history} actor word {key} goes mine hold = grind (arith, nat_tests, word-after)
+hold-after law after {plan} {starts} {history} actor word {key} goes mine hold = grind (arith, word-after)
 
 -- the mark that is put first
 first-opened : (plan : PlanData) (sub start : ℕ) (key : Key) (word : ℕ) → cond (same_key key (Presence start sub))
     (mark_word (Here 0)) word ≡ open_word plan sub start 0 key word
 first-opened plan sub start (Presence node other) word = refl
-first-opened plan sub start (Entry level cluster other) word = grind (arith, nat_tests)
+first-opened plan sub start (Entry level cluster other) word = grind arith
 
 -- the address of one level more
 more-opened : (plan : PlanData) (sub start level : ℕ) {cluster : ℕ} (key : Key) (word : ℕ)
@@ -44,7 +43,7 @@ more-opened : (plan : PlanData) (sub start level : ℕ) {cluster : ℕ} (key : K
       node = start;
     }))) (open_word plan sub start level key word) ≡ open_word plan sub start (level + 1) key word
 more-opened plan sub start level (Presence node other) word same = refl
-more-opened plan sub start level {cluster} (Entry l c other) word same = grind (arith, nat_tests)
+more-opened plan sub start level {cluster} (Entry l c other) word same = grind arith
 
 -- the cells after a put of an opening word
 pub set-first : SameKey → {plan : PlanData} {cells : CellData} {sub start word : ℕ} {key : Key} → GoWith plan cells
@@ -71,5 +70,5 @@ pub opened-more : (plan : PlanData) (starts : List ℕ) (sub : ℕ) {start : ℕ
     → open_word plan sub start (levels_of plan) key (cond (nat_lt (key_sub key) sub)
     (opening (setting_of plan starts) key) 0) ≡ cond (nat_lt (key_sub key) (sub + 1))
     (opening (setting_of plan starts) key) 0
-opened-more plan starts sub {start} (Presence node other) some place inside begins = grind (arith, nat_tests)
-opened-more plan starts sub {start} (Entry level cluster other) some place inside begins = grind (arith, nat_tests)
+opened-more plan starts sub {start} (Presence node other) some place inside begins = grind arith
+opened-more plan starts sub {start} (Entry level cluster other) some place inside begins = grind arith

@@ -1,6 +1,5 @@
 -- The readers of a node in the row: one after another, level by level; what the code reads of them; and a climb that
 -- comes to a reader with so many looks more, as places of the row.
-use Rattle.std.proofs.lemmas.Bool.Decides.{nat_tests}
 use Rattle.std.proofs.Common.{◌≡◌, ℕ, zero, suc, ◌+◌, ◌-◌, ◌*◌, ◌<◌, ◌≤◌, length, take, ap, ◌∙◌, arith, List, get_or}
 use Rattle.std.specs.List.{sum_by}
 use Rattle.std.specs.Prelude.{slice_index}
@@ -14,7 +13,7 @@ use Rattle.std.proofs.Math.Nat.{mul-le-mul_right}
 -- each level of a node has its part
 pub its-part : (plan : PlanData) (routes : RouteData) (node level : ℕ) → AreRoutes plan routes → node < nodes_of plan
     → level < levels_of plan → IsPart plan routes (node * levels_of plan + level) node level
-its-part plan routes node level are inside low = grind (arith, nat_tests, mul-add-lt)
+its-part plan routes node level are inside low = grind (arith, mul-add-lt)
 
 -- the parts of a node begin one behind the other
 module _ (plan : PlanData) (routes : RouteData) (node : ℕ) (are : AreRoutes plan routes)
@@ -25,11 +24,11 @@ module _ (plan : PlanData) (routes : RouteData) (node : ℕ) (are : AreRoutes pl
   pub next-start : (level : ℕ) → level < levels_of plan
       → slice_index routes.starts (base + suc level)
       ≡ slice_index routes.starts (base + level) + length (readers plan level node)
-  next-start level low = grind (arith, nat_tests, its-part)
+  next-start level low = grind (arith, its-part)
 
   rise-by : (level k : ℕ) → level + k ≤ levels_of plan
       → slice_index routes.starts (base + level) ≤ slice_index routes.starts (base + (level + k))
-  rise-by level zero short = grind (arith, nat_tests)
+  rise-by level zero short = grind arith
   rise-by level (suc k) short = grind (arith, rise-by level k, next-start (level + k))
 
   pub starts-rise : (level above : ℕ) → level ≤ above → above ≤ levels_of plan
@@ -40,7 +39,7 @@ module _ (plan : PlanData) (routes : RouteData) (node : ℕ) (are : AreRoutes pl
   readers-below : (level : ℕ) → level ≤ levels_of plan
       → slice_index routes.starts (base + level)
       ≡ slice_index routes.starts base + sum_by (λ l. length (readers_in l node)) (take level plan.levels)
-  readers-below zero short = grind (arith, nat_tests)
+  readers-below zero short = grind arith
   readers-below (suc level) short =
       let one : suc level ≡ level + 1 = omega arith in
       let more : sum_by (λ (l : Level). length (readers_in l node)) (take (suc level) plan.levels)
@@ -55,18 +54,18 @@ module _ (plan : PlanData) (routes : RouteData) (node : ℕ) (are : AreRoutes pl
   -- and so many are the node's
   pub readers-summed : slice_index routes.starts (base + levels_of plan)
       ≡ slice_index routes.starts base + sum_by (λ l. length (readers_in l node)) plan.levels
-  readers-summed = grind (arith, nat_tests, take_all, readers-below)
+  readers-summed = grind (arith, take_all, readers-below)
 
   -- the reader that comes next has the next place
   pub next-place : (rung : Rung) → IsRung plan node rung
       → place_in routes base (next_rung plan node rung) ≡ suc (place_in routes base rung)
-  next-place rung is = grind (arith, nat_tests, next-start)
+  next-place rung is = grind (arith, next-start)
 
   -- and is one of the node's, unless this one is the last
   pub next-is : (rung : Rung) → IsRung plan node rung
       → (suc rung.level ≡ levels_of plan → length (readers plan rung.level node) ≤ suc rung.index → ⊥)
       → IsRung plan node (next_rung plan node rung)
-  next-is rung is other = grind (arith, nat_tests, its-part)
+  next-is rung is other = grind (arith, its-part)
 
   -- so many readers on, before the end
   pub past-is : (rung : Rung) → IsRung plan node rung → (count : ℕ)
@@ -106,7 +105,7 @@ module _ (plan : PlanData) (routes : RouteData) (node : ℕ) (are : AreRoutes pl
       → place_in routes base rung + count < slice_index routes.starts (base + levels_of plan)
       → slice_index routes.ways (place_in routes base rung + count)
       ≡ slice_index routes.ways (place_in routes base rung) + ways_past plan node rung count
-  ways-hold rung is zero before = grind (arith, nat_tests)
+  ways-hold rung is zero before = grind arith
   ways-hold rung is (suc count) before =
       let here = past-is rung is count (omega (arith, before)) in
       grind (arith, ways-hold rung is count, way-holds (rung_past plan node rung count))
@@ -119,24 +118,24 @@ module _ (plan : PlanData) (routes : RouteData) (node : ℕ) (are : AreRoutes pl
 -- a number that is read
 pub reads : {items held : List ℕ} {k at v : ℕ} → v ≡ get_or items k v → items ≡ held → k ≡ at → at < length held
     → v ≡ slice_index held at
-reads {held} {k} {at} {v} read same there short = grind (arith, nat_tests, get_or_default)
+reads {held} {k} {at} {v} read same there short = grind (arith, get_or_default)
 
 -- the starts of a node's parts are there, and the last one's end
 pub part-within : (plan : PlanData) (routes : RouteData) (node level : ℕ) → AreRoutes plan routes → node < nodes_of plan
     → level ≤ levels_of plan → node * levels_of plan + level < length routes.starts
-part-within plan routes node level are inside low = grind (arith, nat_tests, mul-le-mul_right)
+part-within plan routes node level are inside low = grind (arith, mul-le-mul_right)
 
 -- a start that is read
 pub start-read : {plan : PlanData} {held routes : RouteData} (node level : ℕ) {v : ℕ} → held ≡ routes
     → AreRoutes plan routes → node < nodes_of plan → level ≤ levels_of plan
     → v ≡ get_or held.starts (node * held.levels + level) v
     → v ≡ slice_index routes.starts (node * levels_of plan + level)
-start-read {plan} {routes = routes} node level view are inside low read = grind (arith, nat_tests, reads, part-within)
+start-read {plan} {routes = routes} node level view are inside low read = grind (arith, reads, part-within)
 
 pub end-read : {plan : PlanData} {held routes : RouteData} (node : ℕ) {v : ℕ} → held ≡ routes → AreRoutes plan routes
     → node < nodes_of plan → v ≡ get_or held.starts (node * held.levels + held.levels) v
     → v ≡ slice_index routes.starts (node * levels_of plan + levels_of plan)
-end-read {plan} {routes = routes} node view are inside read = grind (arith, nat_tests, reads, part-within)
+end-read {plan} {routes = routes} node view are inside read = grind (arith, reads, part-within)
 
 -- the readers of a node end within the row
 pub end-within : (plan : PlanData) (routes : RouteData) (node : ℕ) → AreRoutes plan routes → node < nodes_of plan
@@ -154,7 +153,7 @@ readers-between plan {held} {routes} node {first} view are inside reads_first re
 
 -- levels don't fall
 next-rises : (plan : PlanData) (node : ℕ) (rung : Rung) → rung.level ≤ (next_rung plan node rung).level
-next-rises plan node rung = grind (arith, nat_tests)
+next-rises plan node rung = grind arith
 
 -- where it is then, and what the ways weigh
 pub record Going (plan : PlanData) (routes : RouteData) (node : ℕ) (rung : Rung) (count : ℕ) : Type 0 where
@@ -172,14 +171,14 @@ module _ (plan : PlanData) (routes : RouteData) (node : ℕ) (rung : Rung) (at :
   goes-along zero low = (at.is, omega arith)
   goes-along (suc count) low =
       let here = goes-along count (omega (arith, low, next-rises plan node (rung_past plan node rung count))) in
-      grind (arith, nat_tests, next-is, next-place)
+      grind (arith, next-is, next-place)
 
   pub going : (count : ℕ) → IsRung plan node (rung_past plan node rung count)
       → Going plan routes node rung count
   going count on =
       let there = goes-along count on.level in
       let before : place_in routes (node * levels_of plan) rung + count
-      < slice_index routes.starts (node * levels_of plan + levels_of plan) = grind (arith, nat_tests, before-end) in
+      < slice_index routes.starts (node * levels_of plan + levels_of plan) = grind (arith, before-end) in
       record {
         before = omega (
           arith,

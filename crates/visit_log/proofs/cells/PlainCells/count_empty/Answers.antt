@@ -1,4 +1,3 @@
-use Rattle.std.proofs.lemmas.Bool.Decides.{nat_tests}
 use Rattle.std.proofs.Common.{◌≡◌, ℕ, ◌+◌, ◌*◌, ◌<◌, ap, arith, get_or, length, ◌∙◌}
 use Rattle.visit_log.specs.Cells.{CellData}
 use Rattle.visit_log.proofs.Apart.{number-below}
@@ -7,7 +6,7 @@ use Rattle.visit_log.proofs.cells.PlainCells.count_empty.Goals as goal
 -- a place of a subscriber is one of the words
 word-within : (cells : CellData) (sub place : ℕ) {width total : ℕ} → total ≡ cells.subs * width → cells.width ≡ width
     → sub < cells.subs → place < cells.width → sub * cells.width + place < total
-word-within cells sub place {width} words wide known low = grind (arith, nat_tests, number-below)
+word-within cells sub place {width} words wide known low = grind (arith, number-below)
 
 pub is_zero-requires : goal.is_zero-requires
 is_zero-requires c =
@@ -20,4 +19,4 @@ is_zero-requires c =
     )
 
 pub returns-then-not-is_zero-clause-held : goal.returns-then-not-is_zero-clause-held
-returns-then-not-is_zero-clause-held c = grind (arith, nat_tests, word-within)
+returns-then-not-is_zero-clause-held c = grind (arith, word-within)

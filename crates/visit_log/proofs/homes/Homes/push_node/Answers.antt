@@ -1,4 +1,3 @@
-use Rattle.std.proofs.lemmas.Bool.Decides.{nat_tests}
 use Rattle.std.proofs.Common.{◌≡◌, ℕ, ◌+◌, ◌*◌, ◌<◌, [], ◌∷◌, ◌++◌, refl, ◌∙◌, inl, inr, arith}
 use Rattle.std.proofs.lemmas.Bool.{cases_lt}
 use Rattle.region_plan.specs.Plan.{PlanData, home, levels_of}
@@ -32,7 +31,7 @@ home-more {plan} {old} new node level {place} low have levels places is =
 pub loop-level-preserved : goal.loop-level-preserved
 loop-level-preserved c =
     let plan = c.args.plan.now in
-    let low : c.loop-level.level < levels_of plan = grind (arith, nat_tests) in
+    let low : c.loop-level.level < levels_of plan = grind arith in
     home-more
     (record { levels = c.loop-level.self-inside.levels; places = c.push.new.self.items }) c.args.node c.loop-level.level
     low c.loop-level.invariant refl c.in_ok-push.ensures.items

@@ -1,4 +1,3 @@
-use Rattle.std.proofs.lemmas.Bool.Decides.{nat_tests}
 use Rattle.std.proofs.Common.{◌≡◌, ℕ, ◌+◌, ◌*◌, ◌<◌, ◌≤◌, List, [], ◌∷◌, ◌++◌, length, get_or, arith}
 use Rattle.std.proofs.Math.Nat.{le_antisymm}
 use Rattle.std.proofs.lemmas.List.{take_all}
@@ -25,7 +24,7 @@ more-firsts {plan} {level = level} kept low have items =
     grind (arith, sum_by_more, kept.levels level no_level low)
 
 pub loop-level-preserved : goal.loop-level-preserved
-loop-level-preserved c = grind (arith, nat_tests, more-firsts)
+loop-level-preserved c = grind (arith, more-firsts)
 
 pub returns : goal.returns
-returns c = grind (arith, nat_tests, le_antisymm, size, take_all)
+returns c = grind (arith, le_antisymm, size, take_all)

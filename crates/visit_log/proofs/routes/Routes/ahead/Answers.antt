@@ -1,4 +1,3 @@
-use Rattle.std.proofs.lemmas.Bool.Decides.{nat_tests}
 use Rattle.std.proofs.Common.{◌≡◌, ℕ, ◌-◌, length, ap, ◌∙◌, arith, take, drop}
 use Rattle.std.proofs.lemmas.List.{get_or-drop, get_or-take, length-drop, length-take-le}
 use Rattle.visit_log.specs.Routes.{rung_at, rung_past}
@@ -9,9 +8,9 @@ pub returns : goal.returns
 returns c =
     let first = c.span-first.result.0 in
     let count = c.span-first.result.1 - first in
-    let row : c.deref.result.now ≡ c.args.self.now.places = grind (arith, nat_tests) in
+    let row : c.deref.result.now ≡ c.args.self.now.places = grind arith in
     let size : length (take count (drop first c.deref.result.now)) ≡ count =
-    grind (arith, nat_tests, length-take-le, length-drop) in
+    grind (arith, length-take-le, length-drop) in
     let rung = rung_at c.args.level c.args.index in
     record {
       some = omega (arith, size, c.span-first.ensures.order);

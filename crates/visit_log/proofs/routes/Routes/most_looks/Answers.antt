@@ -1,4 +1,3 @@
-use Rattle.std.proofs.lemmas.Bool.Decides.{nat_tests}
 use Rattle.std.proofs.Common.{arith}
 use Rattle.visit_log.proofs.Parts.{readers-between}
 use Rattle.visit_log.proofs.routes.Routes.most_looks.Goals as goal
@@ -12,4 +11,4 @@ overflow_sub-readers c =
     )
 
 pub returns : goal.returns
-returns c = grind (arith, nat_tests, readers-between)
+returns c = grind (arith, readers-between)

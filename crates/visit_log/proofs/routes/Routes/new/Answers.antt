@@ -1,7 +1,6 @@
-use Rattle.std.proofs.lemmas.Bool.Decides.{nat_tests}
 use Rattle.std.proofs.Common.{arith}
 use Rattle.std.proofs.Math.Nat.{le_antisymm}
 use Rattle.visit_log.proofs.routes.Routes.new.Goals as goal
 
 pub returns : goal.returns
-returns c = grind (arith, nat_tests, le_antisymm)
+returns c = grind (arith, le_antisymm)

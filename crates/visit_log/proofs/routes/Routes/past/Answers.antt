@@ -1,4 +1,3 @@
-use Rattle.std.proofs.lemmas.Bool.Decides.{nat_tests}
 use Rattle.std.proofs.Common.{◌≡◌, ℕ, ◌+◌, ◌*◌, ◌^◌, ◌<◌, length, ◌∙◌, arith}
 use Rattle.std.specs.Prelude.{get_or}
 use Rattle.std.proofs.lemmas.List.{get_or_default}
@@ -28,13 +27,13 @@ finds : {plan : PlanData} {held routes : RouteData} {node level index count : �
     → ComesTo plan routes node (rung_at level index) count → span ≡ span_of plan routes node (rung_at level index)
     → Finds plan held routes node level index count span.0
 finds {plan} {routes = routes} {node} {level} {index} {count} {span} view on both =
-    grind (arith, nat_tests, going, part-within, reads, level-holds, get_or_default)
+    grind (arith, going, part-within, reads, level-holds, get_or_default)
 
 pub overflow_add-place : goal.overflow_add-place
-overflow_add-place c = grind (arith, nat_tests, finds)
+overflow_add-place c = grind (arith, finds)
 
 pub index-level-requires : goal.index-level-requires
-index-level-requires c = grind (arith, nat_tests, finds)
+index-level-requires c = grind (arith, finds)
 
 pub index-requires : goal.index-requires
 index-requires c =
@@ -43,13 +42,13 @@ index-requires c =
     omega (arith, its.start_within c.index-level.result.now found, c.self.inside.starts.ok.0)
 
 pub overflow_sub-result : goal.overflow_sub-result
-overflow_sub-result c = grind (arith, nat_tests, finds)
+overflow_sub-result c = grind (arith, finds)
 
 pub overflow_cast-result-2 : goal.overflow_cast-result-2
-overflow_cast-result-2 c = grind (arith, nat_tests, finds)
+overflow_cast-result-2 c = grind (arith, finds)
 
 pub index-requires-2 : goal.index-requires-2
-index-requires-2 c = grind (arith, nat_tests, finds)
+index-requires-2 c = grind (arith, finds)
 
 pub overflow_sub-result-2 : goal.overflow_sub-result-2
 overflow_sub-result-2 c =

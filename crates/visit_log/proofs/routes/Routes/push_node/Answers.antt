@@ -1,4 +1,3 @@
-use Rattle.std.proofs.lemmas.Bool.Decides.{nat_tests}
 use Rattle.std.proofs.Common.{◌≡◌, ℕ, ◌+◌, ◌*◌, arith}
 use Rattle.std.proofs.Math.Nat.{le_antisymm}
 use Rattle.visit_log.proofs.routes.Routes.push_node.Goals as goal
@@ -7,4 +6,4 @@ all-levels : (node : ℕ) {level levels : ℕ} → level ≡ levels → node * l
 all-levels node all = omega (arith, all)
 
 pub returns : goal.returns
-returns c = grind (arith, nat_tests, all-levels, le_antisymm)
+returns c = grind (arith, all-levels, le_antisymm)

@@ -1,11 +1,10 @@
-use Rattle.std.proofs.lemmas.Bool.Decides.{nat_tests}
 use Rattle.std.proofs.Common.{ℕ, ap, arith}
 use Rattle.visit_log.specs.Routes.{rung_at}
 use Rattle.visit_log.proofs.Parts.{before-end, end-read, end-within, start-read}
 use Rattle.visit_log.proofs.routes.Routes.span.Goals as goal
 
 pub returns-clause-exact : goal.returns-clause-exact
-returns-clause-exact c = grind (arith, nat_tests, start-read, end-read)
+returns-clause-exact c = grind (arith, start-read, end-read)
 
 pub returns-clause-order : goal.returns-clause-order
 returns-clause-order c =
@@ -20,4 +19,4 @@ returns-clause-order c =
     )
 
 pub returns-clause-within : goal.returns-clause-within
-returns-clause-within c = grind (arith, nat_tests, returns-clause-exact, end-within, c.requires.at.0, c.requires.at.1)
+returns-clause-within c = grind (arith, returns-clause-exact, end-within, c.requires.at.0, c.requires.at.1)
