@@ -1,6 +1,6 @@
 -- Places of cells: below the count, and different for different cells.
-use Rattle.std.proofs.Common.{◌≡◌, ℕ, ◌+◌, ◌*◌, ◌<◌, ◌≤◌, List, length, take, sym, ap, ◌∙◌, subst, arith, inl, inr}
-use Rattle.std.specs.Prelude.{get_or, sum_by, ◌/◌}
+use Rattle.std.proofs.Common.{◌≡◌, ℕ, ◌+◌, ◌*◌, ◌<◌, ◌≤◌, List, length, take, ap, ◌∙◌, subst, arith}
+use Rattle.std.specs.Prelude.{get_or, sum_by}
 use Rattle.std.proofs.lemmas.List.{take-take}
 use Rattle.std.proofs.lemmas.List.Sums.{sum_by_more, sum_by-take-le}
 use Rattle.std.proofs.Math.Nat.{mul-le-mul_left}
@@ -43,27 +43,18 @@ place-below plan (Entry level cluster sub) h = omega (arith, h.1, below-all plan
 level-apart : (plan : PlanData) (i c j d : ℕ) → i < levels_of plan → c < clusters_of plan i → j < levels_of plan
     → d < clusters_of plan j
     → clusters_below plan i + c ≡ clusters_below plan j + d → (i ≡ j) × (c ≡ d)
-level-apart plan i c j d hi hc hj hd same = elim (cases_lt i j) [
-  | inl low ↦ absurd (omega (arith, below-later plan.levels i j low (omega (arith, hj)), hc, same))
-  | inr high ↦ elim (cases_lt j i) [
-    | inl low ↦ absurd (omega (arith, below-later plan.levels j i low (omega (arith, hi)), hd, same))
-    | inr low ↦
-        let e : i ≡ j = omega (arith, high, low) in
-        (e, omega (arith, ap (clusters_below plan) e, same))
-  ]
-]
+level-apart plan i c j d hi hc hj hd same =
+    grind (arith, cases_lt i j, cases_lt j i, below-later plan.levels i j, below-later plan.levels j i)
 
 -- a place and a subscriber in one number
 pub number-below : (place total subs sub : ℕ) → place < total → sub < subs → place * subs + sub < total * subs
-number-below place total subs sub h l =
-    omega (arith, mul-le-mul_left subs h, l)
+number-below place total subs sub h l = grind (arith, mul-le-mul_left)
 
 -- one part of a row is another where node and level are
 pub same-part : (width node level other above : ℕ) → level < width → above < width
     → other * width + above ≡ node * width + level → (other ≡ node) × (above ≡ level)
 same-part width node level other above low high same =
-    let nodes : other ≡ node =
-    sym (div-mul-add other width above high) ∙ (ap (λ n. n / width) same ∙ div-mul-add node width level low) in
+    let nodes : other ≡ node = grind (arith, div-mul-add) in
     (nodes, omega (arith, ap (λ n. n * width) nodes, same))
 
 -- keys
@@ -73,9 +64,7 @@ same-key plan (Presence node sub) (Presence other t) h l same subs = cc
 same-key plan (Presence node sub) (Entry level cluster t) h l same subs = absurd (omega (arith, h, same))
 same-key plan (Entry level cluster sub) (Presence node t) h l same subs = absurd (omega (arith, l, same))
 same-key plan (Entry level cluster sub) (Entry other c t) h l same subs =
-    let both : (level ≡ other) × (cluster ≡ c) = level-apart plan level cluster other c h.0 h.1 l.0 l.1 (omega
-    (arith, same)) in
-    let e = both.0 in let f = both.1 in cc
+    grind (arith, level-apart plan level cluster other c)
 
 pub cell-below : NumbersBelow
 cell-below plan subs key h = number-below (key_place plan key) (nodes_of plan + cluster_count plan) subs
@@ -83,19 +72,16 @@ cell-below plan subs key h = number-below (key_place plan key) (nodes_of plan + 
 
 pub cell-apart : NumbersApart
 cell-apart plan subs key other h l same =
-    let both : (key_place plan key ≡ key_place plan other) × (key_sub key ≡ key_sub other) =
-    same-part subs (key_place plan other) (key_sub other) (key_place plan key) (key_sub key) l.known h.known same in
-    same-key plan key other h.place l.place both.0 both.1
+    grind (
+      arith,
+      same-part subs (key_place plan other) (key_sub other) (key_place plan key) (key_sub key),
+      same-key plan key other,
+    )
 
 -- slots of cells
 pub slot-within : {plan : PlanData} {cells : CellData} {key : Key} → GoWith plan cells → IsCell plan cells.subs key
     → slot_of plan key < length cells.words
-slot-within {plan} {cells} {key} goes h =
-    omega (
-      arith,
-      goes.words,
-      number-below (key_sub key) cells.subs (width_of plan) (key_place plan key) h.known (place-below plan key h.place),
-    )
+slot-within {plan} {cells} {key} goes h = grind (arith, number-below, place-below)
 
 pub slot-apart : {plan : PlanData} {subs : ℕ} {key other : Key} → IsCell plan subs key → IsCell plan subs other
     → slot_of plan key ≡ slot_of plan other → key ≡ other
@@ -108,5 +94,4 @@ slot-apart {plan} {key} {other} h l same =
 -- where the word of a cell is, by its place
 pub slot-at : {plan : PlanData} {cells : CellData} {sub at width : ℕ} {key : Key} → GoWith plan cells
     → width ≡ cells.width → IsPlaceOf plan cells.subs sub at key → sub * width + at ≡ slot_of plan key
-slot-at {plan} {sub} {width} {key} goes wide its =
-    rw (its.place, wide, goes.width, its.owner)
+slot-at {plan} {sub} {width} {key} goes wide its = grind arith

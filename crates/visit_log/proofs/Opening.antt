@@ -1,6 +1,6 @@
 -- What plain cells hold after a put, and at the opening: subscriber by subscriber, a mark and an address at each level.
-use Rattle.std.proofs.Common.{◌≡◌, ℕ, ◌<◌, Bool, true, false, cond, List, [], ◌∷◌, ◌++◌, length, refl, sym, subst, suc, ◌+◌, ◌-◌, ◌≤◌, Some, None, ap, ◌∙◌, arith, get_or, ◌≢◌, inl, inr}
-use Rattle.std.specs.Prelude.{get_or, slice_set, nat_lt, ◌==◌, ◌&&◌}
+use Rattle.std.proofs.Common.{◌≡◌, ℕ, ◌<◌, cond, List, [], ◌∷◌, ◌++◌, length, refl, ◌+◌, ◌≤◌, Some, arith, get_or}
+use Rattle.std.specs.Prelude.{get_or, slice_set, nat_lt}
 use Rattle.std.proofs.lemmas.List.{get_or-set_same, get_or-set_other}
 use Rattle.entry_word.specs.declared.visit.Key.{Key}
 use Rattle.entry_word.specs.declared.visit.Act.TheVariants.{Put}
@@ -14,74 +14,36 @@ use Rattle.visit_log.proofs.Apart.{slot-apart, slot-within}
 use Rattle.directory.specs.Statements.{SameKey, CellAfter}
 use Rattle.entry_word.specs.Marks.{mark_word}
 use Rattle.entry_word.specs.Addresses.{address_word}
-use Rattle.entry_word.specs.declared.mark.PresenceMark.TheVariants.{Here, Empty}
+use Rattle.entry_word.specs.declared.mark.PresenceMark.TheVariants.{Here}
 use Rattle.entry_word.specs.declared.visit.Key.TheVariants.{Presence, Entry}
-use Rattle.std.proofs.lemmas.Bool.{cases_eq, cases_lt, lt-ltb, le-ltb, eq-eqb, ne_eqb}
 
 pub word-after : SameKey → {plan : PlanData} {cells : CellData} {key other : Key} (word : ℕ) → GoWith plan cells
     → IsCell plan cells.subs key → IsCell plan cells.subs other
     → word_at plan (record cells { words = slice_set cells.words (slot_of plan key) word }) other ≡ cond
     (same_key other key) word (word_at plan cells other)
-word-after law {plan} {cells} {key} {other} word goes mine its = at_test (same_key other key) refl
-  where
-    at_test : (b : Bool) → same_key other key ≡ b → get_or (slice_set cells.words
-        (slot_of plan key) word) (slot_of plan other) 0
-        ≡ cond b word (word_at plan cells other)
-    at_test true test =
-        let same : other ≡ key = (law other key).0 test in
-        let inside : slot_of plan key < length cells.words = slot-within goes mine in
-        rw (same, get_or-set_same cells.words (slot_of plan key) word 0 inside)
-    at_test false test =
-        let apart : slot_of plan other ≡ slot_of plan key → ⊥ =
-        λ e. (let yes : same_key other key ≡ true = (law other key).1 (slot-apart its mine e) in cc) in
-        get_or-set_other cells.words (slot_of plan key) (slot_of plan other) word 0 apart
+word-after law {plan} {cells} {key} {other} word goes mine its =
+    grind (arith, law other key, slot-within goes mine, slot-apart its mine, get_or-set_same, get_or-set_other)
 
 pub hold-after : SameKey → CellAfter → {plan : PlanData} {starts : List ℕ} {cells : CellData} {history : History}
     (actor word : ℕ) {key : Key} → GoWith plan cells → IsCell plan cells.subs key → Hold plan starts cells history
     → Hold plan starts (record cells { words = slice_set cells.words (slot_of plan key) word })
     (history ++ record { actor = actor; act = Put key word } ∷ [])
-hold-after law after {plan} {starts} {history} actor word {key} goes mine hold = record {
-  subs = hold.subs;
-  words = λ other its.
-      rw (word-after law word goes mine (subst (λ n. IsCell plan n other) (sym hold.subs) its), hold.words other its)
-      (sym (after (setting_of plan starts) history (record { actor = actor; act = Put key word }) other));
-}
-
--- tests of one number more
-below-more : (t n : ℕ) → t ≢ n → nat_lt t (n + 1) ≡ nat_lt t n
-below-more t n other = elim (cases_lt t n) [
-  | inl low ↦ rw (lt-ltb t (n + 1) (omega (arith, low)), lt-ltb t n low)
-  | inr high ↦ rw (le-ltb t (n + 1) (omega (arith, high, other)), le-ltb t n high)
-]
+hold-after law after {plan} {starts} {history} actor word {key} goes mine hold = grind (arith, word-after)
 
 -- the mark that is put first
 first-opened : (plan : PlanData) (sub start : ℕ) (key : Key) (word : ℕ) → cond (same_key key (Presence start sub))
     (mark_word (Here 0)) word ≡ open_word plan sub start 0 key word
 first-opened plan sub start (Presence node other) word = refl
-first-opened plan sub start (Entry level cluster other) word =
-    rw (le-ltb level 0 (omega arith))
+first-opened plan sub start (Entry level cluster other) word = grind arith
 
 -- the address of one level more
-chosen : (x y : Bool) (new old : ℕ) → cond ((true && x) && y) new (cond (false && (x && y)) new old)
-    ≡ cond (true && (x && y)) new old
-chosen true true new old = refl
-chosen true false new old = refl
-chosen false true new old = refl
-chosen false false new old = refl
-
 more-opened : (plan : PlanData) (sub start level : ℕ) {cluster : ℕ} (key : Key) (word : ℕ)
     → cluster ≡ home plan level start → cond (same_key key (Entry level cluster sub)) (address_word (Some (record {
       number = 0;
       node = start;
     }))) (open_word plan sub start level key word) ≡ open_word plan sub start (level + 1) key word
 more-opened plan sub start level (Presence node other) word same = refl
-more-opened plan sub start level {cluster} (Entry l c other) word same = elim (cases_eq l level) [
-  | inl e ↦
-      let here : home plan l start ≡ cluster = ap (λ i. home plan i start) e ∙ sym same in
-      rw (eq-eqb l level e, le-ltb l level (omega (arith, e)), lt-ltb l (level + 1) (omega (arith, e)), here)
-      (chosen (c == cluster) (other == sub) (address_word (Some (record { number = 0; node = start }))) word)
-  | inr apart ↦ rw (ne_eqb l level apart, below-more l level apart)
-]
+more-opened plan sub start level {cluster} (Entry l c other) word same = grind arith
 
 -- the cells after a put of an opening word
 pub set-first : SameKey → {plan : PlanData} {cells : CellData} {sub start word : ℕ} {key : Key} → GoWith plan cells
@@ -102,49 +64,11 @@ pub set-more : SameKey → {plan : PlanData} {cells : CellData} {sub : ℕ} (sta
 set-more law {plan} {sub = sub} start {level} {word = word} old {key} goes mine same at its so_far =
     rw (word-after law word goes mine its, same, so_far) (more-opened plan sub start level key old at)
 
--- where the last test fails the word stays
-unmarked : (a b : Bool) (x y : ℕ) → cond (a && (b && false)) x y ≡ y
-unmarked true true x y = refl
-unmarked true false x y = refl
-unmarked false b x y = refl
-
--- the word of what is picked
-picked : {A : Type 0} (word_of : A → ℕ) (b : Bool) (x y : A) → cond (b && true) (word_of x) (word_of y)
-    ≡ word_of (cond b x y)
-picked word_of true x y = refl
-picked word_of false x y = refl
-
 -- the opening words of one subscriber more
 pub opened-more : (plan : PlanData) (starts : List ℕ) (sub : ℕ) {start : ℕ} (key : Key) → 1 ≤ levels_of plan
     → IsPlace plan key → sub < length starts → start ≡ get_or starts sub 0
     → open_word plan sub start (levels_of plan) key (cond (nat_lt (key_sub key) sub)
     (opening (setting_of plan starts) key) 0) ≡ cond (nat_lt (key_sub key) (sub + 1))
     (opening (setting_of plan starts) key) 0
-opened-more plan starts sub {start} (Presence node other) some place inside begins = elim (cases_eq other sub) [
-  | inl e ↦
-      let here : start ≡ get_or starts other 0 = begins ∙ ap (λ s. get_or starts s 0) (sym e) in
-      rw (
-        eq-eqb other sub e,
-        le-ltb other sub (omega (arith, e)),
-        here,
-        lt-ltb other (sub + 1) (omega (arith, e)),
-        lt-ltb other (length starts) (omega (arith, e, inside)),
-      ) (picked mark_word (node == get_or starts other 0) (Here 0) Empty)
-  | inr apart ↦ rw (ne_eqb other sub apart, below-more other sub apart) (unmarked true (node == start) _ _)
-]
-opened-more plan starts sub {start} (Entry level cluster other) some place inside begins = elim (cases_eq other sub) [
-  | inl e ↦
-      let here : start ≡ get_or starts other 0 = begins ∙ ap (λ s. get_or starts s 0) (sym e) in
-      rw (
-        eq-eqb other sub e,
-        le-ltb other sub (omega (arith, e)),
-        lt-ltb level (levels_of plan) place.0,
-        here,
-        lt-ltb other (sub + 1) (omega (arith, e)),
-        lt-ltb other (length starts) (omega (arith, e, inside)),
-        lt-ltb level (suc (levels_of plan - 1)) (omega (arith, place.0, some)),
-      ) (picked address_word (cluster == home plan level (get_or starts other 0))
-      (Some (record { number = 0; node = get_or starts other 0 })) None)
-  | inr apart ↦ rw (ne_eqb other sub apart, below-more other sub apart)
-      (unmarked (nat_lt level (levels_of plan)) (cluster == home plan level start) _ _)
-]
+opened-more plan starts sub {start} (Presence node other) some place inside begins = grind arith
+opened-more plan starts sub {start} (Entry level cluster other) some place inside begins = grind arith

@@ -1,22 +1,19 @@
 -- The readers of a node in the row: one after another, level by level; what the code reads of them; and a climb that
 -- comes to a reader with so many looks more, as places of the row.
-use Rattle.std.proofs.Common.{◌≡◌, ℕ, zero, suc, ◌+◌, ◌-◌, ◌*◌, ◌<◌, ◌≤◌, length, take, ap, ◌∙◌, inl, inr, arith, List, get_or, refl}
+use Rattle.std.proofs.Common.{◌≡◌, ℕ, zero, suc, ◌+◌, ◌-◌, ◌*◌, ◌<◌, ◌≤◌, length, take, ap, ◌∙◌, arith, List, get_or}
 use Rattle.std.specs.List.{sum_by}
 use Rattle.std.specs.Prelude.{slice_index}
-use Rattle.std.proofs.lemmas.Bool.{cases_lt, le-ltb, lt-ltb}
 use Rattle.std.proofs.lemmas.List.{take_all, take_more, get_or_default}
 use Rattle.std.proofs.lemmas.List.Sums.{sum_by_push}
 use Rattle.std.proofs.lemmas.Nat.{mul-add-lt}
 use Rattle.region_plan.specs.Plan.{Level, PlanData, level_at, levels_of, no_level, nodes_of, readers, readers_in}
-use Rattle.visit_log.specs.Routes.{AreRoutes, IsPart, IsRung, RouteData, Rung, entry_place, next_rung, place_in, rung_past, way_at, ways_past, IsAt, rung_at}
+use Rattle.visit_log.specs.Routes.{AreRoutes, IsPart, IsRung, RouteData, Rung, entry_place, next_rung, place_in, rung_past, way_at, ways_past, IsAt}
 use Rattle.std.proofs.Math.Nat.{mul-le-mul_right}
 
 -- each level of a node has its part
 pub its-part : (plan : PlanData) (routes : RouteData) (node level : ℕ) → AreRoutes plan routes → node < nodes_of plan
     → level < levels_of plan → IsPart plan routes (node * levels_of plan + level) node level
-its-part plan routes node level are inside low =
-    are.parts node level low
-    (omega (arith, mul-add-lt node (levels_of plan) level (nodes_of plan) inside low))
+its-part plan routes node level are inside low = grind (arith, mul-add-lt)
 
 -- the parts of a node begin one behind the other
 module _ (plan : PlanData) (routes : RouteData) (node : ℕ) (are : AreRoutes plan routes)
@@ -27,30 +24,22 @@ module _ (plan : PlanData) (routes : RouteData) (node : ℕ) (are : AreRoutes pl
   pub next-start : (level : ℕ) → level < levels_of plan
       → slice_index routes.starts (base + suc level)
       ≡ slice_index routes.starts (base + level) + length (readers plan level node)
-  next-start level low =
-      let one : base + level + 1 ≡ base + suc level = omega arith in
-      rw one at (its-part plan routes node level are inside low).next
+  next-start level low = grind (arith, its-part)
 
   rise-by : (level k : ℕ) → level + k ≤ levels_of plan
       → slice_index routes.starts (base + level) ≤ slice_index routes.starts (base + (level + k))
-  rise-by level zero short =
-      let same : level + 0 ≡ level = omega arith in rw same (omega arith)
-  rise-by level (suc k) short =
-      let one : level + suc k ≡ suc (level + k) = omega arith in
-      rw one (omega (arith, rise-by level k (omega arith), next-start (level + k) (omega arith)))
+  rise-by level zero short = grind arith
+  rise-by level (suc k) short = grind (arith, rise-by level k, next-start (level + k))
 
   pub starts-rise : (level above : ℕ) → level ≤ above → above ≤ levels_of plan
       → slice_index routes.starts (base + level) ≤ slice_index routes.starts (base + above)
-  starts-rise level above order short =
-      let e : level + (above - level) ≡ above = omega arith in rw e at (rise-by level (above - level) (omega arith))
+  starts-rise level above order short = grind (arith, rise-by level (above - level))
 
   -- so many readers stand before a level
   readers-below : (level : ℕ) → level ≤ levels_of plan
       → slice_index routes.starts (base + level)
       ≡ slice_index routes.starts base + sum_by (λ l. length (readers_in l node)) (take level plan.levels)
-  readers-below zero short =
-      let same : base + 0 ≡ base = omega arith in
-      ap (slice_index routes.starts) same ∙ omega arith
+  readers-below zero short = grind arith
   readers-below (suc level) short =
       let one : suc level ≡ level + 1 = omega arith in
       let more : sum_by (λ (l : Level). length (readers_in l node)) (take (suc level) plan.levels)
@@ -65,35 +54,18 @@ module _ (plan : PlanData) (routes : RouteData) (node : ℕ) (are : AreRoutes pl
   -- and so many are the node's
   pub readers-summed : slice_index routes.starts (base + levels_of plan)
       ≡ slice_index routes.starts base + sum_by (λ l. length (readers_in l node)) plan.levels
-  readers-summed =
-      rw (take_all (levels_of plan) plan.levels (omega arith)) at (readers-below (levels_of plan) (omega arith))
+  readers-summed = grind (arith, take_all, readers-below)
 
   -- the reader that comes next has the next place
   pub next-place : (rung : Rung) → IsRung plan node rung
       → place_in routes base (next_rung plan node rung) ≡ suc (place_in routes base rung)
-  next-place rung is = elim (cases_lt (suc rung.index) (length (readers plan rung.level node))) [
-    | inl more ↦ rw (lt-ltb (suc rung.index) (length (readers plan rung.level node)) more) (omega arith)
-    | inr over ↦
-        rw (le-ltb (suc rung.index) (length (readers plan rung.level node)) over)
-        (omega (arith, next-start rung.level is.level, is.index))
-  ]
+  next-place rung is = grind (arith, next-start)
 
   -- and is one of the node's, unless this one is the last
   pub next-is : (rung : Rung) → IsRung plan node rung
       → (suc rung.level ≡ levels_of plan → length (readers plan rung.level node) ≤ suc rung.index → ⊥)
       → IsRung plan node (next_rung plan node rung)
-  next-is rung is other = elim (cases_lt (suc rung.index) (length (readers plan rung.level node))) [
-    | inl more ↦
-        rw (lt-ltb (suc rung.index) (length (readers plan rung.level node)) more)
-        (record { level = is.level; index = more })
-    | inr over ↦
-        let up : suc rung.level < levels_of plan = elim (cases_lt (suc rung.level) (levels_of plan)) [
-          | inl less ↦ less
-          | inr top ↦ absurd (other (omega (arith, is.level, top)) over)
-        ] in
-        rw (le-ltb (suc rung.index) (length (readers plan rung.level node)) over)
-        (record { level = up; index = omega (arith, (its-part plan routes node (suc rung.level) are inside up).some) })
-  ]
+  next-is rung is other = grind (arith, its-part)
 
   -- so many readers on, before the end
   pub past-is : (rung : Rung) → IsRung plan node rung → (count : ℕ)
@@ -105,12 +77,10 @@ module _ (plan : PlanData) (routes : RouteData) (node : ℕ) (are : AreRoutes pl
       let here = past-is rung is count (omega (arith, before)) in (
         next-is (rung_past plan node rung count) here.0 (λ top over. omega (
           arith,
-          next-start (rung_past plan node rung count).level here.0.level,
+          next-start,
           ap (λ n. slice_index routes.starts (base + n)) top,
           before,
-          here.1,
           over,
-          here.0.index,
         )),
         next-place (rung_past plan node rung count) here.0 ∙ omega (arith, here.1),
       )
@@ -118,13 +88,7 @@ module _ (plan : PlanData) (routes : RouteData) (node : ℕ) (are : AreRoutes pl
   -- a reader lies before the end of its node
   pub before-end : (rung : Rung) → IsRung plan node rung
       → place_in routes base rung < slice_index routes.starts (base + levels_of plan)
-  before-end rung is =
-      omega (
-        arith,
-        next-start rung.level is.level,
-        starts-rise (suc rung.level) (levels_of plan) (omega (arith, is.level)) (omega arith),
-        is.index,
-      )
+  before-end rung is = grind (arith, next-start, starts-rise (suc rung.level) (levels_of plan))
 
   -- what is at its place
   pub place-holds : (rung : Rung) → IsRung plan node rung
@@ -141,20 +105,10 @@ module _ (plan : PlanData) (routes : RouteData) (node : ℕ) (are : AreRoutes pl
       → place_in routes base rung + count < slice_index routes.starts (base + levels_of plan)
       → slice_index routes.ways (place_in routes base rung + count)
       ≡ slice_index routes.ways (place_in routes base rung) + ways_past plan node rung count
-  ways-hold rung is zero before =
-      let same : place_in routes base rung + 0 ≡ place_in routes base rung = omega arith in
-      ap (slice_index routes.ways) same ∙ omega arith
+  ways-hold rung is zero before = grind arith
   ways-hold rung is (suc count) before =
       let here = past-is rung is count (omega (arith, before)) in
-      let next : place_in routes base (rung_past plan node rung count) + 1 ≡ place_in routes base rung + suc count =
-      omega (arith, here.1) in
-      omega (
-        arith,
-        ways-hold rung is count (omega (arith, before)),
-        ap (slice_index routes.ways) here.1,
-        ap (slice_index routes.ways) next,
-        way-holds (rung_past plan node rung count) here.0,
-      )
+      grind (arith, ways-hold rung is count, way-holds (rung_past plan node rung count))
 
   -- and its level
   pub level-holds : (rung : Rung) → IsRung plan node rung
@@ -164,61 +118,42 @@ module _ (plan : PlanData) (routes : RouteData) (node : ℕ) (are : AreRoutes pl
 -- a number that is read
 pub reads : {items held : List ℕ} {k at v : ℕ} → v ≡ get_or items k v → items ≡ held → k ≡ at → at < length held
     → v ≡ slice_index held at
-reads {held} {k} {at} {v} read same there short =
-    read ∙ (ap (λ xs. get_or xs k v) same ∙ (ap (λ i. get_or held i v) there ∙ get_or_default held at v 0 short))
+reads {held} {k} {at} {v} read same there short = grind (arith, get_or_default)
 
 -- the starts of a node's parts are there, and the last one's end
 pub part-within : (plan : PlanData) (routes : RouteData) (node level : ℕ) → AreRoutes plan routes → node < nodes_of plan
     → level ≤ levels_of plan → node * levels_of plan + level < length routes.starts
-part-within plan routes node level are inside low =
-    omega (arith, are.starts, mul-le-mul_right (levels_of plan) inside, low)
+part-within plan routes node level are inside low = grind (arith, mul-le-mul_right)
 
 -- a start that is read
 pub start-read : {plan : PlanData} {held routes : RouteData} (node level : ℕ) {v : ℕ} → held ≡ routes
     → AreRoutes plan routes → node < nodes_of plan → level ≤ levels_of plan
     → v ≡ get_or held.starts (node * held.levels + level) v
     → v ≡ slice_index routes.starts (node * levels_of plan + level)
-start-read {plan} {routes = routes} node level view are inside low read =
-    reads (rw view at read) refl (ap (λ w. node * w + level) are.levels)
-    (part-within plan routes node level are inside low)
+start-read {plan} {routes = routes} node level view are inside low read = grind (arith, reads, part-within)
 
 pub end-read : {plan : PlanData} {held routes : RouteData} (node : ℕ) {v : ℕ} → held ≡ routes → AreRoutes plan routes
     → node < nodes_of plan → v ≡ get_or held.starts (node * held.levels + held.levels) v
     → v ≡ slice_index routes.starts (node * levels_of plan + levels_of plan)
-end-read {plan} {routes = routes} node view are inside read =
-    reads (rw view at read) refl (ap (λ w. node * w + w) are.levels)
-    (part-within plan routes node (levels_of plan) are inside (omega arith))
+end-read {plan} {routes = routes} node view are inside read = grind (arith, reads, part-within)
 
 -- the readers of a node end within the row
 pub end-within : (plan : PlanData) (routes : RouteData) (node : ℕ) → AreRoutes plan routes → node < nodes_of plan
     → 1 ≤ levels_of plan → slice_index routes.starts (node * levels_of plan + levels_of plan) ≤ length routes.places
 end-within plan routes node are inside some =
-    let last : node * levels_of plan + (levels_of plan - 1) + 1 ≡ node * levels_of plan + levels_of plan =
-    omega (arith, some) in
-    rw last at (its-part plan routes node (levels_of plan - 1) are inside (omega (arith, some))).within
+    grind (arith, its-part plan routes node (levels_of plan - 1) are inside)
 
 -- between the starts that are read lie the readers of a node
 pub readers-between : (plan : PlanData) {held routes : RouteData} (node : ℕ) {first end : ℕ} → held ≡ routes
     → AreRoutes plan routes → node < nodes_of plan → first ≡ get_or held.starts (node * held.levels) first
     → end ≡ get_or held.starts (node * held.levels + held.levels) end
     → end ≡ first + sum_by (λ l. length (readers_in l node)) plan.levels
-readers-between plan {held} {routes} node view are inside reads_first reads_end =
-    let none : node * held.levels ≡ node * held.levels + 0 = omega arith in
-    let same : node * levels_of plan + 0 ≡ node * levels_of plan = omega arith in
-    omega (
-      arith,
-      start-read node 0 view are inside (omega arith) (rw none at reads_first),
-      ap (slice_index routes.starts) same,
-      end-read node view are inside reads_end,
-      readers-summed plan routes node are inside,
-    )
+readers-between plan {held} {routes} node {first} view are inside reads_first reads_end =
+    grind (arith, start-read node 0 {v = first} view are inside, end-read, readers-summed plan routes node are inside)
 
 -- levels don't fall
 next-rises : (plan : PlanData) (node : ℕ) (rung : Rung) → rung.level ≤ (next_rung plan node rung).level
-next-rises plan node rung = elim (cases_lt (suc rung.index) (length (readers plan rung.level node))) [
-  | inl more ↦ rw (lt-ltb (suc rung.index) (length (readers plan rung.level node)) more) (omega arith)
-  | inr over ↦ rw (le-ltb (suc rung.index) (length (readers plan rung.level node)) over) (omega arith)
-]
+next-rises plan node rung = grind arith
 
 -- where it is then, and what the ways weigh
 pub record Going (plan : PlanData) (routes : RouteData) (node : ℕ) (rung : Rung) (count : ℕ) : Type 0 where
@@ -236,26 +171,14 @@ module _ (plan : PlanData) (routes : RouteData) (node : ℕ) (rung : Rung) (at :
   goes-along zero low = (at.is, omega arith)
   goes-along (suc count) low =
       let here = goes-along count (omega (arith, low, next-rises plan node (rung_past plan node rung count))) in
-      let s = rung_past plan node rung count in (
-        next-is plan routes node at.are at.inside s here.0 (λ top over.
-            let next : next_rung plan node s ≡ rung_at (suc s.level) 0 =
-            rw (le-ltb (suc s.index) (length (readers plan s.level node)) over) refl in
-            omega (arith, low, top, ap (λ (t : Rung). t.level) next)),
-        next-place plan routes node at.are at.inside (rung_past plan node rung count) here.0 ∙ omega (arith, here.1),
-      )
+      grind (arith, next-is, next-place)
 
   pub going : (count : ℕ) → IsRung plan node (rung_past plan node rung count)
       → Going plan routes node rung count
   going count on =
       let there = goes-along count on.level in
       let before : place_in routes (node * levels_of plan) rung + count
-      < slice_index routes.starts (node * levels_of plan + levels_of plan) =
-      omega (
-        arith,
-        there.1,
-        before-end plan routes node at.are at.inside (rung_past plan node rung count) on,
-      )
-      in
+      < slice_index routes.starts (node * levels_of plan + levels_of plan) = grind (arith, before-end) in
       record {
         before = omega (
           arith,

@@ -1,5 +1,4 @@
-use Rattle.std.proofs.Common.{◌≡◌, ◌==◌, ℕ, ◌+◌, ◌*◌, ◌<◌, ap, arith, get_or, length, true, ◌∙◌}
-use Rattle.std.specs.Prelude.{slice_index}
+use Rattle.std.proofs.Common.{◌≡◌, ℕ, ◌+◌, ◌*◌, ◌<◌, ap, arith, get_or, length, ◌∙◌}
 use Rattle.visit_log.specs.Cells.{CellData}
 use Rattle.visit_log.proofs.Apart.{number-below}
 use Rattle.visit_log.proofs.cells.PlainCells.count_empty.Goals as goal
@@ -7,13 +6,7 @@ use Rattle.visit_log.proofs.cells.PlainCells.count_empty.Goals as goal
 -- a place of a subscriber is one of the words
 word-within : (cells : CellData) (sub place : ℕ) {width total : ℕ} → total ≡ cells.subs * width → cells.width ≡ width
     → sub < cells.subs → place < cells.width → sub * cells.width + place < total
-word-within cells sub place {width} words wide known low =
-    omega (
-      arith,
-      words,
-      ap (λ w. sub * w + place) wide,
-      number-below sub cells.subs width place known (omega (arith, low, wide)),
-    )
+word-within cells sub place {width} words wide known low = grind (arith, number-below)
 
 pub is_zero-requires : goal.is_zero-requires
 is_zero-requires c =
@@ -26,14 +19,4 @@ is_zero-requires c =
     )
 
 pub returns-then-not-is_zero-clause-held : goal.returns-then-not-is_zero-clause-held
-returns-then-not-is_zero-clause-held c = λ short none.
-    let place : ℕ = get_or c.args.places.now c.loop-i.i 0 in
-    let within = word-within c.args.self.now c.args.sub place c.requires.goes.1.words c.requires.goes.1.width
-    c.requires.known (c.requires.inside c.loop-i.i 0 c.loop-i-test.true) in
-    let wide : c.args.sub * c.width.result + place ≡ c.args.sub * c.args.self.now.width + place =
-    ap (λ w. c.args.sub * w + place) (c.width.ensures ∙ ap (λ (k : CellData). k.width) c.self.view_is) in
-    let zero : c.is_zero.result ≡ true = c.is_zero.ensures ∙ ap (λ w. w == 0)
-    (ap (λ (k : CellData). slice_index k.words (c.args.sub * c.width.result + place)) c.self.view_is
-    ∙ (ap (λ k. slice_index c.args.self.now.words k) wide ∙ none)) in
-    let held = c.if-not-is_zero.true in
-    cc
+returns-then-not-is_zero-clause-held c = grind (arith, word-within)

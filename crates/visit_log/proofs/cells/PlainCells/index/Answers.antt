@@ -1,4 +1,4 @@
-use Rattle.std.proofs.Common.{rules, ◌<◌, length, subst, sym}
+use Rattle.std.proofs.Common.{rules, arith}
 use Rattle.visit_log.proofs.Apart.{slot-within}
 use Rattle.visit_log.proofs.cells.PlainCells.index.Goals as goal
 
@@ -6,6 +6,4 @@ pub returns-clause-place : goal.returns-clause-place
 returns-clause-place c = search rules
 
 pub returns-clause-within : goal.returns-clause-within
-returns-clause-within c =
-    subst (λ n. n < length c.args.self.now.words) (sym (returns-clause-place c))
-    (slot-within c.requires.goes c.requires.cell)
+returns-clause-within c = grind (arith, slot-within)

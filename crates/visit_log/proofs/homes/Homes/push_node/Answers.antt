@@ -31,8 +31,7 @@ home-more {plan} {old} new node level {place} low have levels places is =
 pub loop-level-preserved : goal.loop-level-preserved
 loop-level-preserved c =
     let plan = c.args.plan.now in
-    let low : c.loop-level.level < levels_of plan =
-    omega (arith, c.loop-level-test.true, c.loop-level.auto.level-end, c.levels-level-end.ensures) in
+    let low : c.loop-level.level < levels_of plan = grind arith in
     home-more
     (record { levels = c.loop-level.self-inside.levels; places = c.push.new.self.items }) c.args.node c.loop-level.level
     low c.loop-level.invariant refl c.in_ok-push.ensures.items
@@ -40,16 +39,5 @@ loop-level-preserved c =
 
 pub overflow_add-place : goal.overflow_add-place
 overflow_add-place c =
-    let plan = c.args.plan.now in
     let level : ℕ = c.loop-level.level in
-    let low : level < levels_of plan = omega (arith, c.loop-level-test.true, c.levels-level-end.ensures) in
-    omega (
-      arith,
-      c.first.ensures,
-      c.requires.places.firsts level low,
-      c.home.ensures,
-      place-below plan (Entry level (home plan level c.args.node) 0)
-          (low, c.plan_is_sound.ensures.matched.homes level c.args.node low c.requires.node),
-      c.requires.places.width,
-      c.requires.places.few,
-    )
+    grind (arith, place-below c.args.plan.now (Entry level (home c.args.plan.now level c.args.node) 0))

@@ -1,9 +1,7 @@
-use Rattle.std.proofs.Common.{◌≡◌, ℕ, ◌+◌, ◌*◌, ◌<◌, ◌≤◌, List, [], ◌∷◌, ◌++◌, length, get_or, ap, sym, ◌∙◌, inl, inr, arith}
+use Rattle.std.proofs.Common.{◌≡◌, ℕ, ◌+◌, ◌*◌, ◌<◌, ◌≤◌, List, [], ◌∷◌, ◌++◌, length, get_or, arith}
 use Rattle.std.proofs.Math.Nat.{le_antisymm}
-use Rattle.std.proofs.lemmas.Bool.{cases_lt}
 use Rattle.std.proofs.lemmas.List.{take_all}
 use Rattle.std.proofs.lemmas.List.Sums.{sum_by_more}
-use Rattle.std.specs.Prelude.{sum_by}
 use Rattle.region_plan.specs.Kept.{IsKept}
 use Rattle.region_plan.specs.Plan.{PlanData, clusters_of, levels_of, no_level, nodes_of}
 use Rattle.visit_log.specs.Numbers.{clusters_below}
@@ -21,45 +19,12 @@ record HaveFirsts (plan : PlanData) (firsts : List ℕ) (level first : ℕ) : Ty
 more-firsts : {plan : PlanData} {old new : List ℕ} {level first : ℕ} → IsKept plan → level < levels_of plan
     → HaveFirsts plan old level first → new ≡ old ++ first ∷ []
     → HaveFirsts plan new (level + 1) (first + clusters_of plan level)
-more-firsts {plan} {level = level} kept low have items = record {
-  count = omega (arith, have.count, (pushed items).size);
-  each = λ k below. elim (cases_lt k level) [
-    | inl less ↦ (pushed items).before k (omega (arith, less, have.count)) ∙ have.each k less
-    | inr over ↦
-        let at : k ≡ level = omega (arith, below, over) in
-        rw at ((pushed items).last level (omega (arith, have.count)) ∙ have.next)
-  ];
-  next = omega (arith, have.next, sum_by_more size plan.levels level no_level low);
-  few = omega (arith, have.few, (kept.levels level no_level low).clusters, kept.metric.few);
-}
+more-firsts {plan} {level = level} kept low have items =
+    let row = pushed items in
+    grind (arith, sum_by_more, kept.levels level no_level low)
 
 pub loop-level-preserved : goal.loop-level-preserved
-loop-level-preserved c =
-    let plan = c.args.plan.now in
-    let more = more-firsts c.nodes-first.ensures.sound (omega
-    (arith, c.loop-level-test.true, c.levels-level-end.ensures)) (record {
-      count = sym c.loop-level.firsts.ok.0 ∙ c.loop-level.invariant.count;
-      each = c.loop-level.invariant.firsts;
-      next = c.loop-level.invariant.first;
-      few = c.loop-level.invariant.few;
-    }) c.push_reserved.ensures.items in
-    record {
-      count = c.push_reserved.new.self.ok.0 ∙ more.count;
-      firsts = more.each;
-      first = ap (λ n. c.loop-level.first + n) c.clusters-first.ensures ∙ more.next;
-      few = rw c.clusters-first.ensures more.few;
-      room = c.push_reserved.ensures.capacity ∙ c.loop-level.invariant.room;
-    }
+loop-level-preserved c = grind (arith, more-firsts)
 
 pub returns : goal.returns
-returns c =
-    let plan = c.args.plan.now in
-    let all : c.loop-level.level ≡ levels_of plan =
-    le_antisymm c.loop-level.auto.level-end c.loop-level-test.false ∙ c.levels-level-end.ensures in
-    record {
-      width = c.loop-level.invariant.first ∙ ap (λ n. nodes_of plan + n)
-          (ap (sum_by size) (take_all c.loop-level.level plan.levels (omega (arith, all))));
-      few = omega (arith, c.loop-level.invariant.few, all, c.nodes-first.ensures.sound.few);
-      levels = sym c.loop-level.firsts.ok.0 ∙ (c.loop-level.invariant.count ∙ all);
-      firsts = λ level low. c.loop-level.invariant.firsts level (rw all low);
-    }
+returns c = grind (arith, le_antisymm, size, take_all)

@@ -1,6 +1,6 @@
 use Rattle.std.proofs.Common.{◌≡◌, ℕ, ◌-◌, length, ap, ◌∙◌, arith, take, drop}
 use Rattle.std.proofs.lemmas.List.{get_or-drop, get_or-take, length-drop, length-take-le}
-use Rattle.visit_log.specs.Routes.{RouteData, rung_at, rung_past}
+use Rattle.visit_log.specs.Routes.{rung_at, rung_past}
 use Rattle.visit_log.proofs.Parts.{goes-along, before-end, past-is, place-holds}
 use Rattle.visit_log.proofs.routes.Routes.ahead.Goals as goal
 
@@ -8,11 +8,9 @@ pub returns : goal.returns
 returns c =
     let first = c.span-first.result.0 in
     let count = c.span-first.result.1 - first in
-    let row : c.deref.result.now ≡ c.args.self.now.places =
-    c.deref.ensures.value ∙ ap (λ (r : RouteData). r.places) c.self.view_is in
+    let row : c.deref.result.now ≡ c.args.self.now.places = grind arith in
     let size : length (take count (drop first c.deref.result.now)) ≡ count =
-    length-take-le count (drop first c.deref.result.now)
-    (omega (arith, length-drop first c.deref.result.now, c.span-first.ensures.within, ap length row)) in
+    grind (arith, length-take-le, length-drop) in
     let rung = rung_at c.args.level c.args.index in
     record {
       some = omega (arith, size, c.span-first.ensures.order);
@@ -29,16 +27,5 @@ returns c =
           ∙ rw (row, ap (λ (p : ℕ × ℕ). p.0) both, ← there.1) (place-holds plan c.args.self.now c.args.node at.are
           at.inside (rung_past plan c.args.node rung i) there.0);
       -- past the last of them there is none
-      all = λ plan at on.
-          let both = c.span-first.ensures.exact plan at in
-          absurd (omega (
-            arith,
-            before-end plan c.args.self.now c.args.node at.are at.inside _ on,
-            (goes-along plan c.args.self.now c.args.node rung at
-                (length (take count (drop first c.deref.result.now))) on.level).1,
-            size,
-            c.span-first.ensures.order,
-            ap (λ (p : ℕ × ℕ). p.0) both,
-            ap (λ (p : ℕ × ℕ). p.1) both,
-          ));
+      all = λ plan at on. absurd (grind (arith, before-end, goes-along, c.span-first.ensures.exact plan at));
     }

@@ -11,13 +11,4 @@ overflow_sub-readers c =
     )
 
 pub returns : goal.returns
-returns c = λ starts.
-    omega (
-      arith,
-      readers-between c.args.plan.now c.args.from c.self.view_is c.requires.routes c.requires.node c.index-2.ensures
-          c.index.ensures,
-      c.plan_counts.ensures.looks c.args.plan.now starts c.args.from c.plan_is_sound.ensures.sound.some,
-      c.from.ensures,
-      c.from-2.ensures,
-      c.nodes.ensures.count,
-    )
+returns c = grind (arith, readers-between)

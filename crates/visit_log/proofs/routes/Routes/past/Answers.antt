@@ -1,9 +1,9 @@
-use Rattle.std.proofs.Common.{◌≡◌, ℕ, ◌+◌, ◌*◌, ◌^◌, ◌<◌, length, ap, refl, ◌∙◌, arith}
-use Rattle.std.specs.Prelude.{get_or, slice_index}
+use Rattle.std.proofs.Common.{◌≡◌, ℕ, ◌+◌, ◌*◌, ◌^◌, ◌<◌, length, ◌∙◌, arith}
+use Rattle.std.specs.Prelude.{get_or}
 use Rattle.std.proofs.lemmas.List.{get_or_default}
-use Rattle.region_plan.specs.Plan.{PlanData, levels_of}
+use Rattle.region_plan.specs.Plan.{PlanData}
 use Rattle.visit_log.specs.declared.routes.Height.{Height}
-use Rattle.visit_log.specs.Routes.{ComesTo, RouteData, place_in, span_of, rung_at, rung_past, ways_past}
+use Rattle.visit_log.specs.Routes.{ComesTo, RouteData, span_of, rung_at, rung_past, ways_past}
 use Rattle.visit_log.proofs.Parts.{going, level-holds, part-within, reads}
 use Rattle.visit_log.proofs.routes.Routes.past.Goals as goal
 
@@ -27,46 +27,13 @@ finds : {plan : PlanData} {held routes : RouteData} {node level index count : �
     → ComesTo plan routes node (rung_at level index) count → span ≡ span_of plan routes node (rung_at level index)
     → Finds plan held routes node level index count span.0
 finds {plan} {routes = routes} {node} {level} {index} {count} {span} view on both =
-    let are = on.at.are in
-    let its = going plan routes node (rung_at level index) on.at count on.on in
-    let start : span.0 ≡ place_in routes (node * levels_of plan) (rung_at level index) = ap (λ (p : ℕ × ℕ). p.0) both in
-    let there : span.0 + count
-    ≡ place_in routes (node * levels_of plan) (rung_past plan node (rung_at level index) count) =
-    omega (arith, start, its.there) in
-    let within : (found : ℕ) → found ≡ (rung_past plan node (rung_at level index) count).level
-    → node * levels_of plan + found < length routes.starts =
-    λ found same. part-within plan routes node found are on.at.inside (omega (arith, same, on.on.level)) in
-    rw view (record {
-      short = omega (arith, start, its.before, are.short);
-      level_within = omega (arith, start, its.before, are.level_of);
-      ways_within = omega (arith, start, its.before, are.ways);
-      found_level = λ found read.
-          reads read refl there (omega (arith, its.before, its.there, are.level_of))
-          ∙ level-holds plan routes node are on.at.inside (rung_past plan node (rung_at level index) count) on.on;
-      start_within = λ found same. rw are.levels (within found same);
-      index_is = λ found first same read.
-          let is : first ≡ slice_index routes.starts (node * levels_of plan + found) =
-          reads read refl (ap (λ w. node * w + found) are.levels) (within found same) in
-          omega (arith, is, there, ap (λ l. slice_index routes.starts (node * levels_of plan + l)) same);
-      weighs = λ later early read_later read_early. omega (
-        arith,
-        read_later ∙ get_or_default routes.ways (span.0 + count) later 0 (omega (arith, start, its.before, are.ways)),
-        read_early ∙ get_or_default routes.ways span.0 early 0 (omega (arith, start, its.before, are.ways)),
-        ap (λ n. slice_index routes.ways (n + count)) start,
-        ap (slice_index routes.ways) start,
-        its.ways,
-      );
-    })
+    grind (arith, going, part-within, reads, level-holds, get_or_default)
 
 pub overflow_add-place : goal.overflow_add-place
-overflow_add-place c =
-    let its = finds refl c.requires.on.1 (c.span-first.ensures.exact c.requires.on.0 c.requires.on.1.at) in
-    omega (arith, its.short)
+overflow_add-place c = grind (arith, finds)
 
 pub index-level-requires : goal.index-level-requires
-index-level-requires c =
-    let its = finds c.self.view_is c.requires.on.1 (c.span-first.ensures.exact c.requires.on.0 c.requires.on.1.at) in
-    omega (arith, its.level_within, c.self.inside.level_of.ok.0)
+index-level-requires c = grind (arith, finds)
 
 pub index-requires : goal.index-requires
 index-requires c =
@@ -75,20 +42,13 @@ index-requires c =
     omega (arith, its.start_within c.index-level.result.now found, c.self.inside.starts.ok.0)
 
 pub overflow_sub-result : goal.overflow_sub-result
-overflow_sub-result c =
-    let its = finds c.self.view_is c.requires.on.1 (c.span-first.ensures.exact c.requires.on.0 c.requires.on.1.at) in
-    let found = its.found_level c.index-level.result.now c.index-level.ensures in
-    omega (arith, its.index_is c.index-level.result.now c.index.result.now found c.index.ensures)
+overflow_sub-result c = grind (arith, finds)
 
 pub overflow_cast-result-2 : goal.overflow_cast-result-2
-overflow_cast-result-2 c =
-    let its = finds c.self.view_is c.requires.on.1 (c.span-first.ensures.exact c.requires.on.0 c.requires.on.1.at) in
-    omega (arith, its.short)
+overflow_cast-result-2 c = grind (arith, finds)
 
 pub index-requires-2 : goal.index-requires-2
-index-requires-2 c =
-    let its = finds c.self.view_is c.requires.on.1 (c.span-first.ensures.exact c.requires.on.0 c.requires.on.1.at) in
-    omega (arith, its.ways_within, c.self.inside.ways.ok.0)
+index-requires-2 c = grind (arith, finds)
 
 pub overflow_sub-result-2 : goal.overflow_sub-result-2
 overflow_sub-result-2 c =

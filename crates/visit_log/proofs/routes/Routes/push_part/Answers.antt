@@ -1,9 +1,7 @@
-use Rattle.std.proofs.Common.{◌≡◌, ℕ, ◌^◌, ◌<◌, ◌≤◌, [], ◌∷◌, ◌++◌, length, get_or, refl, sym, ap, ◌∙◌, arith}
-use Rattle.std.specs.Prelude.{slice_index}
+use Rattle.std.proofs.Common.{◌≡◌, ℕ, ◌^◌, ◌<◌, ◌≤◌, length, get_or, ap, arith}
 use Rattle.entry_word.specs.declared.visit.Key.TheVariants.{Entry}
 use Rattle.region_plan.specs.Plan.{readers}
-use Rattle.visit_log.specs.Routes.{RouteData}
-use Rattle.visit_log.proofs.Adding.{adding-done, adding-more, parts-few, pushed, row_of}
+use Rattle.visit_log.proofs.Adding.{IsTold, adding-done, adding-more, parts-few, pushed}
 use Rattle.visit_log.proofs.Apart.{place-below}
 use Rattle.region_plan.specs.ReaderLaws.{reader-held, readers-few, readers-some, way-light}
 use Rattle.visit_log.proofs.routes.Routes.push_part.Goals as goal
@@ -14,31 +12,18 @@ overflow_add-first c =
     let plan = c.args.plan.now in
     let level : ℕ = c.args.level in
     let reader : ℕ = get_or (readers plan level c.args.node) c.loop-index.index 0 in
-    let short : c.loop-index.index < length (readers plan level c.args.node) =
-    omega (arith, c.loop-index-test.true, c.len.ensures, ap length c.readers-readers.ensures) in
+    let short : c.loop-index.index < length (readers plan level c.args.node) = grind arith in
     let held = reader-held plan level c.args.node c.loop-index.index c.plan_is_sound.ensures.matched c.requires.level
     c.requires.node short in
     omega (
       arith,
-      c.first-first.ensures,
       c.requires.places.firsts level c.requires.level,
       ap (λ rs. get_or rs c.loop-index.index 0) c.readers-readers.ensures,
       place-below plan (Entry level reader 0) (c.requires.level, held.1),
-      c.requires.places.width,
-      c.requires.places.few,
     )
 
 pub overflow_cast-index : goal.overflow_cast-index
-overflow_cast-index c =
-    omega (
-      arith,
-      c.loop-index-test.true,
-      c.loop-index.auto.index-end,
-      c.len.ensures,
-      ap length c.readers-readers.ensures,
-      readers-few c.args.plan.now c.args.level c.args.node c.plan_is_sound.ensures.matched
-          c.plan_is_sound.ensures.sound c.requires.level c.requires.node,
-    )
+overflow_cast-index c = grind (arith, readers-few)
 
 -- the reader is one of those of the node at the level
 short-here : (c : After-reader_weight)
@@ -47,126 +32,30 @@ short-here c = omega (arith, c.loop-index-test.true, c.len.ensures, ap length c.
 
 -- the way to it is light
 light-here : (c : After-reader_weight) → c.reader_weight.result ≤ 2 ^ 35
-light-here c =
-    let plan = c.args.plan.now in
-    let held = reader-held plan c.args.level c.args.node c.loop-index.index c.plan_is_sound.ensures.matched
-    c.requires.level c.requires.node (short-here c) in
-    omega (
-      arith,
-      c.reader_weight.ensures,
-      way-light plan c.args.level (slice_index (readers plan c.args.level c.args.node) c.loop-index.index) c.args.node
-          c.plan_is_sound.ensures.sound c.plan_is_sound.ensures.reached c.requires.level held.1 held.0,
-    )
+light-here c = grind (arith, reader-held, short-here, way-light)
 
 pub overflow_mul-sum : goal.overflow_mul-sum
 overflow_mul-sum c = omega (arith, light-here c)
 
 pub overflow_add-sum : goal.overflow_add-sum
-overflow_add-sum c = omega (
-  arith,
-  light-here c,
-  c.loop-index.invariant.sum,
-  c.loop-index.invariant.adding.light,
-  c.loop-index.invariant.adding.size,
-  c.requires.parts.few,
-  parts-few c.args.node c.args.level c.plan_is_sound.ensures.sound c.requires.node c.requires.level,
-  readers-few c.args.plan.now c.args.level c.args.node c.plan_is_sound.ensures.matched c.plan_is_sound.ensures.sound
-      c.requires.level c.requires.node,
-  short-here c,
-)
+overflow_add-sum c = grind (arith, light-here c, short-here c, parts-few, readers-few)
 
 pub loop-index-preserved : goal.loop-index-preserved
-loop-index-preserved c =
-    let plan = c.args.plan.now in
-    let level : ℕ = c.args.level in
-    let node : ℕ = c.args.node in
-    let index : ℕ = c.loop-index.index in
-    let short : index < length (readers plan level node) =
-    omega (arith, c.loop-index-test.true, c.len.ensures, ap length c.readers-readers.ensures) in
-    let held = reader-held plan level node index c.plan_is_sound.ensures.matched c.requires.level c.requires.node short
-    in
-    let its = c.loop-index.self-inside in
-    let next : RouteData =
-    row_of its.levels its.starts c.push_reserved.new.self its.level_of c.push_reserved-in-loop-index.new.self in
-    record {
-      adding = adding-more next c.loop-index.invariant.adding refl refl refl c.push_reserved.ensures.items
-          c.push_reserved-in-loop-index.ensures.items (omega (
-            arith,
-            c.first-first.ensures,
-            c.requires.places.firsts level c.requires.level,
-            ap (λ rs. slice_index rs index) c.readers-readers.ensures,
-          )) (omega (arith, c.loop-index.invariant.sum, c.reader_weight.ensures)) (omega (
-            arith,
-            c.loop-index.invariant.sum,
-            c.reader_weight.ensures,
-            c.loop-index.invariant.adding.light,
-            way-light plan level (slice_index (readers plan level node) index) node c.plan_is_sound.ensures.sound
-                c.plan_is_sound.ensures.reached c.requires.level held.1 held.0,
-          ));
-      sum =
-          let row = pushed c.push_reserved.ensures.items in
-          sym ((pushed c.push_reserved-in-loop-index.ensures.items).last (length c.push_reserved.new.self.items)
-          (omega (arith, row.size, c.loop-index.invariant.adding.ways_size)));
-      room = omega (arith, c.push_reserved.ensures.capacity, c.loop-index.invariant.room);
-      ways_room = omega (arith, c.push_reserved-in-loop-index.ensures.capacity, c.loop-index.invariant.ways_room);
-    }
+loop-index-preserved c = grind (arith, reader-held, adding-more, way-light, pushed)
 
 pub overflow_cast-len : goal.overflow_cast-len
-overflow_cast-len c =
-    omega (
-      arith,
-      c.len-2.ensures,
-      c.loop-index.invariant.adding.size,
-      c.requires.parts.few,
-      parts-few c.args.node c.args.level c.plan_is_sound.ensures.sound c.requires.node c.requires.level,
-      readers-few c.args.plan.now c.args.level c.args.node c.plan_is_sound.ensures.matched
-          c.plan_is_sound.ensures.sound c.requires.level c.requires.node,
-      c.loop-index.auto.index-end,
-      c.len.ensures,
-      ap length c.readers-readers.ensures,
-    )
+overflow_cast-len c = grind (arith, parts-few, readers-few)
 
 pub returns : goal.returns
 returns c =
-    let plan = c.args.plan.now in
-    let its = c.loop-index.self-inside in
-    let next : RouteData = row_of its.levels c.push.new.self its.places c.resize.new.self its.ways in
-    let all : c.loop-index.index ≡ length (readers plan c.args.level c.args.node) =
-    omega (
-      arith,
-      c.loop-index-test.false,
-      c.loop-index.auto.index-end,
-      c.len.ensures,
-      ap length c.readers-readers.ensures,
-    )
-    in
-    let few = readers-few plan c.args.level c.args.node c.plan_is_sound.ensures.matched c.plan_is_sound.ensures.sound
-    c.requires.level c.requires.node in
-    let some = readers-some plan c.args.level c.args.node c.plan_is_sound.ensures.matched c.requires.level
+    let row = c.loop-index.self-inside in
+    let all : c.loop-index.index ≡ length (readers c.args.plan.now c.args.level c.args.node) = grind arith in
+    let few = readers-few c.args.plan.now c.args.level c.args.node c.plan_is_sound.ensures.matched
+    c.plan_is_sound.ensures.sound c.requires.level c.requires.node in
+    let some = readers-some c.args.plan.now c.args.level c.args.node c.plan_is_sound.ensures.matched c.requires.level
     c.requires.node in
-    let size : c.len-3.result ≡ length c.loop-index.self-inside.places.items =
-    omega (arith, c.len-3.ensures, c.loop-index.self-inside.places.ok.0) in
-    let filled : c.len-2.result ≡ length c.loop-index.self-inside.places.items =
-    omega (arith, c.len-2.ensures, c.loop-index.self-inside.places.ok.0) in
-    adding-done next c.requires.level c.requires.parts c.loop-index.invariant.adding all (omega (arith, some, all))
-    (omega (arith, few, all)) refl (c.in_ok-push.ensures.items
-    ∙ ap (λ n. c.loop-index.self-inside.starts.items ++ n ∷ []) size) refl refl (record {
-      filled = omega (arith, c.in_ok-resize.ensures.len, c.resize.new.self.ok.0, filled);
-      before = λ i low. c.in_ok-resize.ensures.by_index.0 i 0 (omega (
-        arith,
-        low,
-        filled,
-        ap length c.loop-index.invariant.adding.level_of,
-        c.requires.parts.level_of,
-        c.loop-index.invariant.adding.size,
-      )) (omega (arith, low, c.loop-index.self-inside.level_of.ok.0));
-      behind = λ i high low. c.in_ok-resize.ensures.by_index.1 i 0 refl
-          (omega (arith, high, c.loop-index.self-inside.level_of.ok.0)) (omega (arith, low, filled));
-    }) (omega (
-      arith,
-      c.loop-index.invariant.adding.size,
-      c.requires.parts.few,
-      parts-few c.args.node c.args.level c.plan_is_sound.ensures.sound c.requires.node c.requires.level,
-      all,
-      few,
-    ))
+    let size : c.len-3.result ≡ length row.places.items = grind arith in
+    let told : IsTold row.level_of.items c.resize.new.self.items (length row.places.items) c.args.level =
+    grind (arith, c.in_ok-resize.ensures.by_index) in
+    adding-done c.requires.level c.requires.parts c.loop-index.invariant.adding all (omega (arith, some, all))
+    (omega (arith, few, all)) (rw size at c.in_ok-push.ensures.items) told (grind (arith, parts-few))
