@@ -1,5 +1,6 @@
 -- The end: when no actor has a visit left, the lines of all actors, one behind the other, are those of the outcome,
 -- they are right, and their numbers rise.
+use Rattle.std.proofs.lemmas.Bool.Decides.{nat_tests}
 use Rattle.std.proofs.Common.{◌≡◌, ◌+◌, ◌<◌, ◌≤◌, ℕ, List, ◌++◌, length, take, drop, get_or, ap, sym, ◌∙◌, arith, add-one, append_assoc, append-nil, drop-cons, length-append, suc, [], ◌∷◌, map, fold, refl, Option, take-append-drop}
 use Rattle.std.specs.Prelude.{flat_map, None, Some, vec_capacity, All}
 use Rattle.std.proofs.Math.Seq.{take-suc}
@@ -42,8 +43,7 @@ module _ {A B : Type 0} (f : A → List B) (xs : List A) (i : ℕ) (item : A) (p
 
   -- the parts that are left begin with that of the item
   parts-left : length (flat_map f (drop i xs)) ≡ length part + length (flat_map f (drop (i + 1) xs))
-  parts-left =
-      rw (drop-cons xs i item low, its-part, add-one i, length-append)
+  parts-left = grind (arith, nat_tests, drop-cons, its-part, add-one, length-append)
 
   pub part-fits : (held capacity : ℕ) → held + length (flat_map f (drop i xs)) ≤ capacity
       → held + length part ≤ capacity

@@ -1,4 +1,5 @@
 -- The turns of an actor until it is done, those of all actors, and those of an order, run by run.
+use Rattle.std.proofs.lemmas.Bool.Decides.{nat_tests}
 use Rattle.std.proofs.Common.{◌≡◌, ◌↔◌, ℕ, zero, suc, ◌+◌, ◌-◌, ◌<◌, ◌≤◌, List, [], ◌∷◌, ◌++◌, length, drop, refl, sym, ap, ◌∙◌, subst, arith, get_or, append_assoc, drop-cons, add-one}
 use Rattle.std.specs.Prelude.{None, flat_map, replicate}
 use Rattle.std.proofs.lemmas.List.{append-nil, length-map, length-drop, replicate-append-replicate, drop_all}
@@ -38,14 +39,7 @@ behind_turns machine history order = after_turns (setting_at machine) (scripts_a
 pub made-joined : {entry now new : Machine} {history : History} {actor k n : ℕ} → IsSame entry now
     → HasMade entry now history actor k → HasMade now new (behind_turns entry history (replicate k actor)) actor n
     → HasMade entry new history actor (k + n)
-made-joined {entry} {now} {new} {history} {actor} {k} {n} same first then =
-    let joined : behind_turns now (behind_turns entry history (replicate k actor)) (replicate n actor)
-    ≡ behind_turns entry history (replicate (k + n) actor) =
-    rw (same.0, same.1) (turns-joined (setting_at entry) (scripts_at entry) history actor k n) in
-    record {
-      stands = subst (HasHistory new) joined then.stands;
-      made = sym (ap length joined) ∙ (then.made ∙ omega (arith, first.made));
-    }
+made-joined {entry} {now} {new} {history} {actor} {k} {n} same first then = grind (arith, nat_tests, turns-joined)
 
 -- no turns
 pub made-none : {machine : Machine} {history : History} (actor : ℕ) → HasHistory machine history
@@ -167,8 +161,7 @@ turns-all machine valid = grind (arith, length-map, length-drop, turns_of)
 -- a run of one number, and of one more
 pub run-first : (order : List ℕ) (start : ℕ) → start < length order
     → drop start order ≡ replicate (start + 1 - start) (get_or order start 0) ++ drop (start + 1) order
-run-first order start inside =
-    let one : start + 1 - start ≡ 1 = omega arith in rw (one, add-one start, drop-cons order start 0 inside)
+run-first order start inside = grind (arith, nat_tests, add-one, drop-cons)
 
 pub run-more : (order : List ℕ) (start end : ℕ) → start < end → end < length order
     → get_or order end 0 ≡ get_or order start 0
@@ -200,5 +193,4 @@ played-run entry now {new} history order start end same run so_far goes = grind 
 pub played-whole : (entry : Machine) {now : Machine} {history wanted : History} (order : List ℕ) (start : ℕ)
     → length order ≤ start → HasHistory now history → behind_turns entry history (drop start order) ≡ wanted
     → HasHistory now wanted
-played-whole entry {now} {history} order start past is so_far =
-    subst (HasHistory now) (ap (behind_turns entry history) (sym (drop_all start order past)) ∙ so_far) is
+played-whole entry {now} {history} order start past is so_far = grind (arith, nat_tests, drop_all)

@@ -39,8 +39,7 @@ use Rattle.machine.specs.declared.turn.Turn.TheVariants.{Visited}
 
 pub key-wanted : {plan : PlanData} (seeker : Seeker) {walk : WalkData} → Walks plan seeker.calls seeker.pursuit walk
     → key_of (call_of walk) (pursuit_of plan walk) ≡ next_key seeker
-key-wanted seeker {walk} at =
-    rw (at.so_far, at.its, at.calls_are)
+key-wanted seeker {walk} at = grind (arith, nat_tests)
 
 -- the find that a caller is at is one of its script
 pub call-known : (input : Contents) (plan : PlanData) (actor n : ℕ) {call : FindCall} {later : List FindCall}
@@ -65,8 +64,7 @@ module _ {input : Contents} {plan : PlanData} {history : History} {actor : ℕ} 
     (its : IsCaller input plan history actor caller) (held : caller.walk ≡ Some walk) where
   its-walk : Walks plan (caller_in (setting_over input plan) (scripts_of input) history actor).calls
       (caller_in (setting_over input plan) (scripts_of input) history actor).pursuit walk
-  its-walk = walking plan (caller_in (setting_over input plan) (scripts_of input) history actor).calls
-      (caller_in (setting_over input plan) (scripts_of input) history actor).pursuit caller.walk walk held its.walk
+  its-walk = grind (arith, nat_tests, walking)
 
   -- the walk goes with the plan
   pub walks-over : IsWalkOver plan walk
@@ -160,14 +158,7 @@ pub by-parts : (input : Contents) (plan : PlanData) (history : History) (actor :
     (finds_of (setting_over input plan) (scripts_of input) actor)
     → length (finds_of (setting_over input plan) (scripts_of input) actor) ≤ vec_capacity caller.lines
     → IsCaller input plan history actor caller
-by-parts input plan history actor {seen} caller e t walks first lines left room =
-    record {
-      walk = rw e walks;
-      first = rw (e, t) first;
-      lines = lines;
-      left = ap (λ (s : Seeker). s.calls) e ∙ left;
-      room = room;
-    }
+by-parts input plan history actor {seen} caller e t walks first lines left room = grind (arith, nat_tests)
 
 -- what is known as a caller looks
 pub record Looks (input : Contents) (plan : PlanData) (history : History) (actor : ℕ)

@@ -1,4 +1,5 @@
 -- Many turns of an actor: none, one, and turns behind turns.
+use Rattle.std.proofs.lemmas.Bool.Decides.{nat_tests}
 use Rattle.std.proofs.Common.{◌≡◌, ℕ, ◌+◌, [], ◌∷◌, ◌++◌, length, refl, sym, ap, ◌∙◌, subst, arith, append_assoc}
 use Rattle.std.specs.Prelude.{Some, option_to_list}
 use Rattle.std.proofs.lemmas.List.{append-nil, length-append, length-map, length-replicate, map-append, replicate-append-replicate, nil_from_length}
@@ -42,28 +43,14 @@ module _ {input : Contents} {plan : PlanData} {actor : ℕ} where
   -- no turns
   pub made-none : {cells : CellData} {history : History} (Holds : History → Type 0) → Sees input plan cells history
       → Holds history → AreMade input plan cells history actor 0 Holds
-  made-none {history} Holds sees its =
-      record {
-        visits = [];
-        turns = sym (append-nil history);
-        actors = refl;
-        sees = rw append-nil sees;
-        its = rw append-nil its;
-      }
+  made-none {history} Holds sees its = grind (arith, nat_tests, append-nil)
 
   -- a turn that makes a visit
   pub made-one : {cells : CellData} (history : History) {visit : Visit} (Holds : History → Type 0)
       → visit.actor ≡ actor → next (setting_over input plan) (scripts_of input) history actor ≡ Some visit
       → Sees input plan cells (history ++ visit ∷ []) → Holds (history ++ visit ∷ [])
       → AreMade input plan cells history actor 1 Holds
-  made-one history {visit} Holds mine wants sees its =
-      record {
-        visits = visit ∷ [];
-        turns = ap (λ o. history ++ option_to_list o) wants;
-        actors = ap (λ a. a ∷ []) mine;
-        sees = sees;
-        its = its;
-      }
+  made-one history {visit} Holds mine wants sees its = grind (arith, nat_tests)
 
   -- the turn of a next visit
   pub made-next : MoreIsPlayed → NextIsOwn → {cells after : CellData} {history : History} (New : History → Type 0)

@@ -1,5 +1,6 @@
 -- The writes that a subscriber has ahead: one more of them, those of the entries of a move, as loops over its levels
 -- find them, and one that goes into its cell.
+use Rattle.std.proofs.lemmas.Bool.Decides.{nat_tests}
 use Rattle.std.proofs.Common.{◌≡◌, ℕ, suc, ◌<◌, false, List, [], ◌∷◌, ◌++◌, length, drop, get_or, refl, sym, ap, ◌∙◌, subst, arith, drop-cons, ◌+◌, ◌-◌, ◌≤◌, Bool, true, Some}
 use Rattle.std.specs.Prelude.{vec_capacity}
 use Rattle.std.specs.Global.{Vec}
@@ -28,16 +29,14 @@ use Rattle.visit_log.specs.Homes.{home_place}
 pub owes-push : {plan : PlanData} {subs : ℕ} (start : HandsetData) {old new : HandsetData} {write : Ahead}
     (writes : List Ahead) → Owes plan subs start old writes → IsNextAhead plan subs old new write
     → Owes plan subs start new (writes ++ write ∷ [])
-owes-push {plan} {subs} start {new} {write} [] owes its =
-    (new, refl, subst (λ h. IsNextAhead plan subs h new write) owes its)
+owes-push {plan} {subs} start {new} {write} [] owes its = grind (arith, nat_tests)
 owes-push start (one ∷ writes) (between, rest, first) its =
     (between, owes-push between writes rest its, first)
 
 -- no write
 pub ahead-none : {plan : PlanData} (subs : ℕ) {old : HandsetData} (before : Vec Ahead) → GoesWith plan old
     → IsAhead plan subs old old before before
-ahead-none subs before goes =
-    record { owes = λ start owes. owes; goes = goes; its = refl; grown = omega arith; room = refl }
+ahead-none subs before goes = grind (arith, nat_tests)
 
 -- one write behind others
 pub ahead-more : {plan : PlanData} {subs : ℕ} {old mid new : HandsetData} {write : Ahead} {before between : Vec Ahead}
@@ -45,27 +44,13 @@ pub ahead-more : {plan : PlanData} {subs : ℕ} {old mid new : HandsetData} {wri
     → after.items ≡ between.items ++ write ∷ [] → vec_capacity after ≡ vec_capacity between
     → IsAhead plan subs old new before after
 ahead-more {plan} {subs} {new} {write} {between} after first its items room =
-    record {
-      owes = λ start owes. subst (Owes plan subs start new) (sym items)
-          (owes-push start between.items (first.owes start owes) its);
-      goes = its.goes;
-      its = its.its ∙ first.its;
-      grown = omega (arith, first.grown, ap length items, length_push between.items write);
-      room = room ∙ first.room;
-    }
+    grind (arith, nat_tests, owes-push, length_push)
 
 -- writes behind others
 pub ahead-joined : {plan : PlanData} {subs : ℕ} {old mid new : HandsetData} {before between after : Vec Ahead}
     → IsAhead plan subs old mid before between → IsAhead plan subs mid new between after
     → IsAhead plan subs old new before after
-ahead-joined first then =
-    record {
-      owes = λ start owes. then.owes start (first.owes start owes);
-      goes = then.goes;
-      its = then.its ∙ first.its;
-      grown = omega (arith, first.grown, then.grown);
-      room = then.room ∙ first.room;
-    }
+ahead-joined first then = grind (arith, nat_tests)
 
 -- the write that comes next
 pub record Next (plan : PlanData) (subs : ℕ) (old new : HandsetData) (write : Ahead) (left : List Ahead) : Type 0
@@ -77,13 +62,7 @@ pub record Next (plan : PlanData) (subs : ℕ) (old new : HandsetData) (write : 
 pub next-of : (plan : PlanData) (subs : ℕ) (old new : HandsetData) (writes : List Ahead) (place : ℕ) {write : Ahead}
     → place < length writes → write ≡ get_or writes place write → Owes plan subs old new (drop place writes)
     → Next plan subs old new write (drop (suc place) writes)
-next-of plan subs old new writes place {write} low same owes =
-    let found = subst (Owes plan subs old new) (drop-cons writes place write low) owes in
-    record {
-      handset = found.0;
-      owes = found.1;
-      its = subst (IsNextAhead plan subs old found.0) (sym same) found.2;
-    }
+next-of plan subs old new writes place {write} low same owes = grind (arith, nat_tests, drop-cons)
 
 -- a put of a write into its cell tells what cells hold behind it
 abbrev pub Puts : PlanData → ℕ → CellData → CellData → Ahead → Type 0
@@ -161,8 +140,7 @@ pub renewal-at : (plan : PlanData) (handset : HandsetData) (at : ℕ) {cluster w
     → address_word (Some (record { number = handset.last.number; node = handset.last.to })) ≡ word
     → entry_write (setting_of plan []) handset (entries.Renewing at)
     ≡ Some (record { level = at; cluster = cluster; word = word; next = entries.Renewing (suc at) })
-renewal-at plan handset at below home_is word_is =
-    rw (← home_is, ← word_is, lt-ltb at handset.last.renewed below)
+renewal-at plan handset at below home_is word_is = grind (arith, nat_tests, lt-ltb)
 
 -- the write of the entry that comes next is one ahead
 pub entry-ahead : {plan : PlanData} {handset : HandsetData} {at : EntryStage} {write : EntryWrite} {subs : ℕ}

@@ -1,5 +1,6 @@
 -- What is known of a subscriber after a visit of its own: whose turn it was, which step the visit belongs to, whether
 -- it commits a move, and what it adds to the lines of the steps.
+use Rattle.std.proofs.lemmas.Bool.Decides.{nat_tests}
 use Rattle.std.proofs.Common.{◌≡◌, ℕ, zero, suc, ◌-◌, ◌<◌, ◌≤◌, ◌^◌, Bool, true, false, List, [], ◌∷◌, ◌++◌, length, map, drop, get_or, refl, sym, ap, ◌∙◌, subst, arith, length-append, ◌==◌, take, append_assoc}
 use Rattle.std.specs.Option.{is_some}
 use Rattle.std.proofs.lemmas.List.Elements.{All-append, All-cons, All-head, All-map, All-nil, All-tail}
@@ -42,8 +43,7 @@ pub lines-partial : (setting : Setting) (sub : ℕ) (course : Course) (done : Li
     → step_lines setting sub course (done ++ step ∷ []) (seen ++ more)
     ≡ step_lines setting sub course done seen ++ step_line setting sub (after_steps setting course done) step more ∷ []
 unfolding step_lines writes
-lines-partial setting sub course [] step seen more count few =
-    rw (nil_from_length seen count, take_all (length (step_writes setting course step)) more few)
+lines-partial setting sub course [] step seen more count few = grind (arith, nat_tests, nil_from_length, take_all)
 lines-partial setting sub course (one ∷ done) step seen more count few =
     let size : ℕ = length (step_writes setting course one) in
     let whole = length-append (step_writes setting course one) (writes setting (after_step setting course one) done) in
@@ -144,8 +144,7 @@ line-grows unpack setting sub course (move_to node) seen ticket {visit} may smal
     let last : get_or (seen ++ ticket ∷ []) (length (seen ++ ticket ∷ []) - 1) 0 ≡ ticket =
     get_or_push seen ticket 0 (length (seen ++ ticket ∷ []) - 1) (omega (arith, length_push seen ticket)) in
     rw (first, commit-grows seen ticket (is_commit visit.act) tells, last)
-line-grows unpack setting sub course step seen ticket may small inside some at =
-    absurd (omega (arith, some, one_get _ (length seen) at))
+line-grows unpack setting sub course step seen ticket may small inside some at = grind (arith, nat_tests, one_get)
 
 -- steps that may be made, one of them
 pub may-at : (setting : Setting) (course : Course) (before : List Step) (step : Step) (later : List Step)
@@ -189,11 +188,7 @@ pub last-visit : (setting : Setting) (sub n : ℕ) (before : List Step) (step : 
     → slice_get (visits setting sub (before ++ step ∷ [])) n ≡ Some visit
     → slice_get (map (visit_of sub) (step_writes setting (after_steps setting (course_at (start setting sub)) before)
     step)) (n - length (writes setting (course_at (start setting sub)) before)) ≡ Some visit
-last-visit setting sub n before step past h =
-    sym (slice_get-right (visits setting sub before) _ n
-    (n - length (writes setting (course_at (start setting sub)) before))
-    (omega (arith, past, length-map (writes setting (course_at (start setting sub)) before) (visit_of sub))))
-    ∙ (rw visits-more at h)
+last-visit setting sub n before step past h = grind (arith, nat_tests, slice_get-right, length-map, visits-more)
 
 -- what is known of a subscriber after a visit of its own
 pub record Seen (input : Contents) (plan : PlanData) (history : History) (sub : ℕ) (visit : Visit) : Type 0 where

@@ -1,4 +1,5 @@
 -- What a machine stands for: its subscribers and callers before their first visits, and all of it after a visit.
+use Rattle.std.proofs.lemmas.Bool.Decides.{nat_tests}
 use Rattle.std.proofs.Common.{◌≡◌, ℕ, ◌+◌, ◌<◌, ◌≤◌, Bool, true, false, List, [], ◌∷◌, ◌++◌, length, map, take, get_or, refl, sym, ap, ◌∙◌, subst, arith, Vec, Global, ◌≢◌, zero, suc, ◌==◌, append_assoc}
 use Rattle.std.specs.Prelude.{None, vec_capacity, Option, Some, replicate, slice_set}
 use Rattle.std.proofs.lemmas.List.{get_or_push, length_push, length-map, get_or-map, append-nil, length-set, map-append, get_or-set_same, get_or-set_other}
@@ -117,19 +118,7 @@ shown-kept : OwnGrow → TicketsGrow → {input : Contents} {plan : PlanData} {h
     (visit : Visit) → (visit.actor == sub) ≡ false → IsShown input plan history sub shown
     → IsShown input plan (history ++ visit ∷ []) sub shown
 shown-kept own_law ticket_law {input} {plan} {history} {sub} {shown} visit other its =
-    let same : own sub (history ++ visit ∷ []) ≡ own sub history =
-    rw (own_law sub history visit, other, append-nil) in
-    let seen : tickets sub (history ++ visit ∷ []) ≡ tickets sub history =
-    rw (ticket_law sub history visit, other, append-nil) in
-    record {
-      handset = rw same its.handset;
-      goes = its.goes;
-      its = its.its;
-      lines = rw seen its.lines;
-      few = its.few;
-      under = λ before step split. rw same (its.under before step split);
-      room = its.room;
-    }
+    grind (arith, nat_tests, append-nil)
 
 -- nor of the subscriber
 sub-kept : OwnGrow → TicketsGrow → {input : Contents} {plan : PlanData} {history : History} {sub : ℕ}

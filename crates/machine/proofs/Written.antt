@@ -1,4 +1,5 @@
 -- How far a subscriber is after visits that go on with a step: after one of them, and after many at once.
+use Rattle.std.proofs.lemmas.Bool.Decides.{nat_tests}
 use Rattle.std.proofs.Common.{◌≡◌, ℕ, suc, ◌+◌, ◌-◌, ◌<◌, ◌≤◌, List, [], ◌∷◌, ◌++◌, length, map, take, drop, get_or, sym, ap, ◌∙◌, arith, append_assoc, zero, false, set, refl, subst, add-one}
 use Rattle.std.specs.Prelude.{None, Some, slice_get, slice_set, vec_capacity}
 use Rattle.std.proofs.lemmas.Option.{slice_get_within}
@@ -55,8 +56,7 @@ lines_behind lines line ticket (suc count) =
 lines-count : (lines : List Done) (line : Done) (ticket count : ℕ) → length (lines_behind lines line ticket count)
     ≡ length lines
 lines-count lines line ticket zero = refl
-lines-count lines line ticket (suc count) = length-set lines (length lines - 1)
-    (line_after (get_or lines (length lines - 1) line) false (ticket + count))
+lines-count lines line ticket (suc count) = grind (arith, nat_tests, length-set)
 
 -- and what is seen of it
 abbrev behind : Shown → HandsetData → Done → ℕ → ℕ → Shown
@@ -88,37 +88,20 @@ lines-are : (lines : List Done) (line : Done) (ticket count : ℕ) → 0 < count
     → lines_behind lines line ticket count
     ≡ set lines (length lines - 1) (line_after (get_or lines (length lines - 1) line) false (ticket + count - 1))
 lines-are lines line ticket zero some = absurd (omega (arith, some))
-lines-are lines line ticket (suc count) some =
-    let e : ticket + suc count - 1 ≡ ticket + count = omega arith in rw e
+lines-are lines line ticket (suc count) some = grind (arith, nat_tests)
 
 -- a subscriber by its handset, its lines and the room for them
 its-same : {input : Contents} {plan : PlanData} {history : History} {sub : ℕ} {one : Shown} (other : Shown)
     → other.handset ≡ one.handset → other.lines.items ≡ one.lines.items
     → vec_capacity one.lines ≤ vec_capacity other.lines → IsShown input plan history sub one
     → IsShown input plan history sub other
-its-same {input} {sub} {one} other handset lines room its =
-    let begun : begun_steps input sub one ≡ begun_steps input sub other =
-    ap (λ (ls : List Done). take (length ls) (steps_of (scripts_of input) sub)) (sym lines) in
-    record {
-      handset = rw (handset, ← begun) its.handset;
-      goes = rw handset its.goes;
-      its = rw handset its.its;
-      lines = rw (← begun, lines) its.lines;
-      few = omega (arith, its.few, ap length lines);
-      under = λ before step split. its.under before step (begun ∙ split);
-      room = omega (arith, its.room, room);
-    }
+its-same {input} {sub} {one} other handset lines room its = grind (arith, nat_tests)
 
 -- the writes that are ahead may go into their cells
 pub may-put : {input : Contents} {plan : PlanData} {cells : CellData} {history : History} {sub : ℕ} {old : Subscriber}
     {writes : List Ahead} → Sees input plan cells history → (its : IsSubscriber input plan history sub old)
     → writes ≡ old.ahead.items → MayPut plan sub its.handset old.handset cells (drop old.made writes)
-may-put sees its same =
-    record {
-      over = sees.goes;
-      its = its.shown.its;
-      owes = rw (sees.hold.subs, same) its.owes;
-    }
+may-put sees its same = grind (arith, nat_tests)
 
 module _ (unpack : MarksUnpack) (own_law : OwnGrow) (ticket_law : TicketsGrow) (tell : TicketsAreOwn)
     (scripts : ScriptsAreValid) {input : Contents} {plan : PlanData} {distances : DistanceTable} {sub : ℕ}
@@ -267,8 +250,7 @@ module _ (unpack : MarksUnpack) (own_law : OwnGrow) (ticket_law : TicketsGrow) (
       → AreMade input plan after history sub count (λ later. IsShown input plan later sub
       (behind old handset line ticket count))
   written-many more mine {ticket} {old} line place sees its zero handset after puts =
-      rw puts.1 (made-none (λ later. IsShown input plan later sub (behind old handset line ticket 0)) sees
-      (its-same {one = old} (behind old handset line ticket 0) puts.0 refl (omega arith) its))
+      grind (arith, nat_tests, made-none, its-same)
   written-many more mine {history} {ticket} {old} line place sees its (suc count) handset after
       (before, between, rest, entry) =
       let mid : Shown = behind old before line ticket count in

@@ -1,3 +1,4 @@
+use Rattle.std.proofs.lemmas.Bool.Decides.{nat_tests}
 use Rattle.std.proofs.Common.{◌≡◌, ◌<◌, ◌≤◌, ◌+◌, ◌-◌, ℕ, List, true, false, not, suc, [], Some, ap, subst, sym, arith, refl, ◌∙◌, get_or, add-one}
 use Rattle.std.specs.Prelude.{option_map, slice_index}
 use Rattle.std.proofs.lemmas.Bool.{eq-eqb, ne_eqb}
@@ -18,14 +19,12 @@ use Rattle.machine.proofs.ahead.push_erasures.Goals.{then-old-new, else-old-new}
 -- a level that is looked at is one of the plan's
 low-above : {plan : PlanData} {handset : HandsetData} {erasures : Erasures} (above : ℕ) → GoesWith plan handset
     → erasures ≡ erasures_from handset erasures.level → above < erasures.last + 1 → above < levels_of plan
-low-above above goes they below =
-    omega (arith, goes.renewed, below, ap (λ (e : Erasures). e.last) they)
+low-above above goes they below = grind (arith, nat_tests)
 
 -- the node of an address is one of the plan's
 node-inside : {plan : PlanData} {handset : HandsetData} {addresses : List ℕ} (above : ℕ) → GoesWith plan handset
     → addresses ≡ handset.addresses → above < levels_of plan → get_or addresses above 0 < nodes_of plan
-node-inside {plan} above goes same low =
-    subst (λ (xs : List ℕ). slice_index xs above < nodes_of plan) (sym same) (goes.inside above low)
+node-inside {plan} above goes same low = grind (arith, nat_tests)
 
 pub bounds-of-above : goal.bounds-of-above
 bounds-of-above c = grind (arith, low-above, node-inside)
@@ -34,28 +33,7 @@ pub bounds-new-above : goal.bounds-new-above
 bounds-new-above c = grind (arith, low-above)
 
 pub loop-above-init : goal.loop-above-init
-loop-above-init c =
-    let plan = c.args.plan.now in
-    let handset = c.args.handset.now in
-    let at : ℕ = c.args.erasures.level in
-    let here : handset ≡ at_entry handset (entries.Erasing at) =
-    at-stage handset (entries.Erasing at) c.requires.stage in
-    let low : at < levels_of plan =
-    omega (arith, rw c.requires.stage at c.requires.goes.stage, c.requires.goes.renewed) in
-    let inside = node-inside at c.requires.goes c.addresses-addresses.ensures low in
-    let here_place : get_or c.of.result.now at 0 ≡ home_place plan (slice_index handset.addresses at) at =
-    c.of.ensures.places plan c.requires.homes inside at low
-    ∙ ap (λ (xs : List ℕ). home_place plan (slice_index xs at) at) c.addresses-addresses.ensures in
-    record {
-      low = omega arith;
-      goes = subst (GoesWith plan) here c.requires.goes;
-      place = here_place;
-      next = ap (λ n. first_with (is_old (setting_of plan []) handset) n (suc handset.last.renewed - n))
-          (sym (add-one at));
-      ahead = λ subs known.
-          subst (λ h. IsAhead plan subs handset h c.args.ahead.now c.args.ahead.now) here
-          (ahead-none subs c.args.ahead.now c.requires.goes);
-    }
+loop-above-init c = grind (arith, nat_tests, at-stage, node-inside, add-one, ahead-none)
 
 pub loop-above-preserved : goal.loop-above-preserved
 loop-above-preserved c =

@@ -1,3 +1,4 @@
+use Rattle.std.proofs.lemmas.Bool.Decides.{nat_tests}
 use Rattle.std.proofs.Common.{◌≡◌, ◌<◌, ◌≤◌, ◌+◌, ◌-◌, ℕ, false, suc, [], Some, ap, subst, sym, arith, refl, ◌∙◌, length, get_or, add-one}
 use Rattle.std.specs.Prelude.{min}
 use Rattle.std.proofs.Math.Nat.{min-le_left, min-le_right}
@@ -22,25 +23,7 @@ level-low : {plan : PlanData} {handset : HandsetData} {renewals : Renewals} (at 
 level-low {handset} {renewals} at room goes they few from to = grind (arith, min-le_right)
 
 pub loop-level-init : goal.loop-level-init
-loop-level-init c =
-    let handset = c.args.handset.now in
-    let here : handset ≡ at_entry handset (entries.Renewing c.args.renewals.level) =
-    at-stage handset (entries.Renewing c.args.renewals.level) c.requires.stage in
-    record {
-      goes = subst (GoesWith c.args.plan.now) here c.requires.goes;
-      fits = omega (
-        arith,
-        min-le_left (c.capacity.result - c.len.result) (c.args.renewals.end - c.args.renewals.level),
-        c.min.ensures,
-        c.capacity.ensures,
-        c.len.ensures,
-        c.args.ahead.now.ok.0,
-        c.args.ahead.now.ok.1,
-      );
-      ahead = λ subs known.
-          subst (λ h. IsAhead c.args.plan.now subs handset h c.args.ahead.now c.args.ahead.now) here
-          (ahead-none subs c.args.ahead.now c.requires.goes);
-    }
+loop-level-init c = grind (arith, nat_tests, at-stage, min-le_left, ahead-none)
 
 pub bounds-places-level : goal.bounds-places-level
 bounds-places-level c = grind (arith, level-low)

@@ -1,3 +1,4 @@
+use Rattle.std.proofs.lemmas.Bool.Decides.{nat_tests}
 use Rattle.std.proofs.Common.{◌≡◌, ◌+◌, ◌-◌, ◌<◌, ℕ, List, suc, false, get_or, length, ap, arith, add-one}
 use Rattle.std.proofs.Math.Nat.{min-le_right}
 use Rattle.std.proofs.lemmas.List.{get_or_default}
@@ -7,8 +8,7 @@ use Rattle.machine.proofs.Owing.{come-more, come-none}
 use Rattle.machine.proofs.ahead.put_plain.Goals as goal
 
 pub loop-place-init : goal.loop-place-init
-loop-place-init c = λ plan old new may.
-    let none : c.args.made - c.args.made ≡ 0 = omega arith in rw none (come-none may)
+loop-place-init c = grind (arith, nat_tests, come-none)
 
 pub loop-place-preserved : goal.loop-place-preserved
 loop-place-preserved c = λ plan old new may.

@@ -1,3 +1,4 @@
+use Rattle.std.proofs.lemmas.Bool.Decides.{nat_tests}
 use Rattle.std.proofs.Common.{◌+◌, ap, sym, subst, ◌∙◌, arith}
 use Rattle.region_plan.specs.ReaderLaws.{readers-few}
 use Rattle.visit_log.specs.Routes.{ComesTo}
@@ -9,15 +10,7 @@ use Rattle.machine.proofs.Passing.{climb-is, passes, past-over, climb-at}
 use Rattle.machine.proofs.caller.climb_past.Goals as goal
 
 pub returns-clause-exact : goal.returns-clause-exact
-returns-clause-exact c =
-    let on : ComesTo c.args.plan.now c.args.routes.now c.args.climb.from (rung_of c.args.climb) c.args.count =
-    record { at = climb-at c.requires.routes c.requires.over; on = c.requires.rungs c.args.count (omega arith) } in
-    ap (λ (r : Height). let k : Climb = record c.args.climb {
-      weight = c.args.climb.weight + r.weight;
-      level = r.level;
-      index = r.index;
-    } in k) (c.past-level.ensures c.args.plan.now on)
-    ∙ sym (climb-is c.args.plan.now c.args.climb c.args.count)
+returns-clause-exact c = grind (arith, nat_tests, climb-at, climb-is)
 
 pub returns-clause-over : goal.returns-clause-over
 returns-clause-over c =

@@ -1,3 +1,4 @@
+use Rattle.std.proofs.lemmas.Bool.Decides.{nat_tests}
 use Rattle.std.proofs.Common.{◌≡◌, ◌≤◌, ℕ, length, map, ap, ◌∙◌, subst, arith, Vec, Global}
 use Rattle.std.proofs.lemmas.List.{length-map}
 use Rattle.std.proofs.lemmas.List.Sums.{fold-append}
@@ -19,8 +20,7 @@ actors-preserved c = record {
 count-had : (actor : ℕ) {end count : ℕ} (scripts : Vec (Vec Call Global) Global) → end ≤ actor → actor ≤ end
     → end ≡ count → count ≡ length scripts.items → actor ≡ length
     (map (λ (script : Vec Call Global). script.items) scripts.items)
-count-had actor scripts low high one two =
-    omega (arith, low, high, one, two, length-map scripts.items (λ (script : Vec Call Global). script.items))
+count-had actor scripts low high one two = grind (arith, nat_tests, length-map)
 
 pub returns-clause-stands : goal.returns-clause-stands
 returns-clause-stands c history is =

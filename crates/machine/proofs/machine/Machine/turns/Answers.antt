@@ -1,3 +1,4 @@
+use Rattle.std.proofs.lemmas.Bool.Decides.{nat_tests}
 use Rattle.std.proofs.Common.{◌≡◌, ◌+◌, ◌-◌, arith, refl, subst}
 use Rattle.machine.specs.Machines.{HasMade}
 use Rattle.machine.proofs.Finishing.{made-idle, made-joined, made-none, same-through, turned-once}
@@ -12,12 +13,7 @@ pub returns-then-count-eq1-clause-made : goal.returns-then-count-eq1-clause-made
 returns-then-count-eq1-clause-made c = grind (arith, turned-once)
 
 pub turns-init : goal.turns-init
-turns-init c = record {
-  same = (refl, refl, refl);
-  few = omega arith;
-  stands = λ history is.
-      let none : c.args.count - c.args.count ≡ 0 = omega arith in rw none (made-none c.args.actor is);
-}
+turns-init c = grind (arith, nat_tests, made-none)
 
 pub returns-then-made-eq0-clause-stands : goal.returns-then-made-eq0-clause-stands
 returns-then-made-eq0-clause-stands c = λ history is.
