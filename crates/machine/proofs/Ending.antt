@@ -77,10 +77,8 @@ lines-done input plan history sub subscriber low is done =
     let course : Course = course_at (start setting sub) in
     let whole : begun ++ left ≡ script = take-append-drop (length subscriber.lines.items) script in
     let made : length (script_visits setting (scripts_of input) sub) ≤ length (own sub history) =
-    past-end (script_visits setting (scripts_of input) sub) (length (own sub history))
-    (sym (next-sub setting (scripts_of input) history sub low) ∙ done) in
-    let few : length (own sub history) ≤ length (visits setting sub begun) =
-    rw is.shown.its at is.shown.handset.few in
+        grind (arith, nat_tests, past-end, next-sub) in
+    let few : length (own sub history) ≤ length (visits setting sub begun) = grind (arith, nat_tests) in
     let nothing : left ≡ [] = none-left setting course begun left (length (own sub history))
     (rw whole (omega (arith, made, length-map (writes setting course script) (visit_of sub))))
     (omega (arith, few, length-map (writes setting course begun) (visit_of sub))) in
@@ -195,8 +193,7 @@ pub lines-all : {machine : Machine} {history : History} → HasHistory machine h
 lines-all {machine} {history} is done =
     let input : Contents = input_at machine in
     let finds_count : length (scripts_at machine).finds ≡ input.callers =
-    length-map (drop (length input.homes) input.scripts) (map find_of)
-    ∙ omega (arith, length-drop (length input.homes) input.scripts, is.together.valid.scripts) in
+        grind (arith, nat_tests, length-map, length-drop) in
     rw (
       flat-each (λ (one : Subscriber). one.lines.items) (sub_lines (setting_at machine) (scripts_at machine) history)
           machine.subscribers.items 0 (λ s d h. lines-done input machine.plan.now history s

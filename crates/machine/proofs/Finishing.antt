@@ -80,11 +80,7 @@ pub turned-once : {old new : Machine} {history : History} {actor : ℕ} (count :
 turned-once {old} {new} {history} {actor} zero few made =
     let none : next (setting_at old) (scripts_at old) history actor ≡ None = (made.1 refl).0 in
     let still = turn-none (setting_at old) (scripts_at old) history actor none in
-    record {
-      stands = subst (HasHistory new) (sym still) made.0.stands;
-      none = (λ same. none, λ same. refl);
-      made = ap length still ∙ omega arith;
-    }
+    grind (arith, nat_tests)
 turned-once {old} {history} {actor} (suc zero) few made =
     record {
       stands = made.0.stands;

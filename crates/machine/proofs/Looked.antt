@@ -49,13 +49,7 @@ pub call-known : (input : Contents) (plan : PlanData) (actor n : ℕ) {call : Fi
 call-known input plan actor n {call} {later} valid high low left =
     let at = drop-more n (finds_of (setting_over input plan) (scripts_of input) actor) call later left in
     let short : actor - length input.homes < length (scripts_of input).finds =
-    omega (
-      arith,
-      high,
-      low,
-      length-map (drop (length input.homes) input.scripts) (map find_of),
-      length-drop (length input.homes) input.scripts,
-    ) in
+        grind (arith, nat_tests, length-map, length-drop) in
     subst (IsFindCall (setting_over input plan)) (at.2 call)
     (valid.finds (actor - length input.homes) [] short n call at.0)
 
@@ -260,8 +254,7 @@ looked-up read grow count {input} {plan} {history} {actor} {ticket} {old} new {k
     let rest : at.call ∷ at.later ≡ drop (length old.lines.items) (finds_of setting scripts actor) =
     sym at.calls_are ∙ its.left in
     let more = drop-more (length old.lines.items) (finds_of setting scripts actor) at.call at.later rest in
-    let longer : length new.lines.items ≡ suc (length old.lines.items) =
-    ap length lines ∙ omega (arith, length_push old.lines.items line) in
+    let longer : length new.lines.items ≡ suc (length old.lines.items) = grind (arith, nat_tests, length_push) in
     let told : line ≡ found_line actor at.call found
     (slice_index (tickets actor history ++ length history ∷ []) seeker.first) (length history) =
     rw (line_is at.call at.later rest, first, place) in (

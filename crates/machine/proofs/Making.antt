@@ -92,14 +92,7 @@ module _ {input : Contents} {plan : PlanData} {actor : ℕ} where
       let rest = then (history ++ first.visits) first.sees (made-count first place) first.its in
       let joined : (history ++ first.visits) ++ rest.visits ≡ history ++ (first.visits ++ rest.visits) =
       append_assoc history first.visits rest.visits in
-      record {
-        visits = first.visits ++ rest.visits;
-        turns = sym (turns-joined (setting_over input plan) (scripts_of input) history actor count more)
-            ∙ rw (first.turns, rest.turns, joined);
-        actors = rw (map-append, first.actors, rest.actors, replicate-append-replicate);
-        sees = subst (Sees input plan after) joined rest.sees;
-        its = subst Then joined rest.its;
-      }
+      grind (arith, nat_tests, turns-joined, map-append, replicate-append-replicate)
 
   -- the same, whichever history that is
   pub turns-behind : {cells between after : CellData} {ticket count more : ℕ} {First Mid Then : History → Type 0}

@@ -100,8 +100,7 @@ come-more {plan} {sub} {new} {between} place writes {write} low same plain come 
     let next : Next plan between.subs come.handset new write (drop (suc place) writes) =
     next-of plan between.subs come.handset new writes place low same come.may.owes in
     let its : IsNextAhead plan between.subs come.handset next.handset write = next.its in
-    let cell : IsPlaceOf plan between.subs sub write.place its.key =
-    subst (λ s. IsPlaceOf plan between.subs s write.place its.key) come.may.its its.cell in
+    let cell : IsPlaceOf plan between.subs sub write.place its.key = grind (arith, nat_tests) in
     record {
       handset = next.handset;
       put = (
@@ -154,11 +153,7 @@ entry-ahead {handset = handset} {write = write} node matched its known low insid
   key = Entry write.level write.cluster handset.sub;
   act = ap (Put (Entry write.level write.cluster handset.sub)) (sym word_is);
   commits = refl;
-  cell = record {
-    cell = record { place = (low, rw cluster_is (matched.homes write.level node low inside)); known = known };
-    owner = refl;
-    place = rw cluster_is place_is;
-  };
+  cell = grind (arith, nat_tests);
   next = its.visit;
   stands = its.stands;
   goes = its.goes;

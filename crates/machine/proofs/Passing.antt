@@ -69,8 +69,7 @@ module _ (law : ClimbsGoOn) (plan : PlanData) (climb : Climb) (kept : IsKept pla
       → ((i : ℕ) → i ≤ suc count → IsRung plan climb.from (rung_past plan climb.from (rung_of climb) i))
       → Passes plan (climb_past plan climb count)
   passes count rungs =
-      let here : IsClimbOver plan (climb_past plan climb count) =
-      past-over count (λ i low. rungs i (omega (arith, low))) in
+      let here : IsClimbOver plan (climb_past plan climb count) = grind (arith, nat_tests, past-over) in
       record { over = here; on = on-past count here (rungs (suc count) (omega arith)) }
 
 -- the same node all along

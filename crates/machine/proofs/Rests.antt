@@ -1,5 +1,6 @@
 -- A subscriber at rest: that nothing is left, or how far it is after the first visit of its next step, and what the
 -- code reads of that step.
+use Rattle.std.proofs.lemmas.Bool.Decides.{nat_tests}
 use Rattle.std.proofs.Common.{◌≡◌, ℕ, suc, ◌<◌, ◌≤◌, false, List, [], ◌∷◌, ◌++◌, length, take, get_or, sym, ap, ◌∙◌, subst, arith, drop, drop_of_length-le, not, Bool, true, ◌==◌, refl, ◌-◌, ◌^◌}
 use Rattle.std.specs.Global.{Vec}
 use Rattle.std.specs.Prelude.{Some, None, slice_get, vec_capacity, Option, Result, Ok, Err, OnErr, OnOk, OnSome}
@@ -87,9 +88,7 @@ module _ {input : Contents} {plan : PlanData} {history : History} {sub : ℕ} {o
       → Begins input plan history sub old call
   begins scripts {call = call} together none short same =
       let at = resting none in
-      let is_step : IsStep call = subst IsStep (sym same)
-      (course-steps input.format input.nodes (get_or input.homes sub 0) false (get_or input.scripts sub [])
-      (length old.lines.items) call (together.valid.courses sub low) short) in
+      let is_step : IsStep call = grind (arith, nat_tests, course-steps, short) in
       let more : take (suc (length old.lines.items)) (steps_of (scripts_of input) sub)
       ≡ begun_steps input sub old ++ step_of call ∷ [] =
       take-more (steps_of (scripts_of input) sub) (length old.lines.items) (step_of call)
@@ -130,8 +129,7 @@ module _ {input : Contents} {plan : PlanData} {history : History} {sub : ℕ} {o
       let begun_now : List Step = begun_steps input sub old ++ step_of call ∷ [] in
       let longer : length new.lines.items ≡ suc (length old.lines.items) =
       omega (arith, ap length lines, length_push old.lines.items line) in
-      let steps : begun_steps input sub new ≡ begun_now =
-      ap (λ k. take k (steps_of (scripts_of input) sub)) longer ∙ begin.more in
+      let steps : begun_steps input sub new ≡ begun_now = grind (arith, nat_tests) in
       let seen : Seen input plan history sub put.visit =
       seen-after own_law ticket_law input plan history sub (suc (length old.lines.items)) low
       (rw begin.more (rw mine at (put.next input.homes begun_now (length (own sub history)) stands))) in (
@@ -141,22 +139,9 @@ module _ {input : Contents} {plan : PlanData} {history : History} {sub : ℕ} {o
           handset = rw (steps, seen.count) (put.stands input.homes begun_now (length (own sub history)) stands);
           goes = goes;
           its = same ∙ mine;
-          lines = rw (
-            steps,
-            seen.seen,
-            lines-partial setting sub course (begun_steps input sub old) (step_of call) (tickets sub history)
-                (length history ∷ []) (tickets-count sub history ∙ begin.all)
-                (some-write setting (after_steps setting course (begun_steps input sub old)) (step_of call)),
-            ← its.lines,
-            lines,
-            line_is,
-            begin.line ticket,
-            place,
-          );
+          lines = grind (arith, nat_tests, lines-partial, tickets-count);
           few = omega (arith, longer, short);
-          under = λ before step split.
-              let both = same_from_push (begun_steps input sub old) before (step_of call) step (sym steps ∙ split) in
-              omega (arith, ap (λ ss. length (writes setting course ss)) both.0, begin.all, seen.count);
+          under = grind (arith, nat_tests, same_from_push);
           room = omega (arith, its.room, room);
         },
         over,
@@ -219,8 +204,7 @@ pub first-cell : (plan : PlanData) (subs : ℕ) {sub : ℕ} (begun handset : Han
     {write : Ahead} → 0 < length ahead → write ≡ get_or ahead 0 write → Owes plan subs begun handset ahead
     → begun.sub ≡ sub → (key : Key) × IsPlaceOf plan subs sub write.place key
 first-cell plan subs begun handset ahead {write} some same owes mine =
-    let next : Next plan subs begun handset write (drop 1 ahead) =
-    next-of plan subs begun handset ahead 0 some same owes in
+    let next : Next plan subs begun handset write (drop 1 ahead) = grind (arith, nat_tests, next-of) in
     (next.its.key, subst (λ s. IsPlaceOf plan subs s write.place next.its.key) mine next.its.cell)
 
 -- the first write of a step that begins goes into its cell
@@ -240,8 +224,7 @@ pub first-put : OwnGrow → TicketsGrow → TicketsAreOwn → {input : Contents}
     after Visited
 first-put own_law ticket_law tell {plan = plan} {cells} old begun {handset} ahead lines {write = write} low place sees
     shown begin stands same_sub owes goes own_sub space some same lines_are room line_is short put over =
-    let next : Next plan cells.subs begun handset write (drop 1 ahead.items) =
-    next-of plan cells.subs begun handset ahead.items 0 some same owes in
+    let next : Next plan cells.subs begun handset write (drop 1 ahead.items) = grind (arith, nat_tests, next-of) in
     let mine = same_sub ∙ shown.its in
     let done = written-first low shown own_law ticket_law tell (record { handset = next.handset; lines = lines }) place
     sees.hold begin stands mine (put-next next.its mine put) next.its.goes next.its.its over lines_are room line_is

@@ -91,8 +91,7 @@ pub move-commits : MarksUnpack → (setting : Setting) (sub : ℕ) (course : Cou
     → Tells (is_commit visit.act) i (suc (suc move.renewed))
 move-commits unpack setting sub course move number from to i {visit} h =
     let says : (node : ℕ) (mark : PresenceMark) (b : Bool) → IsSmallMark mark → is_some (commit_of node mark) ≡ b
-    → is_some (commit_of node (mark_in (mark_word mark))) ≡ b =
-    λ node mark b small e. ap (λ m. is_some (commit_of node m)) (read-mark unpack mark small) ∙ e in
+    → is_some (commit_of node (mark_in (mark_word mark))) ≡ b = grind (arith, nat_tests, read-mark) in
     let levels : List ℕ = numbers_from 0 (suc move.renewed) in
     let renewals : List Write = map (new_address setting move) levels in
     let removals : List Write = erasure_writes setting course move ++ purge_writes setting course move in
@@ -201,8 +200,7 @@ pub seen-after : OwnGrow → TicketsGrow → (input : Contents) (plan : PlanData
     (visits (setting_over input plan) sub (take k (steps_of (scripts_of input) sub))) (length (own sub history)) ≡ Some
     visit → Seen input plan history sub visit
 seen-after own_law ticket_law input plan history sub k {visit} low at =
-    let mine : (visit.actor == sub) ≡ true =
-    eq-eqb visit.actor sub (actor-of sub _ (length (own sub history)) at) in
+    let mine : (visit.actor == sub) ≡ true = grind (arith, nat_tests, eq-eqb, actor-of) in
     record {
       turn = next-sub (setting_over input plan) (scripts_of input) history sub low
           ∙ in-script (setting_over input plan) sub k (length (own sub history))
@@ -225,7 +223,4 @@ step-allowed scripts {input} {plan} {distances} sub k before step together low s
     let script : IsScript (setting_over input plan) sub (steps_of (scripts_of input) sub) = valid.steps sub low in
     let whole : steps_of (scripts_of input) sub ≡ before ++ step ∷ drop k (steps_of (scripts_of input) sub) =
     sym (take-append-drop k (steps_of (scripts_of input) sub)) ∙ rw (same, append_assoc) in
-    may-at (setting_over input plan) (course_at (start (setting_over input plan) sub)) before step
-    (drop k (steps_of (scripts_of input) sub))
-    (subst (MaySteps (setting_over input plan) (course_at (start (setting_over input plan) sub))) whole script.allowed)
-    script.begins
+    grind (arith, nat_tests, may-at)

@@ -43,8 +43,7 @@ shown-opens : {input : Contents} {plan : PlanData} {sub : ℕ} (shown : Shown) �
     → IsShown input plan [] sub shown
 unfolding step_lines
 shown-opens {input} {plan} {sub} shown valid low stands goes its none room =
-    let begun : begun_steps input sub shown ≡ [] =
-    ap (λ n. take n (steps_of (scripts_of input) sub)) (ap length none) in
+    let begun : begun_steps input sub shown ≡ [] = grind (arith, nat_tests) in
     record {
       handset = rw begun stands;
       goes = goes;
@@ -141,8 +140,7 @@ caller-kept : CallersKept → {input : Contents} {plan : PlanData} {history : Hi
     → IsCaller input plan (history ++ visit ∷ []) actor caller
 caller-kept law {input} {plan} {history} {actor} {caller} visit other its =
     let same = law (setting_over input plan) (scripts_of input) history actor visit other in
-    by-parts input plan (history ++ visit ∷ []) actor caller same.0 same.1 its.walk its.first
-    (rw (same.0, same.1) its.lines) its.left its.room
+    grind (arith, nat_tests, by-parts)
 
 -- what holds of the changed element of a list, and of the others, holds of each behind the change
 each-set : {A : Type 0} (P : ℕ → A → Type 0) (xs ys : List A) (i : ℕ) (x : A) → ys ≡ slice_set xs i x → P i x
@@ -158,12 +156,7 @@ sees-more more {input} {plan} {history} actor key sees wants =
     record {
       played = more (setting_over input plan) (scripts_of input) history actor (look_by actor key) wants sees.played;
       goes = sees.goes;
-      hold = record {
-        subs = sees.hold.subs;
-        words = λ at its. sees.hold.words at its
-            ∙ sym (fold-append (λ word (v : Visit). word_after at word v.act)
-            (opening (setting_over input plan) at) history (look_by actor key ∷ []));
-      };
+      hold = grind (arith, nat_tests, fold-append);
     }
 
 -- what a visit of an actor keeps, many keep

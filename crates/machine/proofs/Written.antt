@@ -121,16 +121,11 @@ module _ (unpack : MarksUnpack) (own_law : OwnGrow) (ticket_law : TicketsGrow) (
       let count : length (tickets sub history) ≡ made = tickets-count sub history in
       let p : List ℕ = drop n (tickets sub history) in
       let size : length p ≡ made - n = length-drop n (tickets sub history) ∙ ap (λ k. k - n) count in
-      let front : length (take n (tickets sub history)) ≡ n =
-      length-take-le n (tickets sub history) (omega (arith, past, count)) in
+      let front : length (take n (tickets sub history)) ≡ n = grind (arith, nat_tests, length-take-le) in
       let here : slice_get (map (visit_of sub) (step_writes setting after split.last)) (length p) ≡ Some visit =
       rw size (last-visit setting sub made split.before split.last (omega (arith, past)) (rw split.are at now)) in
       let room : length p < length (step_writes setting after split.last) =
-      omega (
-        arith,
-        slice_get_within (map (visit_of sub) (step_writes setting after split.last)) (length p) visit here,
-        length-map (step_writes setting after split.last) (visit_of sub),
-      ) in
+          grind (arith, nat_tests, slice_get_within, length-map) in
       let may = step-allowed scripts sub (length old.lines.items) split.before split.last together low split.are in
       let parts : tickets sub history ≡ take n (tickets sub history) ++ p =
       sym (take-append-drop n (tickets sub history)) in
@@ -189,12 +184,9 @@ module _ (unpack : MarksUnpack) (own_law : OwnGrow) (ticket_law : TicketsGrow) (
       seen-after own_law ticket_law input plan history sub (length old.lines.items) low (rw its.its at wants) in
       let way : Under input plan history sub old put.visit = under-way its wants in
       let end : last ≡ length way.rows = omega (arith, last_is, ap length way.are, length_push way.rows way.row) in
-      let row : get_or old.lines.items last default ≡ way.row =
-      ap (λ ls. get_or ls last default) way.are ∙ get_or_push way.rows way.row default last (sym end) in
-      let now : new.lines.items ≡ way.rows ++ line ∷ [] =
-      lines ∙ ap (λ ls. slice_set ls last line) way.are ∙ rw (end, set-append_seam way.rows way.row [] line) in
-      let longer : length new.lines.items ≡ length old.lines.items =
-      omega (arith, ap length now, length_push way.rows line, ap length way.are, length_push way.rows way.row) in
+      let row : get_or old.lines.items last default ≡ way.row = grind (arith, nat_tests, get_or_push) in
+      let now : new.lines.items ≡ way.rows ++ line ∷ [] = grind (arith, nat_tests, set-append_seam) in
+      let longer : length new.lines.items ≡ length old.lines.items = grind (arith, nat_tests, length_push) in
       let steps : begun_steps input sub old ≡ begun_steps input sub new =
       ap (λ k. take k (steps_of (scripts_of input) sub)) (sym longer) in (
         put.visit,
@@ -279,16 +271,7 @@ module _ (unpack : MarksUnpack) (own_law : OwnGrow) (ticket_law : TicketsGrow) (
   plain-put more mine {history} {ticket} {count} place {old} lines line at sees its same come some within lines_are
       room =
       let made = written-many more mine line at sees its.shown count come.handset _ come.put in
-      made-as made made.sees (record {
-        handset = come.handset;
-        shown = its-same (record { handset = come.handset; lines = lines }) refl
-            (lines_are ∙ sym (lines-are old.lines.items line ticket count some)) room made.its;
-        owes = rw (made.sees.hold.subs, same) at come.may.owes;
-        goes = its.goes;
-        its = its.its;
-        within = omega (arith, within, ap length same);
-        space = its.space;
-      })
+      grind (arith, nat_tests, made-as, its-same, lines-are)
 
 -- a write that isn't left
 pub ended : {input : Contents} {plan : PlanData} {cells after : CellData} {history : History} {ticket sub count : ℕ}

@@ -41,19 +41,13 @@ loop-above-preserved c =
     let handset = c.args.handset.now in
     let at : ℕ = c.loop-above.at in
     let above : ℕ = c.loop-above.above in
-    let below : above ≤ handset.last.renewed =
-    omega (arith, c.loop-above-test.true, ap (λ (e : Erasures). e.last) c.requires.they) in
+    let below : above ≤ handset.last.renewed = grind (arith, nat_tests) in
     let high = low-above above c.requires.goes c.requires.they c.loop-above-test.true in
     let inside = node-inside above c.requires.goes c.addresses-addresses.ensures high in
     let here : get_or c.of-in-loop-above.result.now above 0
-    ≡ home_place plan (slice_index handset.addresses above) above =
-    c.of-in-loop-above.ensures.places plan c.requires.homes inside above high
-    ∙ ap (λ (xs : List ℕ). home_place plan (slice_index xs above) above) c.addresses-addresses.ensures in
+    ≡ home_place plan (slice_index handset.addresses above) above = grind (arith, nat_tests) in
     let node : c.args.erasures.node ≡ handset.last.to = ap (λ (e : Erasures). e.node) c.requires.they in
-    let there : get_or c.of-new.result.now above 0 ≡ home_place plan handset.last.to above =
-    c.of-new.ensures.places plan c.requires.homes
-    (subst (λ n. n < nodes_of plan) (sym node) c.requires.goes.to) above high
-    ∙ ap (λ n. home_place plan n above) node in
+    let there : get_or c.of-new.result.now above 0 ≡ home_place plan handset.last.to above = grind (arith, nat_tests) in
     elim c.if-old-new.branch [
       | then-old-new w ↦
           let old : is_old (setting_of plan []) handset above ≡ true =

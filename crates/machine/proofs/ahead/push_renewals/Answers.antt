@@ -43,9 +43,7 @@ loop-level-preserved c =
     c.loop-level.auto.level c.loop-level-test.true in
     let place : ℕ = get_or c.of-places.result.now at 0 in
     let node : c.args.renewals.node ≡ handset.last.to = ap (λ (r : Renewals). r.node) c.requires.they in
-    let there : place ≡ home_place plan handset.last.to at =
-    c.of-places.ensures.places plan c.requires.homes
-    (subst (λ n. n < nodes_of plan) (sym node) c.requires.goes.to) at low.1 ∙ ap (λ n. home_place plan n at) node in
+    let there : place ≡ home_place plan handset.last.to at = grind (arith, nat_tests) in
     let is : entry_write (setting_of plan []) handset (entries.Renewing at) ≡ Some write =
     renewal-at plan handset at low.0 refl (sym (ap (λ (r : Renewals). r.word) c.requires.they))
     in
@@ -75,8 +73,7 @@ loop-level-preserved c =
 
 pub returns : goal.returns
 returns c = λ subs known.
-    let last : c.loop-level.level ≡ c.args.renewals.level + c.min.result =
-    omega (arith, c.loop-level-test.false, c.loop-level.auto.level, c.loop-level.auto.level-end (omega arith)) in
+    let last : c.loop-level.level ≡ c.args.renewals.level + c.min.result = grind (arith, nat_tests) in
     subst (λ h. IsAhead c.args.plan.now subs c.args.handset.now h c.args.ahead.now c.loop-level.ahead)
     (ap (λ n. at_entry c.args.handset.now (entries.Renewing n)) last ∙ sym c.go_to.ensures)
     (c.loop-level.invariant.ahead subs known)

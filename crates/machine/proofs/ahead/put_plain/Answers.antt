@@ -15,14 +15,7 @@ loop-place-preserved c = λ plan old new may.
     let writes : List Ahead = c.args.ahead.now in
     let place : ℕ = c.loop-place.place in
     let write : Ahead = get_or writes place (record { place = 0; commits = false; word = 0 }) in
-    let low : place < length writes =
-    omega (
-      arith,
-      c.loop-place-test.true,
-      c.requires.within,
-      c.min.ensures,
-      min-le_right c.args.most (length writes - c.args.made),
-    ) in
+    let low : place < length writes = grind (arith, nat_tests, min-le_right) in
     let come = c.loop-place.invariant plan old new may in
     let one : place + 1 - c.args.made ≡ suc (place - c.args.made) = omega (arith, c.loop-place.auto.place) in
     rw (one, add-one place) (come-more place writes low

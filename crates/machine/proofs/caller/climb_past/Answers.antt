@@ -26,17 +26,10 @@ overflow_add-result c =
     let on : ComesTo c.args.plan.now c.args.routes.now c.args.climb.from (rung_of c.args.climb) c.args.count =
     record { at = climb-at c.requires.routes c.requires.over; on = c.requires.rungs c.args.count (omega arith) } in
     let there : Climb = climb_past c.args.plan.now c.args.climb c.args.count in
-    let over : IsClimbOver c.args.plan.now there =
-    past-over c.climbs_go_on.ensures c.args.plan.now c.args.climb c.plan_is_sound.ensures.sound
-    c.plan_is_sound.ensures.matched c.plan_is_sound.ensures.reached c.requires.over c.args.count c.requires.rungs in
+    let over : IsClimbOver c.args.plan.now there = grind (arith, nat_tests, past-over) in
     omega (
       arith,
       ap (λ (r : Height). r.weight) (c.past-level.ensures c.args.plan.now on),
       ap (λ (k : Climb). k.weight) (climb-is c.args.plan.now c.args.climb c.args.count),
-      over.progress.0,
-      over.progress.1,
-      over.progress.2,
-      readers-few c.args.plan.now there.level there.from c.plan_is_sound.ensures.matched
-          c.plan_is_sound.ensures.sound over.progress.0 over.from,
-      c.plan_is_sound.ensures.sound.few,
+      readers-few,
     )

@@ -9,8 +9,7 @@ use Rattle.machine.proofs.machine.Machine.finish.Goals as goal
 
 pub actors-preserved : goal.actors-preserved
 actors-preserved c = record {
-  same = same-through c.args.self.now c.actors.self c.finish_actor.new.self c.actors.invariant.same
-      c.finish_actor.ensures.same;
+  same = grind (arith, nat_tests, same-through);
   stands = λ history is.
       turns-following c.args.self.now c.actors.self history c.actors.actor c.actors.invariant.same
       (c.finish_actor.ensures.stands _ (c.actors.invariant.stands history is));

@@ -29,8 +29,7 @@ returns-then-made-eq0-clause-made c = λ history is.
 
 pub turns-preserved : goal.turns-preserved
 turns-preserved c = record {
-  same = same-through c.args.self.now c.turns.self c.stride-made.new.self c.turns.invariant.same
-      c.stride-made.ensures.same;
+  same = grind (arith, nat_tests, same-through);
   few = omega (arith, c.turns.invariant.few);
   stands = λ history is.
       let made = c.turns.invariant.stands history is in
