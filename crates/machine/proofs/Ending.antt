@@ -77,7 +77,7 @@ lines-done input plan history sub subscriber low is done =
     let course : Course = course_at (start setting sub) in
     let whole : begun ++ left ≡ script = take-append-drop (length subscriber.lines.items) script in
     let made : length (script_visits setting (scripts_of input) sub) ≤ length (own sub history) =
-        grind (arith, nat_tests, past-end, next-sub) in
+    grind (arith, nat_tests, past-end, next-sub) in
     let few : length (own sub history) ≤ length (visits setting sub begun) = grind (arith, nat_tests) in
     let nothing : left ≡ [] = none-left setting course begun left (length (own sub history))
     (rw whole (omega (arith, made, length-map (writes setting course script) (visit_of sub))))
@@ -193,7 +193,7 @@ pub lines-all : {machine : Machine} {history : History} → HasHistory machine h
 lines-all {machine} {history} is done =
     let input : Contents = input_at machine in
     let finds_count : length (scripts_at machine).finds ≡ input.callers =
-        grind (arith, nat_tests, length-map, length-drop) in
+    grind (arith, nat_tests, length-map, length-drop) in
     rw (
       flat-each (λ (one : Subscriber). one.lines.items) (sub_lines (setting_at machine) (scripts_at machine) history)
           machine.subscribers.items 0 (λ s d h. lines-done input machine.plan.now history s

@@ -82,18 +82,8 @@ turned-once {old} {new} {history} {actor} zero few made =
     let still = turn-none (setting_at old) (scripts_at old) history actor none in
     grind (arith, nat_tests)
 turned-once {old} {history} {actor} (suc zero) few made =
-    record {
-      stands = made.0.stands;
-      none = (
-        λ same. absurd (omega (arith, same)),
-        λ none. absurd (omega (
-          arith,
-          made.0.made,
-          ap length (turn-none (setting_at old) (scripts_at old) history actor none),
-        )),
-      );
-      made = made.0.made;
-    }
+    let idle = turn-none (setting_at old) (scripts_at old) history actor in
+    grind (arith, nat_tests)
 turned-once (suc (suc count)) few made = absurd (omega (arith, few))
 
 -- turns that make visits leave fewer

@@ -49,7 +49,7 @@ pub call-known : (input : Contents) (plan : PlanData) (actor n : ℕ) {call : Fi
 call-known input plan actor n {call} {later} valid high low left =
     let at = drop-more n (finds_of (setting_over input plan) (scripts_of input) actor) call later left in
     let short : actor - length input.homes < length (scripts_of input).finds =
-        grind (arith, nat_tests, length-map, length-drop) in
+    grind (arith, nat_tests, length-map, length-drop) in
     subst (IsFindCall (setting_over input plan)) (at.2 call)
     (valid.finds (actor - length input.homes) [] short n call at.0)
 

@@ -9,7 +9,7 @@ use Rattle.std.proofs.lemmas.List.{take_all, length_push, length-map, same_from_
 use Rattle.entry_word.specs.declared.visit.Visit.{Visit}
 use Rattle.directory.specs.Settings.{Setting, start}
 use Rattle.directory.specs.Courses.{Course, Step, after_steps, course_at}
-use Rattle.directory.specs.Histories.{History, own, tickets}
+use Rattle.directory.specs.Histories.{History, own}
 use Rattle.directory.specs.Orders.{next, steps_of}
 use Rattle.directory.specs.Outcomes.{step_line}
 use Rattle.directory.specs.StepLaws.{slice_get-within, take-more}
@@ -32,7 +32,7 @@ use Rattle.machine.specs.RestLaws.{may-begin}
 use Rattle.machine.specs.Stands.{BelongTogether, setting_over, Sees}
 use Rattle.machine.specs.Subscribers.{IsShown, MayBegin, Shown, begun_line, begun_steps, HasWritten, IsSubscriber, shown_at}
 use Rattle.scripts.specs.ScriptLaws.{IsStep, course-steps, steps-are, calls-few}
-use Rattle.machine.specs.ScriptVisits.{some-write, step-at, visits-longer, script-is}
+use Rattle.machine.specs.ScriptVisits.{step-at, visits-longer, script-is}
 use Rattle.machine.proofs.Seen.{lines-partial, Seen, seen-after, step-allowed}
 use Rattle.directory.specs.HistoryLaws.{next-sub, tickets-count}
 use Rattle.directory.specs.Statements.{TicketsGrow, OwnGrow, TicketsAreOwn}
@@ -156,14 +156,8 @@ first-visit setting sub {n} steps step all = grind (
   arith,
   all,
   length-map (writes setting (course_at (start setting sub)) steps) (visit_of sub),
-  slice_get-within (visits setting sub (steps ++ step ∷ [])) n
-      (omega (
-        arith,
-        all,
-        visits-longer setting sub steps step,
-        length-map (writes setting (course_at (start setting
-            sub)) steps) (visit_of sub),
-      )),
+  visits-longer setting sub steps step,
+  slice_get-within (visits setting sub (steps ++ step ∷ [])) n,
 )
 
 -- a list of writes that is said to be empty is
@@ -204,7 +198,8 @@ pub first-cell : (plan : PlanData) (subs : ℕ) {sub : ℕ} (begun handset : Han
     {write : Ahead} → 0 < length ahead → write ≡ get_or ahead 0 write → Owes plan subs begun handset ahead
     → begun.sub ≡ sub → (key : Key) × IsPlaceOf plan subs sub write.place key
 first-cell plan subs begun handset ahead {write} some same owes mine =
-    let next : Next plan subs begun handset write (drop 1 ahead) = grind (arith, nat_tests, next-of) in
+    let next : Next plan subs begun handset write (drop 1 ahead) =
+    next-of plan subs begun handset ahead 0 some same owes in
     (next.its.key, subst (λ s. IsPlaceOf plan subs s write.place next.its.key) mine next.its.cell)
 
 -- the first write of a step that begins goes into its cell
@@ -224,7 +219,8 @@ pub first-put : OwnGrow → TicketsGrow → TicketsAreOwn → {input : Contents}
     after Visited
 first-put own_law ticket_law tell {plan = plan} {cells} old begun {handset} ahead lines {write = write} low place sees
     shown begin stands same_sub owes goes own_sub space some same lines_are room line_is short put over =
-    let next : Next plan cells.subs begun handset write (drop 1 ahead.items) = grind (arith, nat_tests, next-of) in
+    let next : Next plan cells.subs begun handset write (drop 1 ahead.items) =
+    next-of plan cells.subs begun handset ahead.items 0 some same owes in
     let mine = same_sub ∙ shown.its in
     let done = written-first low shown own_law ticket_law tell (record { handset = next.handset; lines = lines }) place
     sees.hold begin stands mine (put-next next.its mine put) next.its.goes next.its.its over lines_are room line_is

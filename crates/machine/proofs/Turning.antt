@@ -1,13 +1,13 @@
 -- What a machine stands for: its subscribers and callers before their first visits, and all of it after a visit.
 use Rattle.std.proofs.lemmas.Bool.Decides.{nat_tests}
-use Rattle.std.proofs.Common.{◌≡◌, ℕ, ◌+◌, ◌<◌, ◌≤◌, Bool, true, false, List, [], ◌∷◌, ◌++◌, length, map, take, get_or, refl, sym, ap, ◌∙◌, subst, arith, Vec, Global, ◌≢◌, zero, suc, ◌==◌, append_assoc}
+use Rattle.std.proofs.Common.{◌≡◌, ℕ, ◌+◌, ◌<◌, ◌≤◌, Bool, true, false, List, [], ◌∷◌, ◌++◌, length, map, get_or, refl, sym, ap, ◌∙◌, subst, arith, Vec, Global, ◌≢◌, zero, suc, ◌==◌, append_assoc}
 use Rattle.std.specs.Prelude.{None, vec_capacity, Option, Some, replicate, slice_set}
 use Rattle.std.proofs.lemmas.List.{get_or_push, length_push, length-map, get_or-map, append-nil, length-set, map-append, get_or-set_same, get_or-set_other}
 use Rattle.std.proofs.Math.ListN.{get_or-append}
 use Rattle.std.proofs.lemmas.List.Elements.{All-cons, All-nil, All-weaker}
 use Rattle.directory.specs.Finds.{at_origin}
-use Rattle.directory.specs.Histories.{tickets_from, words_after, History, own, tickets, word_after}
-use Rattle.directory.specs.Orders.{steps_of, next, IsPlayed}
+use Rattle.directory.specs.Histories.{tickets_from, words_after, History}
+use Rattle.directory.specs.Orders.{next, IsPlayed}
 use Rattle.directory.specs.Outcomes.{step_lines}
 use Rattle.net_reader.specs.declared.said.Call.{Call}
 use Rattle.net_reader.specs.declared.said.Call.TheVariants as calls
@@ -28,7 +28,6 @@ use Rattle.std.proofs.lemmas.Bool.{cases_lt, cases_eq, ne_eqb}
 use Rattle.std.proofs.lemmas.List.Sums.{fold-append}
 use Rattle.entry_word.specs.declared.visit.Key.{Key}
 use Rattle.entry_word.specs.declared.visit.Visit.{Visit}
-use Rattle.directory.specs.Keys.{opening}
 use Rattle.directory.specs.Looks.{look_by}
 use Rattle.directory.specs.Statements.{CallersKept, TicketsGrow, OwnGrow, MoreIsPlayed}
 use Rattle.visit_log.specs.Cells.{CellData}
@@ -123,16 +122,7 @@ shown-kept own_law ticket_law {input} {plan} {history} {sub} {shown} visit other
 sub-kept : OwnGrow → TicketsGrow → {input : Contents} {plan : PlanData} {history : History} {sub : ℕ}
     {subscriber : Subscriber} (visit : Visit) → (visit.actor == sub) ≡ false
     → IsSubscriber input plan history sub subscriber → IsSubscriber input plan (history ++ visit ∷ []) sub subscriber
-sub-kept own_law ticket_law visit other its =
-    record {
-      handset = its.handset;
-      shown = shown-kept own_law ticket_law visit other its.shown;
-      owes = its.owes;
-      goes = its.goes;
-      its = its.its;
-      within = its.within;
-      space = its.space;
-    }
+sub-kept own_law ticket_law visit other its = let shown = shown-kept own_law ticket_law visit other its.shown in search
 
 -- nor of a caller
 caller-kept : CallersKept → {input : Contents} {plan : PlanData} {history : History} {actor : ℕ} {caller : Caller}

@@ -125,7 +125,7 @@ module _ (unpack : MarksUnpack) (own_law : OwnGrow) (ticket_law : TicketsGrow) (
       let here : slice_get (map (visit_of sub) (step_writes setting after split.last)) (length p) ≡ Some visit =
       rw size (last-visit setting sub made split.before split.last (omega (arith, past)) (rw split.are at now)) in
       let room : length p < length (step_writes setting after split.last) =
-          grind (arith, nat_tests, slice_get_within, length-map) in
+      grind (arith, nat_tests, slice_get_within, length-map) in
       let may = step-allowed scripts sub (length old.lines.items) split.before split.last together low split.are in
       let parts : tickets sub history ≡ take n (tickets sub history) ++ p =
       sym (take-append-drop n (tickets sub history)) in

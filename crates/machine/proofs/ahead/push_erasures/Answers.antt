@@ -2,7 +2,7 @@ use Rattle.std.proofs.lemmas.Bool.Decides.{nat_tests}
 use Rattle.std.proofs.Common.{◌≡◌, ◌<◌, ◌≤◌, ◌+◌, ◌-◌, ℕ, List, true, false, not, suc, [], Some, ap, subst, sym, arith, refl, ◌∙◌, get_or, add-one}
 use Rattle.std.specs.Prelude.{option_map, slice_index}
 use Rattle.std.proofs.lemmas.Bool.{eq-eqb, ne_eqb}
-use Rattle.handset.specs.Entries.{EntryWrite, at_entry, entry_write, erasure_to}
+use Rattle.handset.specs.Entries.{EntryWrite, entry_write, erasure_to}
 use Rattle.handset.specs.Condition.{GoesWith, HandsetData}
 use Rattle.handset.specs.NextEntries.{IsNextEntry, erasures_from}
 use Rattle.handset.specs.StepWrites.{first_with, is_old}

@@ -7,7 +7,7 @@ use Rattle.handset.specs.Condition.{GoesWith, HandsetData}
 use Rattle.handset.specs.NextEntries.{IsNextEntry, renewals_from}
 use Rattle.handset.specs.declared.entries.EntryStage.TheVariants as entries
 use Rattle.handset.specs.declared.entries.Renewals.{Renewals}
-use Rattle.region_plan.specs.Plan.{PlanData, home, levels_of, nodes_of}
+use Rattle.region_plan.specs.Plan.{PlanData, home, levels_of}
 use Rattle.region_plan.specs.Settings.{setting_of}
 use Rattle.std.proofs.lemmas.List.{length_push}
 use Rattle.visit_log.specs.Homes.{home_place}

@@ -1,5 +1,5 @@
 use Rattle.std.proofs.lemmas.Bool.Decides.{nat_tests}
-use Rattle.std.proofs.Common.{◌+◌, ap, sym, subst, ◌∙◌, arith}
+use Rattle.std.proofs.Common.{ap, sym, subst, arith}
 use Rattle.region_plan.specs.ReaderLaws.{readers-few}
 use Rattle.visit_log.specs.Routes.{ComesTo}
 use Rattle.visit_log.specs.declared.routes.Height.{Height}

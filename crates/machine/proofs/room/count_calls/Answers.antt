@@ -1,5 +1,5 @@
 use Rattle.std.proofs.lemmas.Bool.Decides.{nat_tests}
-use Rattle.std.proofs.Common.{ap, ◌∙◌, arith, map, Vec, Global, suc, take, ◌+◌, ◌≡◌, ℕ, List, [], ◌∷◌, zero, ◌<◌, get_or, length}
+use Rattle.std.proofs.Common.{arith, map, Vec, Global, suc, take, ◌+◌, ◌≡◌, ℕ, List, [], ◌∷◌, zero, ◌<◌, get_or, length}
 use Rattle.std.proofs.lemmas.List.{take_all}
 use Rattle.net_reader.specs.declared.said.Call.{Call}
 use Rattle.net_reader.specs.Valid.{count_calls}

@@ -1,4 +1,3 @@
-use Rattle.std.proofs.lemmas.Bool.Decides.{nat_tests}
 use Rattle.std.proofs.Common.{◌≡◌, ◌+◌, arith}
 use Rattle.machine.proofs.Finishing.{made-joined, same-through, turns-ended as ended, visits-fewer}
 use Rattle.machine.proofs.machine.Machine.finish_actor.Goals as goal
@@ -24,4 +23,5 @@ returns-clause-stands c history is =
     let far = c.turns.invariant.stands history is in
     let none : c.stride.result ≡ 0 = omega (arith, c.turns-test.false) in
     let made = c.stride.ensures.stands _ far.1.stands in
-    grind (arith, nat_tests, ended)
+    ended c.turns_are_few.ensures.alike c.args.self.now c.turns.self c.stride.new.self history c.args.actor far.0
+    c.turns.invariant.same is (made.1 none).0 (rw none at made.0.stands)

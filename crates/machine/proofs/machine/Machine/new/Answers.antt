@@ -1,8 +1,5 @@
 use Rattle.std.proofs.lemmas.Bool.Decides.{nat_tests}
 use Rattle.std.proofs.Common.{arith, sym, ◌∙◌, refl}
-use Rattle.net_reader.specs.Seen.{seen_input}
-use Rattle.scripts.specs.Scripts.{scripts_of}
-use Rattle.machine.specs.Stands.{setting_over}
 use Rattle.machine.proofs.Turning.{scripts-inside}
 use Rattle.machine.proofs.machine.Machine.new.Goals as goal
 use Rattle.directory.specs.HistoryLaws.{none-played}

@@ -1,5 +1,5 @@
 use Rattle.std.proofs.lemmas.Bool.Decides.{nat_tests}
-use Rattle.std.proofs.Common.{◌≡◌, ◌+◌, ◌-◌, arith, refl, subst}
+use Rattle.std.proofs.Common.{◌≡◌, ◌+◌, ◌-◌, arith, subst}
 use Rattle.machine.specs.Machines.{HasMade}
 use Rattle.machine.proofs.Finishing.{made-idle, made-joined, made-none, same-through, turned-once}
 use Rattle.machine.proofs.machine.Machine.turns.Goals as goal

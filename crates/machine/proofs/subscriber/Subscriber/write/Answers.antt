@@ -1,5 +1,5 @@
 use Rattle.std.proofs.lemmas.Bool.Decides.{nat_tests}
-use Rattle.std.proofs.Common.{arith, refl}
+use Rattle.std.proofs.Common.{arith}
 use Rattle.machine.proofs.Making.{made-count, made-next, made-none, may-follow, turns-behind}
 use Rattle.machine.proofs.Written.{ended}
 use Rattle.machine.proofs.subscriber.Subscriber.write.Goals as goal
