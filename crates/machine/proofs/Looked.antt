@@ -141,7 +141,7 @@ ok-of (Err e) h = cc
 pub first-is : (first : ℕ) {next : ℕ} (ticket : ℕ) (seen : List ℕ) {kept : Option ℕ}
     → kept ≡ (if nat_lt first next then Some (slice_index seen first) else None) → length seen ≡ next → first ≤ next
     → unwrap_or kept ticket ≡ slice_index (seen ++ ticket ∷ []) first
-first-is first {next} ticket seen same count low = grind (arith, cases_lt, lt-ltb, get_or-append, le-ltb, get_or_push)
+first-is first {next} ticket seen same count low = grind (arith, get_or-append, get_or_push)
 
 -- a caller by its parts
 pub by-parts : (input : Contents) (plan : PlanData) (history : History) (actor : ℕ) {seeker : Seeker} {seen : List ℕ}

@@ -139,7 +139,7 @@ pub renewal-at : (plan : PlanData) (handset : HandsetData) (at : ℕ) {cluster w
     → address_word (Some (record { number = handset.last.number; node = handset.last.to })) ≡ word
     → entry_write (setting_of plan []) handset (entries.Renewing at)
     ≡ Some (record { level = at; cluster = cluster; word = word; next = entries.Renewing (suc at) })
-renewal-at plan handset at below home_is word_is = grind (arith, nat_tests, lt-ltb)
+renewal-at plan handset at below home_is word_is = grind (arith, nat_tests)
 
 -- the write of the entry that comes next is one ahead
 pub entry-ahead : {plan : PlanData} {handset : HandsetData} {at : EntryStage} {write : EntryWrite} {subs : ℕ}

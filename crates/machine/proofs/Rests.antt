@@ -88,7 +88,7 @@ module _ {input : Contents} {plan : PlanData} {history : History} {sub : ℕ} {o
       → Begins input plan history sub old call
   begins scripts {call = call} together none short same =
       let at = resting none in
-      let is_step : IsStep call = grind (arith, nat_tests, course-steps, short) in
+      let is_step : IsStep call = grind (arith, nat_tests, course-steps) in
       let more : take (suc (length old.lines.items)) (steps_of (scripts_of input) sub)
       ≡ begun_steps input sub old ++ step_of call ∷ [] =
       take-more (steps_of (scripts_of input) sub) (length old.lines.items) (step_of call)
@@ -164,7 +164,7 @@ first-visit setting sub {n} steps step all = grind (
 pub none-there : (xs : List Ahead) {count : ℕ} {test : Bool} → length xs ≡ count → test ≡ (count == 0)
     → not test ≡ false → xs ≡ []
 none-there [] size is quiet = refl
-none-there (x ∷ xs) {count} size is quiet = grind (arith, ne_eqb)
+none-there (x ∷ xs) {count} size is quiet = grind arith
 
 -- where all writes that were ahead are in their cells, the handset is as far as the history
 now-at : {input : Contents} {plan : PlanData} {history : History} {sub : ℕ} {old : Subscriber}

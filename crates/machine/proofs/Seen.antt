@@ -121,7 +121,7 @@ move-commits unpack setting sub course move number from to i {visit} h =
 commit-grows : (seen : List ℕ) (ticket : ℕ) {place : ℕ} (commits : Bool) → Tells commits (length seen) place
     → get_or (seen ++ ticket ∷ []) place 0 ≡ (if commits then ticket else get_or seen place 0)
 commit-grows seen ticket {place} true tells = get_or_push seen ticket 0 place (tells.there refl)
-commit-grows seen ticket {place} false tells = grind (arith, cases_lt, get_or-append, seen, length_push, get_or_past)
+commit-grows seen ticket {place} false tells = grind (arith, get_or-append, length_push, get_or_past)
 
 one_get : (xs : Visit) (i : ℕ) {visit : Visit} → slice_get (xs ∷ []) i ≡ Some visit → i < 1
 one_get x zero h = omega arith
@@ -200,7 +200,7 @@ pub seen-after : OwnGrow → TicketsGrow → (input : Contents) (plan : PlanData
     (visits (setting_over input plan) sub (take k (steps_of (scripts_of input) sub))) (length (own sub history)) ≡ Some
     visit → Seen input plan history sub visit
 seen-after own_law ticket_law input plan history sub k {visit} low at =
-    let mine : (visit.actor == sub) ≡ true = grind (arith, nat_tests, eq-eqb, actor-of) in
+    let mine : (visit.actor == sub) ≡ true = grind (arith, nat_tests, actor-of) in
     record {
       turn = next-sub (setting_over input plan) (scripts_of input) history sub low
           ∙ in-script (setting_over input plan) sub k (length (own sub history))

@@ -82,7 +82,7 @@ caller-opens input plan actor caller {script} high low same walks first none roo
 pub each-more : {A : Type 0} (P : ℕ → A → Type 0) (xs : List A) {x : A} {n : ℕ} {ys : List A} → ys ≡ xs ++ x ∷ []
     → length xs ≡ n → ((s : ℕ) (d : A) → s < n → P s (get_or xs s d)) → P n x → (s : ℕ) (d : A) → s < n + 1
     → P s (get_or ys s d)
-each-more P xs {x} {n} more count each last s d low = grind (arith, cases_lt, get_or-append, get_or_push)
+each-more P xs {x} {n} more count each last s d low = grind (arith, get_or-append, get_or_push)
 
 -- the calls of a valid input are inside
 course-inside : (format n here : ℕ) (off : Bool) (script : List Call) → IsCourse format n here off script
@@ -102,7 +102,7 @@ search-begins n subs call h = absurd h
 
 script-inside : {input : Contents} (actor : ℕ) → IsValid input → actor < length input.scripts
     → BeginInside input.nodes (get_or input.scripts actor [])
-script-inside {input} actor valid low = grind (arith, cases_lt, course-inside, search-begins, All-weaker)
+script-inside {input} actor valid low = grind (arith, course-inside, search-begins, All-weaker)
 
 pub scripts-inside : {input : Contents} (scripts : List (Vec Call Global)) {n : ℕ} → IsValid input
     → input.scripts ≡ map (λ (s : Vec Call Global). s.items) scripts → n ≡ input.nodes → (k : ℕ) (d : Vec Call Global)
@@ -136,7 +136,7 @@ caller-kept law {input} {plan} {history} {actor} {caller} visit other its =
 each-set : {A : Type 0} (P : ℕ → A → Type 0) (xs ys : List A) (i : ℕ) (x : A) → ys ≡ slice_set xs i x → P i x
     → ((k : ℕ) (d : A) → k < length xs → k ≢ i → P k (get_or xs k d)) → (k : ℕ) (d : A) → k < length xs
     → P k (get_or ys k d)
-each-set P xs ys i x items its others k d low = grind (arith, cases_eq, get_or-set_same, get_or-set_other)
+each-set P xs ys i x items its others k d low = grind (arith, get_or-set_same, get_or-set_other)
 
 -- each visit was its actor's next one, and cells hold what the history leaves
 pub sees-more : MoreIsPlayed → {input : Contents} {plan : PlanData} {cells : CellData} {history : History} (actor : ℕ)
