@@ -1,6 +1,5 @@
 -- The end: when no actor has a visit left, the lines of all actors, one behind the other, are those of the outcome,
 -- they are right, and their numbers rise.
-use Rattle.std.proofs.lemmas.Bool.Decides.{nat_tests}
 use Rattle.std.proofs.Common.{◌≡◌, ◌+◌, ◌<◌, ◌≤◌, ℕ, List, ◌++◌, length, take, drop, get_or, ap, sym, ◌∙◌, arith, add-one, append_assoc, append-nil, drop-cons, length-append, suc, [], ◌∷◌, map, fold, refl, Option, take-append-drop}
 use Rattle.std.specs.Prelude.{flat_map, None, Some, vec_capacity, All}
 use Rattle.std.proofs.Math.Seq.{take-suc}
@@ -43,7 +42,7 @@ module _ {A B : Type 0} (f : A → List B) (xs : List A) (i : ℕ) (item : A) (p
 
   -- the parts that are left begin with that of the item
   parts-left : length (flat_map f (drop i xs)) ≡ length part + length (flat_map f (drop (i + 1) xs))
-  parts-left = grind (arith, nat_tests, drop-cons, its-part, add-one, length-append)
+  parts-left = grind (arith, drop-cons, its-part, add-one, length-append)
 
   pub part-fits : (held capacity : ℕ) → held + length (flat_map f (drop i xs)) ≤ capacity
       → held + length part ≤ capacity
@@ -77,8 +76,8 @@ lines-done input plan history sub subscriber low is done =
     let course : Course = course_at (start setting sub) in
     let whole : begun ++ left ≡ script = take-append-drop (length subscriber.lines.items) script in
     let made : length (script_visits setting (scripts_of input) sub) ≤ length (own sub history) =
-    grind (arith, nat_tests, past-end, next-sub) in
-    let few : length (own sub history) ≤ length (visits setting sub begun) = grind (arith, nat_tests) in
+    grind (arith, past-end, next-sub) in
+    let few : length (own sub history) ≤ length (visits setting sub begun) = grind arith in
     let nothing : left ≡ [] = none-left setting course begun left (length (own sub history))
     (rw whole (omega (arith, made, length-map (writes setting course script) (visit_of sub))))
     (omega (arith, few, length-map (writes setting course begun) (visit_of sub))) in
@@ -192,8 +191,7 @@ pub lines-all : {machine : Machine} {history : History} → HasHistory machine h
     ≡ (outcome_in (setting_at machine) (scripts_at machine) history).calls
 lines-all {machine} {history} is done =
     let input : Contents = input_at machine in
-    let finds_count : length (scripts_at machine).finds ≡ input.callers =
-    grind (arith, nat_tests, length-map, length-drop) in
+    let finds_count : length (scripts_at machine).finds ≡ input.callers = grind (arith, length-map, length-drop) in
     rw (
       flat-each (λ (one : Subscriber). one.lines.items) (sub_lines (setting_at machine) (scripts_at machine) history)
           machine.subscribers.items 0 (λ s d h. lines-done input machine.plan.now history s

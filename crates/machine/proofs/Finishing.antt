@@ -1,5 +1,4 @@
 -- The turns of an actor until it is done, those of all actors, and those of an order, run by run.
-use Rattle.std.proofs.lemmas.Bool.Decides.{nat_tests}
 use Rattle.std.proofs.Common.{◌≡◌, ◌↔◌, ℕ, zero, suc, ◌+◌, ◌-◌, ◌<◌, ◌≤◌, List, [], ◌∷◌, ◌++◌, length, drop, refl, sym, ap, ◌∙◌, subst, arith, get_or, append_assoc, drop-cons, add-one}
 use Rattle.std.specs.Prelude.{None, flat_map, replicate}
 use Rattle.std.proofs.lemmas.List.{append-nil, length-map, length-drop, replicate-append-replicate, drop_all}
@@ -39,7 +38,7 @@ behind_turns machine history order = after_turns (setting_at machine) (scripts_a
 pub made-joined : {entry now new : Machine} {history : History} {actor k n : ℕ} → IsSame entry now
     → HasMade entry now history actor k → HasMade now new (behind_turns entry history (replicate k actor)) actor n
     → HasMade entry new history actor (k + n)
-made-joined {entry} {now} {new} {history} {actor} {k} {n} same first then = grind (arith, nat_tests, turns-joined)
+made-joined {entry} {now} {new} {history} {actor} {k} {n} same first then = grind (arith, turns-joined)
 
 -- no turns
 pub made-none : {machine : Machine} {history : History} (actor : ℕ) → HasHistory machine history
@@ -80,10 +79,10 @@ pub turned-once : {old new : Machine} {history : History} {actor : ℕ} (count :
 turned-once {old} {new} {history} {actor} zero few made =
     let none : next (setting_at old) (scripts_at old) history actor ≡ None = (made.1 refl).0 in
     let still = turn-none (setting_at old) (scripts_at old) history actor none in
-    grind (arith, nat_tests)
+    grind arith
 turned-once {old} {history} {actor} (suc zero) few made =
     let idle = turn-none (setting_at old) (scripts_at old) history actor in
-    grind (arith, nat_tests)
+    grind arith
 turned-once (suc (suc count)) few made = absurd (omega (arith, few))
 
 -- turns that make visits leave fewer
@@ -147,7 +146,7 @@ turns-all machine valid = grind (arith, length-map, length-drop, turns_of)
 -- a run of one number, and of one more
 pub run-first : (order : List ℕ) (start : ℕ) → start < length order
     → drop start order ≡ replicate (start + 1 - start) (get_or order start 0) ++ drop (start + 1) order
-run-first order start inside = grind (arith, nat_tests, add-one, drop-cons)
+run-first order start inside = grind (arith, add-one, drop-cons)
 
 pub run-more : (order : List ℕ) (start end : ℕ) → start < end → end < length order
     → get_or order end 0 ≡ get_or order start 0
@@ -179,4 +178,4 @@ played-run entry now {new} history order start end same run so_far goes = grind 
 pub played-whole : (entry : Machine) {now : Machine} {history wanted : History} (order : List ℕ) (start : ℕ)
     → length order ≤ start → HasHistory now history → behind_turns entry history (drop start order) ≡ wanted
     → HasHistory now wanted
-played-whole entry {now} {history} order start past is so_far = grind (arith, nat_tests, drop_all)
+played-whole entry {now} {history} order start past is so_far = grind (arith, drop_all)

@@ -1,5 +1,4 @@
 -- Many turns of an actor: none, one, and turns behind turns.
-use Rattle.std.proofs.lemmas.Bool.Decides.{nat_tests}
 use Rattle.std.proofs.Common.{◌≡◌, ℕ, ◌+◌, [], ◌∷◌, ◌++◌, length, refl, arith, append_assoc}
 use Rattle.std.specs.Prelude.{Some}
 use Rattle.std.proofs.lemmas.List.{append-nil, length-append, length-map, length-replicate, map-append, replicate-append-replicate, nil_from_length}
@@ -43,14 +42,14 @@ module _ {input : Contents} {plan : PlanData} {actor : ℕ} where
   -- no turns
   pub made-none : {cells : CellData} {history : History} (Holds : History → Type 0) → Sees input plan cells history
       → Holds history → AreMade input plan cells history actor 0 Holds
-  made-none {history} Holds sees its = grind (arith, nat_tests, append-nil)
+  made-none {history} Holds sees its = grind (arith, append-nil)
 
   -- a turn that makes a visit
   pub made-one : {cells : CellData} (history : History) {visit : Visit} (Holds : History → Type 0)
       → visit.actor ≡ actor → next (setting_over input plan) (scripts_of input) history actor ≡ Some visit
       → Sees input plan cells (history ++ visit ∷ []) → Holds (history ++ visit ∷ [])
       → AreMade input plan cells history actor 1 Holds
-  made-one history {visit} Holds mine wants sees its = grind (arith, nat_tests)
+  made-one history {visit} Holds mine wants sees its = grind arith
 
   -- the turn of a next visit
   pub made-next : MoreIsPlayed → NextIsOwn → {cells after : CellData} {history : History} (New : History → Type 0)
@@ -92,7 +91,7 @@ module _ {input : Contents} {plan : PlanData} {actor : ℕ} where
       let rest = then (history ++ first.visits) first.sees (made-count first place) first.its in
       let joined : (history ++ first.visits) ++ rest.visits ≡ history ++ (first.visits ++ rest.visits) =
       append_assoc history first.visits rest.visits in
-      grind (arith, nat_tests, turns-joined, map-append, replicate-append-replicate)
+      grind (arith, turns-joined, map-append, replicate-append-replicate)
 
   -- the same, whichever history that is
   pub turns-behind : {cells between after : CellData} {ticket count more : ℕ} {First Mid Then : History → Type 0}

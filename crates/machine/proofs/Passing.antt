@@ -1,6 +1,5 @@
 -- A climb past many entries, by the row of all readers of its origin, the cells that it comes to, and a caller's looks
 -- at those that hold nothing, many at once: what as many turns make.
-use Rattle.std.proofs.lemmas.Bool.Decides.{nat_tests}
 use Rattle.std.proofs.Common.{◌≡◌, ℕ, zero, suc, ◌+◌, ◌<◌, ◌≤◌, Bool, true, false, length, refl, sym, ap, ◌∙◌, arith, ◌++◌, None, add-one}
 use Rattle.std.specs.Prelude.{if◌then◌else◌, Some, unwrap_or}
 use Rattle.region_plan.specs.Kept.{IsKept}
@@ -69,7 +68,7 @@ module _ (law : ClimbsGoOn) (plan : PlanData) (climb : Climb) (kept : IsKept pla
       → ((i : ℕ) → i ≤ suc count → IsRung plan climb.from (rung_past plan climb.from (rung_of climb) i))
       → Passes plan (climb_past plan climb count)
   passes count rungs =
-      let here : IsClimbOver plan (climb_past plan climb count) = grind (arith, nat_tests, past-over) in
+      let here : IsClimbOver plan (climb_past plan climb count) = grind (arith, past-over) in
       record { over = here; on = on-past count here (rungs (suc count) (omega arith)) }
 
 -- the same node all along
@@ -79,7 +78,7 @@ past-from plan climb count = ap (λ (c : Climb). c.from) (climb-is plan climb co
 -- a climb is at a reader
 pub climb-at : {plan : PlanData} {routes : RouteData} {climb : Climb} → AreRoutes plan routes → IsClimbOver plan climb
     → IsAt plan routes climb.from (rung_of climb)
-climb-at are over = grind (arith, nat_tests)
+climb-at are over = grind arith
 
 -- the place of a reader's entries is one of a subscriber's
 pub place-below : NumbersBelow → {plan : PlanData} {node : ℕ} {rung : Rung} → IsMatched plan → node < nodes_of plan
@@ -146,7 +145,7 @@ behind-walk walk old ticket climb (suc count) = refl
 -- with no looks it is where it was
 pub behind-none : {walk : WalkData} (old : Caller) (ticket : ℕ) {climb : Climb} → old.walk ≡ Some walk
     → IsClimbOf walk climb → behind walk old ticket climb 0 ≡ old
-behind-none {walk} old ticket held at = grind (arith, nat_tests)
+behind-none {walk} old ticket held at = grind arith
 
 module _ {input : Contents} {plan : PlanData} {cells : CellData} {actor : ℕ} where
   -- no looks

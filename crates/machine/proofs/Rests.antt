@@ -1,6 +1,5 @@
 -- A subscriber at rest: that nothing is left, or how far it is after the first visit of its next step, and what the
 -- code reads of that step.
-use Rattle.std.proofs.lemmas.Bool.Decides.{nat_tests}
 use Rattle.std.proofs.Common.{◌≡◌, ℕ, suc, ◌<◌, ◌≤◌, false, List, [], ◌∷◌, ◌++◌, length, take, get_or, sym, ap, ◌∙◌, subst, arith, drop, drop_of_length-le, not, Bool, true, ◌==◌, refl, ◌-◌, ◌^◌}
 use Rattle.std.specs.Global.{Vec}
 use Rattle.std.specs.Prelude.{Some, None, slice_get, vec_capacity, Option, Result, Ok, Err, OnErr, OnOk, OnSome}
@@ -44,7 +43,6 @@ use Rattle.machine.specs.declared.subscriber.Subscriber.{Subscriber}
 use Rattle.machine.specs.declared.ahead.Ahead.{Ahead}
 use Rattle.machine.proofs.Owing.{Next, Puts, next-of, put-next}
 use Rattle.entry_word.specs.declared.visit.Key.{Key}
-use Rattle.std.proofs.lemmas.Bool.{ne_eqb}
 use Rattle.std.specs.Result.{is_err}
 use Rattle.net_reader.specs.declared.input.Input.{Input}
 use Rattle.net_reader.specs.Seen.{seen_input}
@@ -88,7 +86,7 @@ module _ {input : Contents} {plan : PlanData} {history : History} {sub : ℕ} {o
       → Begins input plan history sub old call
   begins scripts {call = call} together none short same =
       let at = resting none in
-      let is_step : IsStep call = grind (arith, nat_tests, course-steps) in
+      let is_step : IsStep call = grind (arith, course-steps) in
       let more : take (suc (length old.lines.items)) (steps_of (scripts_of input) sub)
       ≡ begun_steps input sub old ++ step_of call ∷ [] =
       take-more (steps_of (scripts_of input) sub) (length old.lines.items) (step_of call)
@@ -129,7 +127,7 @@ module _ {input : Contents} {plan : PlanData} {history : History} {sub : ℕ} {o
       let begun_now : List Step = begun_steps input sub old ++ step_of call ∷ [] in
       let longer : length new.lines.items ≡ suc (length old.lines.items) =
       omega (arith, ap length lines, length_push old.lines.items line) in
-      let steps : begun_steps input sub new ≡ begun_now = grind (arith, nat_tests) in
+      let steps : begun_steps input sub new ≡ begun_now = grind arith in
       let seen : Seen input plan history sub put.visit =
       seen-after own_law ticket_law input plan history sub (suc (length old.lines.items)) low
       (rw begin.more (rw mine at (put.next input.homes begun_now (length (own sub history)) stands))) in (
@@ -139,9 +137,9 @@ module _ {input : Contents} {plan : PlanData} {history : History} {sub : ℕ} {o
           handset = rw (steps, seen.count) (put.stands input.homes begun_now (length (own sub history)) stands);
           goes = goes;
           its = same ∙ mine;
-          lines = grind (arith, nat_tests, lines-partial, tickets-count);
+          lines = grind (arith, lines-partial, tickets-count);
           few = omega (arith, longer, short);
-          under = grind (arith, nat_tests, same_from_push);
+          under = grind (arith, same_from_push);
           room = omega (arith, its.room, room);
         },
         over,

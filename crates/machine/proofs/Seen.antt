@@ -1,6 +1,5 @@
 -- What is known of a subscriber after a visit of its own: whose turn it was, which step the visit belongs to, whether
 -- it commits a move, and what it adds to the lines of the steps.
-use Rattle.std.proofs.lemmas.Bool.Decides.{nat_tests}
 use Rattle.std.proofs.Common.{◌≡◌, ℕ, zero, suc, ◌-◌, ◌<◌, ◌≤◌, ◌^◌, Bool, true, false, List, [], ◌∷◌, ◌++◌, length, map, drop, get_or, refl, sym, ap, ◌∙◌, subst, arith, length-append, ◌==◌, take, append_assoc}
 use Rattle.std.specs.Option.{is_some}
 use Rattle.std.proofs.lemmas.List.Elements.{All-append, All-cons, All-head, All-map, All-nil, All-tail}
@@ -20,7 +19,6 @@ use Rattle.handset.specs.Stands.{is_commit}
 use Rattle.directory.specs.Standing.{commit_of}
 use Rattle.entry_word.specs.MarkLaws.{read-mark}
 use Rattle.node_set.specs.SetLaws.{length-passing_all}
-use Rattle.std.proofs.lemmas.Bool.{cases_lt, eq-eqb}
 use Rattle.directory.specs.Histories.{History, own, tickets}
 use Rattle.directory.specs.Legal.{IsScript}
 use Rattle.directory.specs.Orders.{AreValid, next, steps_of}
@@ -43,7 +41,7 @@ pub lines-partial : (setting : Setting) (sub : ℕ) (course : Course) (done : Li
     → step_lines setting sub course (done ++ step ∷ []) (seen ++ more)
     ≡ step_lines setting sub course done seen ++ step_line setting sub (after_steps setting course done) step more ∷ []
 unfolding step_lines writes
-lines-partial setting sub course [] step seen more count few = grind (arith, nat_tests, nil_from_length, take_all)
+lines-partial setting sub course [] step seen more count few = grind (arith, nil_from_length, take_all)
 lines-partial setting sub course (one ∷ done) step seen more count few =
     let size : ℕ = length (step_writes setting course one) in
     let whole = length-append (step_writes setting course one) (writes setting (after_step setting course one) done) in
@@ -91,7 +89,7 @@ pub move-commits : MarksUnpack → (setting : Setting) (sub : ℕ) (course : Cou
     → Tells (is_commit visit.act) i (suc (suc move.renewed))
 move-commits unpack setting sub course move number from to i {visit} h =
     let says : (node : ℕ) (mark : PresenceMark) (b : Bool) → IsSmallMark mark → is_some (commit_of node mark) ≡ b
-    → is_some (commit_of node (mark_in (mark_word mark))) ≡ b = grind (arith, nat_tests, read-mark) in
+    → is_some (commit_of node (mark_in (mark_word mark))) ≡ b = grind (arith, read-mark) in
     let levels : List ℕ = numbers_from 0 (suc move.renewed) in
     let renewals : List Write = map (new_address setting move) levels in
     let removals : List Write = erasure_writes setting course move ++ purge_writes setting course move in
@@ -143,7 +141,7 @@ line-grows unpack setting sub course (move_to node) seen ticket {visit} may smal
     let last : get_or (seen ++ ticket ∷ []) (length (seen ++ ticket ∷ []) - 1) 0 ≡ ticket =
     get_or_push seen ticket 0 (length (seen ++ ticket ∷ []) - 1) (omega (arith, length_push seen ticket)) in
     rw (first, commit-grows seen ticket (is_commit visit.act) tells, last)
-line-grows unpack setting sub course step seen ticket may small inside some at = grind (arith, nat_tests, one_get)
+line-grows unpack setting sub course step seen ticket may small inside some at = grind (arith, one_get)
 
 -- steps that may be made, one of them
 pub may-at : (setting : Setting) (course : Course) (before : List Step) (step : Step) (later : List Step)
@@ -187,7 +185,7 @@ pub last-visit : (setting : Setting) (sub n : ℕ) (before : List Step) (step : 
     → slice_get (visits setting sub (before ++ step ∷ [])) n ≡ Some visit
     → slice_get (map (visit_of sub) (step_writes setting (after_steps setting (course_at (start setting sub)) before)
     step)) (n - length (writes setting (course_at (start setting sub)) before)) ≡ Some visit
-last-visit setting sub n before step past h = grind (arith, nat_tests, slice_get-right, length-map, visits-more)
+last-visit setting sub n before step past h = grind (arith, slice_get-right, length-map, visits-more)
 
 -- what is known of a subscriber after a visit of its own
 pub record Seen (input : Contents) (plan : PlanData) (history : History) (sub : ℕ) (visit : Visit) : Type 0 where
@@ -200,7 +198,7 @@ pub seen-after : OwnGrow → TicketsGrow → (input : Contents) (plan : PlanData
     (visits (setting_over input plan) sub (take k (steps_of (scripts_of input) sub))) (length (own sub history)) ≡ Some
     visit → Seen input plan history sub visit
 seen-after own_law ticket_law input plan history sub k {visit} low at =
-    let mine : (visit.actor == sub) ≡ true = grind (arith, nat_tests, actor-of) in
+    let mine : (visit.actor == sub) ≡ true = grind (arith, actor-of) in
     record {
       turn = next-sub (setting_over input plan) (scripts_of input) history sub low
           ∙ in-script (setting_over input plan) sub k (length (own sub history))
@@ -223,4 +221,4 @@ step-allowed scripts {input} {plan} {distances} sub k before step together low s
     let script : IsScript (setting_over input plan) sub (steps_of (scripts_of input) sub) = valid.steps sub low in
     let whole : steps_of (scripts_of input) sub ≡ before ++ step ∷ drop k (steps_of (scripts_of input) sub) =
     sym (take-append-drop k (steps_of (scripts_of input) sub)) ∙ rw (same, append_assoc) in
-    grind (arith, nat_tests, may-at)
+    grind (arith, may-at)

@@ -1,5 +1,4 @@
 -- What a machine stands for: its subscribers and callers before their first visits, and all of it after a visit.
-use Rattle.std.proofs.lemmas.Bool.Decides.{nat_tests}
 use Rattle.std.proofs.Common.{◌≡◌, ℕ, ◌+◌, ◌<◌, ◌≤◌, Bool, true, false, List, [], ◌∷◌, ◌++◌, length, map, get_or, refl, sym, ap, ◌∙◌, subst, arith, Vec, Global, ◌≢◌, zero, suc, ◌==◌, append_assoc}
 use Rattle.std.specs.Prelude.{None, vec_capacity, Option, Some, replicate, slice_set}
 use Rattle.std.proofs.lemmas.List.{get_or_push, length_push, length-map, get_or-map, append-nil, length-set, map-append, get_or-set_same, get_or-set_other}
@@ -24,7 +23,7 @@ use Rattle.machine.specs.Callers.{IsCaller, MayLook}
 use Rattle.machine.specs.Subscribers.{IsShown, IsSubscriber, Shown, begun_steps, shown_at, MayTakeTurn}
 use Rattle.machine.proofs.Looked.{by-parts}
 use Rattle.scripts.specs.ScriptLaws.{finds-are, steps-are}
-use Rattle.std.proofs.lemmas.Bool.{cases_lt, cases_eq, ne_eqb}
+use Rattle.std.proofs.lemmas.Bool.{ne_eqb}
 use Rattle.std.proofs.lemmas.List.Sums.{fold-append}
 use Rattle.entry_word.specs.declared.visit.Key.{Key}
 use Rattle.entry_word.specs.declared.visit.Visit.{Visit}
@@ -42,7 +41,7 @@ shown-opens : {input : Contents} {plan : PlanData} {sub : ℕ} (shown : Shown) �
     → IsShown input plan [] sub shown
 unfolding step_lines
 shown-opens {input} {plan} {sub} shown valid low stands goes its none room =
-    let begun : begun_steps input sub shown ≡ [] = grind (arith, nat_tests) in
+    let begun : begun_steps input sub shown ≡ [] = grind arith in
     record {
       handset = rw begun stands;
       goes = goes;
@@ -115,8 +114,7 @@ scripts-inside {input} scripts valid same nodes k d low =
 shown-kept : OwnGrow → TicketsGrow → {input : Contents} {plan : PlanData} {history : History} {sub : ℕ} {shown : Shown}
     (visit : Visit) → (visit.actor == sub) ≡ false → IsShown input plan history sub shown
     → IsShown input plan (history ++ visit ∷ []) sub shown
-shown-kept own_law ticket_law {input} {plan} {history} {sub} {shown} visit other its =
-    grind (arith, nat_tests, append-nil)
+shown-kept own_law ticket_law {input} {plan} {history} {sub} {shown} visit other its = grind (arith, append-nil)
 
 -- nor of the subscriber
 sub-kept : OwnGrow → TicketsGrow → {input : Contents} {plan : PlanData} {history : History} {sub : ℕ}
@@ -130,7 +128,7 @@ caller-kept : CallersKept → {input : Contents} {plan : PlanData} {history : Hi
     → IsCaller input plan (history ++ visit ∷ []) actor caller
 caller-kept law {input} {plan} {history} {actor} {caller} visit other its =
     let same = law (setting_over input plan) (scripts_of input) history actor visit other in
-    grind (arith, nat_tests, by-parts)
+    grind (arith, by-parts)
 
 -- what holds of the changed element of a list, and of the others, holds of each behind the change
 each-set : {A : Type 0} (P : ℕ → A → Type 0) (xs ys : List A) (i : ℕ) (x : A) → ys ≡ slice_set xs i x → P i x
@@ -146,7 +144,7 @@ sees-more more {input} {plan} {history} actor key sees wants =
     record {
       played = more (setting_over input plan) (scripts_of input) history actor (look_by actor key) wants sees.played;
       goes = sees.goes;
-      hold = grind (arith, nat_tests, fold-append);
+      hold = grind (arith, fold-append);
     }
 
 -- what a visit of an actor keeps, many keep

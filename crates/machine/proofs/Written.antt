@@ -1,5 +1,4 @@
 -- How far a subscriber is after visits that go on with a step: after one of them, and after many at once.
-use Rattle.std.proofs.lemmas.Bool.Decides.{nat_tests}
 use Rattle.std.proofs.Common.{◌≡◌, ℕ, suc, ◌+◌, ◌-◌, ◌<◌, ◌≤◌, List, [], ◌∷◌, ◌++◌, length, map, take, drop, get_or, sym, ap, ◌∙◌, arith, append_assoc, zero, false, set, refl, subst, add-one}
 use Rattle.std.specs.Prelude.{None, Some, slice_get, slice_set, vec_capacity}
 use Rattle.std.proofs.lemmas.Option.{slice_get_within}
@@ -56,7 +55,7 @@ lines_behind lines line ticket (suc count) =
 lines-count : (lines : List Done) (line : Done) (ticket count : ℕ) → length (lines_behind lines line ticket count)
     ≡ length lines
 lines-count lines line ticket zero = refl
-lines-count lines line ticket (suc count) = grind (arith, nat_tests, length-set)
+lines-count lines line ticket (suc count) = grind (arith, length-set)
 
 -- and what is seen of it
 abbrev behind : Shown → HandsetData → Done → ℕ → ℕ → Shown
@@ -88,20 +87,20 @@ lines-are : (lines : List Done) (line : Done) (ticket count : ℕ) → 0 < count
     → lines_behind lines line ticket count
     ≡ set lines (length lines - 1) (line_after (get_or lines (length lines - 1) line) false (ticket + count - 1))
 lines-are lines line ticket zero some = absurd (omega (arith, some))
-lines-are lines line ticket (suc count) some = grind (arith, nat_tests)
+lines-are lines line ticket (suc count) some = grind arith
 
 -- a subscriber by its handset, its lines and the room for them
 its-same : {input : Contents} {plan : PlanData} {history : History} {sub : ℕ} {one : Shown} (other : Shown)
     → other.handset ≡ one.handset → other.lines.items ≡ one.lines.items
     → vec_capacity one.lines ≤ vec_capacity other.lines → IsShown input plan history sub one
     → IsShown input plan history sub other
-its-same {input} {sub} {one} other handset lines room its = grind (arith, nat_tests)
+its-same {input} {sub} {one} other handset lines room its = grind arith
 
 -- the writes that are ahead may go into their cells
 pub may-put : {input : Contents} {plan : PlanData} {cells : CellData} {history : History} {sub : ℕ} {old : Subscriber}
     {writes : List Ahead} → Sees input plan cells history → (its : IsSubscriber input plan history sub old)
     → writes ≡ old.ahead.items → MayPut plan sub its.handset old.handset cells (drop old.made writes)
-may-put sees its same = grind (arith, nat_tests)
+may-put sees its same = grind arith
 
 module _ (unpack : MarksUnpack) (own_law : OwnGrow) (ticket_law : TicketsGrow) (tell : TicketsAreOwn)
     (scripts : ScriptsAreValid) {input : Contents} {plan : PlanData} {distances : DistanceTable} {sub : ℕ}
@@ -121,11 +120,11 @@ module _ (unpack : MarksUnpack) (own_law : OwnGrow) (ticket_law : TicketsGrow) (
       let count : length (tickets sub history) ≡ made = tickets-count sub history in
       let p : List ℕ = drop n (tickets sub history) in
       let size : length p ≡ made - n = length-drop n (tickets sub history) ∙ ap (λ k. k - n) count in
-      let front : length (take n (tickets sub history)) ≡ n = grind (arith, nat_tests, length-take-le) in
+      let front : length (take n (tickets sub history)) ≡ n = grind (arith, length-take-le) in
       let here : slice_get (map (visit_of sub) (step_writes setting after split.last)) (length p) ≡ Some visit =
       rw size (last-visit setting sub made split.before split.last (omega (arith, past)) (rw split.are at now)) in
       let room : length p < length (step_writes setting after split.last) =
-      grind (arith, nat_tests, slice_get_within, length-map) in
+      grind (arith, slice_get_within, length-map) in
       let may = step-allowed scripts sub (length old.lines.items) split.before split.last together low split.are in
       let parts : tickets sub history ≡ take n (tickets sub history) ++ p =
       sym (take-append-drop n (tickets sub history)) in
@@ -184,9 +183,9 @@ module _ (unpack : MarksUnpack) (own_law : OwnGrow) (ticket_law : TicketsGrow) (
       seen-after own_law ticket_law input plan history sub (length old.lines.items) low (rw its.its at wants) in
       let way : Under input plan history sub old put.visit = under-way its wants in
       let end : last ≡ length way.rows = omega (arith, last_is, ap length way.are, length_push way.rows way.row) in
-      let row : get_or old.lines.items last default ≡ way.row = grind (arith, nat_tests, get_or_push) in
-      let now : new.lines.items ≡ way.rows ++ line ∷ [] = grind (arith, nat_tests, set-append_seam) in
-      let longer : length new.lines.items ≡ length old.lines.items = grind (arith, nat_tests, length_push) in
+      let row : get_or old.lines.items last default ≡ way.row = grind (arith, get_or_push) in
+      let now : new.lines.items ≡ way.rows ++ line ∷ [] = grind (arith, set-append_seam) in
+      let longer : length new.lines.items ≡ length old.lines.items = grind (arith, length_push) in
       let steps : begun_steps input sub old ≡ begun_steps input sub new =
       ap (λ k. take k (steps_of (scripts_of input) sub)) (sym longer) in (
         put.visit,
@@ -241,8 +240,7 @@ module _ (unpack : MarksUnpack) (own_law : OwnGrow) (ticket_law : TicketsGrow) (
       → (count : ℕ) (handset : HandsetData) (after : CellData) → HavePut plan old.handset cells count handset after
       → AreMade input plan after history sub count (λ later. IsShown input plan later sub
       (behind old handset line ticket count))
-  written-many more mine {ticket} {old} line place sees its zero handset after puts =
-      grind (arith, nat_tests, made-none, its-same)
+  written-many more mine {ticket} {old} line place sees its zero handset after puts = grind (arith, made-none, its-same)
   written-many more mine {history} {ticket} {old} line place sees its (suc count) handset after
       (before, between, rest, entry) =
       let mid : Shown = behind old before line ticket count in
@@ -271,7 +269,7 @@ module _ (unpack : MarksUnpack) (own_law : OwnGrow) (ticket_law : TicketsGrow) (
   plain-put more mine {history} {ticket} {count} place {old} lines line at sees its same come some within lines_are
       room =
       let made = written-many more mine line at sees its.shown count come.handset _ come.put in
-      grind (arith, nat_tests, made-as, its-same, lines-are)
+      grind (arith, made-as, its-same, lines-are)
 
 -- a write that isn't left
 pub ended : {input : Contents} {plan : PlanData} {cells after : CellData} {history : History} {ticket sub count : ℕ}

@@ -1,11 +1,10 @@
-use Rattle.std.proofs.lemmas.Bool.Decides.{nat_tests}
 use Rattle.std.proofs.Common.{◌≡◌, arith, refl, subst, sym}
 use Rattle.machine.specs.Owed.{HasNone, Owes}
 use Rattle.machine.proofs.Owing.{ahead-joined, ahead-more, ahead-none}
 use Rattle.machine.proofs.ahead.fill.Goals as goal
 
 pub writes-init : goal.writes-init
-writes-init c = grind (arith, nat_tests, ahead-none)
+writes-init c = grind (arith, ahead-none)
 
 pub writes-preserved : goal.writes-preserved
 writes-preserved c =

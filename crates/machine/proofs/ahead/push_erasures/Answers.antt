@@ -1,4 +1,3 @@
-use Rattle.std.proofs.lemmas.Bool.Decides.{nat_tests}
 use Rattle.std.proofs.Common.{◌≡◌, ◌<◌, ◌≤◌, ◌+◌, ◌-◌, ℕ, List, true, false, not, suc, [], Some, ap, subst, sym, arith, refl, ◌∙◌, get_or, add-one}
 use Rattle.std.specs.Prelude.{option_map, slice_index}
 use Rattle.std.proofs.lemmas.Bool.{eq-eqb, ne_eqb}
@@ -19,12 +18,12 @@ use Rattle.machine.proofs.ahead.push_erasures.Goals.{then-old-new, else-old-new}
 -- a level that is looked at is one of the plan's
 low-above : {plan : PlanData} {handset : HandsetData} {erasures : Erasures} (above : ℕ) → GoesWith plan handset
     → erasures ≡ erasures_from handset erasures.level → above < erasures.last + 1 → above < levels_of plan
-low-above above goes they below = grind (arith, nat_tests)
+low-above above goes they below = grind arith
 
 -- the node of an address is one of the plan's
 node-inside : {plan : PlanData} {handset : HandsetData} {addresses : List ℕ} (above : ℕ) → GoesWith plan handset
     → addresses ≡ handset.addresses → above < levels_of plan → get_or addresses above 0 < nodes_of plan
-node-inside {plan} above goes same low = grind (arith, nat_tests)
+node-inside {plan} above goes same low = grind arith
 
 pub bounds-of-above : goal.bounds-of-above
 bounds-of-above c = grind (arith, low-above, node-inside)
@@ -33,7 +32,7 @@ pub bounds-new-above : goal.bounds-new-above
 bounds-new-above c = grind (arith, low-above)
 
 pub loop-above-init : goal.loop-above-init
-loop-above-init c = grind (arith, nat_tests, at-stage, node-inside, add-one, ahead-none)
+loop-above-init c = grind (arith, at-stage, node-inside, add-one, ahead-none)
 
 pub loop-above-preserved : goal.loop-above-preserved
 loop-above-preserved c =
@@ -41,13 +40,13 @@ loop-above-preserved c =
     let handset = c.args.handset.now in
     let at : ℕ = c.loop-above.at in
     let above : ℕ = c.loop-above.above in
-    let below : above ≤ handset.last.renewed = grind (arith, nat_tests) in
+    let below : above ≤ handset.last.renewed = grind arith in
     let high = low-above above c.requires.goes c.requires.they c.loop-above-test.true in
     let inside = node-inside above c.requires.goes c.addresses-addresses.ensures high in
     let here : get_or c.of-in-loop-above.result.now above 0
-    ≡ home_place plan (slice_index handset.addresses above) above = grind (arith, nat_tests) in
+    ≡ home_place plan (slice_index handset.addresses above) above = grind arith in
     let node : c.args.erasures.node ≡ handset.last.to = ap (λ (e : Erasures). e.node) c.requires.they in
-    let there : get_or c.of-new.result.now above 0 ≡ home_place plan handset.last.to above = grind (arith, nat_tests) in
+    let there : get_or c.of-new.result.now above 0 ≡ home_place plan handset.last.to above = grind arith in
     elim c.if-old-new.branch [
       | then-old-new w ↦
           let old : is_old (setting_of plan []) handset above ≡ true =

@@ -1,4 +1,3 @@
-use Rattle.std.proofs.lemmas.Bool.Decides.{nat_tests}
 use Rattle.std.proofs.Common.{◌≡◌, ◌<◌, ◌≤◌, ◌+◌, ◌-◌, ℕ, false, suc, [], Some, ap, subst, sym, arith, refl, ◌∙◌, length, get_or, add-one}
 use Rattle.std.specs.Prelude.{min}
 use Rattle.std.proofs.Math.Nat.{min-le_left, min-le_right}
@@ -23,7 +22,7 @@ level-low : {plan : PlanData} {handset : HandsetData} {renewals : Renewals} (at 
 level-low {handset} {renewals} at room goes they few from to = grind (arith, min-le_right)
 
 pub loop-level-init : goal.loop-level-init
-loop-level-init c = grind (arith, nat_tests, at-stage, min-le_left, ahead-none)
+loop-level-init c = grind (arith, at-stage, min-le_left, ahead-none)
 
 pub bounds-places-level : goal.bounds-places-level
 bounds-places-level c = grind (arith, level-low)
@@ -43,7 +42,7 @@ loop-level-preserved c =
     c.loop-level.auto.level c.loop-level-test.true in
     let place : ℕ = get_or c.of-places.result.now at 0 in
     let node : c.args.renewals.node ≡ handset.last.to = ap (λ (r : Renewals). r.node) c.requires.they in
-    let there : place ≡ home_place plan handset.last.to at = grind (arith, nat_tests) in
+    let there : place ≡ home_place plan handset.last.to at = grind arith in
     let is : entry_write (setting_of plan []) handset (entries.Renewing at) ≡ Some write =
     renewal-at plan handset at low.0 refl (sym (ap (λ (r : Renewals). r.word) c.requires.they))
     in
@@ -73,7 +72,7 @@ loop-level-preserved c =
 
 pub returns : goal.returns
 returns c = λ subs known.
-    let last : c.loop-level.level ≡ c.args.renewals.level + c.min.result = grind (arith, nat_tests) in
+    let last : c.loop-level.level ≡ c.args.renewals.level + c.min.result = grind arith in
     subst (λ h. IsAhead c.args.plan.now subs c.args.handset.now h c.args.ahead.now c.loop-level.ahead)
     (ap (λ n. at_entry c.args.handset.now (entries.Renewing n)) last ∙ sym c.go_to.ensures)
     (c.loop-level.invariant.ahead subs known)

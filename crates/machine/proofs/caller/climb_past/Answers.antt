@@ -1,4 +1,3 @@
-use Rattle.std.proofs.lemmas.Bool.Decides.{nat_tests}
 use Rattle.std.proofs.Common.{ap, sym, subst, arith}
 use Rattle.region_plan.specs.ReaderLaws.{readers-few}
 use Rattle.visit_log.specs.Routes.{ComesTo}
@@ -10,7 +9,7 @@ use Rattle.machine.proofs.Passing.{climb-is, passes, past-over, climb-at}
 use Rattle.machine.proofs.caller.climb_past.Goals as goal
 
 pub returns-clause-exact : goal.returns-clause-exact
-returns-clause-exact c = grind (arith, nat_tests, climb-at, climb-is)
+returns-clause-exact c = grind (arith, climb-at, climb-is)
 
 pub returns-clause-over : goal.returns-clause-over
 returns-clause-over c =
@@ -26,7 +25,7 @@ overflow_add-result c =
     let on : ComesTo c.args.plan.now c.args.routes.now c.args.climb.from (rung_of c.args.climb) c.args.count =
     record { at = climb-at c.requires.routes c.requires.over; on = c.requires.rungs c.args.count (omega arith) } in
     let there : Climb = climb_past c.args.plan.now c.args.climb c.args.count in
-    let over : IsClimbOver c.args.plan.now there = grind (arith, nat_tests, past-over) in
+    let over : IsClimbOver c.args.plan.now there = grind (arith, past-over) in
     omega (
       arith,
       ap (λ (r : Height). r.weight) (c.past-level.ensures c.args.plan.now on),

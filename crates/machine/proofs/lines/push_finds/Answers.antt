@@ -1,4 +1,3 @@
-use Rattle.std.proofs.lemmas.Bool.Decides.{nat_tests}
 use Rattle.std.proofs.Common.{length, arith}
 use Rattle.std.specs.Prelude.{vec_capacity}
 use Rattle.std.proofs.lemmas.List.{take_all}
@@ -19,7 +18,7 @@ callers-preserved c =
     c.caller-item.result c.deref.result.now c.callers-test.true c.caller-item.is c.deref.ensures.value
     c.args.calls.now.items (vec_capacity c.callers.calls) (vec_capacity c.push_lines.new.calls)
     c.callers.invariant.items c.push_lines.ensures.items c.callers.invariant.room c.push_lines.ensures.capacity in
-    grind (arith, nat_tests)
+    grind arith
 
 pub returns-clause-items : goal.returns-clause-items
 returns-clause-items c = grind (arith, take_all)

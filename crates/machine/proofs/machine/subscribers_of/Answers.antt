@@ -1,4 +1,3 @@
-use Rattle.std.proofs.lemmas.Bool.Decides.{nat_tests}
 use Rattle.std.proofs.Common.{◌≡◌, ◌<◌, [], sym, ap, ◌∙◌, arith, refl, length}
 use Rattle.net_reader.specs.Seen.{seen_input}
 use Rattle.machine.specs.Stands.{calls_of}
@@ -10,7 +9,7 @@ use Rattle.machine.proofs.machine.subscribers_of.Goals as goal
 
 pub loop-sub-preserved : goal.loop-sub-preserved
 loop-sub-preserved c =
-    let low : c.loop-sub.sub < length c.args.input.now.homes.items = grind (arith, nat_tests) in
+    let low : c.loop-sub.sub < length c.args.input.now.homes.items = grind arith in
     let steps : c.len-steps.result ≡ calls_of (seen_input c.args.input.now) c.loop-sub.sub = omega (
       arith,
       c.len-steps.ensures,

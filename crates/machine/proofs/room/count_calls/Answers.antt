@@ -1,4 +1,3 @@
-use Rattle.std.proofs.lemmas.Bool.Decides.{nat_tests}
 use Rattle.std.proofs.Common.{arith, map, Vec, Global, suc, take, ◌+◌, ◌≡◌, ℕ, List, [], ◌∷◌, zero, ◌<◌, get_or, length}
 use Rattle.std.proofs.lemmas.List.{take_all}
 use Rattle.net_reader.specs.declared.said.Call.{Call}
@@ -18,4 +17,4 @@ pub loop-script-preserved : goal.loop-script-preserved
 loop-script-preserved c = grind (arith, added, calls-more)
 
 pub returns : goal.returns
-returns c = grind (arith, nat_tests, take_all)
+returns c = grind (arith, take_all)

@@ -1,11 +1,10 @@
-use Rattle.std.proofs.lemmas.Bool.Decides.{nat_tests}
 use Rattle.std.proofs.Common.{arith}
 use Rattle.machine.proofs.Passing.{looked-through, looks-ended, passed-none}
 use Rattle.machine.proofs.Making.{turns-behind, may-follow}
 use Rattle.machine.proofs.caller.Caller.look.Goals as goal
 
 pub looks-init : goal.looks-init
-looks-init g c = grind (arith, nat_tests, passed-none)
+looks-init g c = grind (arith, passed-none)
 
 pub pass-made-requires-clause-stands : goal.pass-made-requires-clause-stands
 pass-made-requires-clause-stands g c =

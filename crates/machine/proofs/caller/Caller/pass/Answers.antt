@@ -1,4 +1,3 @@
-use Rattle.std.proofs.lemmas.Bool.Decides.{nat_tests}
 use Rattle.std.proofs.Common.{◌≡◌, ◌<◌, ◌∙◌, arith, subst}
 use Rattle.net_reader.specs.Seen.{seen_input}
 use Rattle.walk.specs.Climbs.{IsClimbOf}
@@ -8,7 +7,7 @@ use Rattle.machine.proofs.Looked.{scripts-low, sub-known, walks-over}
 use Rattle.machine.proofs.caller.Caller.pass.Goals as goal
 
 pub returns-in_default-climb-clause-passed : goal.returns-in_default-climb-clause-passed
-returns-in_default-climb-clause-passed g c = grind (arith, nat_tests, passed-none)
+returns-in_default-climb-clause-passed g c = grind (arith, passed-none)
 
 pub count_ahead-count-requires-clause-known : goal.count_ahead-count-requires-clause-known
 count_ahead-count-requires-clause-known g c =
@@ -17,10 +16,10 @@ count_ahead-count-requires-clause-known g c =
     omega (arith, c.sub.ensures, known, c.requires.stands.1.hold.subs)
 
 pub count_ahead-count-requires-clause-over : goal.count_ahead-count-requires-clause-over
-count_ahead-count-requires-clause-over g c = grind (arith, nat_tests, walks-over)
+count_ahead-count-requires-clause-over g c = grind (arith, walks-over)
 
 pub climb_past-requires-clause-over : goal.climb_past-requires-clause-over
-climb_past-requires-clause-over g c = grind (arith, nat_tests, walks-over)
+climb_past-requires-clause-over g c = grind (arith, walks-over)
 
 pub returns-then-count-gt0-clause-passed : goal.returns-then-count-gt0-clause-passed
 returns-then-count-gt0-clause-passed g c = λ history sees place its.

@@ -1,4 +1,3 @@
-use Rattle.std.proofs.lemmas.Bool.Decides.{nat_tests}
 use Rattle.std.proofs.Common.{◌≡◌, ◌≤◌, ℕ, length, map, ap, ◌∙◌, subst, arith, Vec, Global}
 use Rattle.std.proofs.lemmas.List.{length-map}
 use Rattle.std.proofs.lemmas.List.Sums.{fold-append}
@@ -9,7 +8,7 @@ use Rattle.machine.proofs.machine.Machine.finish.Goals as goal
 
 pub actors-preserved : goal.actors-preserved
 actors-preserved c = record {
-  same = grind (arith, nat_tests, same-through);
+  same = grind (arith, same-through);
   stands = λ history is.
       turns-following c.args.self.now c.actors.self history c.actors.actor c.actors.invariant.same
       (c.finish_actor.ensures.stands _ (c.actors.invariant.stands history is));
@@ -19,7 +18,7 @@ actors-preserved c = record {
 count-had : (actor : ℕ) {end count : ℕ} (scripts : Vec (Vec Call Global) Global) → end ≤ actor → actor ≤ end
     → end ≡ count → count ≡ length scripts.items → actor ≡ length
     (map (λ (script : Vec Call Global). script.items) scripts.items)
-count-had actor scripts low high one two = grind (arith, nat_tests, length-map)
+count-had actor scripts low high one two = grind (arith, length-map)
 
 pub returns-clause-stands : goal.returns-clause-stands
 returns-clause-stands c history is =

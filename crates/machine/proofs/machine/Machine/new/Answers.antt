@@ -1,4 +1,3 @@
-use Rattle.std.proofs.lemmas.Bool.Decides.{nat_tests}
 use Rattle.std.proofs.Common.{arith, sym, ◌∙◌, refl}
 use Rattle.machine.proofs.Turning.{scripts-inside}
 use Rattle.machine.proofs.machine.Machine.new.Goals as goal
@@ -13,7 +12,7 @@ returns-clause-stands c = record {
   together = c.requires.together;
   homes = c.in_ok-homes.ensures.homes;
   routes = c.in_ok-homes.ensures.routes;
-  sees = grind (arith, nat_tests, none-played);
+  sees = grind (arith, none-played);
   order = c.in_ok-order.ensures.empty.0;
   room = omega (arith, c.in_ok-order.ensures.visits c.args.input.now.homes.items);
   subscribers_count = sym c.in_ok-subscribers.subscribers.ok.0 ∙ c.in_ok-subscribers.ensures.count;

@@ -1,4 +1,3 @@
-use Rattle.std.proofs.lemmas.Bool.Decides.{nat_tests}
 use Rattle.std.proofs.Common.{◌≡◌, ◌+◌, ◌-◌, arith, subst}
 use Rattle.machine.specs.Machines.{HasMade}
 use Rattle.machine.proofs.Finishing.{made-idle, made-joined, made-none, same-through, turned-once}
@@ -13,7 +12,7 @@ pub returns-then-count-eq1-clause-made : goal.returns-then-count-eq1-clause-made
 returns-then-count-eq1-clause-made c = grind (arith, turned-once)
 
 pub turns-init : goal.turns-init
-turns-init c = grind (arith, nat_tests, made-none)
+turns-init c = grind (arith, made-none)
 
 pub returns-then-made-eq0-clause-stands : goal.returns-then-made-eq0-clause-stands
 returns-then-made-eq0-clause-stands c = λ history is.
@@ -29,7 +28,7 @@ returns-then-made-eq0-clause-made c = λ history is.
 
 pub turns-preserved : goal.turns-preserved
 turns-preserved c = record {
-  same = grind (arith, nat_tests, same-through);
+  same = grind (arith, same-through);
   few = omega (arith, c.turns.invariant.few);
   stands = λ history is.
       let made = c.turns.invariant.stands history is in

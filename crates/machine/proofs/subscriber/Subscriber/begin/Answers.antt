@@ -1,4 +1,3 @@
-use Rattle.std.proofs.lemmas.Bool.Decides.{nat_tests}
 use Rattle.std.proofs.Common.{◌≡◌, ◌++◌, ◌∷◌, [], sym, ap, ◌∙◌, refl, arith, length, subst}
 use Rattle.net_reader.specs.declared.said.Call.TheVariants as calls
 use Rattle.machine.specs.Owed.{Owes}
@@ -78,7 +77,7 @@ returns c = λ history sees place its.
     (omega (arith, c.len-place.ensures)) c.if-place-script.false in
     let begun = c.begin_step-line.ensures.stands c.args.input.now.homes.items _ _ at.shown.handset in
     let lines : c.push.new.self.items ≡ c.args.self.now.lines.items ++ c.begin_step-line.result ∷ [] =
-    grind (arith, nat_tests, ok-of) in
+    grind (arith, ok-of) in
     let some = first-ahead c.fill.new.ahead.items at c.begin_step-line.ensures.its
     (c.begin_step-line.ensures.stands c.args.input.now.homes.items _ _ at.shown.handset) c.fill.ensures.rests in
     let owes = c.fill.ensures.ahead.owes c.begin_step-line.new.handset

@@ -1,11 +1,10 @@
-use Rattle.std.proofs.lemmas.Bool.Decides.{nat_tests}
 use Rattle.std.proofs.Common.{arith}
 use Rattle.machine.proofs.Making.{made-count, made-next, made-none, may-follow, turns-behind}
 use Rattle.machine.proofs.Written.{ended}
 use Rattle.machine.proofs.subscriber.Subscriber.write.Goals as goal
 
 pub writes-init : goal.writes-init
-writes-init g c = grind (arith, nat_tests, made-none)
+writes-init g c = grind (arith, made-none)
 
 pub write_plain-made-requires-clause-stands : goal.write_plain-made-requires-clause-stands
 write_plain-made-requires-clause-stands g c =

@@ -1,4 +1,3 @@
-use Rattle.std.proofs.lemmas.Bool.Decides.{nat_tests}
 use Rattle.std.proofs.Common.{◌≡◌, ◌+◌, ◌-◌, ◌<◌, ℕ, false, length, set, ap, arith, ◌∙◌}
 use Rattle.machine.specs.Subscribers.{line_after}
 use Rattle.machine.proofs.Making.{made-none}
@@ -10,7 +9,7 @@ put_plain-behind-requires-clause-stands c = grind (arith, may-put)
 
 pub overflow_sub-last : goal.overflow_sub-last
 overflow_sub-last c =
-    let left : c.args.self.now.made < length c.args.self.now.ahead.items = grind (arith, nat_tests) in
+    let left : c.args.self.now.made < length c.args.self.now.ahead.items = grind arith in
     let some = line-there c.mark_words.ensures.unpacked c.own_after.ensures.visits c.own_after.ensures.tickets
     c.tickets_tell.ensures.visits c.scripts_are_valid.ensures c.requires.together c.requires.low
     c.requires.stands.3 left in
@@ -18,7 +17,7 @@ overflow_sub-last c =
 
 pub index_mut-requires : goal.index_mut-requires
 index_mut-requires c =
-    let left : c.args.self.now.made < length c.args.self.now.ahead.items = grind (arith, nat_tests) in
+    let left : c.args.self.now.made < length c.args.self.now.ahead.items = grind arith in
     let some = line-there c.mark_words.ensures.unpacked c.own_after.ensures.visits c.own_after.ensures.tickets
     c.tickets_tell.ensures.visits c.scripts_are_valid.ensures c.requires.together c.requires.low
     c.requires.stands.3 left in
