@@ -42,8 +42,7 @@ module _ {A B : Type 0} (f : A → List B) (xs : List A) (i : ℕ) (item : A) (p
 
   -- the parts that are left begin with that of the item
   parts-left : length (flat_map f (drop i xs)) ≡ length part + length (flat_map f (drop (i + 1) xs))
-  parts-left =
-      rw (drop-cons xs i item low, its-part, add-one i, length-append)
+  parts-left = grind (arith, drop-cons, its-part, add-one, length-append)
 
   pub part-fits : (held capacity : ℕ) → held + length (flat_map f (drop i xs)) ≤ capacity
       → held + length part ≤ capacity
@@ -77,10 +76,8 @@ lines-done input plan history sub subscriber low is done =
     let course : Course = course_at (start setting sub) in
     let whole : begun ++ left ≡ script = take-append-drop (length subscriber.lines.items) script in
     let made : length (script_visits setting (scripts_of input) sub) ≤ length (own sub history) =
-    past-end (script_visits setting (scripts_of input) sub) (length (own sub history))
-    (sym (next-sub setting (scripts_of input) history sub low) ∙ done) in
-    let few : length (own sub history) ≤ length (visits setting sub begun) =
-    rw is.shown.its at is.shown.handset.few in
+    grind (arith, past-end, next-sub) in
+    let few : length (own sub history) ≤ length (visits setting sub begun) = grind arith in
     let nothing : left ≡ [] = none-left setting course begun left (length (own sub history))
     (rw whole (omega (arith, made, length-map (writes setting course script) (visit_of sub))))
     (omega (arith, few, length-map (writes setting course begun) (visit_of sub))) in
@@ -194,9 +191,7 @@ pub lines-all : {machine : Machine} {history : History} → HasHistory machine h
     ≡ (outcome_in (setting_at machine) (scripts_at machine) history).calls
 lines-all {machine} {history} is done =
     let input : Contents = input_at machine in
-    let finds_count : length (scripts_at machine).finds ≡ input.callers =
-    length-map (drop (length input.homes) input.scripts) (map find_of)
-    ∙ omega (arith, length-drop (length input.homes) input.scripts, is.together.valid.scripts) in
+    let finds_count : length (scripts_at machine).finds ≡ input.callers = grind (arith, length-map, length-drop) in
     rw (
       flat-each (λ (one : Subscriber). one.lines.items) (sub_lines (setting_at machine) (scripts_at machine) history)
           machine.subscribers.items 0 (λ s d h. lines-done input machine.plan.now history s

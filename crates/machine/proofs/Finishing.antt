@@ -38,14 +38,7 @@ behind_turns machine history order = after_turns (setting_at machine) (scripts_a
 pub made-joined : {entry now new : Machine} {history : History} {actor k n : ℕ} → IsSame entry now
     → HasMade entry now history actor k → HasMade now new (behind_turns entry history (replicate k actor)) actor n
     → HasMade entry new history actor (k + n)
-made-joined {entry} {now} {new} {history} {actor} {k} {n} same first then =
-    let joined : behind_turns now (behind_turns entry history (replicate k actor)) (replicate n actor)
-    ≡ behind_turns entry history (replicate (k + n) actor) =
-    rw (same.0, same.1) (turns-joined (setting_at entry) (scripts_at entry) history actor k n) in
-    record {
-      stands = subst (HasHistory new) joined then.stands;
-      made = sym (ap length joined) ∙ (then.made ∙ omega (arith, first.made));
-    }
+made-joined {entry} {now} {new} {history} {actor} {k} {n} same first then = grind (arith, turns-joined)
 
 -- no turns
 pub made-none : {machine : Machine} {history : History} (actor : ℕ) → HasHistory machine history
@@ -86,24 +79,10 @@ pub turned-once : {old new : Machine} {history : History} {actor : ℕ} (count :
 turned-once {old} {new} {history} {actor} zero few made =
     let none : next (setting_at old) (scripts_at old) history actor ≡ None = (made.1 refl).0 in
     let still = turn-none (setting_at old) (scripts_at old) history actor none in
-    record {
-      stands = subst (HasHistory new) (sym still) made.0.stands;
-      none = (λ same. none, λ same. refl);
-      made = ap length still ∙ omega arith;
-    }
+    grind arith
 turned-once {old} {history} {actor} (suc zero) few made =
-    record {
-      stands = made.0.stands;
-      none = (
-        λ same. absurd (omega (arith, same)),
-        λ none. absurd (omega (
-          arith,
-          made.0.made,
-          ap length (turn-none (setting_at old) (scripts_at old) history actor none),
-        )),
-      );
-      made = made.0.made;
-    }
+    let idle = turn-none (setting_at old) (scripts_at old) history actor in
+    grind arith
 turned-once (suc (suc count)) few made = absurd (omega (arith, few))
 
 -- turns that make visits leave fewer
@@ -167,8 +146,7 @@ turns-all machine valid = grind (arith, length-map, length-drop, turns_of)
 -- a run of one number, and of one more
 pub run-first : (order : List ℕ) (start : ℕ) → start < length order
     → drop start order ≡ replicate (start + 1 - start) (get_or order start 0) ++ drop (start + 1) order
-run-first order start inside =
-    let one : start + 1 - start ≡ 1 = omega arith in rw (one, add-one start, drop-cons order start 0 inside)
+run-first order start inside = grind (arith, add-one, drop-cons)
 
 pub run-more : (order : List ℕ) (start end : ℕ) → start < end → end < length order
     → get_or order end 0 ≡ get_or order start 0
@@ -200,5 +178,4 @@ played-run entry now {new} history order start end same run so_far goes = grind 
 pub played-whole : (entry : Machine) {now : Machine} {history wanted : History} (order : List ℕ) (start : ℕ)
     → length order ≤ start → HasHistory now history → behind_turns entry history (drop start order) ≡ wanted
     → HasHistory now wanted
-played-whole entry {now} {history} order start past is so_far =
-    subst (HasHistory now) (ap (behind_turns entry history) (sym (drop_all start order past)) ∙ so_far) is
+played-whole entry {now} {history} order start past is so_far = grind (arith, drop_all)

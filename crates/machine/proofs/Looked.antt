@@ -25,8 +25,7 @@ use Rattle.machine.specs.Callers.{HasLooked, IsCaller, first_ticket}
 use Rattle.machine.specs.WalkingLaws.{Walks, drop-more, walking, read-on}
 use Rattle.scripts.specs.Laws.{ScriptsAreValid}
 use Rattle.scripts.specs.ScriptLaws.{finds-are}
-use Rattle.std.proofs.lemmas.Bool.{eq-eqb, cases_lt, lt-ltb, le-ltb}
-use Rattle.std.proofs.lemmas.Bool.Decides.{nat_tests}
+use Rattle.std.proofs.lemmas.Bool.{eq-eqb}
 use Rattle.std.proofs.Math.ListN.{get_or-append}
 use Rattle.directory.specs.Settings.{Setting}
 use Rattle.directory.specs.Looks.{look_by}
@@ -39,8 +38,7 @@ use Rattle.machine.specs.declared.turn.Turn.TheVariants.{Visited}
 
 pub key-wanted : {plan : PlanData} (seeker : Seeker) {walk : WalkData} → Walks plan seeker.calls seeker.pursuit walk
     → key_of (call_of walk) (pursuit_of plan walk) ≡ next_key seeker
-key-wanted seeker {walk} at =
-    rw (at.so_far, at.its, at.calls_are)
+key-wanted seeker {walk} at = grind arith
 
 -- the find that a caller is at is one of its script
 pub call-known : (input : Contents) (plan : PlanData) (actor n : ℕ) {call : FindCall} {later : List FindCall}
@@ -49,14 +47,7 @@ pub call-known : (input : Contents) (plan : PlanData) (actor n : ℕ) {call : Fi
     → IsFindCall (setting_over input plan) call
 call-known input plan actor n {call} {later} valid high low left =
     let at = drop-more n (finds_of (setting_over input plan) (scripts_of input) actor) call later left in
-    let short : actor - length input.homes < length (scripts_of input).finds =
-    omega (
-      arith,
-      high,
-      low,
-      length-map (drop (length input.homes) input.scripts) (map find_of),
-      length-drop (length input.homes) input.scripts,
-    ) in
+    let short : actor - length input.homes < length (scripts_of input).finds = grind (arith, length-map, length-drop) in
     subst (IsFindCall (setting_over input plan)) (at.2 call)
     (valid.finds (actor - length input.homes) [] short n call at.0)
 
@@ -65,8 +56,7 @@ module _ {input : Contents} {plan : PlanData} {history : History} {actor : ℕ} 
     (its : IsCaller input plan history actor caller) (held : caller.walk ≡ Some walk) where
   its-walk : Walks plan (caller_in (setting_over input plan) (scripts_of input) history actor).calls
       (caller_in (setting_over input plan) (scripts_of input) history actor).pursuit walk
-  its-walk = walking plan (caller_in (setting_over input plan) (scripts_of input) history actor).calls
-      (caller_in (setting_over input plan) (scripts_of input) history actor).pursuit caller.walk walk held its.walk
+  its-walk = grind (arith, walking)
 
   -- the walk goes with the plan
   pub walks-over : IsWalkOver plan walk
@@ -149,7 +139,7 @@ ok-of (Err e) h = cc
 pub first-is : (first : ℕ) {next : ℕ} (ticket : ℕ) (seen : List ℕ) {kept : Option ℕ}
     → kept ≡ (if nat_lt first next then Some (slice_index seen first) else None) → length seen ≡ next → first ≤ next
     → unwrap_or kept ticket ≡ slice_index (seen ++ ticket ∷ []) first
-first-is first {next} ticket seen same count low = grind (arith, cases_lt, lt-ltb, get_or-append, le-ltb, get_or_push)
+first-is first {next} ticket seen same count low = grind (arith, get_or-append, get_or_push)
 
 -- a caller by its parts
 pub by-parts : (input : Contents) (plan : PlanData) (history : History) (actor : ℕ) {seeker : Seeker} {seen : List ℕ}
@@ -160,14 +150,7 @@ pub by-parts : (input : Contents) (plan : PlanData) (history : History) (actor :
     (finds_of (setting_over input plan) (scripts_of input) actor)
     → length (finds_of (setting_over input plan) (scripts_of input) actor) ≤ vec_capacity caller.lines
     → IsCaller input plan history actor caller
-by-parts input plan history actor {seen} caller e t walks first lines left room =
-    record {
-      walk = rw e walks;
-      first = rw (e, t) first;
-      lines = lines;
-      left = ap (λ (s : Seeker). s.calls) e ∙ left;
-      room = room;
-    }
+by-parts input plan history actor {seen} caller e t walks first lines left room = grind arith
 
 -- what is known as a caller looks
 pub record Looks (input : Contents) (plan : PlanData) (history : History) (actor : ℕ)
@@ -225,7 +208,7 @@ looked-on read grow count {input} {plan} {history} {actor} {ticket} {old} {key} 
     first-is seeker.first ticket (tickets actor history) its.first (sym counted.0) counted.1 in
     let seen : tickets actor (history ++ look_by actor key ∷ []) ≡ tickets actor history ++ ticket ∷ [] =
     rw (at.seen, place) in
-    let low : nat_lt seeker.first (suc seeker.next) ≡ true = grind (arith, nat_tests, counted.1) in (
+    let low : nat_lt seeker.first (suc seeker.next) ≡ true = grind (arith, counted.1) in (
       key,
       at.turn,
       rw same (by-parts input plan (history ++ look_by actor key ∷ []) actor _ after seen
@@ -265,12 +248,11 @@ looked-up read grow count {input} {plan} {history} {actor} {ticket} {old} new {k
     first-is seeker.first ticket (tickets actor history) its.first (sym counted.0) counted.1 in
     let seen : tickets actor (history ++ look_by actor key ∷ []) ≡ tickets actor history ++ ticket ∷ [] =
     rw (at.seen, place) in
-    let late : nat_lt (suc seeker.next) (suc seeker.next) ≡ false = grind (arith, nat_tests) in
+    let late : nat_lt (suc seeker.next) (suc seeker.next) ≡ false = grind arith in
     let rest : at.call ∷ at.later ≡ drop (length old.lines.items) (finds_of setting scripts actor) =
     sym at.calls_are ∙ its.left in
     let more = drop-more (length old.lines.items) (finds_of setting scripts actor) at.call at.later rest in
-    let longer : length new.lines.items ≡ suc (length old.lines.items) =
-    ap length lines ∙ omega (arith, length_push old.lines.items line) in
+    let longer : length new.lines.items ≡ suc (length old.lines.items) = grind (arith, length_push) in
     let told : line ≡ found_line actor at.call found
     (slice_index (tickets actor history ++ length history ∷ []) seeker.first) (length history) =
     rw (line_is at.call at.later rest, first, place) in (

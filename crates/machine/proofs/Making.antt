@@ -1,6 +1,6 @@
 -- Many turns of an actor: none, one, and turns behind turns.
-use Rattle.std.proofs.Common.{◌≡◌, ℕ, ◌+◌, [], ◌∷◌, ◌++◌, length, refl, sym, ap, ◌∙◌, subst, arith, append_assoc}
-use Rattle.std.specs.Prelude.{Some, option_to_list}
+use Rattle.std.proofs.Common.{◌≡◌, ℕ, ◌+◌, [], ◌∷◌, ◌++◌, length, refl, arith, append_assoc}
+use Rattle.std.specs.Prelude.{Some}
 use Rattle.std.proofs.lemmas.List.{append-nil, length-append, length-map, length-replicate, map-append, replicate-append-replicate, nil_from_length}
 use Rattle.entry_word.specs.declared.visit.Visit.{Visit}
 use Rattle.directory.specs.Histories.{History}
@@ -42,28 +42,14 @@ module _ {input : Contents} {plan : PlanData} {actor : ℕ} where
   -- no turns
   pub made-none : {cells : CellData} {history : History} (Holds : History → Type 0) → Sees input plan cells history
       → Holds history → AreMade input plan cells history actor 0 Holds
-  made-none {history} Holds sees its =
-      record {
-        visits = [];
-        turns = sym (append-nil history);
-        actors = refl;
-        sees = rw append-nil sees;
-        its = rw append-nil its;
-      }
+  made-none {history} Holds sees its = grind (arith, append-nil)
 
   -- a turn that makes a visit
   pub made-one : {cells : CellData} (history : History) {visit : Visit} (Holds : History → Type 0)
       → visit.actor ≡ actor → next (setting_over input plan) (scripts_of input) history actor ≡ Some visit
       → Sees input plan cells (history ++ visit ∷ []) → Holds (history ++ visit ∷ [])
       → AreMade input plan cells history actor 1 Holds
-  made-one history {visit} Holds mine wants sees its =
-      record {
-        visits = visit ∷ [];
-        turns = ap (λ o. history ++ option_to_list o) wants;
-        actors = ap (λ a. a ∷ []) mine;
-        sees = sees;
-        its = its;
-      }
+  made-one history {visit} Holds mine wants sees its = grind arith
 
   -- the turn of a next visit
   pub made-next : MoreIsPlayed → NextIsOwn → {cells after : CellData} {history : History} (New : History → Type 0)
@@ -105,14 +91,7 @@ module _ {input : Contents} {plan : PlanData} {actor : ℕ} where
       let rest = then (history ++ first.visits) first.sees (made-count first place) first.its in
       let joined : (history ++ first.visits) ++ rest.visits ≡ history ++ (first.visits ++ rest.visits) =
       append_assoc history first.visits rest.visits in
-      record {
-        visits = first.visits ++ rest.visits;
-        turns = sym (turns-joined (setting_over input plan) (scripts_of input) history actor count more)
-            ∙ rw (first.turns, rest.turns, joined);
-        actors = rw (map-append, first.actors, rest.actors, replicate-append-replicate);
-        sees = subst (Sees input plan after) joined rest.sees;
-        its = subst Then joined rest.its;
-      }
+      grind (arith, turns-joined, map-append, replicate-append-replicate)
 
   -- the same, whichever history that is
   pub turns-behind : {cells between after : CellData} {ticket count more : ℕ} {First Mid Then : History → Type 0}

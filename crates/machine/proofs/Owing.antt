@@ -12,7 +12,6 @@ use Rattle.handset.specs.Condition.{GoesWith, HandsetData}
 use Rattle.visit_log.specs.Cells.{CellData, GoWith, Hold, IsPlaceOf}
 use Rattle.machine.specs.declared.ahead.Ahead.{Ahead}
 use Rattle.machine.specs.Owed.{HasCome, HasPut, IsAhead, IsNextAhead, MayPut, Owes}
-use Rattle.std.proofs.lemmas.Bool.{lt-ltb}
 use Rattle.entry_word.specs.Addresses.{address_word}
 use Rattle.region_plan.specs.Settings.{setting_of}
 use Rattle.handset.specs.Entries.{at_entry, entry_write, stage_at, EntryWrite, entry_put}
@@ -28,44 +27,27 @@ use Rattle.visit_log.specs.Homes.{home_place}
 pub owes-push : {plan : PlanData} {subs : ℕ} (start : HandsetData) {old new : HandsetData} {write : Ahead}
     (writes : List Ahead) → Owes plan subs start old writes → IsNextAhead plan subs old new write
     → Owes plan subs start new (writes ++ write ∷ [])
-owes-push {plan} {subs} start {new} {write} [] owes its =
-    (new, refl, subst (λ h. IsNextAhead plan subs h new write) owes its)
+owes-push {plan} {subs} start {new} {write} [] owes its = grind arith
 owes-push start (one ∷ writes) (between, rest, first) its =
     (between, owes-push between writes rest its, first)
 
 -- no write
 pub ahead-none : {plan : PlanData} (subs : ℕ) {old : HandsetData} (before : Vec Ahead) → GoesWith plan old
     → IsAhead plan subs old old before before
-ahead-none subs before goes =
-    record { owes = λ start owes. owes; goes = goes; its = refl; grown = omega arith; room = refl }
+ahead-none subs before goes = grind arith
 
 -- one write behind others
 pub ahead-more : {plan : PlanData} {subs : ℕ} {old mid new : HandsetData} {write : Ahead} {before between : Vec Ahead}
     (after : Vec Ahead) → IsAhead plan subs old mid before between → IsNextAhead plan subs mid new write
     → after.items ≡ between.items ++ write ∷ [] → vec_capacity after ≡ vec_capacity between
     → IsAhead plan subs old new before after
-ahead-more {plan} {subs} {new} {write} {between} after first its items room =
-    record {
-      owes = λ start owes. subst (Owes plan subs start new) (sym items)
-          (owes-push start between.items (first.owes start owes) its);
-      goes = its.goes;
-      its = its.its ∙ first.its;
-      grown = omega (arith, first.grown, ap length items, length_push between.items write);
-      room = room ∙ first.room;
-    }
+ahead-more {plan} {subs} {new} {write} {between} after first its items room = grind (arith, owes-push, length_push)
 
 -- writes behind others
 pub ahead-joined : {plan : PlanData} {subs : ℕ} {old mid new : HandsetData} {before between after : Vec Ahead}
     → IsAhead plan subs old mid before between → IsAhead plan subs mid new between after
     → IsAhead plan subs old new before after
-ahead-joined first then =
-    record {
-      owes = λ start owes. then.owes start (first.owes start owes);
-      goes = then.goes;
-      its = then.its ∙ first.its;
-      grown = omega (arith, first.grown, then.grown);
-      room = then.room ∙ first.room;
-    }
+ahead-joined first then = grind arith
 
 -- the write that comes next
 pub record Next (plan : PlanData) (subs : ℕ) (old new : HandsetData) (write : Ahead) (left : List Ahead) : Type 0
@@ -77,13 +59,7 @@ pub record Next (plan : PlanData) (subs : ℕ) (old new : HandsetData) (write : 
 pub next-of : (plan : PlanData) (subs : ℕ) (old new : HandsetData) (writes : List Ahead) (place : ℕ) {write : Ahead}
     → place < length writes → write ≡ get_or writes place write → Owes plan subs old new (drop place writes)
     → Next plan subs old new write (drop (suc place) writes)
-next-of plan subs old new writes place {write} low same owes =
-    let found = subst (Owes plan subs old new) (drop-cons writes place write low) owes in
-    record {
-      handset = found.0;
-      owes = found.1;
-      its = subst (IsNextAhead plan subs old found.0) (sym same) found.2;
-    }
+next-of plan subs old new writes place {write} low same owes = grind (arith, drop-cons)
 
 -- a put of a write into its cell tells what cells hold behind it
 abbrev pub Puts : PlanData → ℕ → CellData → CellData → Ahead → Type 0
@@ -121,8 +97,7 @@ come-more {plan} {sub} {new} {between} place writes {write} low same plain come 
     let next : Next plan between.subs come.handset new write (drop (suc place) writes) =
     next-of plan between.subs come.handset new writes place low same come.may.owes in
     let its : IsNextAhead plan between.subs come.handset next.handset write = next.its in
-    let cell : IsPlaceOf plan between.subs sub write.place its.key =
-    subst (λ s. IsPlaceOf plan between.subs s write.place its.key) come.may.its its.cell in
+    let cell : IsPlaceOf plan between.subs sub write.place its.key = grind arith in
     record {
       handset = next.handset;
       put = (
@@ -161,8 +136,7 @@ pub renewal-at : (plan : PlanData) (handset : HandsetData) (at : ℕ) {cluster w
     → address_word (Some (record { number = handset.last.number; node = handset.last.to })) ≡ word
     → entry_write (setting_of plan []) handset (entries.Renewing at)
     ≡ Some (record { level = at; cluster = cluster; word = word; next = entries.Renewing (suc at) })
-renewal-at plan handset at below home_is word_is =
-    rw (← home_is, ← word_is, lt-ltb at handset.last.renewed below)
+renewal-at plan handset at below home_is word_is = grind arith
 
 -- the write of the entry that comes next is one ahead
 pub entry-ahead : {plan : PlanData} {handset : HandsetData} {at : EntryStage} {write : EntryWrite} {subs : ℕ}
@@ -176,11 +150,7 @@ entry-ahead {handset = handset} {write = write} node matched its known low insid
   key = Entry write.level write.cluster handset.sub;
   act = ap (Put (Entry write.level write.cluster handset.sub)) (sym word_is);
   commits = refl;
-  cell = record {
-    cell = record { place = (low, rw cluster_is (matched.homes write.level node low inside)); known = known };
-    owner = refl;
-    place = rw cluster_is place_is;
-  };
+  cell = grind arith;
   next = its.visit;
   stands = its.stands;
   goes = its.goes;

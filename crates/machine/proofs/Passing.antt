@@ -68,8 +68,7 @@ module _ (law : ClimbsGoOn) (plan : PlanData) (climb : Climb) (kept : IsKept pla
       → ((i : ℕ) → i ≤ suc count → IsRung plan climb.from (rung_past plan climb.from (rung_of climb) i))
       → Passes plan (climb_past plan climb count)
   passes count rungs =
-      let here : IsClimbOver plan (climb_past plan climb count) =
-      past-over count (λ i low. rungs i (omega (arith, low))) in
+      let here : IsClimbOver plan (climb_past plan climb count) = grind (arith, past-over) in
       record { over = here; on = on-past count here (rungs (suc count) (omega arith)) }
 
 -- the same node all along
@@ -79,11 +78,7 @@ past-from plan climb count = ap (λ (c : Climb). c.from) (climb-is plan climb co
 -- a climb is at a reader
 pub climb-at : {plan : PlanData} {routes : RouteData} {climb : Climb} → AreRoutes plan routes → IsClimbOver plan climb
     → IsAt plan routes climb.from (rung_of climb)
-climb-at are over = record {
-  are = are;
-  inside = over.from;
-  is = record { level = over.progress.0; index = over.progress.1 };
-}
+climb-at are over = grind arith
 
 -- the place of a reader's entries is one of a subscriber's
 pub place-below : NumbersBelow → {plan : PlanData} {node : ℕ} {rung : Rung} → IsMatched plan → node < nodes_of plan
@@ -150,8 +145,7 @@ behind-walk walk old ticket climb (suc count) = refl
 -- with no looks it is where it was
 pub behind-none : {walk : WalkData} (old : Caller) (ticket : ℕ) {climb : Climb} → old.walk ≡ Some walk
     → IsClimbOf walk climb → behind walk old ticket climb 0 ≡ old
-behind-none {walk} old ticket held at =
-    ap (λ w. record old { walk = w }) (ap Some at.same ∙ sym held)
+behind-none {walk} old ticket held at = grind arith
 
 module _ {input : Contents} {plan : PlanData} {cells : CellData} {actor : ℕ} where
   -- no looks

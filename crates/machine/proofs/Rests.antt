@@ -8,7 +8,7 @@ use Rattle.std.proofs.lemmas.List.{take_all, length_push, length-map, same_from_
 use Rattle.entry_word.specs.declared.visit.Visit.{Visit}
 use Rattle.directory.specs.Settings.{Setting, start}
 use Rattle.directory.specs.Courses.{Course, Step, after_steps, course_at}
-use Rattle.directory.specs.Histories.{History, own, tickets}
+use Rattle.directory.specs.Histories.{History, own}
 use Rattle.directory.specs.Orders.{next, steps_of}
 use Rattle.directory.specs.Outcomes.{step_line}
 use Rattle.directory.specs.StepLaws.{slice_get-within, take-more}
@@ -31,7 +31,7 @@ use Rattle.machine.specs.RestLaws.{may-begin}
 use Rattle.machine.specs.Stands.{BelongTogether, setting_over, Sees}
 use Rattle.machine.specs.Subscribers.{IsShown, MayBegin, Shown, begun_line, begun_steps, HasWritten, IsSubscriber, shown_at}
 use Rattle.scripts.specs.ScriptLaws.{IsStep, course-steps, steps-are, calls-few}
-use Rattle.machine.specs.ScriptVisits.{some-write, step-at, visits-longer, script-is}
+use Rattle.machine.specs.ScriptVisits.{step-at, visits-longer, script-is}
 use Rattle.machine.proofs.Seen.{lines-partial, Seen, seen-after, step-allowed}
 use Rattle.directory.specs.HistoryLaws.{next-sub, tickets-count}
 use Rattle.directory.specs.Statements.{TicketsGrow, OwnGrow, TicketsAreOwn}
@@ -43,7 +43,6 @@ use Rattle.machine.specs.declared.subscriber.Subscriber.{Subscriber}
 use Rattle.machine.specs.declared.ahead.Ahead.{Ahead}
 use Rattle.machine.proofs.Owing.{Next, Puts, next-of, put-next}
 use Rattle.entry_word.specs.declared.visit.Key.{Key}
-use Rattle.std.proofs.lemmas.Bool.{ne_eqb}
 use Rattle.std.specs.Result.{is_err}
 use Rattle.net_reader.specs.declared.input.Input.{Input}
 use Rattle.net_reader.specs.Seen.{seen_input}
@@ -87,9 +86,7 @@ module _ {input : Contents} {plan : PlanData} {history : History} {sub : ℕ} {o
       → Begins input plan history sub old call
   begins scripts {call = call} together none short same =
       let at = resting none in
-      let is_step : IsStep call = subst IsStep (sym same)
-      (course-steps input.format input.nodes (get_or input.homes sub 0) false (get_or input.scripts sub [])
-      (length old.lines.items) call (together.valid.courses sub low) short) in
+      let is_step : IsStep call = grind (arith, course-steps) in
       let more : take (suc (length old.lines.items)) (steps_of (scripts_of input) sub)
       ≡ begun_steps input sub old ++ step_of call ∷ [] =
       take-more (steps_of (scripts_of input) sub) (length old.lines.items) (step_of call)
@@ -130,8 +127,7 @@ module _ {input : Contents} {plan : PlanData} {history : History} {sub : ℕ} {o
       let begun_now : List Step = begun_steps input sub old ++ step_of call ∷ [] in
       let longer : length new.lines.items ≡ suc (length old.lines.items) =
       omega (arith, ap length lines, length_push old.lines.items line) in
-      let steps : begun_steps input sub new ≡ begun_now =
-      ap (λ k. take k (steps_of (scripts_of input) sub)) longer ∙ begin.more in
+      let steps : begun_steps input sub new ≡ begun_now = grind arith in
       let seen : Seen input plan history sub put.visit =
       seen-after own_law ticket_law input plan history sub (suc (length old.lines.items)) low
       (rw begin.more (rw mine at (put.next input.homes begun_now (length (own sub history)) stands))) in (
@@ -141,22 +137,9 @@ module _ {input : Contents} {plan : PlanData} {history : History} {sub : ℕ} {o
           handset = rw (steps, seen.count) (put.stands input.homes begun_now (length (own sub history)) stands);
           goes = goes;
           its = same ∙ mine;
-          lines = rw (
-            steps,
-            seen.seen,
-            lines-partial setting sub course (begun_steps input sub old) (step_of call) (tickets sub history)
-                (length history ∷ []) (tickets-count sub history ∙ begin.all)
-                (some-write setting (after_steps setting course (begun_steps input sub old)) (step_of call)),
-            ← its.lines,
-            lines,
-            line_is,
-            begin.line ticket,
-            place,
-          );
+          lines = grind (arith, lines-partial, tickets-count);
           few = omega (arith, longer, short);
-          under = λ before step split.
-              let both = same_from_push (begun_steps input sub old) before (step_of call) step (sym steps ∙ split) in
-              omega (arith, ap (λ ss. length (writes setting course ss)) both.0, begin.all, seen.count);
+          under = grind (arith, same_from_push);
           room = omega (arith, its.room, room);
         },
         over,
@@ -171,21 +154,15 @@ first-visit setting sub {n} steps step all = grind (
   arith,
   all,
   length-map (writes setting (course_at (start setting sub)) steps) (visit_of sub),
-  slice_get-within (visits setting sub (steps ++ step ∷ [])) n
-      (omega (
-        arith,
-        all,
-        visits-longer setting sub steps step,
-        length-map (writes setting (course_at (start setting
-            sub)) steps) (visit_of sub),
-      )),
+  visits-longer setting sub steps step,
+  slice_get-within (visits setting sub (steps ++ step ∷ [])) n,
 )
 
 -- a list of writes that is said to be empty is
 pub none-there : (xs : List Ahead) {count : ℕ} {test : Bool} → length xs ≡ count → test ≡ (count == 0)
     → not test ≡ false → xs ≡ []
 none-there [] size is quiet = refl
-none-there (x ∷ xs) {count} size is quiet = grind (arith, ne_eqb)
+none-there (x ∷ xs) {count} size is quiet = grind arith
 
 -- where all writes that were ahead are in their cells, the handset is as far as the history
 now-at : {input : Contents} {plan : PlanData} {history : History} {sub : ℕ} {old : Subscriber}

@@ -19,7 +19,6 @@ use Rattle.handset.specs.Stands.{is_commit}
 use Rattle.directory.specs.Standing.{commit_of}
 use Rattle.entry_word.specs.MarkLaws.{read-mark}
 use Rattle.node_set.specs.SetLaws.{length-passing_all}
-use Rattle.std.proofs.lemmas.Bool.{cases_lt, eq-eqb}
 use Rattle.directory.specs.Histories.{History, own, tickets}
 use Rattle.directory.specs.Legal.{IsScript}
 use Rattle.directory.specs.Orders.{AreValid, next, steps_of}
@@ -42,8 +41,7 @@ pub lines-partial : (setting : Setting) (sub : ℕ) (course : Course) (done : Li
     → step_lines setting sub course (done ++ step ∷ []) (seen ++ more)
     ≡ step_lines setting sub course done seen ++ step_line setting sub (after_steps setting course done) step more ∷ []
 unfolding step_lines writes
-lines-partial setting sub course [] step seen more count few =
-    rw (nil_from_length seen count, take_all (length (step_writes setting course step)) more few)
+lines-partial setting sub course [] step seen more count few = grind (arith, nil_from_length, take_all)
 lines-partial setting sub course (one ∷ done) step seen more count few =
     let size : ℕ = length (step_writes setting course one) in
     let whole = length-append (step_writes setting course one) (writes setting (after_step setting course one) done) in
@@ -91,8 +89,7 @@ pub move-commits : MarksUnpack → (setting : Setting) (sub : ℕ) (course : Cou
     → Tells (is_commit visit.act) i (suc (suc move.renewed))
 move-commits unpack setting sub course move number from to i {visit} h =
     let says : (node : ℕ) (mark : PresenceMark) (b : Bool) → IsSmallMark mark → is_some (commit_of node mark) ≡ b
-    → is_some (commit_of node (mark_in (mark_word mark))) ≡ b =
-    λ node mark b small e. ap (λ m. is_some (commit_of node m)) (read-mark unpack mark small) ∙ e in
+    → is_some (commit_of node (mark_in (mark_word mark))) ≡ b = grind (arith, read-mark) in
     let levels : List ℕ = numbers_from 0 (suc move.renewed) in
     let renewals : List Write = map (new_address setting move) levels in
     let removals : List Write = erasure_writes setting course move ++ purge_writes setting course move in
@@ -122,7 +119,7 @@ move-commits unpack setting sub course move number from to i {visit} h =
 commit-grows : (seen : List ℕ) (ticket : ℕ) {place : ℕ} (commits : Bool) → Tells commits (length seen) place
     → get_or (seen ++ ticket ∷ []) place 0 ≡ (if commits then ticket else get_or seen place 0)
 commit-grows seen ticket {place} true tells = get_or_push seen ticket 0 place (tells.there refl)
-commit-grows seen ticket {place} false tells = grind (arith, cases_lt, get_or-append, seen, length_push, get_or_past)
+commit-grows seen ticket {place} false tells = grind (arith, get_or-append, length_push, get_or_past)
 
 one_get : (xs : Visit) (i : ℕ) {visit : Visit} → slice_get (xs ∷ []) i ≡ Some visit → i < 1
 one_get x zero h = omega arith
@@ -144,8 +141,7 @@ line-grows unpack setting sub course (move_to node) seen ticket {visit} may smal
     let last : get_or (seen ++ ticket ∷ []) (length (seen ++ ticket ∷ []) - 1) 0 ≡ ticket =
     get_or_push seen ticket 0 (length (seen ++ ticket ∷ []) - 1) (omega (arith, length_push seen ticket)) in
     rw (first, commit-grows seen ticket (is_commit visit.act) tells, last)
-line-grows unpack setting sub course step seen ticket may small inside some at =
-    absurd (omega (arith, some, one_get _ (length seen) at))
+line-grows unpack setting sub course step seen ticket may small inside some at = grind (arith, one_get)
 
 -- steps that may be made, one of them
 pub may-at : (setting : Setting) (course : Course) (before : List Step) (step : Step) (later : List Step)
@@ -189,11 +185,7 @@ pub last-visit : (setting : Setting) (sub n : ℕ) (before : List Step) (step : 
     → slice_get (visits setting sub (before ++ step ∷ [])) n ≡ Some visit
     → slice_get (map (visit_of sub) (step_writes setting (after_steps setting (course_at (start setting sub)) before)
     step)) (n - length (writes setting (course_at (start setting sub)) before)) ≡ Some visit
-last-visit setting sub n before step past h =
-    sym (slice_get-right (visits setting sub before) _ n
-    (n - length (writes setting (course_at (start setting sub)) before))
-    (omega (arith, past, length-map (writes setting (course_at (start setting sub)) before) (visit_of sub))))
-    ∙ (rw visits-more at h)
+last-visit setting sub n before step past h = grind (arith, slice_get-right, length-map, visits-more)
 
 -- what is known of a subscriber after a visit of its own
 pub record Seen (input : Contents) (plan : PlanData) (history : History) (sub : ℕ) (visit : Visit) : Type 0 where
@@ -206,8 +198,7 @@ pub seen-after : OwnGrow → TicketsGrow → (input : Contents) (plan : PlanData
     (visits (setting_over input plan) sub (take k (steps_of (scripts_of input) sub))) (length (own sub history)) ≡ Some
     visit → Seen input plan history sub visit
 seen-after own_law ticket_law input plan history sub k {visit} low at =
-    let mine : (visit.actor == sub) ≡ true =
-    eq-eqb visit.actor sub (actor-of sub _ (length (own sub history)) at) in
+    let mine : (visit.actor == sub) ≡ true = grind (arith, actor-of) in
     record {
       turn = next-sub (setting_over input plan) (scripts_of input) history sub low
           ∙ in-script (setting_over input plan) sub k (length (own sub history))
@@ -230,7 +221,4 @@ step-allowed scripts {input} {plan} {distances} sub k before step together low s
     let script : IsScript (setting_over input plan) sub (steps_of (scripts_of input) sub) = valid.steps sub low in
     let whole : steps_of (scripts_of input) sub ≡ before ++ step ∷ drop k (steps_of (scripts_of input) sub) =
     sym (take-append-drop k (steps_of (scripts_of input) sub)) ∙ rw (same, append_assoc) in
-    may-at (setting_over input plan) (course_at (start (setting_over input plan) sub)) before step
-    (drop k (steps_of (scripts_of input) sub))
-    (subst (MaySteps (setting_over input plan) (course_at (start (setting_over input plan) sub))) whole script.allowed)
-    script.begins
+    grind (arith, may-at)

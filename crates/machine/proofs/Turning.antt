@@ -1,12 +1,12 @@
 -- What a machine stands for: its subscribers and callers before their first visits, and all of it after a visit.
-use Rattle.std.proofs.Common.{◌≡◌, ℕ, ◌+◌, ◌<◌, ◌≤◌, Bool, true, false, List, [], ◌∷◌, ◌++◌, length, map, take, get_or, refl, sym, ap, ◌∙◌, subst, arith, Vec, Global, ◌≢◌, zero, suc, ◌==◌, append_assoc}
+use Rattle.std.proofs.Common.{◌≡◌, ℕ, ◌+◌, ◌<◌, ◌≤◌, Bool, true, false, List, [], ◌∷◌, ◌++◌, length, map, get_or, refl, sym, ap, ◌∙◌, subst, arith, Vec, Global, ◌≢◌, zero, suc, ◌==◌, append_assoc}
 use Rattle.std.specs.Prelude.{None, vec_capacity, Option, Some, replicate, slice_set}
 use Rattle.std.proofs.lemmas.List.{get_or_push, length_push, length-map, get_or-map, append-nil, length-set, map-append, get_or-set_same, get_or-set_other}
 use Rattle.std.proofs.Math.ListN.{get_or-append}
 use Rattle.std.proofs.lemmas.List.Elements.{All-cons, All-nil, All-weaker}
 use Rattle.directory.specs.Finds.{at_origin}
-use Rattle.directory.specs.Histories.{tickets_from, words_after, History, own, tickets, word_after}
-use Rattle.directory.specs.Orders.{steps_of, next, IsPlayed}
+use Rattle.directory.specs.Histories.{tickets_from, words_after, History}
+use Rattle.directory.specs.Orders.{next, IsPlayed}
 use Rattle.directory.specs.Outcomes.{step_lines}
 use Rattle.net_reader.specs.declared.said.Call.{Call}
 use Rattle.net_reader.specs.declared.said.Call.TheVariants as calls
@@ -23,11 +23,10 @@ use Rattle.machine.specs.Callers.{IsCaller, MayLook}
 use Rattle.machine.specs.Subscribers.{IsShown, IsSubscriber, Shown, begun_steps, shown_at, MayTakeTurn}
 use Rattle.machine.proofs.Looked.{by-parts}
 use Rattle.scripts.specs.ScriptLaws.{finds-are, steps-are}
-use Rattle.std.proofs.lemmas.Bool.{cases_lt, cases_eq, ne_eqb}
+use Rattle.std.proofs.lemmas.Bool.{ne_eqb}
 use Rattle.std.proofs.lemmas.List.Sums.{fold-append}
 use Rattle.entry_word.specs.declared.visit.Key.{Key}
 use Rattle.entry_word.specs.declared.visit.Visit.{Visit}
-use Rattle.directory.specs.Keys.{opening}
 use Rattle.directory.specs.Looks.{look_by}
 use Rattle.directory.specs.Statements.{CallersKept, TicketsGrow, OwnGrow, MoreIsPlayed}
 use Rattle.visit_log.specs.Cells.{CellData}
@@ -42,8 +41,7 @@ shown-opens : {input : Contents} {plan : PlanData} {sub : ℕ} (shown : Shown) �
     → IsShown input plan [] sub shown
 unfolding step_lines
 shown-opens {input} {plan} {sub} shown valid low stands goes its none room =
-    let begun : begun_steps input sub shown ≡ [] =
-    ap (λ n. take n (steps_of (scripts_of input) sub)) (ap length none) in
+    let begun : begun_steps input sub shown ≡ [] = grind arith in
     record {
       handset = rw begun stands;
       goes = goes;
@@ -83,7 +81,7 @@ caller-opens input plan actor caller {script} high low same walks first none roo
 pub each-more : {A : Type 0} (P : ℕ → A → Type 0) (xs : List A) {x : A} {n : ℕ} {ys : List A} → ys ≡ xs ++ x ∷ []
     → length xs ≡ n → ((s : ℕ) (d : A) → s < n → P s (get_or xs s d)) → P n x → (s : ℕ) (d : A) → s < n + 1
     → P s (get_or ys s d)
-each-more P xs {x} {n} more count each last s d low = grind (arith, cases_lt, get_or-append, get_or_push)
+each-more P xs {x} {n} more count each last s d low = grind (arith, get_or-append, get_or_push)
 
 -- the calls of a valid input are inside
 course-inside : (format n here : ℕ) (off : Bool) (script : List Call) → IsCourse format n here off script
@@ -103,7 +101,7 @@ search-begins n subs call h = absurd h
 
 script-inside : {input : Contents} (actor : ℕ) → IsValid input → actor < length input.scripts
     → BeginInside input.nodes (get_or input.scripts actor [])
-script-inside {input} actor valid low = grind (arith, cases_lt, course-inside, search-begins, All-weaker)
+script-inside {input} actor valid low = grind (arith, course-inside, search-begins, All-weaker)
 
 pub scripts-inside : {input : Contents} (scripts : List (Vec Call Global)) {n : ℕ} → IsValid input
     → input.scripts ≡ map (λ (s : Vec Call Global). s.items) scripts → n ≡ input.nodes → (k : ℕ) (d : Vec Call Global)
@@ -116,35 +114,13 @@ scripts-inside {input} scripts valid same nodes k d low =
 shown-kept : OwnGrow → TicketsGrow → {input : Contents} {plan : PlanData} {history : History} {sub : ℕ} {shown : Shown}
     (visit : Visit) → (visit.actor == sub) ≡ false → IsShown input plan history sub shown
     → IsShown input plan (history ++ visit ∷ []) sub shown
-shown-kept own_law ticket_law {input} {plan} {history} {sub} {shown} visit other its =
-    let same : own sub (history ++ visit ∷ []) ≡ own sub history =
-    rw (own_law sub history visit, other, append-nil) in
-    let seen : tickets sub (history ++ visit ∷ []) ≡ tickets sub history =
-    rw (ticket_law sub history visit, other, append-nil) in
-    record {
-      handset = rw same its.handset;
-      goes = its.goes;
-      its = its.its;
-      lines = rw seen its.lines;
-      few = its.few;
-      under = λ before step split. rw same (its.under before step split);
-      room = its.room;
-    }
+shown-kept own_law ticket_law {input} {plan} {history} {sub} {shown} visit other its = grind (arith, append-nil)
 
 -- nor of the subscriber
 sub-kept : OwnGrow → TicketsGrow → {input : Contents} {plan : PlanData} {history : History} {sub : ℕ}
     {subscriber : Subscriber} (visit : Visit) → (visit.actor == sub) ≡ false
     → IsSubscriber input plan history sub subscriber → IsSubscriber input plan (history ++ visit ∷ []) sub subscriber
-sub-kept own_law ticket_law visit other its =
-    record {
-      handset = its.handset;
-      shown = shown-kept own_law ticket_law visit other its.shown;
-      owes = its.owes;
-      goes = its.goes;
-      its = its.its;
-      within = its.within;
-      space = its.space;
-    }
+sub-kept own_law ticket_law visit other its = let shown = shown-kept own_law ticket_law visit other its.shown in search
 
 -- nor of a caller
 caller-kept : CallersKept → {input : Contents} {plan : PlanData} {history : History} {actor : ℕ} {caller : Caller}
@@ -152,14 +128,13 @@ caller-kept : CallersKept → {input : Contents} {plan : PlanData} {history : Hi
     → IsCaller input plan (history ++ visit ∷ []) actor caller
 caller-kept law {input} {plan} {history} {actor} {caller} visit other its =
     let same = law (setting_over input plan) (scripts_of input) history actor visit other in
-    by-parts input plan (history ++ visit ∷ []) actor caller same.0 same.1 its.walk its.first
-    (rw (same.0, same.1) its.lines) its.left its.room
+    grind (arith, by-parts)
 
 -- what holds of the changed element of a list, and of the others, holds of each behind the change
 each-set : {A : Type 0} (P : ℕ → A → Type 0) (xs ys : List A) (i : ℕ) (x : A) → ys ≡ slice_set xs i x → P i x
     → ((k : ℕ) (d : A) → k < length xs → k ≢ i → P k (get_or xs k d)) → (k : ℕ) (d : A) → k < length xs
     → P k (get_or ys k d)
-each-set P xs ys i x items its others k d low = grind (arith, cases_eq, get_or-set_same, get_or-set_other)
+each-set P xs ys i x items its others k d low = grind (arith, get_or-set_same, get_or-set_other)
 
 -- each visit was its actor's next one, and cells hold what the history leaves
 pub sees-more : MoreIsPlayed → {input : Contents} {plan : PlanData} {cells : CellData} {history : History} (actor : ℕ)
@@ -169,12 +144,7 @@ sees-more more {input} {plan} {history} actor key sees wants =
     record {
       played = more (setting_over input plan) (scripts_of input) history actor (look_by actor key) wants sees.played;
       goes = sees.goes;
-      hold = record {
-        subs = sees.hold.subs;
-        words = λ at its. sees.hold.words at its
-            ∙ sym (fold-append (λ word (v : Visit). word_after at word v.act)
-            (opening (setting_over input plan) at) history (look_by actor key ∷ []));
-      };
+      hold = grind (arith, fold-append);
     }
 
 -- what a visit of an actor keeps, many keep

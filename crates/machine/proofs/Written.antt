@@ -55,8 +55,7 @@ lines_behind lines line ticket (suc count) =
 lines-count : (lines : List Done) (line : Done) (ticket count : ℕ) → length (lines_behind lines line ticket count)
     ≡ length lines
 lines-count lines line ticket zero = refl
-lines-count lines line ticket (suc count) = length-set lines (length lines - 1)
-    (line_after (get_or lines (length lines - 1) line) false (ticket + count))
+lines-count lines line ticket (suc count) = grind (arith, length-set)
 
 -- and what is seen of it
 abbrev behind : Shown → HandsetData → Done → ℕ → ℕ → Shown
@@ -88,37 +87,20 @@ lines-are : (lines : List Done) (line : Done) (ticket count : ℕ) → 0 < count
     → lines_behind lines line ticket count
     ≡ set lines (length lines - 1) (line_after (get_or lines (length lines - 1) line) false (ticket + count - 1))
 lines-are lines line ticket zero some = absurd (omega (arith, some))
-lines-are lines line ticket (suc count) some =
-    let e : ticket + suc count - 1 ≡ ticket + count = omega arith in rw e
+lines-are lines line ticket (suc count) some = grind arith
 
 -- a subscriber by its handset, its lines and the room for them
 its-same : {input : Contents} {plan : PlanData} {history : History} {sub : ℕ} {one : Shown} (other : Shown)
     → other.handset ≡ one.handset → other.lines.items ≡ one.lines.items
     → vec_capacity one.lines ≤ vec_capacity other.lines → IsShown input plan history sub one
     → IsShown input plan history sub other
-its-same {input} {sub} {one} other handset lines room its =
-    let begun : begun_steps input sub one ≡ begun_steps input sub other =
-    ap (λ (ls : List Done). take (length ls) (steps_of (scripts_of input) sub)) (sym lines) in
-    record {
-      handset = rw (handset, ← begun) its.handset;
-      goes = rw handset its.goes;
-      its = rw handset its.its;
-      lines = rw (← begun, lines) its.lines;
-      few = omega (arith, its.few, ap length lines);
-      under = λ before step split. its.under before step (begun ∙ split);
-      room = omega (arith, its.room, room);
-    }
+its-same {input} {sub} {one} other handset lines room its = grind arith
 
 -- the writes that are ahead may go into their cells
 pub may-put : {input : Contents} {plan : PlanData} {cells : CellData} {history : History} {sub : ℕ} {old : Subscriber}
     {writes : List Ahead} → Sees input plan cells history → (its : IsSubscriber input plan history sub old)
     → writes ≡ old.ahead.items → MayPut plan sub its.handset old.handset cells (drop old.made writes)
-may-put sees its same =
-    record {
-      over = sees.goes;
-      its = its.shown.its;
-      owes = rw (sees.hold.subs, same) its.owes;
-    }
+may-put sees its same = grind arith
 
 module _ (unpack : MarksUnpack) (own_law : OwnGrow) (ticket_law : TicketsGrow) (tell : TicketsAreOwn)
     (scripts : ScriptsAreValid) {input : Contents} {plan : PlanData} {distances : DistanceTable} {sub : ℕ}
@@ -138,16 +120,11 @@ module _ (unpack : MarksUnpack) (own_law : OwnGrow) (ticket_law : TicketsGrow) (
       let count : length (tickets sub history) ≡ made = tickets-count sub history in
       let p : List ℕ = drop n (tickets sub history) in
       let size : length p ≡ made - n = length-drop n (tickets sub history) ∙ ap (λ k. k - n) count in
-      let front : length (take n (tickets sub history)) ≡ n =
-      length-take-le n (tickets sub history) (omega (arith, past, count)) in
+      let front : length (take n (tickets sub history)) ≡ n = grind (arith, length-take-le) in
       let here : slice_get (map (visit_of sub) (step_writes setting after split.last)) (length p) ≡ Some visit =
       rw size (last-visit setting sub made split.before split.last (omega (arith, past)) (rw split.are at now)) in
       let room : length p < length (step_writes setting after split.last) =
-      omega (
-        arith,
-        slice_get_within (map (visit_of sub) (step_writes setting after split.last)) (length p) visit here,
-        length-map (step_writes setting after split.last) (visit_of sub),
-      ) in
+      grind (arith, slice_get_within, length-map) in
       let may = step-allowed scripts sub (length old.lines.items) split.before split.last together low split.are in
       let parts : tickets sub history ≡ take n (tickets sub history) ++ p =
       sym (take-append-drop n (tickets sub history)) in
@@ -206,12 +183,9 @@ module _ (unpack : MarksUnpack) (own_law : OwnGrow) (ticket_law : TicketsGrow) (
       seen-after own_law ticket_law input plan history sub (length old.lines.items) low (rw its.its at wants) in
       let way : Under input plan history sub old put.visit = under-way its wants in
       let end : last ≡ length way.rows = omega (arith, last_is, ap length way.are, length_push way.rows way.row) in
-      let row : get_or old.lines.items last default ≡ way.row =
-      ap (λ ls. get_or ls last default) way.are ∙ get_or_push way.rows way.row default last (sym end) in
-      let now : new.lines.items ≡ way.rows ++ line ∷ [] =
-      lines ∙ ap (λ ls. slice_set ls last line) way.are ∙ rw (end, set-append_seam way.rows way.row [] line) in
-      let longer : length new.lines.items ≡ length old.lines.items =
-      omega (arith, ap length now, length_push way.rows line, ap length way.are, length_push way.rows way.row) in
+      let row : get_or old.lines.items last default ≡ way.row = grind (arith, get_or_push) in
+      let now : new.lines.items ≡ way.rows ++ line ∷ [] = grind (arith, set-append_seam) in
+      let longer : length new.lines.items ≡ length old.lines.items = grind (arith, length_push) in
       let steps : begun_steps input sub old ≡ begun_steps input sub new =
       ap (λ k. take k (steps_of (scripts_of input) sub)) (sym longer) in (
         put.visit,
@@ -266,9 +240,7 @@ module _ (unpack : MarksUnpack) (own_law : OwnGrow) (ticket_law : TicketsGrow) (
       → (count : ℕ) (handset : HandsetData) (after : CellData) → HavePut plan old.handset cells count handset after
       → AreMade input plan after history sub count (λ later. IsShown input plan later sub
       (behind old handset line ticket count))
-  written-many more mine {ticket} {old} line place sees its zero handset after puts =
-      rw puts.1 (made-none (λ later. IsShown input plan later sub (behind old handset line ticket 0)) sees
-      (its-same {one = old} (behind old handset line ticket 0) puts.0 refl (omega arith) its))
+  written-many more mine {ticket} {old} line place sees its zero handset after puts = grind (arith, made-none, its-same)
   written-many more mine {history} {ticket} {old} line place sees its (suc count) handset after
       (before, between, rest, entry) =
       let mid : Shown = behind old before line ticket count in
@@ -297,16 +269,7 @@ module _ (unpack : MarksUnpack) (own_law : OwnGrow) (ticket_law : TicketsGrow) (
   plain-put more mine {history} {ticket} {count} place {old} lines line at sees its same come some within lines_are
       room =
       let made = written-many more mine line at sees its.shown count come.handset _ come.put in
-      made-as made made.sees (record {
-        handset = come.handset;
-        shown = its-same (record { handset = come.handset; lines = lines }) refl
-            (lines_are ∙ sym (lines-are old.lines.items line ticket count some)) room made.its;
-        owes = rw (made.sees.hold.subs, same) at come.may.owes;
-        goes = its.goes;
-        its = its.its;
-        within = omega (arith, within, ap length same);
-        space = its.space;
-      })
+      grind (arith, made-as, its-same, lines-are)
 
 -- a write that isn't left
 pub ended : {input : Contents} {plan : PlanData} {cells after : CellData} {history : History} {ticket sub count : ℕ}

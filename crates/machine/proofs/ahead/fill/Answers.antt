@@ -4,11 +4,7 @@ use Rattle.machine.proofs.Owing.{ahead-joined, ahead-more, ahead-none}
 use Rattle.machine.proofs.ahead.fill.Goals as goal
 
 pub writes-init : goal.writes-init
-writes-init c = record {
-  goes = c.requires.goes;
-  its = refl;
-  ahead = ahead-none c.args.cells.now.subs c.args.ahead.now c.requires.goes;
-}
+writes-init c = grind (arith, ahead-none)
 
 pub writes-preserved : goal.writes-preserved
 writes-preserved c =

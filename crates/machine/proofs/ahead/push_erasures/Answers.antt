@@ -1,7 +1,7 @@
 use Rattle.std.proofs.Common.{◌≡◌, ◌<◌, ◌≤◌, ◌+◌, ◌-◌, ℕ, List, true, false, not, suc, [], Some, ap, subst, sym, arith, refl, ◌∙◌, get_or, add-one}
 use Rattle.std.specs.Prelude.{option_map, slice_index}
 use Rattle.std.proofs.lemmas.Bool.{eq-eqb, ne_eqb}
-use Rattle.handset.specs.Entries.{EntryWrite, at_entry, entry_write, erasure_to}
+use Rattle.handset.specs.Entries.{EntryWrite, entry_write, erasure_to}
 use Rattle.handset.specs.Condition.{GoesWith, HandsetData}
 use Rattle.handset.specs.NextEntries.{IsNextEntry, erasures_from}
 use Rattle.handset.specs.StepWrites.{first_with, is_old}
@@ -18,14 +18,12 @@ use Rattle.machine.proofs.ahead.push_erasures.Goals.{then-old-new, else-old-new}
 -- a level that is looked at is one of the plan's
 low-above : {plan : PlanData} {handset : HandsetData} {erasures : Erasures} (above : ℕ) → GoesWith plan handset
     → erasures ≡ erasures_from handset erasures.level → above < erasures.last + 1 → above < levels_of plan
-low-above above goes they below =
-    omega (arith, goes.renewed, below, ap (λ (e : Erasures). e.last) they)
+low-above above goes they below = grind arith
 
 -- the node of an address is one of the plan's
 node-inside : {plan : PlanData} {handset : HandsetData} {addresses : List ℕ} (above : ℕ) → GoesWith plan handset
     → addresses ≡ handset.addresses → above < levels_of plan → get_or addresses above 0 < nodes_of plan
-node-inside {plan} above goes same low =
-    subst (λ (xs : List ℕ). slice_index xs above < nodes_of plan) (sym same) (goes.inside above low)
+node-inside {plan} above goes same low = grind arith
 
 pub bounds-of-above : goal.bounds-of-above
 bounds-of-above c = grind (arith, low-above, node-inside)
@@ -34,28 +32,7 @@ pub bounds-new-above : goal.bounds-new-above
 bounds-new-above c = grind (arith, low-above)
 
 pub loop-above-init : goal.loop-above-init
-loop-above-init c =
-    let plan = c.args.plan.now in
-    let handset = c.args.handset.now in
-    let at : ℕ = c.args.erasures.level in
-    let here : handset ≡ at_entry handset (entries.Erasing at) =
-    at-stage handset (entries.Erasing at) c.requires.stage in
-    let low : at < levels_of plan =
-    omega (arith, rw c.requires.stage at c.requires.goes.stage, c.requires.goes.renewed) in
-    let inside = node-inside at c.requires.goes c.addresses-addresses.ensures low in
-    let here_place : get_or c.of.result.now at 0 ≡ home_place plan (slice_index handset.addresses at) at =
-    c.of.ensures.places plan c.requires.homes inside at low
-    ∙ ap (λ (xs : List ℕ). home_place plan (slice_index xs at) at) c.addresses-addresses.ensures in
-    record {
-      low = omega arith;
-      goes = subst (GoesWith plan) here c.requires.goes;
-      place = here_place;
-      next = ap (λ n. first_with (is_old (setting_of plan []) handset) n (suc handset.last.renewed - n))
-          (sym (add-one at));
-      ahead = λ subs known.
-          subst (λ h. IsAhead plan subs handset h c.args.ahead.now c.args.ahead.now) here
-          (ahead-none subs c.args.ahead.now c.requires.goes);
-    }
+loop-above-init c = grind (arith, at-stage, node-inside, add-one, ahead-none)
 
 pub loop-above-preserved : goal.loop-above-preserved
 loop-above-preserved c =
@@ -63,19 +40,13 @@ loop-above-preserved c =
     let handset = c.args.handset.now in
     let at : ℕ = c.loop-above.at in
     let above : ℕ = c.loop-above.above in
-    let below : above ≤ handset.last.renewed =
-    omega (arith, c.loop-above-test.true, ap (λ (e : Erasures). e.last) c.requires.they) in
+    let below : above ≤ handset.last.renewed = grind arith in
     let high = low-above above c.requires.goes c.requires.they c.loop-above-test.true in
     let inside = node-inside above c.requires.goes c.addresses-addresses.ensures high in
     let here : get_or c.of-in-loop-above.result.now above 0
-    ≡ home_place plan (slice_index handset.addresses above) above =
-    c.of-in-loop-above.ensures.places plan c.requires.homes inside above high
-    ∙ ap (λ (xs : List ℕ). home_place plan (slice_index xs above) above) c.addresses-addresses.ensures in
+    ≡ home_place plan (slice_index handset.addresses above) above = grind arith in
     let node : c.args.erasures.node ≡ handset.last.to = ap (λ (e : Erasures). e.node) c.requires.they in
-    let there : get_or c.of-new.result.now above 0 ≡ home_place plan handset.last.to above =
-    c.of-new.ensures.places plan c.requires.homes
-    (subst (λ n. n < nodes_of plan) (sym node) c.requires.goes.to) above high
-    ∙ ap (λ n. home_place plan n above) node in
+    let there : get_or c.of-new.result.now above 0 ≡ home_place plan handset.last.to above = grind arith in
     elim c.if-old-new.branch [
       | then-old-new w ↦
           let old : is_old (setting_of plan []) handset above ≡ true =

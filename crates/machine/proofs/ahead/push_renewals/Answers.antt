@@ -6,7 +6,7 @@ use Rattle.handset.specs.Condition.{GoesWith, HandsetData}
 use Rattle.handset.specs.NextEntries.{IsNextEntry, renewals_from}
 use Rattle.handset.specs.declared.entries.EntryStage.TheVariants as entries
 use Rattle.handset.specs.declared.entries.Renewals.{Renewals}
-use Rattle.region_plan.specs.Plan.{PlanData, home, levels_of, nodes_of}
+use Rattle.region_plan.specs.Plan.{PlanData, home, levels_of}
 use Rattle.region_plan.specs.Settings.{setting_of}
 use Rattle.std.proofs.lemmas.List.{length_push}
 use Rattle.visit_log.specs.Homes.{home_place}
@@ -22,25 +22,7 @@ level-low : {plan : PlanData} {handset : HandsetData} {renewals : Renewals} (at 
 level-low {handset} {renewals} at room goes they few from to = grind (arith, min-le_right)
 
 pub loop-level-init : goal.loop-level-init
-loop-level-init c =
-    let handset = c.args.handset.now in
-    let here : handset ≡ at_entry handset (entries.Renewing c.args.renewals.level) =
-    at-stage handset (entries.Renewing c.args.renewals.level) c.requires.stage in
-    record {
-      goes = subst (GoesWith c.args.plan.now) here c.requires.goes;
-      fits = omega (
-        arith,
-        min-le_left (c.capacity.result - c.len.result) (c.args.renewals.end - c.args.renewals.level),
-        c.min.ensures,
-        c.capacity.ensures,
-        c.len.ensures,
-        c.args.ahead.now.ok.0,
-        c.args.ahead.now.ok.1,
-      );
-      ahead = λ subs known.
-          subst (λ h. IsAhead c.args.plan.now subs handset h c.args.ahead.now c.args.ahead.now) here
-          (ahead-none subs c.args.ahead.now c.requires.goes);
-    }
+loop-level-init c = grind (arith, at-stage, min-le_left, ahead-none)
 
 pub bounds-places-level : goal.bounds-places-level
 bounds-places-level c = grind (arith, level-low)
@@ -60,9 +42,7 @@ loop-level-preserved c =
     c.loop-level.auto.level c.loop-level-test.true in
     let place : ℕ = get_or c.of-places.result.now at 0 in
     let node : c.args.renewals.node ≡ handset.last.to = ap (λ (r : Renewals). r.node) c.requires.they in
-    let there : place ≡ home_place plan handset.last.to at =
-    c.of-places.ensures.places plan c.requires.homes
-    (subst (λ n. n < nodes_of plan) (sym node) c.requires.goes.to) at low.1 ∙ ap (λ n. home_place plan n at) node in
+    let there : place ≡ home_place plan handset.last.to at = grind arith in
     let is : entry_write (setting_of plan []) handset (entries.Renewing at) ≡ Some write =
     renewal-at plan handset at low.0 refl (sym (ap (λ (r : Renewals). r.word) c.requires.they))
     in
@@ -92,8 +72,7 @@ loop-level-preserved c =
 
 pub returns : goal.returns
 returns c = λ subs known.
-    let last : c.loop-level.level ≡ c.args.renewals.level + c.min.result =
-    omega (arith, c.loop-level-test.false, c.loop-level.auto.level, c.loop-level.auto.level-end (omega arith)) in
+    let last : c.loop-level.level ≡ c.args.renewals.level + c.min.result = grind arith in
     subst (λ h. IsAhead c.args.plan.now subs c.args.handset.now h c.args.ahead.now c.loop-level.ahead)
     (ap (λ n. at_entry c.args.handset.now (entries.Renewing n)) last ∙ sym c.go_to.ensures)
     (c.loop-level.invariant.ahead subs known)

@@ -7,22 +7,14 @@ use Rattle.machine.proofs.Owing.{come-more, come-none}
 use Rattle.machine.proofs.ahead.put_plain.Goals as goal
 
 pub loop-place-init : goal.loop-place-init
-loop-place-init c = λ plan old new may.
-    let none : c.args.made - c.args.made ≡ 0 = omega arith in rw none (come-none may)
+loop-place-init c = grind (arith, come-none)
 
 pub loop-place-preserved : goal.loop-place-preserved
 loop-place-preserved c = λ plan old new may.
     let writes : List Ahead = c.args.ahead.now in
     let place : ℕ = c.loop-place.place in
     let write : Ahead = get_or writes place (record { place = 0; commits = false; word = 0 }) in
-    let low : place < length writes =
-    omega (
-      arith,
-      c.loop-place-test.true,
-      c.requires.within,
-      c.min.ensures,
-      min-le_right c.args.most (length writes - c.args.made),
-    ) in
+    let low : place < length writes = grind (arith, min-le_right) in
     let come = c.loop-place.invariant plan old new may in
     let one : place + 1 - c.args.made ≡ suc (place - c.args.made) = omega (arith, c.loop-place.auto.place) in
     rw (one, add-one place) (come-more place writes low

@@ -1,4 +1,4 @@
-use Rattle.std.proofs.Common.{◌+◌, ap, sym, subst, ◌∙◌, arith}
+use Rattle.std.proofs.Common.{ap, sym, subst, arith}
 use Rattle.region_plan.specs.ReaderLaws.{readers-few}
 use Rattle.visit_log.specs.Routes.{ComesTo}
 use Rattle.visit_log.specs.declared.routes.Height.{Height}
@@ -9,15 +9,7 @@ use Rattle.machine.proofs.Passing.{climb-is, passes, past-over, climb-at}
 use Rattle.machine.proofs.caller.climb_past.Goals as goal
 
 pub returns-clause-exact : goal.returns-clause-exact
-returns-clause-exact c =
-    let on : ComesTo c.args.plan.now c.args.routes.now c.args.climb.from (rung_of c.args.climb) c.args.count =
-    record { at = climb-at c.requires.routes c.requires.over; on = c.requires.rungs c.args.count (omega arith) } in
-    ap (λ (r : Height). let k : Climb = record c.args.climb {
-      weight = c.args.climb.weight + r.weight;
-      level = r.level;
-      index = r.index;
-    } in k) (c.past-level.ensures c.args.plan.now on)
-    ∙ sym (climb-is c.args.plan.now c.args.climb c.args.count)
+returns-clause-exact c = grind (arith, climb-at, climb-is)
 
 pub returns-clause-over : goal.returns-clause-over
 returns-clause-over c =
@@ -33,17 +25,10 @@ overflow_add-result c =
     let on : ComesTo c.args.plan.now c.args.routes.now c.args.climb.from (rung_of c.args.climb) c.args.count =
     record { at = climb-at c.requires.routes c.requires.over; on = c.requires.rungs c.args.count (omega arith) } in
     let there : Climb = climb_past c.args.plan.now c.args.climb c.args.count in
-    let over : IsClimbOver c.args.plan.now there =
-    past-over c.climbs_go_on.ensures c.args.plan.now c.args.climb c.plan_is_sound.ensures.sound
-    c.plan_is_sound.ensures.matched c.plan_is_sound.ensures.reached c.requires.over c.args.count c.requires.rungs in
+    let over : IsClimbOver c.args.plan.now there = grind (arith, past-over) in
     omega (
       arith,
       ap (λ (r : Height). r.weight) (c.past-level.ensures c.args.plan.now on),
       ap (λ (k : Climb). k.weight) (climb-is c.args.plan.now c.args.climb c.args.count),
-      over.progress.0,
-      over.progress.1,
-      over.progress.2,
-      readers-few c.args.plan.now there.level there.from c.plan_is_sound.ensures.matched
-          c.plan_is_sound.ensures.sound over.progress.0 over.from,
-      c.plan_is_sound.ensures.sound.few,
+      readers-few,
     )

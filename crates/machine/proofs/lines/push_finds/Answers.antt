@@ -18,11 +18,7 @@ callers-preserved c =
     c.caller-item.result c.deref.result.now c.callers-test.true c.caller-item.is c.deref.ensures.value
     c.args.calls.now.items (vec_capacity c.callers.calls) (vec_capacity c.push_lines.new.calls)
     c.callers.invariant.items c.push_lines.ensures.items c.callers.invariant.room c.push_lines.ensures.capacity in
-    record {
-      items = more.0;
-      room = more.1;
-      capacity = omega (arith, c.callers.invariant.capacity, c.push_lines.ensures.capacity);
-    }
+    grind arith
 
 pub returns-clause-items : goal.returns-clause-items
 returns-clause-items c = grind (arith, take_all)

@@ -10,8 +10,7 @@ use Rattle.machine.specs.ScriptVisits.{script-searches, script-is}
 
 pub new-requires : goal.new-requires
 new-requires c =
-    let low : c.len-subs.result + c.loop-caller.caller < length (seen_input c.args.input.now).scripts =
-    omega (arith, c.loop-caller-test.true, c.len-subs.ensures, c.requires.together.valid.scripts) in
+    let low : c.len-subs.result + c.loop-caller.caller < length (seen_input c.args.input.now).scripts = omega arith in
     record {
       searches = script-searches c.args.plan.now (c.len-subs.result + c.loop-caller.caller) c.requires.together.valid
           c.requires.together.nodes (omega (arith, c.len-subs.ensures)) low
@@ -21,8 +20,7 @@ new-requires c =
 
 pub loop-caller-preserved : goal.loop-caller-preserved
 loop-caller-preserved c =
-    let low : c.len-subs.result + c.loop-caller.caller < length (seen_input c.args.input.now).scripts =
-    omega (arith, c.loop-caller-test.true, c.len-subs.ensures, c.requires.together.valid.scripts) in
+    let low : c.len-subs.result + c.loop-caller.caller < length (seen_input c.args.input.now).scripts = omega arith in
     let count : c.len-subs.result ≡ length c.args.input.now.homes.items = omega (arith, c.len-subs.ensures) in
     let script : c.as_slice-script.result.now
     ≡ get_or (seen_input c.args.input.now).scripts (c.len-subs.result + c.loop-caller.caller) [] =

@@ -9,8 +9,7 @@ use Rattle.machine.proofs.machine.subscribers_of.Goals as goal
 
 pub loop-sub-preserved : goal.loop-sub-preserved
 loop-sub-preserved c =
-    let low : c.loop-sub.sub < length c.args.input.now.homes.items =
-    omega (arith, c.loop-sub-test.true, c.len-sub-end.ensures) in
+    let low : c.loop-sub.sub < length c.args.input.now.homes.items = grind arith in
     let steps : c.len-steps.result ≡ calls_of (seen_input c.args.input.now) c.loop-sub.sub = omega (
       arith,
       c.len-steps.ensures,

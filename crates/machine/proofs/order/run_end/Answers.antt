@@ -6,8 +6,4 @@ pub loop-end-init : goal.loop-end-init
 loop-end-init c = record { on = omega arith; run = run-first c.args.order.now c.args.start c.requires.inside }
 
 pub loop-end-preserved : goal.loop-end-preserved
-loop-end-preserved c = record {
-  on = omega (arith, c.loop-end.invariant.on);
-  run = run-more c.args.order.now c.args.start c.loop-end.end c.loop-end.invariant.on c.loop-end-test.true
-      c.if-order-end.false c.loop-end.invariant.run;
-}
+loop-end-preserved c = grind (arith, run-more)

@@ -1,4 +1,4 @@
-use Rattle.std.proofs.Common.{ap, ◌∙◌, arith, map, Vec, Global, suc, take, ◌+◌, ◌≡◌, ℕ, List, [], ◌∷◌, zero, ◌<◌, get_or, length}
+use Rattle.std.proofs.Common.{arith, map, Vec, Global, suc, take, ◌+◌, ◌≡◌, ℕ, List, [], ◌∷◌, zero, ◌<◌, get_or, length}
 use Rattle.std.proofs.lemmas.List.{take_all}
 use Rattle.net_reader.specs.declared.said.Call.{Call}
 use Rattle.net_reader.specs.Valid.{count_calls}
@@ -17,5 +17,4 @@ pub loop-script-preserved : goal.loop-script-preserved
 loop-script-preserved c = grind (arith, added, calls-more)
 
 pub returns : goal.returns
-returns c = c.loop-script.invariant ∙ ap (λ xs. count_calls (map (λ (s : Vec Call Global). s.items) xs))
-    (take_all c.loop-script.script-index c.args.scripts.now c.loop-script-test.false)
+returns c = grind (arith, take_all)

@@ -4,11 +4,7 @@ use Rattle.machine.proofs.Making.{turns-behind, may-follow}
 use Rattle.machine.proofs.caller.Caller.look.Goals as goal
 
 pub looks-init : goal.looks-init
-looks-init g c = record {
-  few = omega arith;
-  passed = λ history sees place its.
-      passed-none sees its;
-}
+looks-init g c = grind (arith, passed-none)
 
 pub pass-made-requires-clause-stands : goal.pass-made-requires-clause-stands
 pass-made-requires-clause-stands g c =

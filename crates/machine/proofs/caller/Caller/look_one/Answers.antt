@@ -1,5 +1,5 @@
 use Rattle.std.proofs.Common.{◌≡◌, ◌<◌, ◌∙◌, [], ◌∷◌, ◌++◌, drop, ap, subst, sym, refl, arith, length, get_or, map}
-use Rattle.std.specs.Prelude.{Some, if◌then◌else◌}
+use Rattle.std.specs.Prelude.{Some}
 use Rattle.std.proofs.lemmas.List.{length_push}
 use Rattle.scripts.specs.Scripts.{find_of}
 use Rattle.machine.specs.Stands.{setting_over, IsWalking}
@@ -78,8 +78,7 @@ returns c = λ history sees place its.
     c.as_slice-script.ensures.value in
     let count : length c.args.self.now.lines.items ≡ c.len.result = omega (arith, c.len.ensures) in
     let lines : c.push.new.self.items ≡ c.args.self.now.lines.items ++ c.line_of-line.result ∷ [] =
-    c.push.ensures.items ∙ ap (λ b. if b then c.args.self.now.lines.items ++ c.line_of-line.result ∷ []
-    else c.args.self.now.lines.items) (ok-of c.push.result (sym c.is_err.ensures.value ∙ c.if-is_err.false)) in
+    grind (arith, ok-of) in
     looked-up c.lines_grow.ensures.read c.lines_grow.ensures.finds c.lines_grow.ensures.count _ c.requires.high sees
     place its (looks c.own_after.ensures.tickets c.saw.new.self c.requires.high its c.in-Some.is
     (sym c.next.ensures ∙ c.in-Some-next.is) (c.look.ensures.history c.args.input.now.homes.items history sees.hold)

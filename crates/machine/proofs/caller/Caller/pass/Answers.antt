@@ -7,8 +7,7 @@ use Rattle.machine.proofs.Looked.{scripts-low, sub-known, walks-over}
 use Rattle.machine.proofs.caller.Caller.pass.Goals as goal
 
 pub returns-in_default-climb-clause-passed : goal.returns-in_default-climb-clause-passed
-returns-in_default-climb-clause-passed g c = λ history sees place its.
-    rw c.in-Some.is at (passed-none sees its)
+returns-in_default-climb-clause-passed g c = grind (arith, passed-none)
 
 pub count_ahead-count-requires-clause-known : goal.count_ahead-count-requires-clause-known
 count_ahead-count-requires-clause-known g c =
@@ -17,12 +16,10 @@ count_ahead-count-requires-clause-known g c =
     omega (arith, c.sub.ensures, known, c.requires.stands.1.hold.subs)
 
 pub count_ahead-count-requires-clause-over : goal.count_ahead-count-requires-clause-over
-count_ahead-count-requires-clause-over g c =
-    c.in-Some-climb.ensures.over c.args.plan.now (walks-over c.requires.stands.3 c.in-Some.is)
+count_ahead-count-requires-clause-over g c = grind (arith, walks-over)
 
 pub climb_past-requires-clause-over : goal.climb_past-requires-clause-over
-climb_past-requires-clause-over g c =
-    c.in-Some-climb.ensures.over c.args.plan.now (walks-over c.requires.stands.3 c.in-Some.is)
+climb_past-requires-clause-over g c = grind (arith, walks-over)
 
 pub returns-then-count-gt0-clause-passed : goal.returns-then-count-gt0-clause-passed
 returns-then-count-gt0-clause-passed g c = λ history sees place its.

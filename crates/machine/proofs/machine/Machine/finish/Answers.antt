@@ -8,8 +8,7 @@ use Rattle.machine.proofs.machine.Machine.finish.Goals as goal
 
 pub actors-preserved : goal.actors-preserved
 actors-preserved c = record {
-  same = same-through c.args.self.now c.actors.self c.finish_actor.new.self c.actors.invariant.same
-      c.finish_actor.ensures.same;
+  same = grind (arith, same-through);
   stands = λ history is.
       turns-following c.args.self.now c.actors.self history c.actors.actor c.actors.invariant.same
       (c.finish_actor.ensures.stands _ (c.actors.invariant.stands history is));
@@ -19,8 +18,7 @@ actors-preserved c = record {
 count-had : (actor : ℕ) {end count : ℕ} (scripts : Vec (Vec Call Global) Global) → end ≤ actor → actor ≤ end
     → end ≡ count → count ≡ length scripts.items → actor ≡ length
     (map (λ (script : Vec Call Global). script.items) scripts.items)
-count-had actor scripts low high one two =
-    omega (arith, low, high, one, two, length-map scripts.items (λ (script : Vec Call Global). script.items))
+count-had actor scripts low high one two = grind (arith, length-map)
 
 pub returns-clause-stands : goal.returns-clause-stands
 returns-clause-stands c history is =

@@ -1,4 +1,4 @@
-use Rattle.std.proofs.Common.{◌≡◌, ◌+◌, ◌-◌, arith, refl, subst}
+use Rattle.std.proofs.Common.{◌≡◌, ◌+◌, ◌-◌, arith, subst}
 use Rattle.machine.specs.Machines.{HasMade}
 use Rattle.machine.proofs.Finishing.{made-idle, made-joined, made-none, same-through, turned-once}
 use Rattle.machine.proofs.machine.Machine.turns.Goals as goal
@@ -12,12 +12,7 @@ pub returns-then-count-eq1-clause-made : goal.returns-then-count-eq1-clause-made
 returns-then-count-eq1-clause-made c = grind (arith, turned-once)
 
 pub turns-init : goal.turns-init
-turns-init c = record {
-  same = (refl, refl, refl);
-  few = omega arith;
-  stands = λ history is.
-      let none : c.args.count - c.args.count ≡ 0 = omega arith in rw none (made-none c.args.actor is);
-}
+turns-init c = grind (arith, made-none)
 
 pub returns-then-made-eq0-clause-stands : goal.returns-then-made-eq0-clause-stands
 returns-then-made-eq0-clause-stands c = λ history is.
@@ -33,8 +28,7 @@ returns-then-made-eq0-clause-made c = λ history is.
 
 pub turns-preserved : goal.turns-preserved
 turns-preserved c = record {
-  same = same-through c.args.self.now c.turns.self c.stride-made.new.self c.turns.invariant.same
-      c.stride-made.ensures.same;
+  same = grind (arith, same-through);
   few = omega (arith, c.turns.invariant.few);
   stands = λ history is.
       let made = c.turns.invariant.stands history is in

@@ -1,5 +1,4 @@
 use Rattle.std.proofs.Common.{◌≡◌, ◌++◌, ◌∷◌, [], sym, ap, ◌∙◌, refl, arith, length, subst}
-use Rattle.std.specs.Prelude.{if◌then◌else◌}
 use Rattle.net_reader.specs.declared.said.Call.TheVariants as calls
 use Rattle.machine.specs.Owed.{Owes}
 use Rattle.machine.proofs.Looked.{ok-of}
@@ -78,8 +77,7 @@ returns c = λ history sees place its.
     (omega (arith, c.len-place.ensures)) c.if-place-script.false in
     let begun = c.begin_step-line.ensures.stands c.args.input.now.homes.items _ _ at.shown.handset in
     let lines : c.push.new.self.items ≡ c.args.self.now.lines.items ++ c.begin_step-line.result ∷ [] =
-    c.push.ensures.items ∙ ap (λ b. if b then c.args.self.now.lines.items ++ c.begin_step-line.result ∷ []
-    else c.args.self.now.lines.items) (ok-of c.push.result (sym c.is_err.ensures.value ∙ c.if-is_err.false)) in
+    grind (arith, ok-of) in
     let some = first-ahead c.fill.new.ahead.items at c.begin_step-line.ensures.its
     (c.begin_step-line.ensures.stands c.args.input.now.homes.items _ _ at.shown.handset) c.fill.ensures.rests in
     let owes = c.fill.ensures.ahead.owes c.begin_step-line.new.handset

@@ -11,8 +11,7 @@ returns-clause-none c = λ quiet.
     let plan = c.args.plan.now in
     let subs = c.args.cells.now.subs in
     let old = c.args.self.now.handset in
-    let empty : c.fill.new.ahead.items ≡ [] =
-    none-there c.fill.new.ahead.items (sym c.fill.new.ahead.ok.0) c.is_empty.ensures quiet in
+    let empty : c.fill.new.ahead.items ≡ [] = grind (arith, none-there) in
     let same : c.fill.new.handset ≡ old =
     subst (Owes plan subs old c.fill.new.handset) empty
     (c.fill.ensures.ahead.owes old (subst (Owes plan subs old old) (sym c.clear.ensures.items) refl)) in

@@ -1,15 +1,10 @@
-use Rattle.std.proofs.Common.{arith, refl}
+use Rattle.std.proofs.Common.{arith}
 use Rattle.machine.proofs.Making.{made-count, made-next, made-none, may-follow, turns-behind}
 use Rattle.machine.proofs.Written.{ended}
 use Rattle.machine.proofs.subscriber.Subscriber.write.Goals as goal
 
 pub writes-init : goal.writes-init
-writes-init g c = record {
-  few = omega arith;
-  still = λ none. refl;
-  written = λ history sees place its.
-      made-none _ sees its;
-}
+writes-init g c = grind (arith, made-none)
 
 pub write_plain-made-requires-clause-stands : goal.write_plain-made-requires-clause-stands
 write_plain-made-requires-clause-stands g c =

@@ -9,8 +9,7 @@ put_plain-behind-requires-clause-stands c = grind (arith, may-put)
 
 pub overflow_sub-last : goal.overflow_sub-last
 overflow_sub-last c =
-    let left : c.args.self.now.made < length c.args.self.now.ahead.items =
-    omega (arith, c.if-made-gt0.true, c.put_plain-behind.ensures.within, ap length c.as_slice.ensures.value) in
+    let left : c.args.self.now.made < length c.args.self.now.ahead.items = grind arith in
     let some = line-there c.mark_words.ensures.unpacked c.own_after.ensures.visits c.own_after.ensures.tickets
     c.tickets_tell.ensures.visits c.scripts_are_valid.ensures c.requires.together c.requires.low
     c.requires.stands.3 left in
@@ -18,8 +17,7 @@ overflow_sub-last c =
 
 pub index_mut-requires : goal.index_mut-requires
 index_mut-requires c =
-    let left : c.args.self.now.made < length c.args.self.now.ahead.items =
-    omega (arith, c.if-made-gt0.true, c.put_plain-behind.ensures.within, ap length c.as_slice.ensures.value) in
+    let left : c.args.self.now.made < length c.args.self.now.ahead.items = grind arith in
     let some = line-there c.mark_words.ensures.unpacked c.own_after.ensures.visits c.own_after.ensures.tickets
     c.tickets_tell.ensures.visits c.scripts_are_valid.ensures c.requires.together c.requires.low
     c.requires.stands.3 left in
