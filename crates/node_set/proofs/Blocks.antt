@@ -72,8 +72,7 @@ is_some n = (λ h. grind (arith, nat_tests), λ h. grind (arith, nat_tests))
 pub block_meet : (a b : List ℕ) (at : ℕ) → at + 4 ≤ length a → at + 4 ≤ length b →
     IsTrue (not (nat_eq (fold_l bit_or 0 (common a b at)) 0)) ↔ MeetWithin a b at (at + 4)
 block_meet a b at fits_a fits_b =
-    let test = is_some (fold_l bit_or 0 (common a b at)) in
-    (λ h. block_found a b at fits_a fits_b (test.0 h), λ h. test.1 (block_some a b at fits_a fits_b h))
+    grind (arith, is_some, block_found, block_some)
 
 -- ---- a block absorbed
 
@@ -82,8 +81,7 @@ module _ (a b : List ℕ) (at : ℕ) (fits_a : at + 4 ≤ length a) (fits_b : at
   either = zip2 bit_or (take 4 (drop at a)) (take 4 (drop at b))
 
   lanes : length either ≡ 4
-  lanes = length-zip2 bit_or (chunk at 4 a) (chunk at 4 b)
-      (length-chunk at 4 a fits_a ∙ sym (length-chunk at 4 b fits_b)) ∙ length-chunk at 4 a fits_a
+  lanes = grind (arith, nat_tests, length-chunk at 4 a fits_a, length-chunk at 4 b fits_b)
 
   placed : (i : ℕ) → i < 4 → get_or (put_chunk at a either) (at + i) 0 ≡ bit_or (get_or a (at + i) 0)
       (get_or b (at + i) 0)
@@ -99,8 +97,7 @@ module _ (a b : List ℕ) (at : ℕ) (fits_a : at + 4 ≤ length a) (fits_b : at
   block_joined = record {
     enough = length-put_chunk at a either;
     joined = λ k low high.
-        let e : at + (k - at) ≡ k = omega arith in
-        rw e at (placed (k - at) (omega arith));
+        grind (arith, nat_tests, placed (k - at) (omega arith));
     before = λ k low. get_or-put_chunk_below at a either k 0 low;
     after = λ k high. get_or-put_chunk_above at a either k 0 (omega (arith, lanes));
   }
@@ -121,23 +118,10 @@ common_bit x y i here there = grind (arith, bit_at_and x y i, bit_at-zero i)
 pub all_meet : (a b : List ℕ) (from : ℕ) → ((k : ℕ) → get_or a k 0 < 2 ^ 64)
     → ((k : ℕ) → k < from → bit_and (get_or a k 0) (get_or b k 0) ≡ 0) → {result : Bool}
     → IsTrue result ↔ MeetWithin a b from (length a) → IsTrue result ↔ Meet a b
-all_meet a b from small none rest = (
-  λ h.
-      let place = rest.0 h in
-      let bit = shared_bit (get_or a place.0 0) (get_or b place.0 0) (small place.0) place.3 in
-      (place.0, bit.0, place.2, bit.1, bit.2, bit.3),
-  λ place.
-      let some : 0 < bit_and (get_or a place.0 0) (get_or b place.0 0) =
-      common_bit (get_or a place.0 0) (get_or b place.0 0) place.1 place.4 place.5 in
-      elim (cases_lt place.0 from) [
-        | inl before ↦ absurd (omega (arith, none place.0 before, some))
-        | inr later ↦ rest.1 (place.0, later, place.2, some)
-      ],
-)
+all_meet a b from small none rest = grind (arith, shared_bit, common_bit, cases_lt)
 
 -- a block that meets
 pub some_meet : (a b : List ℕ) (at to : ℕ) → ((k : ℕ) → get_or a k 0 < 2 ^ 64) → to ≤ length a → MeetWithin a b at to
     → Meet a b
 some_meet a b at to small fits place =
-    let bit = shared_bit (get_or a place.0 0) (get_or b place.0 0) (small place.0) place.3 in
-    (place.0, bit.0, omega (arith, place.2), bit.1, bit.2, bit.3)
+    grind (arith, shared_bit)

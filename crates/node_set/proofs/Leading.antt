@@ -45,15 +45,7 @@ module _ {taken : List ℕ} (number : ℕ) {from v : ℕ} (old home : List ℕ) 
     (done : (x : ℕ) → x < from → get_or home x 0 ≡ cond (has x taken) number (get_or old x 0))
     (left : (x : ℕ) → from ≤ x → get_or home x 0 ≡ get_or old x 0) where
   homes_done : (x : ℕ) → x < v + 1 → get_or (set home v number) x 0 ≡ cond (has x taken) number (get_or old x 0)
-  homes_done x below = grind (
-    arith,
-    get_or-set_same home v number 0 short,
-    get_or-set_other home v x number 0,
-    next.member,
-    done x,
-    left x,
-    next.first x,
-  )
+  homes_done x below = grind (arith, get_or-set_same, get_or-set_other)
 
   homes_left : (x : ℕ) → v + 1 ≤ x → get_or (set home v number) x 0 ≡ get_or old x 0
   homes_left x past = get_or-set_other home v x number 0 (λ same. omega arith) ∙ left x (omega (arith, next.reached))
@@ -75,6 +67,4 @@ homes_end taken number from old home none done left x = grind (arith, done x, le
 pub same_filter : (xs ys : List ℕ) → IsAscending xs → IsAscending ys → filter (λ v. has v ys) xs
     ≡ filter (λ v. has v xs) ys
 same_filter xs ys xs_ascend ys_ascend =
-    same_members (filter (λ v. has v ys) xs) (filter (λ v. has v xs) ys)
-    (ascending-filter (λ v. has v ys) xs xs_ascend) (ascending-filter (λ v. has v xs) ys ys_ascend)
-    (λ x. grind (arith, has-filter (λ v. has v ys) x xs, has-filter (λ v. has v xs) x ys))
+    grind (arith, same_members, ascending-filter, has-filter)

@@ -20,13 +20,8 @@ bit_of_mask ms i = grind (arith, nat_tests, bit_mask_l ms i)
 pub one_more : (test : ℕ → Bool) (word i : ℕ) → i < 64 → test i ≡ true
     → ((j : ℕ) → j < 64 → (bit_at word j == 1) ≡ (nat_lt j i && test j))
     → (j : ℕ) → j < 64 → (bit_at (bit_or word (1 * 2 ^ i % 2 ^ 64)) j == 1) ≡ (nat_lt j (i + 1) && test j)
-one_more test word i below here before j short = grind (
-  arith,
-  nat_tests,
-  bit_at_set_same w64 word i below,
-  bit_at_set_other w64 word i below j,
-  before j short,
-)
+one_more test word i below here before j short =
+    grind (arith, nat_tests, bit_at_set_same w64 word i below, bit_at_set_other w64 word i below j)
 
 -- it isn't
 pub one_less : (test : ℕ → Bool) (word i : ℕ) → test i ≡ false
@@ -45,18 +40,7 @@ module _ (numbers : List ℕ) (limit b count w : ℕ) (words : List ℕ) (before
 
   each : (x : ℕ) → is_set (words ++ w ∷ []) x ≡ (nat_lt x count && nat_le (slice_index numbers x) limit)
   each x =
-      let whole : x / 64 ≡ b → 64 * b + x % 64 ≡ x = λ same. omega arith in
-      grind (
-        arith,
-        nat_tests,
-        get_or_append_left words (w ∷ []) 0 (x / 64),
-        before.each x,
-        get_or_push words w 0 b long,
-        bits (x % 64),
-        whole,
-        length_push words w,
-        is_set_past (words ++ w ∷ []) x,
-      )
+      grind (arith, get_or_append_left, get_or_push, long, length_push, is_set_past)
 
   pub word_more : AreWithin numbers limit count (words ++ w ∷ [])
   word_more = record { enough = omega (arith, length_push words w, long); each = each }
@@ -74,19 +58,12 @@ block_more {numbers} {limit} b w {words} before bits =
 is_within : (numbers : List ℕ) (limit x : ℕ)
     → has x (sift (λ y. nat_le (slice_index numbers y) limit) 0 (length numbers))
     ≡ (nat_lt x (length numbers) && nat_le (slice_index numbers x) limit)
-is_within numbers limit x = grind (
-  arith,
-  nat_tests,
-  has-passing (λ y. nat_le (slice_index numbers y) limit) x 0 (length numbers),
-  passing_over (λ y. nat_le (slice_index numbers y) limit) x 0 (length numbers),
-)
+is_within numbers limit x = grind (arith, has-passing, passing_over)
 
 pub within_bits : {numbers : List ℕ} {limit : ℕ} {words : List ℕ} → AreWithin numbers limit (length numbers) words
     → set_bits words ≡ sift (λ x. nat_le (slice_index numbers x) limit) 0 (length numbers)
 within_bits {numbers} {limit} {words} all =
-    same_as_bits words (sift (λ x. nat_le (slice_index numbers x) limit) 0 (length numbers))
-    (ascending-passing (λ x. nat_le (slice_index numbers x) limit) 0 (length numbers))
-    (λ x. all.each x ∙ sym (is_within numbers limit x))
+    grind (arith, same_as_bits, ascending-passing, is_within)
 
 pub none_after : {numbers : List ℕ} {limit : ℕ} {words : List ℕ} → AreWithin numbers limit (length numbers) words
     → (v : ℕ) → length numbers ≤ v → is_set words v ≡ false
@@ -99,8 +76,7 @@ module _ (numbers : List ℕ) (limit block : ℕ) (words : List ℕ) (count : le
   -- no word is left
   pub all_filled : length numbers % 64 ≡ 0 → AreWithin numbers limit (length numbers) words
   all_filled none =
-      let reached : 64 * block ≡ length numbers = omega arith in
-      rw (← reached) (rw (take_all block words (omega arith)) at before)
+      grind (arith, take_all)
 
   -- one word is left
   pub last_filled : (w : ℕ) → 0 < length numbers % 64

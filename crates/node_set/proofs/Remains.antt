@@ -48,14 +48,7 @@ cut_set {test} {len = len} {a} {b} {new} ok cut count =
 pub kept : {a b new : List ℕ} → AreWordsKept a b new → IsCut (λ here. here) a b new
 kept {a} {b} all = record {
   enough = all.enough;
-  bits = λ k i below short. grind (
-    arith,
-    nat_tests,
-    all.kept k below,
-    bit_at_and (get_or a k 0) (get_or b k 0) i,
-    bit_at-lt (get_or a k 0) i,
-    bit_at-lt (get_or b k 0) i,
-  );
+  bits = λ k i below short. grind (arith, bit_at_and, bit_at-lt);
 }
 
 pub removed : {a b new : List ℕ} → AreWordsRemoved a b new → IsCut not a b new

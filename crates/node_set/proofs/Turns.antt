@@ -1,5 +1,5 @@
 -- The rows of balls, from the centres that each has.
-use Rattle.std.proofs.Common.{◌≡◌, ◌∙◌, ℕ, ◌+◌, ◌<◌, List, [], ◌∷◌, ◌++◌, length, ap, inl, inr, arith}
+use Rattle.std.proofs.Common.{◌≡◌, ℕ, ◌+◌, ◌<◌, List, [], ◌∷◌, ◌++◌, length, arith}
 use Rattle.std.proofs.lemmas.Bool.{cases_lt}
 use Rattle.std.proofs.lemmas.List.{get_or_append_left, get_or_push, map-append}
 use Rattle.node_set.specs.Ascending.{has, sift}
@@ -13,19 +13,11 @@ pub rows_turned : (balls rows : List Nodes) → length rows ≡ length balls
     → ((v : ℕ) → v < length balls → ball (sets rows) v ≡ sift (λ u. has v (ball (sets balls) u)) 0 (length balls))
     → AreTurned (sets balls) (sets rows)
 rows_turned balls rows count each u v u_below v_below =
-    ap (has u) (each v (omega (arith, length-sets balls)))
-    ∙ has-passing (λ w. has v (ball (sets balls) w)) u 0 (length balls) (omega arith) (omega (arith, length-sets balls))
+    grind (arith, length-sets, has-passing)
 
 -- one row more
 pub row_more : (rows : List Nodes) (row : Nodes) (wanted : ℕ → List ℕ)
     → ((v : ℕ) → v < length rows → ball (sets rows) v ≡ wanted v) → row.members ≡ wanted (length rows)
     → (v : ℕ) → v < length rows + 1 → ball (sets (rows ++ row ∷ [])) v ≡ wanted v
 row_more rows row wanted each is v below =
-    ap (λ balls. ball balls v) (map-append (λ (b : Nodes). b.members) rows (row ∷ []))
-    ∙ elim (cases_lt v (length rows)) [
-      | inl less ↦ get_or_append_left (sets rows) (row.members ∷ []) [] v (omega (arith, less, length-sets rows))
-          ∙ each v less
-      | inr over ↦
-          let here : length rows ≡ v = omega (arith, over, below) in
-          get_or_push (sets rows) row.members [] v (length-sets rows ∙ here) ∙ is ∙ ap wanted here
-    ]
+    grind (arith, map-append, cases_lt, get_or_append_left, length-sets, get_or_push)

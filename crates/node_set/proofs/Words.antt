@@ -21,20 +21,14 @@ pub is_set_past : (words : List ℕ) (x : ℕ) → length words ≤ x / 64 → i
 is_set_past words x h = rw (get_or_past words (x / 64) 0 h, bit_at-zero (x % 64)) refl
 
 pub has-set_bits : (words : List ℕ) (x : ℕ) → has x (set_bits words) ≡ is_set words x
-has-set_bits words x = grind (
-  arith,
-  has-passing (is_set words) x 0 (64 * length words),
-  passing_over (is_set words) x 0 (64 * length words),
-  is_set_past words x,
-)
+has-set_bits words x = grind (arith, has-passing, passing_over, is_set_past)
 
 pub ascending-set_bits : (words : List ℕ) → IsAscending (set_bits words)
 ascending-set_bits words = ascending-passing (is_set words) 0 (64 * length words)
 
 -- an ascending list with the same members is what the words stand for
 pub same_as_bits : (words xs : List ℕ) → IsAscending xs → ((x : ℕ) → is_set words x ≡ has x xs) → set_bits words ≡ xs
-same_as_bits words xs all same = same_members (set_bits words) xs (ascending-set_bits words) all
-    (λ x. has-set_bits words x ∙ same x)
+same_as_bits words xs all same = grind (arith, same_members, ascending-set_bits, has-set_bits)
 
 pub are_nodes : {room : ℕ} {words : List ℕ} → AreWords room words
     → AreNodes (record { room = room; members = set_bits words })
@@ -77,15 +71,7 @@ same_word x v e = grind (arith, nat_tests)
 
 is_set-insert : (words : List ℕ) (v x : ℕ) {w : ℕ} → v / 64 < length words → w ≡ get_or words (v / 64) 0
     → is_set (set words (v / 64) (bit_or w (1 * 2 ^ (v % 64) % 2 ^ 64))) x ≡ (x == v || is_set words x)
-is_set-insert words v x {w} h e = grind (
-  arith,
-  nat_tests,
-  get_or-set_same words (v / 64) (bit_or w (1 * 2 ^ (v % 64) % 2 ^ 64)) 0 h,
-  get_or-set_other words (v / 64) (x / 64) (bit_or w (1 * 2 ^ (v % 64) % 2 ^ 64)) 0,
-  e,
-  same_word x v,
-  bit_more w (v % 64) (x % 64),
-)
+is_set-insert words v x {w} h e = grind (arith, get_or-set_same, get_or-set_other, same_word, bit_more)
 
 pub insert_bit : (words : List ℕ) (v : ℕ) {w : ℕ} → v / 64 < length words → w ≡ get_or words (v / 64) w
     → set_bits (set words (v / 64) (bit_or w (1 * 2 ^ (v % 64) % 2 ^ 64))) ≡ with_number v (set_bits words)
@@ -100,34 +86,19 @@ pub words-insert : {room : ℕ} {words : List ℕ} (v : ℕ) {w : ℕ} → AreWo
 words-insert {words} v {w} ok below h e = record {
   small = ok.small;
   enough = length-set words (v / 64) (bit_or w (1 * 2 ^ (v % 64) % 2 ^ 64)) ∙ ok.enough;
-  tail = λ x over. is_set-insert words v x h (e ∙ get_or_default_zero words (v / 64) w h)
-      ∙ rw (ne_eqb x v (λ same. omega arith), ok.tail x over) refl;
+  tail = λ x over. grind (arith, is_set-insert, get_or_default_zero, ne_eqb);
 }
 
 -- ---- two sets of words
 
 is_set-joined : {words more both : List ℕ} (x : ℕ) → AreWordsJoined words more both → length words ≡ length more
     → is_set both x ≡ (is_set more x || is_set words x)
-is_set-joined {words} {more} {both} x all same = grind (
-  arith,
-  nat_tests,
-  all.joined (x / 64),
-  all.enough,
-  bit_at_or (get_or words (x / 64) 0) (get_or more (x / 64) 0) (x % 64),
-  bit_at-lt (get_or words (x / 64) 0) (x % 64),
-  bit_at-lt (get_or more (x / 64) 0) (x % 64),
-  is_set_past both x,
-  is_set_past words x,
-  is_set_past more x,
-)
+is_set-joined {words} {more} {both} x all same = grind (arith, bit_at_or, bit_at-lt, is_set_past)
 
 pub absorb_bits : {words more both : List ℕ} → AreWordsJoined words more both → length words ≡ length more
     → set_bits both ≡ union (set_bits more) (set_bits words)
 absorb_bits {words} {more} {both} all same =
-    same_as_bits both (union (set_bits more) (set_bits words))
-    (ascending-union (set_bits more) (set_bits words) (ascending-set_bits words))
-    (λ x. is_set-joined x all same
-    ∙ sym (rw (has-union x (set_bits more) (set_bits words), has-set_bits more x, has-set_bits words x) refl))
+    search (same_as_bits, ascending-union, ascending-set_bits, is_set-joined, has-union, has-set_bits)
 
 pub words-absorb : {room : ℕ} {words more both : List ℕ} → AreWords room words → AreWords room more
     → AreWordsJoined words more both → AreWords room both
@@ -179,8 +150,7 @@ length-passing_word test v (suc k) w h same =
     let half : w / 2 < 2 ^ k = omega (arith, pow-suc 2 k) in
     let first : test v ≡ bit_at w 0 == 1 = rw add-zero at (same 0 (omega arith)) in
     let rest = length-passing_word test (suc v) k (w / 2) half (λ i below.
-    let next : suc v + i ≡ v + suc i = omega arith in
-    rw (next, ← bit_at-suc w i) (same (suc i) (omega arith))) in
+    grind (arith, nat_tests, bit_at-suc w i)) in
     grind (
       arith,
       nat_tests,
@@ -195,9 +165,7 @@ length-passing_word test v (suc k) w h same =
 pub bits_of_word : (words : List ℕ) {x : ℕ} (k i : ℕ) → x ≡ 64 * k + i → i < 64
     → is_set words x ≡ bit_at (get_or words k 0) i == 1
 bits_of_word words {x} k i is below =
-    let word : x / 64 ≡ k = omega arith in
-    let bit : x % 64 ≡ i = omega arith in
-    rw (word, bit) refl
+    grind arith
 
 bits_from : (words : List ℕ) (k i : ℕ) → i < 64 → is_set words (0 + 64 * k + i) ≡ bit_at (get_or words k 0) i == 1
 bits_from words k i below = bits_of_word words k i (omega arith) below

@@ -17,13 +17,10 @@ ball-init c = record {
 pub ball-preserved : goal.ball-preserved
 ball-preserved c =
     let at : ball (sets c.args.balls.now) c.in-Some.v ≡ c.index-balls-v.result.members =
-    ball_at c.args.balls.now c.in-Some.v c.index-balls-v.result
-    (omega (arith, c.in-Some.ensures.below, c.requires.centres)) c.index-balls-v.is
-    in
+    grind (arith, ball_at) in
     rw c.absorb.ensures (record {
       room_kept = c.ball.invariant.room_kept;
-      order = λ ascending. ascending-union c.index-balls-v.result.members c.ball.nodes.members
-          (c.ball.invariant.order ascending);
+      order = λ ascending. grind (arith, ascending-union);
       so_far = absorb_next (sets c.args.balls.now) c.args.nodes.now.members c.ball.nodes.members c.in-Some.ensures.some
           at c.ball.invariant.so_far;
     })

@@ -8,5 +8,4 @@ ball-preserved c = homes_more c.args.number c.args.home.now c.ball.home c.in-Som
 
 pub returns : goal.returns
 returns c = λ x below.
-    homes_end c.args.taken.now.members c.args.number c.ball.from c.args.home.now c.ball.home c.in_default.ensures.none
-    c.ball.invariant.done c.ball.invariant.left x
+    grind (arith, homes_end)

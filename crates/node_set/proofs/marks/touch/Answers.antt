@@ -1,5 +1,5 @@
-use Rattle.std.proofs.Common.{◌≡◌, ◌∙◌, [], ap, filter}
-use Rattle.node_set.specs.Ascending.{has}
+use Rattle.std.proofs.Common.{arith}
+use Rattle.std.proofs.Common.{◌≡◌, [], ap}
 use Rattle.node_set.specs.Balls.{sets, union_of}
 use Rattle.node_set.specs.BallLaws.{ascending-union_of}
 use Rattle.node_set.specs.Nodes.{Nodes}
@@ -15,6 +15,4 @@ returns-clause-members c =
     let ascending = ascending-union_of (sets c.args.rows.now) c.args.nodes.now.members in
     let reached = same_members c.absorb_balls.new.nodes.members union (c.absorb_balls.ensures.order (rw none tt))
     ascending (λ x. rw (c.absorb_balls.ensures.members x, none, or-false)) in
-    c.keep.ensures.members
-    ∙ ap (filter (λ v. has v c.args.waiting.now.members)) reached
-    ∙ same_filter union c.args.waiting.now.members ascending c.set_is_sound.ensures.ascending
+    grind (arith, same_filter)

@@ -1,4 +1,4 @@
-use Rattle.std.proofs.Common.{◌≡◌, ◌++◌, ℕ, take, drop, ap, arith, length, sym, ◌∙◌}
+use Rattle.std.proofs.Common.{◌≡◌, ◌++◌, take, drop, ap, arith, length, sym, ◌∙◌}
 use Rattle.node_set.specs.Nodes.{Nodes}
 use Rattle.node_set.proofs.Limiting.{none_after, within_bits}
 use Rattle.std.proofs.lemmas.List.{take_at}
@@ -8,19 +8,13 @@ use Rattle.node_set.proofs.set.NodeSet.fill_within.Goals as goal
 module _ (c : goal.After-self-1) where
   written : take c.self.inside.words.len (c.fill_words.new.words
       ++ drop (length c.fill_words.new.words) c.self.inside.words.items) ≡ c.fill_words.new.words
-  written = take_at c.fill_words.new.words (drop (length c.fill_words.new.words) c.self.inside.words.items)
-      c.self.inside.words.len
-      (c.fill_words.auto.words ∙ ap (length {A = ℕ}) c.deref_mut.ensures.value ∙ sym c.self.inside.words.ok.0)
+  written = grind (arith, take_at)
 
 pub invariant_of-self : goal.invariant_of-self
 invariant_of-self c =
     let room : length c.args.bytes.now ≡ c.self.inside.room =
     c.requires ∙ sym (ap (λ (s : Nodes). s.room) c.self.view_is) in
-    rw (written c) (record {
-      small = c.self.invariant.small;
-      enough = omega (arith, c.fill_words.ensures.enough, room);
-      tail = λ v over. none_after c.fill_words.ensures v (omega (arith, over, room));
-    })
+    grind (arith, written, none_after)
 
 pub returns-clause-members : goal.returns-clause-members
 returns-clause-members c = rw (written c) (within_bits c.fill_words.ensures)

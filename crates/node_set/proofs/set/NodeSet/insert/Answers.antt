@@ -1,4 +1,4 @@
-use Rattle.std.proofs.Common.{◌≡◌, ap, arith, refl}
+use Rattle.std.proofs.Common.{◌≡◌, ap, arith}
 use Rattle.node_set.specs.Nodes.{Nodes}
 use Rattle.node_set.proofs.Words.{words-insert, insert_bit}
 use Rattle.node_set.proofs.set.NodeSet.insert.Goals as goal
@@ -11,7 +11,4 @@ invariant_of-self c =
 pub returns : goal.returns
 returns c =
     let room : c.self.inside.room ≡ c.args.self.now.room = ap (λ (s : Nodes). s.room) c.self.view_is in
-    rw (
-      ← c.self.view_is,
-      insert_bit c.self.inside.words.items c.args.v (omega arith) c.index_mut.ensures.value,
-    ) refl
+    grind (arith, insert_bit)
