@@ -1,5 +1,5 @@
 -- Growth of one cluster: fewer than k growths are enough.
-use Rattle.std.proofs.Common.{◌≡◌, inl, inr, ℕ, suc, ◌*◌, ◌^◌, ◌<◌, ◌≤◌, true, false, List, ◌∷◌, length, filter, refl, sym, ◌∙◌, ap, arith}
+use Rattle.std.proofs.Common.{◌≡◌, inl, inr, ℕ, suc, ◌*◌, ◌^◌, ◌<◌, ◌≤◌, true, false, List, ◌∷◌, length, filter, refl, ap, arith}
 use Rattle.std.proofs.lemmas.Bool.{cases_lt, false≢true, leb-true, leb-false, le-leb, lt-leb}
 use Rattle.std.proofs.Math.Nat.{lt_of_not-le}
 use Rattle.node_set.specs.Balls.{union_of, touches, growth, least}
@@ -49,8 +49,7 @@ module _ (balls : List (List ℕ)) (k r a : ℕ) (waiting rest : List ℕ) (lead
   some_enough pos fits none =
       let few : least (is_enough balls k r waiting a) k < k =
       rw leads (growths_few balls k r a rest pos (rw leads at fits)) in
-      false≢true (sym (none (least (is_enough balls k r waiting a) k) few)
-      ∙ least_passes (is_enough balls k r waiting a) k few)
+      grind (arith, false≢true, least_passes)
 
 -- the step of the loop: the marks are those of one growth more, which is tested by their number
 module _ (balls : List (List ℕ)) (k r a : ℕ) (waiting : List ℕ) (j more size : ℕ) (nodes marks : List ℕ)

@@ -1,6 +1,7 @@
 -- One phase: its clusters are disjoint, and the balls that they are homes of are many.
+use Rattle.std.proofs.lemmas.Bool.Decides.{nat_tests}
 use Rattle.std.proofs.lemmas.Bool.{false≢true, false_from_ne_true, not-true}
-use Rattle.std.proofs.Common.{◌≡◌, ℕ, zero, suc, ◌+◌, ◌*◌, ◌^◌, ◌<◌, ◌≤◌, Bool, true, false, cond, not, ◌&&◌, List, [], ◌∷◌, length, filter, refl, sym, ◌∙◌, ap, arith}
+use Rattle.std.proofs.Common.{◌≡◌, ℕ, zero, suc, ◌+◌, ◌*◌, ◌^◌, ◌<◌, ◌≤◌, Bool, true, false, cond, not, ◌&&◌, List, [], ◌∷◌, length, filter, refl, arith}
 use Rattle.std.specs.Prelude.{count_by, All}
 use Rattle.std.proofs.lemmas.List.Elements.{All-nil, All-cons, All-head, All-tail}
 use Rattle.std.proofs.lemmas.List.Sums.{sum_by-cons}
@@ -11,7 +12,7 @@ use Rattle.whole_powers.specs.Bounds.{PowersAdd}
 use Rattle.whole_powers.specs.PowerLaws.{zero_pow}
 use Rattle.coarse_cover.specs.Coarsening.{is_enough, cluster_of, phase}
 use Rattle.coarse_cover.specs.HalfMade.{IsReady}
-use Rattle.node_set.specs.Balls.{ball, union_of, touches, growth, least, GrownCluster, IsShaped, is_homed}
+use Rattle.node_set.specs.Balls.{union_of, touches, growth, least, GrownCluster, IsShaped, is_homed}
 use Rattle.node_set.specs.GrowthLaws.{touching_below}
 use Rattle.node_set.specs.HomeLaws.{homed_here, homed_later}
 use Rattle.node_set.specs.FilterLaws.{filter_keeps, filter-has, filter_twice, filter_halves, filter_fewer, filter_more, some_length, ascending-filter}
@@ -85,21 +86,15 @@ ready_shrunk {left = left} p ready =
 
 pub cluster_ready : {balls : List (List ℕ)} {k r a : ℕ} {rest : List ℕ} → IsReady balls k r (a ∷ rest)
     → IsCluster balls k r (a ∷ rest) (cluster_of balls k r (a ∷ rest) a)
-cluster_ready {balls} {k} {r} {a} {rest} ready = is_cluster balls k r a rest ready.some ready.fits ready.ascending.0
-    ready.centred
+cluster_ready {balls} {k} {r} {a} {rest} ready = search is_cluster
 
 -- a cluster takes its leader at least
 pub apart_fewer : {balls : List (List ℕ)} {k r : ℕ} {waiting : List ℕ} {c : GrownCluster}
     → IsCluster balls k r waiting c → length (apart balls c.members waiting) < length waiting
 apart_fewer {balls} {waiting} {c} is =
     let taken : has c.first (filter (touches balls c.members) waiting)
-    ≡ true = filter-has (touches balls c.members) c.first waiting (is.waits c.first is.leads)
-    (is.touching c.first is.leads) in
-    omega (
-      arith,
-      some_length c.first (filter (touches balls c.members) waiting) taken,
-      filter_halves (touches balls c.members) waiting,
-    )
+    ≡ true = grind (arith, filter-has) in
+    grind (arith, some_length, filter_halves)
 
 pub phase_is : {balls : List (List ℕ)} {k r : ℕ} (more : ℕ) (waiting : List ℕ) → IsReady balls k r waiting
     → length waiting ≤ more → IsPhase balls k r waiting (phase balls k r more waiting)
@@ -123,23 +118,17 @@ module _ (balls : List (List ℕ)) (k r : ℕ) where
   split_homed waiting c cs is =
       let touched = touches balls c.members in
       let own : length c.homed ≤ length (filter (λ v. is_homed (c ∷ cs) v && touched v) waiting) =
-      rw (ap length is.picked)
-      (filter_more (λ v. has v c.homed) (λ v. is_homed (c ∷ cs) v && touched v) waiting
-      (λ v here h. grind (arith, homed_here c cs v h, is.touching v h)))
-      in
+      grind (arith, filter_more, homed_here) in
       let others : length (filter (λ v. not (touched v) && is_homed cs v) waiting)
       ≤ length (filter (λ v. is_homed (c ∷ cs) v && not (touched v)) waiting) =
-      filter_more (λ v. not (touched v) && is_homed cs v) (λ v. is_homed (c ∷ cs) v && not (touched v)) waiting
-      (λ v here h. grind (arith, h, homed_later c cs v))
-      in
-      omega (
+      grind (arith, filter_more, homed_later) in
+      grind (
         arith,
-        own,
-        others,
+        nat_tests,
         filter_halves touched (filter (is_homed (c ∷ cs)) waiting),
-        ap length (filter_twice touched (is_homed (c ∷ cs)) waiting),
-        ap length (filter_twice (λ v. not (touched v)) (is_homed (c ∷ cs)) waiting),
-        ap length (filter_twice (is_homed cs) (λ v. not (touched v)) waiting),
+        filter_twice touched (is_homed (c ∷ cs)) waiting,
+        filter_twice (λ v. not (touched v)) (is_homed (c ∷ cs)) waiting,
+        filter_twice (is_homed cs) (λ v. not (touched v)) waiting,
       )
 
   pub phase_size : PowersAdd → (waiting : List ℕ) (cs : List GrownCluster) → 0 < k → IsPhase balls k r waiting cs
@@ -150,8 +139,7 @@ module _ (balls : List (List ℕ)) (k r : ℕ) where
       let rest = apart balls c.members waiting in
       let sums = adds k r (length touching) (length rest) (length c.homed) (length (filter (is_homed cs) rest)) pos
       is.0.enough (phase_size adds rest cs pos is.1) in
-      le_trans (rw (filter_halves (touches balls c.members) waiting) at sums)
-      (mul-le-mul_left r (pow-le-pow_left (split_homed waiting c cs is.0) k))
+      grind (arith, le_trans, filter_halves, mul-le-mul_left, pow-le-pow_left, split_homed)
 
   pub phase_count : (waiting : List ℕ) (cs : List GrownCluster) → IsPhase balls k r waiting cs
       → length cs ≤ length (filter (is_homed cs) waiting)
@@ -169,10 +157,8 @@ module _ (balls : List (List ℕ)) (k r : ℕ) where
   -- no later cluster has a node of a set that no waiting ball touches
   cluster_misses : (nodes waiting : List ℕ) (c : GrownCluster) (x : ℕ) → IsCluster balls k r waiting c
       → ((v : ℕ) → has v waiting ≡ true → touches balls nodes v ≡ false) → has x nodes ≡ true → has x c.members ≡ false
-  cluster_misses nodes waiting c x is none here = false_from_ne_true (has x c.members) (λ there.
-      let w : (v : ℕ) × (has v c.homed ≡ true)
-      × (has x (ball balls v) ≡ true) = union_from balls x c.homed (rw is.joined at there) in
-      false≢true (sym (none w.0 (is.waits w.0 w.1)) ∙ share_from x (ball balls w.0) nodes w.2 here))
+  cluster_misses nodes waiting c x is none here =
+      grind (arith, false_from_ne_true, union_from, false≢true, share_from)
 
   pub later_apart : (nodes waiting : List ℕ) (cs : List GrownCluster) → IsPhase balls k r waiting cs →
       ((v : ℕ) → has v waiting ≡ true → touches balls nodes v ≡ false)
@@ -180,9 +166,7 @@ module _ (balls : List (List ℕ)) (k r : ℕ) where
   later_apart nodes waiting [] is none = All-nil (λ (d : GrownCluster). share nodes d.members ≡ false)
   later_apart nodes waiting (c ∷ cs) is none =
       All-cons (λ (d : GrownCluster). share nodes d.members ≡ false) c cs
-      (false_from_ne_true (share nodes c.members) (λ both.
-      let w : (x : ℕ) × (has x nodes ≡ true) × (has x c.members ≡ true) = share_gives nodes c.members both in
-      false≢true (sym (cluster_misses nodes waiting c w.0 is.0 none w.1) ∙ w.2)))
+      (grind (arith, false_from_ne_true, share_gives, false≢true, cluster_misses))
       (later_apart nodes (apart balls c.members waiting) cs is.1
       (λ v h. none v (filter_keeps (λ w. not (touches balls c.members w)) v waiting h).0))
 
@@ -190,9 +174,7 @@ module _ (balls : List (List ℕ)) (k r : ℕ) where
   pub phase_apart : (waiting : List ℕ) (c : GrownCluster) (cs : List GrownCluster) → IsPhase balls k r waiting (c ∷ cs)
       → All (λ (d : GrownCluster). share c.members d.members ≡ false) cs
   phase_apart waiting c cs is =
-      later_apart c.members (apart balls c.members waiting) cs is.1
-      (λ v h. not-true (touches balls c.members v)
-      (filter_keeps (λ w. not (touches balls c.members w)) v waiting h).1)
+      grind (arith, later_apart, not-true, filter_keeps)
 
   none_has : (nodes : List ℕ) (x : ℕ) (cs : List GrownCluster) → has x nodes ≡ true
       → All (λ (d : GrownCluster). share nodes d.members ≡ false) cs → count_by (λ c. has x c.members) cs ≡ 0
@@ -227,8 +209,7 @@ module _ (balls : List (List ℕ)) (k r : ℕ) where
       All-cons (IsShaped balls k) c cs (
         is.0.few,
         is.0.joined,
-        touching_below balls c.members c.first
-            (is.0.touching c.first is.0.leads),
+        grind (arith, touching_below),
         (waiting, is.0.waits c.first is.0.leads, is.0.shape),
       )
       (phase_joined (apart balls c.members waiting) cs is.1)

@@ -1,15 +1,14 @@
 -- What a finished cover is, and what follows of its clusters.
 use Rattle.std.proofs.lemmas.List.{append-nil, get_or-map, length-map}
-use Rattle.std.proofs.Common.{◌≡◌, ℕ, suc, ◌-◌, ◌*◌, ◌^◌, ◌<◌, ◌≤◌, true, false, cond, List, [], ◌∷◌, ◌++◌, length, get_or, map, refl, sym, ◌∙◌, ap, arith}
+use Rattle.std.proofs.Common.{◌≡◌, ℕ, suc, ◌-◌, ◌*◌, ◌^◌, ◌<◌, ◌≤◌, true, false, List, [], ◌∷◌, ◌++◌, length, get_or, map, refl, ◌∙◌, ap, arith}
 use Rattle.std.specs.Prelude.{count_by, All}
-use Rattle.std.specs.List.{sum_by}
 use Rattle.std.proofs.lemmas.Grind.{same_number_lists}
 use Rattle.std.proofs.lemmas.List.Elements.{All-nil, All-append, All-map, All-weaker}
 use Rattle.node_set.specs.Ascending.{has, share}
 use Rattle.whole_powers.specs.Bounds.{PowersAdd, OnePhase}
 use Rattle.coarse_cover.specs.Coarsening.{without_home, all_clusters, coarsening, HomesAreFound, ClustersAreShaped, CoversAreSparse}
 use Rattle.coarse_cover.specs.Covers.{cluster_list, as_cluster, IsCover, AreApart, member_lists}
-use Rattle.coarse_cover.specs.HalfMade.{Agrees, IsBetween}
+use Rattle.coarse_cover.specs.HalfMade.{IsBetween}
 use Rattle.coarse_cover.specs.declared.cover.Cluster.{Cluster}
 use Rattle.coarse_cover.specs.declared.cover.Cover.{Cover}
 use Rattle.coarse_cover.proofs.Phase.{IsPhase, apart, phase_apart}
@@ -27,18 +26,7 @@ pub is_cover : {balls : List (List ℕ)} {k : ℕ} {left : List ℕ} (cover : Co
     → length cover.home.items ≡ length balls → IsCover (length balls) (coarsening balls k) cover
 unfolding cluster_list all_clusters
 is_cover {balls} {k} cover between none sized =
-    let home = home_of (all_clusters (coarsening balls k)) in
-    let over : Agrees (length balls) (coarsening balls k) [] [] cover.clusters.items cover.home.items cover.phases =
-    rw (phases_of_none balls k) at (rw none at between.so_far)
-    in
-    record {
-      clusters = sym (append-nil cover.clusters.items) ∙ over.clusters_so_far;
-      homes = same_number_lists cover.home.items (map home (centres (length balls)))
-          (sized ∙ sym (length-map (centres (length balls)) home ∙ length-centres (length balls)))
-          (λ v h. over.homes_so_far v (omega arith)
-          ∙ sym (get_or-map_centres home (length balls) v 0 (omega arith)));
-      phases = omega (arith, over.phases_so_far);
-    }
+    grind (arith, phases_of_none, append-nil, same_number_lists, length-map, length-centres, get_or-map_centres)
 
 -- ---- clusters as they are cluster_list
 
@@ -51,8 +39,7 @@ overlap sparse balls k {n} {cover} x some centred is =
     ≡ count_by (λ c. has x c.members) (all_clusters (coarsening balls k)) =
     ap (λ (l : List Cluster). count_by (λ (c : Cluster). has x c.members.members) l) is.clusters ∙
     (count_lists (λ (c : Cluster). c.members.members) x (cluster_list n 0 (coarsening balls k)) ∙
-    (ap (λ (l : List (List ℕ)). sum_by (λ m. cond (has x m) 1 0) l) (cluster_list_nodes n 0 (coarsening balls k))
-    ∙ sym (count_lists (λ (c : GrownCluster). c.members) x (all_clusters (coarsening balls k)))))
+    (grind (arith, cluster_list_nodes, count_lists)))
     in
     omega (arith, same, is.phases, (sparse balls k some centred).1 x)
 
@@ -80,8 +67,7 @@ home_has_nodes balls k v x left all are waits inside =
     let clusters = all_clusters all in
     let homed = all_homed balls k left all are v waits in
     let joined = all_joined balls k left all are (home_of clusters v) no_cluster (home_within clusters v homed) in
-    rw (joined.1) (union_has balls x v (get_or clusters (home_of clusters v) no_cluster).homed
-    (home_has clusters v no_cluster homed) inside)
+    rw (joined.1) (search (union_has, no_cluster, home_has))
 
 -- what follows of the clusters of a coarsening
 module _ (balls : List (List ℕ)) (k : ℕ) (some : 0 < k) (centred : AreCentred balls) where
@@ -92,13 +78,7 @@ module _ (balls : List (List ℕ)) (k : ℕ) (some : 0 < k) (centred : AreCentre
   phases_made = coarsening_phases balls k some centred
 
   pub clusters_few : {n : ℕ} {cover : Cover} → IsCover n made cover → length cover.clusters.items ≤ length balls
-  clusters_few {n} is = omega (
-    arith,
-    ap length is.clusters,
-    length-cluster_list n 0 made,
-    length-centres (length balls),
-    clusters_within balls k (centres (length balls)) made phases_made,
-  )
+  clusters_few {n} is = grind (arith, length-cluster_list, length-centres, clusters_within, phases_made)
 
   pub growths_bounded : All (λ c. c.growths ≤ k - 1) (all_clusters made)
   growths_bounded =
@@ -144,12 +124,8 @@ module _ (balls : List (List ℕ)) (k n : ℕ) where
     All-append (λ (d : Cluster). d.phase ≡ p → share c.members d.members.members ≡ false) (map (as_cluster n p) cs)
         (cluster_list n (suc p) later)
         (All-map (λ (d : Cluster). d.phase ≡ p → share c.members d.members.members ≡ false) (as_cluster n p) cs
-        (All-weaker (λ (d : GrownCluster). share c.members d.members ≡ false)
-        (λ (d : GrownCluster). p ≡ p → share c.members d.members ≡ false) (λ d h e. h) cs
-        (phase_apart balls k r waiting c cs is)))
-        (All-weaker (λ (d : Cluster). suc p ≤ d.phase)
-        (λ (d : Cluster). d.phase ≡ p → share c.members d.members.members ≡ false) (λ d h e. absurd (omega arith))
-        (cluster_list n (suc p) later) (later_phases n (suc p) later)),
+        (grind (arith, All-weaker, phase_apart)))
+        (grind (arith, All-weaker, later_phases)),
     apart_front r p (apart balls c.members waiting) cs later is.1 rest,
   )
 

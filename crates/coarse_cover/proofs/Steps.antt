@@ -1,5 +1,5 @@
 -- What is done, and what the definition gives for the rest.
-use Rattle.std.proofs.Common.{◌≡◌, inl, inr, ℕ, zero, suc, ◌+◌, ◌<◌, ◌≤◌, Bool, true, false, cond, not, ◌&&◌, List, [], ◌∷◌, ◌++◌, length, length-append, append_assoc, filter, get_or, map, refl, sym, ◌∙◌, ap, arith}
+use Rattle.std.proofs.Common.{◌≡◌, ℕ, zero, suc, ◌+◌, ◌<◌, ◌≤◌, Bool, true, false, cond, not, List, [], ◌∷◌, ◌++◌, length, length-append, append_assoc, filter, get_or, map, refl, sym, ◌∙◌, ap, arith}
 use Rattle.std.proofs.Math.Nat.{le_refl}
 use Rattle.std.proofs.lemmas.Bool.{cases_lt, false≢true}
 use Rattle.node_set.specs.Ascending.{has}
@@ -104,17 +104,14 @@ unfolding as_cluster cluster_of
 as_cluster_is balls k r a n p waiting = refl
 
 pub filter_rest : (t : ℕ → Bool) (xs : List ℕ) → filter (λ v. not (has v (filter t xs))) xs ≡ filter (λ v. not (t v)) xs
-filter_rest t xs = filter_same (λ v. not (has v (filter t xs))) (λ v. not (t v)) xs
-    (λ v h. ap not (has-filter t v xs ∙ ap (λ (b : Bool). b && t v) h))
+filter_rest t xs = grind (arith, filter_same, has-filter)
 
 -- the balls that the later clusters leave without a home, once those of the first are gone
 unhomed_next : (c : GrownCluster) (cs : List GrownCluster) (left : List ℕ) → without_home (c ∷ cs) left
     ≡ without_home cs (filter (λ v. not (has v c.homed)) left)
 unfolding is_homed
 unhomed_next c cs left =
-    filter_same (λ v. not (is_homed (c ∷ cs) v)) (λ v. not (has v c.homed) && not (is_homed cs v)) left
-    (λ v h. grind arith)
-    ∙ sym (filter_twice (λ v. not (is_homed cs v)) (λ v. not (has v c.homed)) left)
+    grind (arith, filter_same, filter_twice)
 
 unhomed_none : (left : List ℕ) → without_home [] left ≡ left
 unfolding is_homed
@@ -135,10 +132,7 @@ agrees_cluster {n} {all} {later} {c} {cs} {left} {before} {after} {home} new_hom
     append_assoc before (as_cluster n p c ∷ [])
         (map (as_cluster n p) cs ++ cluster_list n (suc p) later),
   ) so_far.clusters_so_far;
-  homes_so_far = λ v h. rw (has-filter (λ w. not (has w c.homed)) v left)
-      (home_step (has v left) (has v c.homed) (get_or home v 0) (get_or new_home v 0) (length before) (length after)
-      (home_of (cs ++ all_clusters later) v) (home_of (all_clusters all) v) (among v)
-      (ap length adds ∙ length-append before (as_cluster n p c ∷ [])) (so_far.homes_so_far v h) (homed v h));
+  homes_so_far = λ v h. grind (arith, has-filter, home_step, length-append);
   phases_so_far = so_far.phases_so_far;
 }
 
@@ -153,12 +147,7 @@ pub in_phase_start : {balls : List (List ℕ)} {k r : ℕ} {waiting left : List 
     {p : ℕ} → IsBetween balls k left clusters home p → 0 < length left → waiting ≡ left → r ≡ length left
     → IsInPhase balls k r waiting left clusters home p
 in_phase_start {balls} {k} {r} {left} {clusters} {home} {p} between some same counted =
-    rw same (rw counted (record {
-      ready = between.left_ready;
-      left_ready = between.left_ready;
-      waiting_left = λ v h. h;
-      so_far = rw (phases_of_next left some between.left_ready) at between.so_far;
-    }))
+    grind (arith, phases_of_next)
 
 pub in_phase_end : {balls : List (List ℕ)} {k r : ℕ} {waiting left : List ℕ} {clusters : List Cluster} {home : List ℕ}
     {p : ℕ} → IsInPhase balls k r waiting left clusters home p → waiting ≡ []
@@ -215,10 +204,7 @@ ready_all balls k some centred = record {
   some = some;
   fits = le_refl (length (centres (length balls)));
   ascending = ascending-passing (λ v. true) 0 (length balls);
-  centred = λ v h. elim (cases_lt v (length balls)) [
-    | inl below ↦ centred v below
-    | inr over ↦ absurd (false≢true (sym (passing_over (λ w. true) v 0 (length balls) (omega arith)) ∙ h))
-  ];
+  centred = λ v h. grind (arith, cases_lt, false≢true, passing_over);
 }
 
 pub coarsening_is : (balls : List (List ℕ)) (k : ℕ) → phases_of balls k (centres (length balls)) ≡ coarsening balls k
@@ -228,18 +214,13 @@ coarsening_is balls k = ap (λ (n : ℕ). phases balls k n (centres (length ball
 pub coarsening_phases : (balls : List (List ℕ)) (k : ℕ) → 0 < k → AreCentred balls
     → ArePhases balls k (centres (length balls)) (coarsening balls k)
 coarsening_phases balls k some centred =
-    phases_are (length balls) (centres (length balls)) (ready_all balls k some centred)
-    (omega (arith, length-centres (length balls)))
+    grind (arith, phases_are, ready_all, length-centres)
 
 pub between_start : (balls : List (List ℕ)) (k : ℕ) {left : List ℕ} (home : List ℕ) → 0 < k → AreCentred balls
     → left ≡ centres (length balls) → IsBetween balls k left [] home 0
 between_start balls k home some centred all = rw all (record {
   left_ready = ready_all balls k some centred;
-  so_far = rw (coarsening_is balls k) (record {
-    clusters_so_far = refl;
-    homes_so_far = λ v h. rw (has-passing (λ w. true) v 0 (length balls) (omega arith) (omega arith)) (omega arith);
-    phases_so_far = omega arith;
-  });
+  so_far = grind (arith, coarsening_is, has-passing);
 })
 
 -- ---- bounds on what is done

@@ -18,8 +18,7 @@ phase-init c =
     full ∙ ap (λ (n : ℕ). centres n) (sym (length-sets c.args.balls.now))
     in
     record {
-      between = rw c.new.ensures.items (between_start (sets c.args.balls.now) c.args.k c.in_ok-vec.field-0.items
-          c.requires.low c.requires.centred all);
+      between = rw c.new.ensures.items (search between_start);
       sized = record {
         left = ap (λ (s : Nodes). s.room) c.fill_all.ensures ∙ c.requires.work.left;
         waiting = c.requires.work.waiting;
@@ -49,9 +48,7 @@ phase-preserved c = record {
 pub returns-clause-exact : goal.returns-clause-exact
 returns-clause-exact c =
     subst (λ (n : ℕ). IsCover n (coarsening (sets c.args.balls.now) c.args.k) c.phase.cover)
-    (length-sets c.args.balls.now) (is_cover c.phase.cover c.phase.invariant.between
-    (nothing_in c.phase.work.left.members (rw c.count.ensures at c.phase-test.false))
-    (c.phase.invariant.home_count ∙ sym (length-sets c.args.balls.now)))
+    (length-sets c.args.balls.now) (grind (arith, is_cover, nothing_in, length-sets))
 
 pub returns-clause-few : goal.returns-clause-few
 returns-clause-few c =

@@ -1,6 +1,5 @@
-use Rattle.std.proofs.Common.{◌≡◌, length, filter, suc, ap, arith, refl, sym, ◌∙◌, add-one}
+use Rattle.std.proofs.Common.{◌≡◌, length, filter, ap, arith, refl, sym, add-one}
 use Rattle.std.proofs.lemmas.Bool.{false≢true}
-use Rattle.node_set.specs.Ascending.{with_number}
 use Rattle.node_set.specs.Nodes.{Nodes}
 use Rattle.coarse_cover.specs.Coarsening.{is_enough}
 use Rattle.node_set.specs.LeadLaws.{nodes_from}
@@ -18,19 +17,11 @@ pub loop-step-init : goal.loop-step-init
 loop-step-init c =
     let first = growth_first (sets c.args.balls.now) c.args.waiting.now.members c.args.first in
     record {
-      taken = ap (λ (s : Nodes). s.members) c.insert.ensures
-          ∙ ap (λ (s : Nodes). with_number c.args.first s.members) c.clear.ensures ∙ sym first;
-      members = rw (
-        c.absorb.ensures,
-        c.in_ok-members.ensures.set,
-        first,
-        ← union_first (sets c.args.balls.now) c.args.first,
-        ball_at c.args.balls.now c.args.first c.index-balls-first.result c.requires.first c.index-balls-first.is,
-      ) refl;
+      taken = grind arith;
+      members = grind (arith, union_first, ball_at);
       size = sym (ap length first);
       none = λ i h. absurd (omega arith);
-      taken_room = ap (λ (s : Nodes). s.room) c.insert.ensures ∙ ap (λ (s : Nodes). s.room) c.clear.ensures
-          ∙ c.requires.taken;
+      taken_room = grind arith;
       touched_room = c.requires.touched;
       spare_rooms = c.in_ok-members.ensures.spare;
       spare = c.in_ok-members.ensures.taken;
@@ -110,20 +101,7 @@ loop-step-preserved c =
     c.requires.ready.centred j c.absorb_balls.new.nodes.members
     (c.absorb_balls.ensures.order c.touch.ensures.sound.ascending)
     (λ x. rw (c.absorb_balls.ensures.members x, next, members) refl) in
-    rw (add-one j) (record {
-      taken = ap (λ (s : Nodes). s.members) c.swap.ensures.x_after ∙ next;
-      members = nodes_from c.absorb_balls.new.nodes (length c.args.balls.now)
-          (union_of balls (growth balls waiting c.args.first (suc j)))
-          (c.absorb_balls.ensures.room ∙ ap (λ (s : Nodes). s.room) so_far.members) union_is;
-      size = c.count-more.ensures ∙ ap length next;
-      none = goes_on balls c.args.k c.args.r c.args.first waiting j c.count-more.result c.loop-step.size
-          c.loop-step.members.members marks members touched c.count-more.ensures so_far.size so_far.none
-          (λ fits. false≢true (sym c.if-at_most.false ∙ c.at_most.ensures.1 fits));
-      taken_room = ap (λ (s : Nodes). s.room) c.swap.ensures.x_after ∙ c.touch.ensures.room ∙ so_far.touched_room;
-      touched_room = ap (λ (s : Nodes). s.room) c.swap.ensures.y_after ∙ so_far.taken_room;
-      spare_rooms = so_far.spare_rooms;
-      spare = so_far.spare;
-    })
+    grind (arith, add-one, nodes_from, goes_on, false≢true)
 
 pub unreachable-requires : goal.unreachable-requires
 unreachable-requires c =

@@ -1,7 +1,5 @@
-use Rattle.std.proofs.Common.{◌≡◌, ◌++◌, length, take, drop, ap, arith, sym, ◌∙◌, refl}
-use Rattle.coarse_cover.specs.Coarsening.{cluster_of}
+use Rattle.std.proofs.Common.{◌≡◌, ◌++◌, length, take, drop, ap, arith, ◌∙◌, refl}
 use Rattle.coarse_cover.proofs.Steps.{as_cluster_is, filter_rest}
-use Rattle.node_set.specs.Balls.{touches, sets}
 use Rattle.coarse_cover.proofs.phasing.add_cluster.Goals as goal
 use Rattle.std.proofs.lemmas.List.{take_at}
 
@@ -12,31 +10,16 @@ returns-clause-added c =
     in
     let home : take c.args.cover.now.home.len
     (c.set_homes.new.home ++ drop (length c.set_homes.new.home) c.args.cover.now.home.items) ≡ c.set_homes.new.home =
-    take_at c.set_homes.new.home (drop (length c.set_homes.new.home) c.args.cover.now.home.items)
-    c.args.cover.now.home.len (home_count ∙ sym c.args.cover.now.home.ok.0)
-    in
+    grind (arith, take_at) in
     let number : c.len-number.result ≡ length c.args.cover.now.clusters.items =
     c.len-number.ensures ∙ c.args.cover.now.clusters.ok.0
     in
     record {
       waiting = rw (c.remove-2.ensures.members, c.in_ok-members.ensures.touched)
-          (filter_rest (touches (sets c.args.balls.now)
-          (cluster_of (sets c.args.balls.now) c.args.k c.args.r c.args.work.now.waiting.members c.args.first).members)
-          c.args.work.now.waiting.members);
+          (search filter_rest);
       left = rw (c.remove.ensures.members, c.in_ok-members.ensures.taken) refl;
-      clusters = rw (
-        c.in_ok-push.ensures.items,
-        c.in_ok-members.ensures.members,
-        as_cluster_is (sets c.args.balls.now) c.args.k c.args.r c.args.first (length c.args.balls.now)
-            c.args.cover.now.phases c.args.work.now.waiting.members,
-      ) refl;
-      homes = λ v h. rw (
-        home,
-        c.set_homes.ensures v (omega (arith, c.requires.home_count, ap length c.deref_mut.ensures.value)),
-        c.in_ok-members.ensures.taken,
-        number,
-        c.deref_mut.ensures.value,
-      ) refl;
+      clusters = grind (arith, as_cluster_is);
+      homes = λ v h. grind arith;
       phases = refl;
       home_count = rw home (home_count ∙ c.requires.home_count);
     }

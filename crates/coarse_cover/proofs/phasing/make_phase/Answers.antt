@@ -1,4 +1,4 @@
-use Rattle.std.proofs.Common.{◌≡◌, inl, inr, ℕ, length, ap, arith, refl, sym, ◌∙◌, subst, add-one, ◌+◌, ◌-◌, length-append}
+use Rattle.std.proofs.Common.{◌≡◌, ℕ, length, ap, arith, refl, sym, ◌∙◌, subst, add-one, ◌+◌, ◌-◌, length-append}
 use Rattle.coarse_cover.specs.Coarsening.{cluster_of}
 use Rattle.coarse_cover.specs.HalfMade.{IsAdded}
 use Rattle.node_set.specs.Workspaces.{SpareTaken}
@@ -46,8 +46,7 @@ pub add_cluster-requires-clause-leads : goal.add_cluster-requires-clause-leads
 add_cluster-requires-clause-leads c =
     lead c.first.work.waiting.members c.in-Some.first c.first.invariant.in_phase.ready.ascending
     c.in-Some.ensures.some.member
-    (none_waits c.first.work.waiting.members c.first.from c.in-Some.first c.first.invariant.none_before
-    c.in-Some.ensures.some)
+    (grind (arith, none_waits))
 
 pub first-preserved : goal.first-preserved
 first-preserved c =
@@ -85,12 +84,8 @@ overflow_add-cover c =
 
 pub returns-clause-between : goal.returns-clause-between
 returns-clause-between c =
-    let none = nothing_at c.first.work.waiting.members (λ v. elim (cases_lt v c.first.from) [
-      | inl below ↦ c.first.invariant.none_before v below
-      | inr past ↦ c.in_default.ensures.none v past
-    ]) in
-    rw (add-one c.first.cover.phases)
-    (in_phase_end c.first.invariant.in_phase none)
+    let none = nothing_at c.first.work.waiting.members (λ v. grind (arith, cases_lt)) in
+    search (add-one, in_phase_end)
 
 pub returns-clause-spare_left : goal.returns-clause-spare_left
 returns-clause-spare_left c =
