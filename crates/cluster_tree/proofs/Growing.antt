@@ -39,13 +39,11 @@ sound_tree leader members weights ascending count leads depth bound attained =
       leads = leads;
       depth_is = record {
         greatest = λ v member.
-            let beside = beside_contained v members weights ascending member count in
-            omega (arith, beside.2, bound beside.0 0 beside.1);
+            grind (arith, beside_contained);
         attained = record {
           node = get_or members at.0 0;
           member = has_place members at.0 short;
-          far = beside_place members weights at.0 ascending count short ∙ get_or_default weights at.0 0 depth at.1
-              ∙ at.2;
+          far = grind (arith, beside_place, get_or_default);
         };
       };
     }

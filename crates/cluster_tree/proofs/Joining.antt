@@ -1,11 +1,12 @@
 -- Where each member is joined to a nearer one, the weights inside a cluster are the distances.
+use Rattle.std.proofs.lemmas.Bool.Decides.{nat_tests}
 use Rattle.std.proofs.Common.{◌≡◌, ℕ, zero, suc, ◌+◌, ◌-◌, ◌<◌, ◌≤◌, Bool, true, List, [], ◌∷◌, ◌++◌, length, map, take, drop, get_or, refl, sym, ◌∙◌, ap, subst, inl, inr, arith}
 use Rattle.std.specs.Prelude.{All, Contains, slice_index}
 use Rattle.std.proofs.lemmas.List.{get_or_default, take_more, take_all, drop_at, length-map, length-append}
 use Rattle.std.proofs.lemmas.List.Elements.{All-contains, Contains-push_cases}
 use Rattle.std.proofs.lemmas.Bool.{cases_eq}
 use Rattle.net_graph.specs.declared.neighbours.Arc.{Arc}
-use Rattle.net_graph.specs.Layout.{AreArcsOf, IsArc, make_arc}
+use Rattle.net_graph.specs.Layout.{AreArcsOf}
 use Rattle.net_graph.specs.Walks.{Step, IsWalk, IsWalkWeight, everywhere}
 use Rattle.net_graph.specs.declared.edge.Edge.{Edge}
 use Rattle.net_graph.specs.WalkLaws.{join_turned, walk_further}
@@ -26,10 +27,7 @@ pub leader_joined : (network : Network) (members listed : List ℕ) (leader : �
     → get_or listed i d ≡ leader → AreJoined network members (take i listed) leader row
     → AreJoined network members (take (i + 1) listed) leader row
 leader_joined network members listed leader row i d below is so_far = rw (take_more listed i d below)
-    (λ v has other. elim (Contains-push_cases (take i listed) (get_or listed i d) v has) [
-      | inl old ↦ so_far v old other
-      | inr new ↦ absurd (other (sym new ∙ is))
-    ])
+    (λ v has other. grind (arith, nat_tests, Contains-push_cases (take i listed) (get_or listed i d) v has))
 
 pub one_joined : (network : Network) (members listed : List ℕ) (leader : ℕ) (row : List ℕ) (i d : ℕ) (arcs : List Arc)
     (far : ℕ)
@@ -44,8 +42,7 @@ one_joined network members listed leader row i d arcs far below of_node far_is n
         node = nearer.node;
         weight = nearer.weight;
         joined = of_node.sound nearer.node nearer.weight nearer.arc;
-        positive = (All-contains (IsArc network.nodes) arcs (make_arc nearer.node nearer.weight) of_node.limits
-            nearer.arc).positive;
+        positive = grind (arith, All-contains);
         member = nearer.member;
         sum = sym far_is ∙ nearer.sum;
       })

@@ -105,8 +105,7 @@ module _ (network : Network) (sound : IsNetwork network) (members : List ℕ) (l
       (subst (λ x. has x members ≡ true) (sym walk.1) member, walk.1)
   stays v member (step ∷ steps) u w inside before walk light =
       let ends = join_edge network.nodes network.edges u step.node step.weight sound.limits.edges walk.1 in (
-        round u v (omega (arith, inside, distances.count)) member
-            (omega (arith, (distances.each u inside).least before.steps before.walk, before.sum, light)),
+        grind arith,
         walk.1,
         stays v member steps step.node (w + step.weight) ends.1
             (walk_further network.edges everywhere leader u step.node w step.weight before refl walk.1) walk.2
@@ -138,5 +137,4 @@ pub near_more : (row members : List ℕ) (i d far more : ℕ) → i < length mem
     → All (λ v. slice_index row v ≤ more) (take (i + 1) members)
 near_more row members i d far more inside grown so_far = rw (take_more members i d inside)
     (All-append (λ v. slice_index row v ≤ more) (take i members) (slice_index_or members i d ∷ [])
-    (λ k e short. omega (arith, grown.0, so_far k e short)) (All-cons (λ v. slice_index row v ≤ more)
-    (slice_index_or members i d) [] grown.1 (λ k e short. absurd (omega (arith, short)))))
+    (λ k e short. omega (arith, grown.0, so_far k e short)) (grind (arith, All-cons)))

@@ -1,4 +1,4 @@
-use Rattle.std.proofs.Common.{refl, arith, get_or, slice_index}
+use Rattle.std.proofs.Common.{refl, get_or, slice_index}
 use Rattle.cluster_tree.proofs.Joining.{leader_joined, one_joined, all_joined}
 use Rattle.cluster_tree.proofs.inside.are_joined.Goals as goal
 use Rattle.cluster_tree.proofs.inside.are_joined.Goals.{else-member-leader-via-then-member-leader+else-not-has_nearer, else-member-leader-via-else-member-leader}
@@ -19,6 +19,4 @@ loop-member-preserved c = elim c.else-member-leader.branch [
 
 pub returns : goal.returns
 returns c = λ same.
-    all_joined c.args.graph.now c.args.cluster.now.members c.args.members.now c.args.leader c.args.row.now
-    c.loop-member.member-index
-    (omega (arith, c.loop-member-test.false)) c.loop-member.invariant
+    search all_joined

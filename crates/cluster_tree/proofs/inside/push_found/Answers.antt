@@ -1,5 +1,5 @@
 use Rattle.std.proofs.Common.{arith}
-use Rattle.std.proofs.Common.{◌∙◌, ◌≡◌, ◌++◌, length, List, ℕ, ap}
+use Rattle.std.proofs.Common.{◌∙◌, ◌≡◌, length, List, ℕ, ap}
 use Rattle.node_set.specs.SetLaws.{below-has}
 use Rattle.cluster_tree.proofs.Growing.{err_passed, is_fault, is_tree, members_are}
 use Rattle.cluster_tree.proofs.inside.push_found.Goals as goal
@@ -19,8 +19,7 @@ returns-clause-found c =
     c.in_ok-flags.ensures.flags (rw c.deref.ensures.value at c.in_ok-found.ensures.weights) are_weighed in
     record {
       weights = weighed.weights.items;
-      appended = c.in_ok-extend_from_slice.ensures.items
-          ∙ ap (λ (xs : List ℕ). c.args.weights.now.items ++ xs) c.deref-3.ensures.value;
+      appended = grind arith;
       count = are_weighed.count ∙ ap (λ (xs : List ℕ). length xs) same;
       tree = rw same at (is_tree c.weights_from.ensures.sound c.flags_of.ensures.sound c.requires.room
           c.requires.leader c.in_ok-flags.ensures.flags (rw c.deref.ensures.value at c.in_ok-found.ensures.weights)

@@ -16,8 +16,7 @@ loop-distance-preserved c = elim c.if-distance-far.branch [
   | else-distance-far w ↦ (
     omega (arith, c.loop-distance.invariant.0, w.count-is),
     w.count-is ∙ c.loop-distance.invariant.1
-        ∙ sym (within_skips c.args.row.now c.args.far c.loop-distance.distance-index
-        (omega (arith, w.if-distance-far.false))),
+        ∙ sym (search within_skips),
   )
 ]
 

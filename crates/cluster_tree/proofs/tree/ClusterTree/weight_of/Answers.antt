@@ -1,7 +1,7 @@
-use Rattle.std.proofs.Common.{◌≡◌, ◌∙◌, true, sym, subst, ap, arith}
+use Rattle.std.proofs.Common.{◌≡◌, true, sym, subst, arith}
 use Rattle.std.proofs.lemmas.List.{get_or_read}
 use Rattle.node_set.specs.Ascending.{has}
-use Rattle.cluster_tree.specs.Tree.{WeighedCluster, inside_weight}
+use Rattle.cluster_tree.specs.Tree.{WeighedCluster}
 use Rattle.cluster_tree.specs.PlaceLaws.{found_place, always_found}
 use Rattle.cluster_tree.proofs.tree.ClusterTree.weight_of.Goals as goal
 
@@ -16,7 +16,4 @@ returns-clause-exact c =
     let found = found_place c.self.inside.members.items c.self.inside.weights.items c.args.v c.in-Ok.place
     c.self.invariant.ascending
     c.self.invariant.count (rw c.deref.ensures.value at c.in-Ok.ensures.position) in
-    c.from.ensures
-    ∙ get_or_read c.self.inside.weights.items c.in-Ok.place c.index.result.now
-    (omega (arith, found.0, c.self.invariant.count)) c.index.ensures 0
-    ∙ sym found.1 ∙ ap (λ (cluster : WeighedCluster). inside_weight cluster c.args.v) c.self.view_is
+    grind (arith, get_or_read)
