@@ -99,8 +99,7 @@ module _ (setting : Setting) (seen : History) (call : FindCall) (most reads chas
       → Affords setting call.sub seen call (WeighsAtMost most) weight
       (flat_map (λ i. map (λ c. record { level = i; cluster = c }) (setting.readers i call.from))
       (numbers_from level count))
-  climb-affords width readers last few near pays found enough fuel level zero weight count within so_far = absurd
-      (omega (arith, count, within))
+  climb-affords width readers last few near pays found enough fuel level zero weight count within so_far = grind arith
   climb-affords width readers last few near pays found enough zero level (suc more) weight count within so_far =
       row-affords level (width * 2 ^ level) (setting.readers level call.from) _ weight
       (λ c h. near level c (omega (arith, count)) h) (pays level (omega (arith, count)))

@@ -39,17 +39,7 @@ pub reached : EntriesTell → StandsInside → {setting : Setting} {width most_r
     → IsReached setting width sub history from level cluster address
 reached entries stands {setting} {width} {sub = sub} {history} {from} {level} {cluster} {address} met = record {
   from_leader = omega (arith, far, wide);
-  to_standing = omega (
-    arith,
-    far,
-    wide,
-    met.tracking.far level cluster from met.low met.inside met.read,
-    met.tracking.wide level cluster from met.low met.inside met.read,
-    met.tracking.metric.detour address.node from (standing setting sub history) tells.0 met.inside
-        (stands setting sub history met.few met.legal),
-    met.tracking.metric.detour address.node (setting.leader level cluster) from tells.0 leads met.inside,
-    met.tracking.metric.both_ways address.node (setting.leader level cluster) tells.0 leads,
-  );
+  to_standing = grind arith;
 }
   where
     tells : EntryTells setting sub history level cluster (Some address)
@@ -84,12 +74,7 @@ costs used {setting} {sub = sub} {history} {level = level} {cluster} {address} m
 
 pub old-before : CostUsed → OldBeforeCommit
 old-before used setting width most_readers sub history from level cluster address met before old =
-    costs used _ met (λ way far is. omega (
-      arith,
-      is.before_old before old,
-      far.from_leader,
-      met.tracking.halves level met.low,
-    ))
+    grind (arith, costs)
 
 pub new-before : CostUsed → NewBeforeCommit
 new-before used setting width most_readers sub history from level cluster address met before new =
@@ -108,28 +93,15 @@ in-passage used opens setting width most_readers sub history from level cluster 
 
 pub after-confirm : CostUsed → AfterConfirm
 after-confirm used setting width most_readers sub history from level cluster address met settled =
-    costs used _ met (λ way far is. omega (
-      arith,
-      is.settled settled,
-      far.from_leader,
-      far.to_standing,
-      met.tracking.halves level met.low,
-    ))
+    grind (arith, costs)
 
 pub current-after : CostUsed → CurrentAfterConfirm
 current-after used setting width most_readers sub history from level cluster address met settled current =
-    costs used _ met (λ way far is. omega (
-      arith,
-      is.current settled current,
-      far.from_leader,
-      met.tracking.halves level met.low,
-    ))
+    grind (arith, costs)
 
 pub at-rest : CostUsed → RestIsSettled → AtRest
 at-rest used rests setting width most_readers sub history from level cluster address met rest =
-    let its = rests setting sub history met.few met.legal rest in
-    current-after used setting width most_readers sub history from level cluster address met its.0
-    (its.1 level cluster address met.low met.held)
+    grind (arith, current-after)
 
 -- ---- the climb
 -- where it ends a reader has an address

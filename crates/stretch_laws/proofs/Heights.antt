@@ -1,5 +1,6 @@
 -- The level at which a climb ends: its radius is less than four times the distance.
-use Rattle.std.proofs.Common.{◌≡◌, ◌⊎◌, inl, inr, ℕ, zero, suc, ◌+◌, ◌-◌, ◌*◌, ◌<◌, ◌≤◌, ◌^◌, ap, ◌∙◌, subst, arith}
+use Rattle.std.proofs.lemmas.Bool.Decides.{nat_tests}
+use Rattle.std.proofs.Common.{◌≡◌, ◌⊎◌, inl, inr, ℕ, zero, suc, ◌+◌, ◌-◌, ◌*◌, ◌<◌, ◌≤◌, ◌^◌, ap, ◌∙◌, arith}
 use Rattle.std.proofs.Math.Nat.{mul-le-mul_left, mul_left_comm}
 use Rattle.directory.specs.Settings.{Setting}
 use Rattle.stretch_laws.specs.Tracking.{radius, stretch}
@@ -43,17 +44,14 @@ pub scaled-next : (w level : ℕ) → w * 2 ^ suc level ≡ 2 * (w * 2 ^ level)
 scaled-next w level = ap (λ n. w * n) (twice level) ∙ mul_left_comm w 2 (2 ^ level)
 
 pub scaled_twice : (readers width level : ℕ) → readers * (width * 2 ^ suc level) ≡ 2 * (readers * (width * 2 ^ level))
-scaled_twice readers width level = ap (λ n. readers * n) (scaled-next width level)
-    ∙ mul_left_comm readers 2 (width * 2 ^ level)
+scaled_twice readers width level = grind (arith, scaled-next, mul_left_comm)
 
 scaled-by : (w i k : ℕ) → w * 2 ^ i ≤ w * 2 ^ (k + i)
 scaled-by w i zero = let e : 0 + i ≡ i = omega arith in rw e (omega arith)
-scaled-by w i (suc k) = let e : suc k + i ≡ suc (k + i) = omega arith in
-    rw e (omega (arith, scaled-next w (k + i), scaled-by w i k))
+scaled-by w i (suc k) = grind (arith, nat_tests, scaled-next w (k + i), scaled-by w i k)
 
 pub scaled-more : (w i j : ℕ) → i ≤ j → w * 2 ^ i ≤ w * 2 ^ j
-scaled-more w i j h = let e : (j - i) + i ≡ j = omega arith in
-    subst (λ n. w * 2 ^ i ≤ w * 2 ^ n) e (scaled-by w i (j - i))
+scaled-more w i j h = grind (arith, nat_tests, scaled-by w i (j - i))
 
 -- the reading and the chase are within the stretch
 spread : (m w d : ℕ) → (16 * m * w + 12 * w + 5) * d ≡ 16 * (m * (w * d)) + 12 * (w * d) + 5 * d

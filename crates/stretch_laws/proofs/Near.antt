@@ -56,8 +56,7 @@ module _ (used : Used) (setting : Setting) (width readers : ℕ) (seen : History
       (omega arith) in
       let led = used.addresses setting call.sub seen low tracking.metric tracking.gathers legal setting.top
       (setting.home setting.top its.0) its.1 None pass (omega arith) its.4 tt opens in
-      led-end setting (mark_seen setting call.sub seen) None its.1.node (standing setting call.sub seen) led.0 led.1
-      led.3
+      grind (arith, led-end)
 
   -- so a find that climbs isn't where the subscriber stands
   pub elsewhere : ((p from : ℕ) → mark_seen setting call.sub seen call.from ≢ Coming p from)

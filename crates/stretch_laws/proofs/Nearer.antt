@@ -1,4 +1,5 @@
 -- Where its subscriber rests a quiet find travels less.
+use Rattle.std.proofs.lemmas.Bool.Decides.{nat_tests}
 use Rattle.std.proofs.Common.{◌≡◌, ◌⊎◌, inl, inr, ℕ, suc, ◌+◌, ◌*◌, ◌<◌, ◌≤◌, ◌^◌, sym, ap, ◌∙◌, subst, arith}
 use Rattle.std.proofs.Math.Nat.{mul-le-mul_left, mul_left_comm}
 use Rattle.entry_word.specs.declared.mark.PresenceMark.TheVariants.{Gone, Coming}
@@ -60,17 +61,16 @@ module _ (all : RestUsed) (setting : Setting) (width readers : ℕ) (seen : Hist
         low = omega (arith, under, high);
         read = reads;
         held = is_some;
-      }) rest known knows in (
+      }) rest known knows in grind (
+        arith,
+        nat_tests,
+        scaled-more width level last under,
+        scaled-more 1 level last under,
         cost.0,
         cost.1,
         cost.2,
         cost.3,
-        omega (
-          arith,
-          cost.4,
-          scaled-more width level last under,
-          scaled-more 1 level last under,
-        ),
+        cost.4,
       )
 
   climbs : 1 ≤ setting.distance call.from (standing setting call.sub seen)

