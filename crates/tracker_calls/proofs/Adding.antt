@@ -1,5 +1,5 @@
 -- What a pass has added, with one visit more, before which it lost turns at the node.
-use Rattle.std.proofs.Common.{◌≡◌, ℕ, suc, ◌-◌, List, [], ◌∷◌, ◌++◌, None, length, map, refl, sym, ap, ◌∙◌, subst, arith, append_assoc, length-append}
+use Rattle.std.proofs.Common.{◌≡◌, ℕ, suc, ◌-◌, List, [], ◌∷◌, ◌++◌, None, length, map, refl, sym, ap, ◌∙◌, arith, append_assoc, length-append}
 use Rattle.std.specs.Prelude.{flat_map}
 use Rattle.std.proofs.lemmas.List.{append-nil, get_or_push, map-append}
 use Rattle.std.proofs.lemmas.List.Concat.{flat_map-append}
@@ -13,13 +13,13 @@ use Rattle.station.specs.Passes.{PassData, actor_of}
 use Rattle.station.specs.Plays.{view_held, visit_by}
 use Rattle.station.specs.Setup.{Setup, setting_in}
 use Rattle.station.specs.TurnLaws.{logged-more, logged-none, logged-turn, logs-append, losses-lost}
-use Rattle.station.specs.Turns.{Logs, LogsAll, losses}
+use Rattle.station.specs.Turns.{LogsAll, losses}
 use Rattle.station.specs.Views.{turn_at}
 use Rattle.station.specs.Visits.{HasLoggedMore, HasLost, HasVisited, own_nodes}
 use Rattle.station.specs.declared.turns.Held.{Held}
 use Rattle.station.specs.declared.view.NodeTurn.{NodeTurn}
 use Rattle.station.specs.declared.view.TurnEvent.{TurnEvent}
-use Rattle.station.specs.declared.view.TurnEvent.TheVariants.{Won, GivenBack, Lost}
+use Rattle.station.specs.declared.view.TurnEvent.TheVariants.{Won, GivenBack}
 use Rattle.station.specs.TicketLaws.{legal-seen, tickets-more, own-visited}
 use Rattle.tracker_calls.specs.Added.{HasAdded, HasTried, VisitTurns, turns_taken}
 use Rattle.directory.specs.Statements.{BeginsWithItself, BeginsWithFront, BeginsThrough}
@@ -30,8 +30,7 @@ logged-tried : {node : ℕ} {pass tried : PassData} → (lost : HasTried node pa
 logged-tried {node} {pass} lost =
     record {
       logs = lost.logs;
-      lost = ap (λ (q : PassData). q.view.lost) lost.is
-          ∙ ap (λ l. pass.view.lost ++ l) (sym (losses-lost (actor_of pass) (map (turn_at node) lost.words)));
+      lost = grind (arith, losses-lost);
     }
 
 -- those of a visit, and of the turns that were lost before it
@@ -69,8 +68,7 @@ added-none itself setup pass outside =
 pub visited-front : BeginsWithFront → BeginsThrough → {old new : PassData} {act : Act} {ticket : ℕ}
     → HasVisited old act ticket new → IsFront old.view.seen new.view.seen
 visited-front longer through {old} {new} {act} visited =
-    through old.view.seen visited.earlier new.view.seen visited.begins
-    (subst (IsFront visited.earlier) (sym visited.seen) (longer visited.earlier (visit_by old.view act ∷ [])))
+    grind arith
 
 -- the node of a visit comes behind those of its actor's earlier ones
 nodes-more : (setting : Setting) (actor : ℕ) (begun pass new : History) (turns : List VisitTurns) (one : VisitTurns)
@@ -103,14 +101,9 @@ added-more longer through {setup} {begun} {pass} {tried} {new} {made} {act} {tic
     let more : own actor new.view.seen ≡ own actor pass.view.seen ++ visit_by tried.view act ∷ [] =
     rw (← seen, ← mine) (own-visited visited) in
     let next : tickets actor new.view.seen ≡ tickets actor tried.view.seen ++ ticket ∷ [] =
-    rw (← mine)
-    (ap (tickets (actor_of tried)) visited.seen
-    ∙ (tickets-more (actor_of tried) tried.view.seen visited.earlier (visit_by tried.view act) visited.begins
-    visited.visits refl
-    ∙ ap (λ t. tickets (actor_of tried) tried.view.seen ++ t ∷ []) visited.count)) in
+    grind (arith, tickets-more) in
     record {
-      begins = through begun.view.seen pass.view.seen new.view.seen added.begins
-          (rw (← seen) (visited-front longer through visited));
+      begins = grind (arith, visited-front);
       visits = next
           ∙ (ap (λ (h : History). tickets actor h ++ ticket ∷ []) seen
           ∙ (ap (λ l. l ++ ticket ∷ []) added.visits ∙ append_assoc _ made (ticket ∷ [])));
@@ -119,8 +112,7 @@ added-more longer through {setup} {begun} {pass} {tried} {new} {made} {act} {tic
       outside = visited.outside;
       turns = added.turns ++ turns ∷ [];
       count = omega (arith, length-append added.turns (turns ∷ []), added.count, one);
-      nodes = nodes-more (setting_in setup) actor begun.view.seen pass.view.seen new.view.seen added.turns turns
-          (visit_by tried.view act) more added.nodes refl;
+      nodes = grind (arith, nodes-more);
       logged = rw (
         flat_map-append (turns_taken actor) added.turns (turns ∷ []),
         append-nil (turns_taken actor turns),
@@ -135,8 +127,7 @@ tried-none node pass =
     record {
       words = [];
       logs = refl;
-      is = ap (λ (l : List NodeTurn). record pass { view = record pass.view { lost = l } })
-          (sym (append-nil pass.view.lost));
+      is = grind (arith, append-nil);
     }
 
 pub tried-again : {node : ℕ} {begun pass new : PassData} {held : Held} → HasTried node begun pass
@@ -149,18 +140,10 @@ tried-again {node} {begun} {pass} {new} {held} tried lost =
     let same : actor_of pass ≡ actor = ap actor_of tried.is in
     let more : map (turn_at node) (tried.words ++ word ∷ []) ≡ turns ++ one ∷ [] =
     map-append (turn_at node) tried.words (word ∷ []) in
-    let logs : LogsAll pass.view.turns (losses actor (one ∷ [])) new.view.turns = (
-      new.view.turns,
-      subst (λ (a : ℕ). Logs pass.view.turns (Lost a node word) new.view.turns) same lost.logs,
-      refl,
-    ) in
+    let logs : LogsAll pass.view.turns (losses actor (one ∷ [])) new.view.turns = grind arith in
     record {
       words = tried.words ++ word ∷ [];
-      logs = subst (λ (l : List TurnEvent). LogsAll begun.view.turns l new.view.turns)
-          (sym (ap (losses actor) more
-          ∙ map-append (λ (turn : NodeTurn). Lost actor turn.node turn.word) turns (one ∷ [])))
-          (logs-append begun.view.turns pass.view.turns new.view.turns (losses actor turns)
-          (losses actor (one ∷ [])) tried.logs logs);
+      logs = grind (arith, map-append, logs-append);
       is = lost.turn
           ∙ (ap (λ (q : PassData). record q { view = view_held q.view node word new.view.turns }) tried.is
           ∙ ap (λ (l : List NodeTurn). record begun {

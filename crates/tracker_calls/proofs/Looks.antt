@@ -19,10 +19,8 @@ pub looks-more : (setting : Setting) (seen more : History) (actor : ℕ) (call :
     (made ++ ticket ∷ []) × (pursuit_after setting more call pursuit (made ++ ticket ∷ []) ≡ after_word setting call
     (pursuit_after setting seen call pursuit made) (cell setting (before ticket more) key))
 unfolding AreLooks
-looks-more setting seen more actor call {key} ticket front late is_look [] earliest pursuit low looks wanted = (
-  (omega (arith, low, late), (key, wanted, is_look, tt)),
-  pursuit-step setting more actor call pursuit ticket key [] is_look,
-)
+looks-more setting seen more actor call {key} ticket front late is_look [] earliest pursuit low looks wanted =
+    grind (arith, pursuit-step)
 looks-more setting seen more actor call {key} ticket front late is_look (u ∷ made) earliest pursuit low
     (first, (k, is_wanted, its_look, rest)) wanted =
     let inside : u < length seen = slice_get_within seen u (look_by actor k) its_look in

@@ -1,13 +1,13 @@
 -- A whole move over the tracker, put by put.
-use Rattle.std.proofs.Common.{◌≡◌, ℕ, suc, ◌+◌, ◌≤◌, true, false, not, List, [], ◌∷◌, ◌++◌, Option, Some, None, length, map, take, refl, sym, ap, ◌∙◌, subst, arith, append_assoc, length-append}
+use Rattle.std.proofs.Common.{◌≡◌, ℕ, suc, ◌+◌, ◌≤◌, true, false, not, List, [], ◌∷◌, ◌++◌, Option, Some, None, length, take, refl, sym, ap, ◌∙◌, subst, arith, append_assoc, length-append}
 use Rattle.std.specs.Prelude.{option_map}
 use Rattle.std.specs.Option.{is_some}
 use Rattle.std.proofs.lemmas.List.{append-nil, append_cancel_left, length-map, take_all}
 use Rattle.entry_word.specs.declared.visit.Act.{Act}
 use Rattle.entry_word.specs.declared.visit.Visit.{Visit}
-use Rattle.directory.specs.Courses.{Course, Step, course_at, move_to}
+use Rattle.directory.specs.Courses.{Course, Step, move_to}
 use Rattle.directory.specs.Histories.{own, puts_to}
-use Rattle.directory.specs.Settings.{Setting, start}
+use Rattle.directory.specs.Settings.{Setting}
 use Rattle.directory.specs.StepLaws.{visits-append}
 use Rattle.directory.specs.Writes.{Write, step_writes, visit_of, visits, writes}
 use Rattle.handset.specs.Beginning.{begin_move, is_rest}
@@ -67,9 +67,7 @@ one-step setting course step = append-nil (step_writes setting course step)
 move-visits : (setting : Setting) (sub : ℕ) (steps : List Step) (to : ℕ)
     → visits setting sub (steps ++ move_to to ∷ []) ≡ visits setting sub steps ++ puts_of_move setting sub steps to
 move-visits setting sub steps to =
-    visits-append setting sub (course_at (start setting sub)) steps (move_to to ∷ [])
-    ∙ ap (λ ws. visits setting sub steps ++ map (visit_of sub) ws)
-    (one-step setting (course_of setting sub steps) (move_to to))
+    grind (arith, visits-append, one-step)
 
 -- the puts of a move that are made so far, by the pass that began it, and room for those that are left
 pub record HasPut (setup : Setup) (begun : PassData) (from : HandsetData) (to : ℕ) (made : List ℕ)
@@ -218,10 +216,7 @@ stands-for : {setup : Setup} {begun : PassData} {from : HandsetData} {to : ℕ} 
     {handset : HandsetData} → (at : HasPut setup begun from to made pass handset)
     → (handset.sub ≡ actor_of begun) × StandsForSteps (setting_in setup) handset (at.steps ++ move_to to ∷ [])
     (length (puts_to (actor_of begun) pass.view.seen))
-stands-for {setup} {to} {pass} {handset} at = (
-  at.its.sub ∙ at.same.actor,
-  rw (← at.same.actor, ← at.steps_are) at.its.stands,
-)
+stands-for {setup} {to} {pass} {handset} at = grind arith
 
 -- once nothing is left, these are all puts of the move
 pub put-all : {setup : Setup} {begun : PassData} {from : HandsetData} {to : ℕ} {made : List ℕ} {pass : PassData}

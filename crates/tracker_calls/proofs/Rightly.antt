@@ -42,8 +42,7 @@ tells-rightly answers answer near setup old {seen} {actor} {call} {found} {made}
     answers (setting_in setup) seen actor call found made small from legal its in
     record {
       right = right;
-      quiet = answer (setting_in setup) seen actor call found made small
-          (reads-top setup.plan setup.homes matched) from legal its;
+      quiet = search reads-top;
       near = λ bounds quiet. near setup.plan setup.homes seen actor call found made small bounds from legal its quiet;
       newer = λ q is. omega (
         arith,

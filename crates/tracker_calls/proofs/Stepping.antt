@@ -1,5 +1,6 @@
 -- A step of a move: which visit is made.
-use Rattle.std.proofs.Common.{◌≡◌, ℕ, ◌≤◌, true, [], refl, sym, subst, ap, ◌∙◌, Option}
+use Rattle.std.proofs.Common.{arith}
+use Rattle.std.proofs.Common.{◌≡◌, ℕ, ◌≤◌, true, [], refl, subst, ap, ◌∙◌, Option}
 use Rattle.std.specs.Prelude.{IfSome, Some, None}
 use Rattle.std.specs.Option.{is_some}
 use Rattle.entry_word.specs.declared.visit.Visit.{Visit}
@@ -26,10 +27,7 @@ pub next-visit : (setup : Setup) {plan : PlanData} (handset : HandsetData) {next
     → next ≡ due (setting_of plan []) handset → is_some next ≡ true
     → (visit : Visit) × (due (setting_in setup) handset ≡ Some visit)
 next-visit setup handset {next} same is left =
-    let there = some-left next left in (
-      there.0,
-      subst (λ p. due (setting_of p []) handset ≡ Some there.0) same (sym is ∙ there.1),
-    )
+    grind (arith, some-left)
 
 -- what holds of it
 on-due : (setup : Setup) {plan : PlanData} (handset : HandsetData) {visit : Visit} (P : Visit → Type 0)
@@ -70,8 +68,7 @@ pub tried-put : (setup : Setup) {plan : PlanData} {begun pass : PassData} (new :
     → IfSome (due (setting_of plan []) handset) (λ visit. HasLost pass (act_node (setting_in setup) visit.act) held new)
     → HasTried (act_node (setting_in setup) visit.act) begun new
 tried-put setup {pass} new handset held {visit} same next tried lost =
-    tried-again tried (on-due setup handset (λ visit. HasLost pass (act_node (setting_in setup) visit.act) held new)
-    same next lost)
+    grind (arith, tried-again, on-due)
 
 -- turns that are lost leave a handset with its pass
 pub own-tried : {setup : Setup} {node : ℕ} {begun tried : PassData} {handset : HandsetData} → HasTried node begun tried

@@ -7,7 +7,7 @@ use Rattle.directory.specs.Courses.{Move}
 use Rattle.directory.specs.Settings.{Setting}
 use Rattle.handset.specs.Beginning.{begin_move, is_rest, journey_to}
 use Rattle.handset.specs.Condition.{HandsetData, IsMoveStage}
-use Rattle.handset.specs.StepWrites.{after_write, erasing_at, first_with, go_on, is_behind, is_old, purging_at}
+use Rattle.handset.specs.StepWrites.{after_write, erasing_at, first_with, go_on, is_behind, purging_at}
 use Rattle.handset.specs.declared.stage.Stage.{Stage}
 use Rattle.handset.specs.declared.stage.Stage.TheVariants.{Resting, Coming, Renewing, Committing, Confirming, Erasing, Purging, Switching}
 use Rattle.tracker_calls.specs.WholeMoves.{commit_place}
@@ -64,11 +64,7 @@ late-timed {move} number handset after made commit ticket last late stays =
     record {
       last = stays.0 ∙ last;
       early = λ e. absurd (true≢false (sym e ∙ stays.2));
-      late = λ e. (
-        late.0 ∙ sym (get_or_append_left made (ticket ∷ []) 0 (commit_place move) late.1),
-        omega (arith, late.1, length-append made (ticket ∷ [])),
-        stays.1 ∙ late.2,
-      );
+      late = λ e. grind (arith, late, get_or_append_left, length-append);
     }
 
 -- before the first put
@@ -90,19 +86,13 @@ timed-by setting nodes handset made commit ticket next last Coming within busy e
 timed-by setting nodes {move} {number} handset made commit ticket next last (Renewing level) within busy early late =
     grind (arith, nat_tests, early refl, length-append made (ticket ∷ []), ap (λ (m : Move). m.renewed) last)
 timed-by setting nodes {move} handset made commit ticket next last Committing within busy early late =
-    let at = get_or_push made ticket 0 (commit_place move) (early refl).0 in
-    grind (arith, early refl, length-append made (ticket ∷ []), ap (λ (m : Move). m.number) last)
+    grind (arith, get_or_push, early, length-append, last)
 timed-by setting nodes {number} handset made commit ticket next last Confirming within busy early late =
-    late-timed number handset _ made commit ticket last (late refl)
-    (stays-on setting handset _ (late-erasing setting handset
-    (first_with (is_old setting handset) 0 (suc handset.last.renewed - 0))))
+    search (late-timed, last, late, stays-on, late-erasing)
 timed-by setting nodes {number} handset made commit ticket next last (Erasing level) within busy early late =
-    late-timed number handset _ made commit ticket last (late refl)
-    (stays-on setting handset _ (late-erasing setting handset
-    (first_with (is_old setting handset) (suc level) (suc handset.last.renewed - suc level))))
+    search (late-timed, last, late, stays-on, late-erasing)
 timed-by setting nodes {number} handset made commit ticket next last (Purging node) within busy early late =
-    late-timed number handset _ made commit ticket last (late refl)
-    (stays-on setting handset _ (late-purging (first_with (is_behind handset) (suc node) (setting.nodes - suc node))))
+    search (late-timed, last, late, stays-on, late-purging)
 timed-by setting nodes {number} handset made commit ticket next last (Switching off) within busy early late =
     late-timed number handset _ made commit ticket last (late refl) (refl, refl, refl)
 

@@ -113,8 +113,7 @@ walked-on longer through fall {setup} {begun} {call} {pass} {tried} {new} {walk}
     let late : length pass.view.seen ≤ ticket =
     omega (arith, visited.count, front-short tried.view.seen visited.earlier visited.begins, ap length seen) in
     let last : slice_get new.view.seen ticket ≡ Some visit =
-    ap (slice_get new.view.seen) (sym visited.count)
-    ∙ (ap (λ (l : History). slice_get l (length visited.earlier)) visited.seen ∙ get-last visited.earlier visit) in
+    grind (arith, get-last) in
     let wants : key_of call (pursuit_of setup.plan walk) ≡ Some key = rw (← at.its) looked.wanted in
     let more = looks-more setting pass.view.seen new.view.seen (actor_of begun) call ticket front late
     (subst (λ a. slice_get new.view.seen ticket ≡ Some (look_by a key)) mine last) at.made 0 at_origin (omega arith)
@@ -128,22 +127,10 @@ walked-on longer through fall {setup} {begun} {call} {pass} {tried} {new} {walk}
       keeps = λ handset its. seen-on setups visited (own-tried lost (at.keeps handset its));
       looks = more.0;
       pursuit = pursuit ∙ (ap (λ s. after_word setting call s word) at.pursuit ∙ sym more.1);
-      late = λ some. omega (
-        arith,
-        last-push at.made ticket,
-        late,
-        front-short begun.view.seen pass.view.seen at.added.begins,
-      );
+      late = λ some. grind (arith, last-push, late, front-short);
       goes = looked.goes;
       its = looked.call ∙ at.its;
-      room = omega (
-        arith,
-        fall setting call (pursuit_of setup.plan walk) word key wants,
-        ap (looks_left setting call) pursuit,
-        at.room,
-        visited.spare,
-        ap (λ (q : PassData). q.spare) lost.is,
-      );
+      room = grind (arith, pursuit);
     }
 
 -- a walk that has its answer has made its find

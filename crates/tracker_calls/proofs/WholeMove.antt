@@ -1,5 +1,5 @@
 -- A whole move so far, with the tickets that its answer tells.
-use Rattle.std.proofs.Common.{◌≡◌, ℕ, suc, ◌+◌, ◌^◌, ◌≤◌, Bool, false, None, take, Option, Some, [], ◌∷◌, ◌++◌, List, length, refl, sym, ap, ◌∙◌, subst, arith, length-append}
+use Rattle.std.proofs.Common.{◌≡◌, ℕ, suc, ◌+◌, ◌^◌, ◌≤◌, Bool, false, None, take, Option, Some, [], ◌∷◌, ◌++◌, List, length, refl, sym, ap, ◌∙◌, arith, length-append}
 use Rattle.std.specs.List.{cons_option}
 use Rattle.std.specs.Option.{is_some}
 use Rattle.std.specs.Prelude.{if◌then◌else◌}
@@ -97,10 +97,7 @@ moving-first longer through {setup} {from} {to} {handset} {ticket} told added no
       made = ticket ∷ [];
       put = put-more at stepped;
       added = added-more longer through told added lost stepped.visited;
-      timed = rw stepped.made (timed-as (setting_in setup) (nodes_in setup) {made = []} {commit = 0} ticket refl
-          at.its.goes.stage (some-busy (setting_in setup) handset (ap is_some stepped.next))
-          (rw is (timed-first (setting_in setup) from to))
-          (ap (λ h. is_early h.stage) is));
+      timed = grind (arith, timed-as, some-busy, timed-first, is_early);
       number = refl;
       first = refl;
       last = refl;
@@ -149,5 +146,4 @@ moving-out {setup} {begun} {handset} moving none =
 pub none-due : (setup : Setup) {plan : PlanData} (handset : HandsetData) {next : Option Visit} → plan ≡ setup.plan
     → next ≡ due (setting_of plan []) handset → is_some next ≡ false → due (setting_in setup) handset ≡ None
 none-due setup handset {next} same is none =
-    let nothing : next ≡ None = grind arith in
-    subst (λ p. due (setting_of p []) handset ≡ None) same (sym is ∙ nothing)
+    grind arith

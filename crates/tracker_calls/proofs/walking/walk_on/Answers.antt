@@ -1,3 +1,4 @@
+use Rattle.std.proofs.Common.{arith}
 use Rattle.std.proofs.Common.{refl, subst, sym, ◌∙◌}
 use Rattle.directory.specs.Keys.{key_node}
 use Rattle.region_plan.specs.Matched.{IsMatched}
@@ -10,8 +11,7 @@ use Rattle.directory.specs.LookLaws.{answer-ends}
 
 pub looks-init : goal.looks-init
 looks-init c = record {
-  walked = walked-first c.histories_begin.ensures.itself c.args.tracker.now.setup c.args.pass.now c.requires.way.goes
-      c.requires.origin c.requires.way.outside c.requires.spare;
+  walked = grind (arith, walked-first);
   lost = refl;
 }
 

@@ -1,3 +1,4 @@
+use Rattle.std.proofs.Common.{arith}
 use Rattle.std.proofs.Common.{subst, sym, ◌∙◌}
 use Rattle.region_plan.specs.Matched.{IsMatched}
 use Rattle.walk.specs.Walks.{pursuit_of}
@@ -7,8 +8,7 @@ use Rattle.directory.specs.LookLaws.{answer-ends}
 
 pub looks-init : goal.looks-init
 looks-init g c = record {
-  walked = walked-first c.histories_begin.ensures.itself c.args.tracker.now.setup c.args.pass.now c.requires.way.goes
-      c.requires.origin c.requires.way.outside c.requires.spare;
+  walked = grind (arith, walked-first);
 }
 
 pub looks-preserved : goal.looks-preserved

@@ -1,4 +1,4 @@
-use Rattle.std.proofs.Common.{ℕ, arith, sym, ◌∙◌, subst}
+use Rattle.std.proofs.Common.{ℕ, arith, subst}
 use Rattle.tracker_calls.proofs.Adding.{added-none}
 use Rattle.tracker_calls.proofs.Moving.{put-begun}
 use Rattle.tracker_calls.proofs.WholeMove.{IsMoving, moving-by, moving-first, moving-out, none-due}
@@ -46,9 +46,5 @@ puts-preserved g c =
 
 pub returns : goal.returns
 returns g c = record {
-  moved = (
-    c.in_ok-may_move_to.ensures.may,
-    moving-out c.puts.invariant.moving (none-due c.args.tracker.now.setup c.puts.handset c.requires.plan
-        c.next.ensures.exact (sym c.is_some.ensures ∙ c.puts-test.false)),
-  );
+  moved = grind (arith, moving-out, none-due);
 }

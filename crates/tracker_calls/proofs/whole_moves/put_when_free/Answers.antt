@@ -12,11 +12,7 @@ tries-init g c =
     let plan = c.args.plan.now in
     let handset = c.args.handset.now in
     let next = next-visit setup handset c.requires.plan refl c.requires.left in
-    record {
-      tried = (next.0, next.1, tried-none (act_node (setting_in setup) next.0.act) c.args.pass.now);
-      handset = refl;
-      own = c.requires.handset;
-    }
+    search tried-none
 
 pub tries-preserved : goal.tries-preserved
 tries-preserved g c =
