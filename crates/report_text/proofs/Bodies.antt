@@ -1,5 +1,5 @@
 -- The body of a level that is kept, and what is written of it.
-use Rattle.std.proofs.Common.{◌≡◌, ℕ, ◌+◌, ◌-◌, ◌<◌, false, cond, List, [], ◌∷◌, ◌++◌, length, codes, sym, ◌∙◌, ap, subst, append_assoc, arith}
+use Rattle.std.proofs.Common.{◌≡◌, ℕ, ◌+◌, ◌-◌, ◌<◌, false, List, [], ◌∷◌, ◌++◌, length, codes, sym, ◌∙◌, ap, append_assoc, arith}
 use Rattle.std.proofs.lemmas.List.{append_cancel_right, length-append}
 use Rattle.region_plan.specs.Plan.{PlanData, Level, Repeats, level_at}
 use Rattle.outside.specs.Texts.{fields}
@@ -27,12 +27,7 @@ again plan i body whole same =
     ∙ ap (λ hs. clusters_text 0 here.clusters ++ (codes "homes" ++ (fields hs ++ 10 ∷ []))) (sym same.homes) in (
       ap (λ b. b ++ levels_left plan (i + 1)) is
           ∙ append_assoc (clusters_text 0 here.clusters) (homes_line here) (levels_left plan (i + 1)),
-      omega (
-        arith,
-        ap length is,
-        length-append (clusters_text 0 here.clusters) (homes_line here),
-        length-append (codes "homes") (fields here.homes ++ 10 ∷ []),
-      ),
+      grind (arith, length-append),
     )
 
 -- a part after which the kept body isn't to be written
@@ -40,8 +35,7 @@ pub plain_step : (plan : PlanData) (before after : NextPart) (kept : KeptBody) (
     → plan_left plan before ≡ part ++ plan_left plan after → 0 < length part → IsInPlan plan after
     → KeepsBody plan after kept → IsStep plan before after kept part
 plain_step plan before after kept part still text some sound keeps = record {
-  text = subst (λ b. plan_left plan before ≡ part ++ (cond b kept.body.items [] ++ plan_left plan after)) (sym still)
-      text;
+  text = grind arith;
   some = some;
   sound = sound;
   keeps = keeps;

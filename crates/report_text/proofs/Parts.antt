@@ -1,8 +1,9 @@
 -- The text of a plan, from one part on to the next.
+use Rattle.std.proofs.lemmas.Bool.Decides.{nat_tests}
 use Rattle.std.proofs.Common.{◌≡◌, ℕ, ◌+◌, ◌-◌, ◌<◌, ◌≤◌, List, [], ◌∷◌, ◌++◌, length, get_or, drop, take, sym, ap, ◌∙◌, append_assoc, append-nil, add-one, arith, drop-cons, codes, length-drop, length-take}
 use Rattle.std.proofs.lemmas.Grind.{flat_map-append}
 use Rattle.std.proofs.lemmas.List.{drop-drop, drop_all, get_or-drop, take-append-drop, take_more}
-use Rattle.region_plan.specs.Plan.{PlanCluster, PlanData, Level, cluster_at, clusters_of, level_at, levels_of, no_cluster, no_level}
+use Rattle.region_plan.specs.Plan.{PlanCluster, PlanData, Level, cluster_at, clusters_of, level_at, levels_of}
 use Rattle.report_text.specs.PlanText.{cluster_head, clusters_text, homes_line, level_line, levels_text}
 use Rattle.outside.specs.Texts.{field, fields}
 use Rattle.report_text.specs.Written.{clusters_left, levels_left}
@@ -18,10 +19,7 @@ level-go i level levels rest = simp append_assoc
 pub level-part : (plan : PlanData) (i : ℕ) → i < levels_of plan
     → levels_left plan i ≡ level_line i (level_at plan i) ++ clusters_left plan i 0
 level-part plan i below =
-    let here : drop i plan.levels ≡ level_at plan i ∷ drop (i + 1) plan.levels =
-    rw add-one (drop-cons plan.levels i no_level below) in
-    ap (λ levels. levels_text i levels ++ (codes "end" ++ 10 ∷ [])) here
-    ∙ level-go i (level_at plan i) (drop (i + 1) plan.levels) (codes "end" ++ 10 ∷ [])
+    grind (arith, add-one, drop-cons, level-go)
 
 pub levels-end : (plan : PlanData) (i : ℕ) → levels_of plan ≤ i → levels_left plan i ≡ codes "end" ++ 10 ∷ []
 unfolding levels_text
@@ -43,11 +41,7 @@ pub cluster-part : (plan : PlanData) (i c : ℕ) → c < clusters_of plan i
     ≡ cluster_head c (cluster_at plan i c)
     ++ (fields (cluster_at plan i c).members ++ (10 ∷ [] ++ clusters_left plan i (c + 1)))
 cluster-part plan i c below =
-    let clusters = (level_at plan i).clusters in
-    let rest = homes_line (level_at plan i) ++ levels_left plan (i + 1) in
-    let here : drop c clusters ≡ cluster_at plan i c ∷ drop (c + 1) clusters =
-    rw add-one (drop-cons clusters c no_cluster below) in
-    ap (λ cs. clusters_text c cs ++ rest) here ∙ cluster-go c (cluster_at plan i c) (drop (c + 1) clusters) rest
+    grind (arith, add-one, drop-cons, cluster-go)
 
 pub clusters-end : (plan : PlanData) (i c : ℕ) → clusters_of plan i ≤ c
     → clusters_left plan i c
@@ -70,14 +64,13 @@ homes-more xs from v line order below is =
     let found : get_or (drop from xs) (v - from) 0 ≡ get_or xs v 0 =
     get_or-drop from xs (v - from) 0 ∙ ap (λ i. get_or xs i 0) at in
     let count : v - from + 1 ≡ v + 1 - from = omega (arith, order) in
-    rw (
-      is,
-      ← count,
+    grind (
+      arith,
+      nat_tests,
       take_more (drop from xs) (v - from) 0 inside,
       flat_map-append field (take (v - from) (drop from xs)) (get_or (drop from xs) (v - from) 0 ∷ []),
-      found,
+      append-nil (field (get_or xs v 0)),
     )
-    (ap (λ t. fields (take (v - from) (drop from xs)) ++ t) (sym (append-nil (field (get_or xs v 0)))))
 
 pub homes-cut : (xs : List ℕ) (from to : ℕ) (rest : List ℕ) → from ≤ to
     → fields (drop from xs) ++ rest ≡ fields (take (to - from) (drop from xs)) ++ (fields (drop to xs) ++ rest)
@@ -97,5 +90,4 @@ fields-some (y ∷ ys) some = omega arith
 pub homes-some : (xs : List ℕ) (from to : ℕ) → from < to → to ≤ length xs
     → 0 < length (fields (take (to - from) (drop from xs)))
 homes-some xs from to some within =
-    fields-some (take (to - from) (drop from xs))
-    (omega (arith, some, within, length-take (to - from) (drop from xs), length-drop from xs))
+    grind (arith, fields-some, length-take, length-drop)

@@ -1,5 +1,5 @@
 -- The next line of the actors of tickets.
-use Rattle.std.proofs.Common.{◌≡◌, ℕ, ◌<◌, Bool, List, [], ◌∷◌, ◌++◌, length, refl, sym, ap, ◌∙◌, arith}
+use Rattle.std.proofs.Common.{◌≡◌, ℕ, ◌<◌, Bool, List, [], ◌∷◌, length, refl, arith}
 use Rattle.directory.specs.declared.answers.Done.{Done}
 use Rattle.text_line.specs.OrderLines.{order_lines}
 use Rattle.report_text.specs.Written.{lines_left}
@@ -13,8 +13,4 @@ pub order-step : (left : List (List ℕ)) (calls : List Done) (order rest line :
     → lines_left calls order visits ended ≡ left → length calls < 1 → order_lines order ≡ line ∷ order_lines rest
     → left ≡ line ∷ lines_left calls rest visits ended
 order-step left calls order rest line visits ended is none step =
-    let empty = no-calls calls none in
-    sym is
-    ∙ ap (λ (cs : List Done). lines_left cs order visits ended) empty
-    ∙ ap (λ (ls : List (List ℕ)). ls ++ lines_left [] [] visits ended) step
-    ∙ ap (λ (cs : List Done). line ∷ lines_left cs rest visits ended) (sym empty)
+    grind (arith, no-calls)

@@ -1,7 +1,4 @@
-use Rattle.std.proofs.Common.{◌+◌, ◌++◌, [], ◌∷◌, length, codes, ap, sym, ◌∙◌, arith}
-use Rattle.region_plan.specs.Plan.{cluster_at, level_at}
-use Rattle.outside.specs.Texts.{fields}
-use Rattle.report_text.specs.Written.{clusters_left, levels_left}
+use Rattle.std.proofs.Common.{◌++◌, length, codes, ap, ◌∙◌, arith}
 use Rattle.report_text.proofs.Parts.{cluster-part, clusters-end}
 use Rattle.report_text.proofs.plan.write_cluster_or_homes.Goals as goal
 
@@ -11,15 +8,9 @@ returns-then-cluster-clusters c =
     let i = c.args.level in
     let n = c.args.cluster in
     record {
-      text = cluster-part plan i n (omega (arith, c.if-cluster-clusters.true, c.clusters.ensures))
-          ∙ ap (λ line. line ++ (fields (cluster_at plan i n).members ++ (10 ∷ [] ++ clusters_left plan i (n + 1))))
-          (sym c.write_cluster.ensures);
+      text = grind (arith, cluster-part);
       some = omega (arith, ap length c.write_cluster.ensures);
-      sound = (
-        c.requires.level,
-        omega (arith, c.if-cluster-clusters.true, c.clusters.ensures),
-        omega arith,
-      );
+      sound = grind arith;
     }
 
 pub returns-else-cluster-clusters : goal.returns-else-cluster-clusters
@@ -28,8 +19,7 @@ returns-else-cluster-clusters c =
     let i = c.args.level in
     let text = c.word.ensures.text ∙ ap (λ line. line ++ codes "homes") c.requires.empty in
     record {
-      text = clusters-end plan i c.args.cluster (omega (arith, c.if-cluster-clusters.false, c.clusters.ensures))
-          ∙ ap (λ line. line ++ (fields (level_at plan i).homes ++ (10 ∷ [] ++ levels_left plan (i + 1)))) (sym text);
+      text = grind (arith, clusters-end);
       some = omega (arith, ap length text);
       sound = (c.requires.level, omega arith);
     }

@@ -1,5 +1,4 @@
-use Rattle.std.proofs.Common.{◌++◌, ap, sym, ◌∙◌}
-use Rattle.report_text.specs.Written.{plan_left}
+use Rattle.std.proofs.Common.{arith}
 use Rattle.report_text.proofs.Bodies.{plain_step}
 use Rattle.report_text.proofs.plan.write_part.Goals as goal
 
@@ -9,5 +8,4 @@ returns c =
     plain_step c.args.plan.now c.args.next c.write_body_part-behind.result c.keep.new.self
     c.write_body_part-behind.new.line c.keep.ensures.still part.text part.some part.sound
     (c.keep.ensures.keeps c.args.plan.now c.args.next c.write_body_part-behind.result c.requires.keeps
-    (part.text
-    ∙ ap (λ line. line ++ plan_left c.args.plan.now c.write_body_part-behind.result) (sym c.bytes.ensures)))
+    (grind arith))
