@@ -1,11 +1,10 @@
 -- The readers of a node: clusters that contain it, few at each level, and one after another in the climb.
-use Rattle.std.proofs.Common.{◌≡◌, ℕ, suc, ◌+◌, ◌-◌, ◌<◌, ◌≤◌, true, List, [], ◌∷◌, ◌++◌, length, map, drop, refl, sym, ap, ◌∙◌, subst, arith, Option}
+use Rattle.std.proofs.Common.{◌≡◌, ℕ, suc, ◌+◌, ◌<◌, ◌≤◌, true, List, [], ◌∷◌, ◌++◌, length, map, drop, refl, sym, ap, ◌∙◌, subst, arith, Option}
 use Rattle.std.proofs.lemmas.List.Sums.{fold-append}
-use Rattle.std.specs.Prelude.{get_or, Some, None, flat_map, ◌==◌}
+use Rattle.std.specs.Prelude.{get_or, Some, None, ◌==◌}
 use Rattle.std.proofs.lemmas.Bool.Decides.{nat_tests}
 use Rattle.std.proofs.lemmas.List.{length-map, drop_all}
 use Rattle.directory.specs.Settings.{Setting, levels}
-use Rattle.directory.specs.Writes.{numbers_from}
 use Rattle.entry_word.specs.Addresses.{address_in}
 use Rattle.entry_word.specs.declared.address.Address.{Address}
 use Rattle.entry_word.specs.declared.visit.Key.TheVariants.{Entry}
@@ -21,14 +20,11 @@ use Rattle.walk.specs.ReaderLaws.{climb-here}
 pub readers-spent : (setting : Setting) (node level index : ℕ) → length (setting.readers level node) ≤ index
     → drop index (readers_at setting node level) ≡ []
 readers-spent setting node level index h =
-    let count : length (readers_at setting node level) ≡ length (setting.readers level node) =
-    length-map (setting.readers level node) (λ c. record { level = level; cluster = c }) in
-    drop_all index (readers_at setting node level) (omega (arith, h, count))
+    grind (arith, length-map, drop_all)
 
 pub above-more : (setting : Setting) (node level : ℕ) → level < levels setting → readers_above setting node level
     ≡ readers_at setting node level ++ readers_above setting node (suc level)
-above-more setting node level h = let e : levels setting - level ≡ suc (levels setting - suc level) =
-    omega arith in ap (λ n. flat_map (readers_at setting node) (numbers_from level n)) e
+above-more setting node level h = grind arith
 
 pub above-empty : (setting : Setting) (node level : ℕ) → level < levels setting
     → length (setting.readers level node) ≡ 0 → readers_above setting node (level + 1)

@@ -9,11 +9,7 @@ use Rattle.walk.proofs.climb.past_entry.Goals as goal
 
 pub returns-else-index-readers-clause-pursuit : goal.returns-else-index-readers-clause-pursuit
 returns-else-index-readers-clause-pursuit c = λ sub.
-    let spent : length (readers c.args.plan.now c.args.level c.args.from) ≤ suc c.args.index = omega (
-      arith,
-      c.if-index-readers.false,
-      ap length c.readers.ensures,
-    ) in
+    let spent : length (readers c.args.plan.now c.args.level c.args.from) ≤ suc c.args.index = grind arith in
     let next : c.args.level + 1 ≡ suc c.args.level = omega arith in
     c.climb_from.ensures.pursuit
     ∙ (ap (λ w. climb c.args.known (c.args.weight + 2 * w) (readers_above

@@ -1,5 +1,4 @@
-use Rattle.std.proofs.Common.{◌≤◌, ◌^◌, subst, sym, get_or}
-use Rattle.region_plan.specs.Plan.{readers}
+use Rattle.std.proofs.Common.{arith}
 use Rattle.region_plan.specs.ReaderLaws.{reader-held, readers-few, way-light}
 use Rattle.walk.proofs.climb.way_in.Goals as goal
 
@@ -7,9 +6,7 @@ pub returns-clause-light : goal.returns-clause-light
 returns-clause-light c =
     let held = reader-held c.args.plan.now c.args.level c.args.from c.args.index c.plan_is_sound.ensures.matched
     c.requires.level c.requires.from c.requires.index in
-    subst (λ n. n ≤ 2 ^ 35) (sym c.reader_weight.ensures)
-    (way-light c.args.plan.now c.args.level (get_or (readers c.args.plan.now c.args.level c.args.from) c.args.index 0)
-    c.args.from c.plan_is_sound.ensures.sound c.plan_is_sound.ensures.reached c.requires.level held.1 held.0)
+    grind (arith, way-light)
 
 pub returns-clause-few : goal.returns-clause-few
 returns-clause-few c = readers-few c.args.plan.now c.args.level c.args.from c.plan_is_sound.ensures.matched

@@ -1,7 +1,5 @@
-use Rattle.std.proofs.Common.{◌≡◌, ◌+◌, Some, None, ◌∙◌, sym, ap, subst, arith, []}
-use Rattle.std.specs.Prelude.{get_or}
-use Rattle.directory.specs.Finds.{after_word, begin_chase, FindCall}
-use Rattle.region_plan.specs.Plan.{inside, leader, readers}
+use Rattle.std.proofs.Common.{None, ◌∙◌, sym, ap, subst, arith, []}
+use Rattle.directory.specs.Finds.{after_word, FindCall}
 use Rattle.region_plan.specs.Settings.{setting_of}
 use Rattle.walk.specs.Walks.{IsProgressWithin, pursuit_at}
 use Rattle.walk.proofs.Readers.{word-climbing}
@@ -18,26 +16,7 @@ returns-in-None-clause-pursuit c = λ sub.
     c.in-Climbing.index c.args.word None within.1 (sym c.address_of.ensures ∙ c.in-None.is))
 
 pub returns-in-Some-clause-pursuit : goal.returns-in-Some-clause-pursuit
-returns-in-Some-clause-pursuit c = λ sub.
-    let call : FindCall = record { from = c.args.from; sub = sub } in
-    let within = subst (IsProgressWithin c.args.plan.now c.args.from) c.in-Climbing.is c.requires.within in
-    let way = inside c.args.plan.now c.in-Climbing.level (get_or (readers c.args.plan.now c.in-Climbing.level
-    c.args.from) c.in-Climbing.index 0) c.args.from in
-    let far = (setting_of c.args.plan.now []).distance (leader c.args.plan.now c.in-Climbing.level (get_or
-    (readers c.args.plan.now c.in-Climbing.level c.args.from) c.in-Climbing.index 0)) c.in-Some.address.node in
-    let all : c.in-Climbing.weight + c.to_address-way.result ≡ c.in-Climbing.weight + way + far = omega (
-      arith,
-      c.to_address-way.ensures.way,
-    ) in
-    c.chase_from.ensures.pursuit c.args.from
-    ∙ (ap (λ w. begin_chase (setting_of c.args.plan.now []) c.in-Climbing.known
-    (Some c.in-Climbing.level) w c.from.result) all
-    ∙ (ap (begin_chase (setting_of c.args.plan.now []) c.in-Climbing.known (Some c.in-Climbing.level)
-    (c.in-Climbing.weight + way + far)) c.from.ensures
-    ∙ sym (ap (λ p. after_word (setting_of c.args.plan.now []) call (pursuit_at
-    (setting_of c.args.plan.now []) c.args.from p) c.args.word) c.in-Climbing.is
-    ∙ word-climbing c.args.plan.now c.args.from sub c.in-Climbing.known c.in-Climbing.weight c.in-Climbing.level
-    c.in-Climbing.index c.args.word (Some c.in-Some.address) within.1 (sym c.address_of.ensures ∙ c.in-Some.is))))
+returns-in-Some-clause-pursuit c = grind (arith, word-climbing)
 
 pub returns-in-Some-clause-within : goal.returns-in-Some-clause-within
 returns-in-Some-clause-within c = c.chase_from.ensures.within c.args.from
