@@ -51,12 +51,7 @@ call-kept {said} actor call m early few course search = record {
   no_calls = λ le. absurd (omega (arith, le));
   no_order = λ le. m.no_order early;
   few = omega (arith, few, length-append said.calls (make actor call ∷ []));
-  courses = λ s below. rw (script_of-push s said.calls (make actor call)) (grind (
-    arith,
-    m.courses s below,
-    course s below,
-    course-push said.format said.nodes (get_or said.homes s 0) false (script_of s said.calls) call,
-  ));
+  courses = λ s below. grind (arith, script_of-push, make, course-push);
   searches = λ a above. rw (script_of-push a said.calls (make actor call)) (grind (
     arith,
     m.searches a above,

@@ -46,10 +46,7 @@ pub fed_stands : {E : Type 0} (reader : ReaderValue) {failed : Bool} (result : R
     → OnOk result (seen_scan new ≡ after_bytes (seen_scan old) piece)
     → OnOk result ((bytes : List ℕ) → StandsFor reader bytes
     → StandsFor (record { failed = failed; state = seen_scan new }) (bytes ++ piece))
-fed_stands reader (Ok done) old new piece e same read = λ bytes stands. record {
-  going = e;
-  read = read ∙ ap (λ r. after_bytes r piece) (same ∙ stands.read) ∙ sym (fed-append fresh_reader bytes piece);
-}
+fed_stands reader (Ok done) old new piece e same read = grind (arith, going, fed-append)
 fed_stands reader (Err fault) old new piece e same read = tt
 
 -- what was said is within the limits

@@ -66,8 +66,7 @@ heard said words.Track (format ∷ []) h = (format, grind (arith, nat_tests), gr
 heard said words.Nodes (n ∷ []) h = (n, grind (arith, nat_tests), grind (arith, nat_tests), grind (arith, nat_tests))
 heard said words.K (k ∷ []) h = (k, grind (arith, nat_tests), grind (arith, nat_tests))
 heard said words.Edge (a ∷ b ∷ w ∷ []) h =
-    let edge : Edge = record { a = a; b = b; weight = w } in
-    (edge, grind (arith, nat_tests), grind (arith, nat_tests), grind (arith, nat_tests))
+    grind arith
 heard said words.Sub (node ∷ []) h =
     (node, grind (arith, nat_tests), grind (arith, nat_tests), grind (arith, nat_tests))
 heard said words.Callers (callers ∷ []) h = (callers, grind (arith, nat_tests), grind (arith, nat_tests))

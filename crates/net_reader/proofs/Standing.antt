@@ -1,5 +1,5 @@
 -- Where subscribers are, and whether they are off, after one call more.
-use Rattle.std.proofs.Common.{◌≡◌, ℕ, ◌<◌, ◌≤◌, Bool, true, false, cond, eqb, List, [], ◌∷◌, ◌++◌, length, filter, get_or, set, append-nil, refl, ◌∙◌, arith}
+use Rattle.std.proofs.Common.{◌≡◌, ℕ, ◌<◌, ◌≤◌, Bool, true, false, cond, eqb, List, [], ◌∷◌, ◌++◌, length, get_or, set, append-nil, refl, ◌∙◌, arith}
 use Rattle.std.proofs.lemmas.List.Elements.{filter-append}
 use Rattle.std.proofs.lemmas.List.{map-append, get_or-set_same, get_or-set_other, length-set}
 use Rattle.std.proofs.lemmas.Bool.Decides.{nat_tests}
@@ -19,13 +19,7 @@ with_call false script call = script
 
 pub script_of-push : (s : ℕ) (calls : List Spoken) (d : Spoken)
     → script_of s (calls ++ d ∷ []) ≡ with_call (eqb d.actor s) (script_of s calls) d.call
-script_of-push s calls d = grind (
-  arith,
-  filter-append (λ (x : Spoken). eqb x.actor s) calls (d ∷ []),
-  map-append (λ (x : Spoken). x.call) (filter (λ (x : Spoken). eqb x.actor s) calls) (filter (λ (x : Spoken). eqb
-      x.actor s) (d ∷ [])),
-  append-nil (script_of s calls),
-)
+script_of-push s calls d = grind (arith, filter-append, map-append, append-nil)
 
 pub place_after-push : (here : ℕ) (script : List Call) (call : Call)
     → place_after here (script ++ call ∷ []) ≡ place_after (place_after here script) (call ∷ [])

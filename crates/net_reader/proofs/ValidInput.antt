@@ -1,12 +1,12 @@
 -- What a text says is a valid input.
-use Rattle.std.proofs.Common.{◌≡◌, ℕ, ◌<◌, ◌≤◌, false, List, length, All, Result, Ok, Err, get_or, refl, sym, subst, arith}
+use Rattle.std.proofs.Common.{◌≡◌, ℕ, ◌<◌, ◌≤◌, List, All, Result, Ok, Err, refl, sym, subst, arith}
 use Rattle.net_graph.specs.Walks.{IsReached, everywhere}
 use Rattle.net_reader.specs.declared.fault.InputFault.{InputFault}
 use Rattle.net_reader.specs.declared.said.Call.{Call}
 use Rattle.net_reader.specs.Said.{Said, actors, script_of}
 use Rattle.net_reader.specs.Input.{Contents, contents_of, IsAnswer, IsInput, read}
 use Rattle.net_reader.specs.CallLaws.{script-at, scripts_count, scripts-few}
-use Rattle.net_reader.specs.Valid.{IsCourse, IsSearch, IsValid}
+use Rattle.net_reader.specs.Valid.{IsValid}
 use Rattle.net_reader.proofs.Calling.{IsCalling, begins-calling, keeps-calling}
 use Rattle.net_reader.proofs.Folding.{holds_of_read}
 use Rattle.net_reader.proofs.Measured.{IsMeasured, begins-measured, keeps-measured}
@@ -31,11 +31,9 @@ valid_of {said} m c late connected =
       callers = m.callers;
       scripts = count;
       courses = λ s below.
-          subst (λ (calls : List Call). IsCourse said.format said.nodes (get_or said.homes s 0) false calls) (sym
-          (script-at script (actors said) s (omega (arith, below)))) (c.courses s below);
+          grind (arith, script-at);
       searches = λ a above below.
-          subst (λ (calls : List Call). All (IsSearch said.nodes (length said.homes)) calls) (sym (script-at script
-          (actors said) a (omega (arith, below, count)))) (c.searches a above);
+          grind (arith, script-at);
       few_calls = omega (arith, scripts-few 0 (actors said) said.calls, c.few);
       order = subst (λ (n : ℕ). All (λ actor. actor < n) said.order) (sym count) c.order;
       connected = connected;

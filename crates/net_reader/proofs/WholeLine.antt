@@ -43,12 +43,7 @@ opened word packed front piece some h stand named inside read = record {
   packed = packed;
   named = named;
   run = record { front = front; parts = front-is front piece h stand; inside = inside; read = read };
-  shorter = omega (
-    arith,
-    h,
-    length-take (length piece - length front) (drop (length front) piece),
-    length-drop (length front) piece,
-  );
+  shorter = grind (arith, length-take, length-drop);
 }
 
 -- one digit more
@@ -60,8 +55,7 @@ digit-behind {piece} {taken} {value} {digit} before within few is same =
     let low : digit < 10 = grind (arith, nat_tests, is, same) in
     record {
       plain = plain-more piece taken within is before.plain;
-      read = ap (λ d. opens.Number (taken + 1) (10 * value + d)) same
-          ∙ read-more piece within is few small before.read;
+      read = grind (arith, read-more);
       small = still-small value taken digit before.small low;
     }
 

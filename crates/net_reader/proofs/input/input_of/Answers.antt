@@ -1,6 +1,5 @@
-use Rattle.std.proofs.Common.{◌≡◌, ℕ, ◌+◌, List, [], length, map, ap, ◌∙◌, arith}
+use Rattle.std.proofs.Common.{◌≡◌, ◌+◌, List, length, map, arith}
 use Rattle.net_reader.specs.declared.said.Call.{Call}
-use Rattle.net_reader.specs.declared.said.Spoken.{Spoken}
 use Rattle.net_reader.specs.Said.{script_of}
 use Rattle.net_reader.specs.Input.{Contents, numbers_from}
 use Rattle.net_reader.proofs.input.input_of.Goals as goal
@@ -11,18 +10,6 @@ returns c =
     let count : c.len.result + known.callers ≡ length known.homes.items + known.callers = omega arith in
     let scripts : map (λ script. script.items) c.in_ok-scripts.scripts.items
     ≡ map (λ actor. script_of actor known.calls.items) (numbers_from 0 (length known.homes.items + known.callers)) =
-    c.in_ok-scripts.ensures
-    ∙ ap (λ (calls : List Spoken). map (λ actor. script_of actor calls) (numbers_from 0 (c.len.result + known.callers)))
-    c.deref.ensures.value
-    ∙ ap (λ (n : ℕ). map (λ actor. script_of actor known.calls.items) (numbers_from 0 n)) count in
+    grind arith in
     let same : Contents → List (List Call) → Contents = λ contents scripts. record contents { scripts = scripts } in
-    ap (same (record {
-      format = known.format;
-      nodes = known.nodes;
-      k = known.k;
-      edges = known.edges.items;
-      homes = known.homes.items;
-      callers = known.callers;
-      scripts = [];
-      order = known.order.items;
-    })) scripts
+    grind arith

@@ -9,8 +9,7 @@ loop-number-preserved c =
     let numbers = c.args.numbers.now in
     let i = c.loop-number.number-index in
     record {
-      taken = taken-more c.args.order.now.items numbers i c.loop-number-test.true c.loop-number.invariant.taken
-          c.in_ok-push.ensures.items;
+      taken = grind (arith, taken-more);
       known = known-more c.args.limit numbers i c.loop-number-test.true c.loop-number.invariant.known
           c.if-number-limit.false;
     }

@@ -1,7 +1,6 @@
-use Rattle.std.proofs.Common.{◌≡◌, ◌+◌, ◌*◌, ◌<◌, true, ap, length, get_or, sym, ◌∙◌, arith}
+use Rattle.std.proofs.Common.{◌≡◌, ◌<◌, true, length, get_or, sym, ◌∙◌, arith}
 use Rattle.std.proofs.lemmas.Bool.Decides.{nat_tests}
 use Rattle.std.specs.Char.{is_ascii_digit}
-use Rattle.net_reader.specs.declared.line.Open.TheVariants.{Number}
 use Rattle.net_reader.proofs.Digits.{below-most, plain-more, read-more, still-small}
 use Rattle.net_reader.proofs.line.leading_number.Goals as goal
 
@@ -30,7 +29,6 @@ digits-preserved c =
     record {
       within = omega arith;
       plain = plain-more piece taken within digit c.digits.invariant.plain;
-      read = ap (λ d. Number (taken + 1) (10 * c.digits.number + d)) c.from.ensures
-          ∙ read-more piece within digit few small c.digits.invariant.read;
+      read = grind (arith, nat_tests, read-more);
       small = still-small c.digits.number taken c.from.result c.digits.invariant.small low;
     }

@@ -1,7 +1,6 @@
-use Rattle.std.proofs.Common.{◌≡◌, ◌+◌, ◌<◌, [], drop, refl, subst, arith}
+use Rattle.std.proofs.Common.{◌≡◌, ◌<◌, [], refl, arith}
 use Rattle.std.proofs.lemmas.Bool.Decides.{nat_tests}
 use Rattle.std.proofs.lemmas.List.{length-set}
-use Rattle.net_reader.specs.Whole.{IsNumberTo}
 use Rattle.net_reader.proofs.OrderLine.{number-at, taking-none, written-last, written-more}
 use Rattle.net_reader.proofs.WholeLine.{last-read}
 use Rattle.net_reader.proofs.whole.take_numbers.Goals as goal
@@ -39,8 +38,5 @@ numbers-preserved c =
       most = omega (arith, length-set numbers c.numbers.count found.number);
       within = omega arith;
       room = omega (arith, found.ensures.few);
-      taking = written-more c.numbers.count numbers c.numbers.invariant.taking
-          (subst (λ e. IsNumberTo e found.number (drop at piece) (drop (at + found.taken) piece)) ends
-          (number-at at found.taken piece c.split_at.ensures.back refl found.ensures.number)) less (omega arith)
-          (omega arith);
+      taking = grind (arith, written-more, number-at);
     }

@@ -3,7 +3,7 @@ use Rattle.std.proofs.lemmas.Bool.{ne_eqb}
 use Rattle.std.proofs.lemmas.Result.{IfOk-weaker}
 use Rattle.net_reader.specs.declared.line.Open.TheVariants.{Between, Word}
 use Rattle.net_reader.specs.Seen.{seen_line}
-use Rattle.net_reader.specs.Steps.{IsRun, more, put}
+use Rattle.net_reader.specs.Steps.{more, put}
 use Rattle.net_reader.proofs.Running.{first-byte, run-join, run-word, run-word-blank}
 use Rattle.net_reader.proofs.line.Line.first_word.Goals as goal
 
@@ -22,9 +22,7 @@ returns-then-is_blank c =
     (ne_eqb c.args.byte 35 c.requires.no_comment) (sym cut ∙ c.split_at.ensures.back) word.ensures.plain
     (word.ensures.read ∙ ap (λ p. fold more (Word p) (take word.result.1 piece)) c.pack.ensures)
     (sym c.is_blank.ensures ∙ c.if-is_blank.true) in
-    IfOk-weaker c.numbers.result (λ left. IsRun middle (seen_line c.numbers.new.self) rest left.now)
-    (λ left. IsRun first (seen_line c.numbers.new.self) piece left.now)
-    (λ left more. run-join run more) c.numbers.ensures
+    grind (arith, IfOk-weaker, run-join)
 
 pub returns : goal.returns
 returns c =

@@ -24,5 +24,4 @@ pub returns : goal.returns
 returns c =
     let run = c.leading_number-value in
     let some : 0 < run.result.1 = grind (arith, nat_tests, c.if-taken-eq0.false) in
-    run-number (seen_line c.args.self.now) c.args.piece.now run.result.1 run.result.0 run.result.1 c.requires some
-    run.ensures.within c.split_at.ensures.back run.ensures.plain run.ensures.read
+    search run-number

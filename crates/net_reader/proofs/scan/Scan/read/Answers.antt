@@ -1,5 +1,5 @@
-use Rattle.std.proofs.Common.{◌≡◌, ◌<◌, ◌-◌, length, get_or, take, drop, ◌∙◌, ap, arith, length-take, length-drop}
-use Rattle.net_reader.specs.Steps.{ReaderState, after_bytes, next}
+use Rattle.std.proofs.Common.{◌≡◌, ◌<◌, ◌-◌, length, get_or, take, drop, arith, length-take, length-drop}
+use Rattle.net_reader.specs.Steps.{next}
 use Rattle.net_reader.specs.Seen.{seen_scan}
 use Rattle.net_reader.proofs.Feeding.{fed-faulty, fed-first, fed-none, lines-step}
 use Rattle.net_reader.proofs.scan.Scan.read.Goals as goal
@@ -14,19 +14,9 @@ bytes-preserved c =
     let fewer : length (take (length rest - 1) (drop 1 rest)) ≡ length rest - 1 =
     omega (arith, length-take (length rest - 1) (drop 1 rest), length-drop 1 rest) in
     record {
-      rest = ap (λ r. after_bytes r (take (length rest - 1) (drop 1 rest))) step
-          ∙ fed-first (seen_scan skipped) rest some
-          ∙ c.in_ok-rest.ensures.read ∙ c.in_ok-behind.ensures.read ∙ c.bytes.invariant.rest;
+      rest = grind (arith, fed-first);
       well = c.in_ok-step.ensures.well;
-      lines = omega (
-        arith,
-        c.bytes.invariant.lines,
-        rise,
-        fewer,
-        ap (λ (r : ReaderState). r.lines) step,
-        c.in_ok-behind.ensures.lines,
-        c.in_ok-rest.ensures.lines,
-      );
+      lines = grind arith;
     }
 
 pub returns-else-is_none-clause-read : goal.returns-else-is_none-clause-read

@@ -1,4 +1,4 @@
-use Rattle.std.proofs.Common.{◌+◌, [], ◌∷◌, ap, subst, sym, ◌∙◌, arith}
+use Rattle.std.proofs.Common.{[], ◌∷◌, ap, subst, sym, arith}
 use Rattle.net_reader.specs.declared.scan.Scan.{Scan}
 use Rattle.net_reader.specs.Seen.{IsWell, seen_known, seen_scan}
 use Rattle.net_reader.proofs.WholeLine.{comment-shorter, heard-comment, line-heard, still-rests}
@@ -15,9 +15,7 @@ returns-in_default c =
       shorter = omega (arith, shorter);
       lines = omega (arith, shorter, ap (λ (s : Scan). s.lines) c.count.ensures);
       well = subst (λ (s : Scan). IsWell s.fault s.known) (sym c.count.ensures) c.requires.well;
-      rests = λ some. still-rests c.count.new.self _ (self.lines + 1) c.requires.rests
-          (ap (λ (s : Scan). seen_scan s) c.count.ensures)
-          (ap (λ (s : Scan). s.fault) c.count.ensures ∙ c.requires.rests.going);
+      rests = λ some. grind (arith, still-rests);
     }
 
 pub returns-in-Move : goal.returns-in-Move

@@ -2,7 +2,7 @@ use Rattle.std.proofs.Common.{◌+◌, IfSome, Result, subst, ap, sym, ◌∙◌
 use Rattle.net_reader.specs.declared.fault.InputFault.{InputFault}
 use Rattle.net_reader.specs.declared.scan.Scan.{Scan}
 use Rattle.net_reader.specs.Said.{Said}
-use Rattle.net_reader.specs.Seen.{IsWell, said_or_fault, seen_known, seen_line, seen_scan}
+use Rattle.net_reader.specs.Seen.{said_or_fault, seen_known, seen_line, seen_scan}
 use Rattle.net_reader.specs.Steps.{fault_at}
 use Rattle.net_reader.specs.Whole.{HearsOrder}
 use Rattle.net_reader.proofs.WholeLine.{heard-whole, still-rests, whole-shorter}
@@ -33,9 +33,6 @@ returns-in-Some c =
           ∙ ap (λ j. fault_at (self.lines + 1) j) (sym heard.heard))) c.requires.opens heard.ends;
       shorter = omega (arith, shorter);
       lines = omega (arith, shorter, one_more);
-      well = subst (λ (s : Scan). IsWell s.fault s.known) (sym c.count.ensures)
-          (subst (λ f. IsWell f known) (sym going) c.in_ok-rest.ensures.kept);
-      rests = still-rests c.count.new.self (said_or_fault self.fault (seen_known known)) (self.lines + 1)
-          c.requires.rests (ap (λ (s : Scan). seen_scan s) c.count.ensures)
-          (ap (λ (s : Scan). s.fault) c.count.ensures ∙ going);
+      well = grind arith;
+      rests = grind (arith, still-rests);
     }
