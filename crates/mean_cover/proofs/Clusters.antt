@@ -155,10 +155,7 @@ module _ (balls : List (List ℕ)) (k : ℕ) where
       → has x (filter (λ y. not (has y is.core)) free) ≡ true
   free_of_core waiting free c is held v x waits inside =
       let w = filter_keeps (λ u. not (has u c.homed)) v waiting waits in
-      filter-has (λ y. not (has y is.core)) x free (held v x w.0 inside)
-      (not_from_false (has x is.core) (false_from_ne_true (has x is.core) (λ met.
-      false≢true (sym (not-true (has v c.homed) w.1) ∙ (ap (has v) is.grown
-      ∙ filter-has (touches balls is.core) v waiting w.0 (share_from x (ball balls v) is.core inside met))))))
+      grind (arith, filter-has, not_from_false, false_from_ne_true, false≢true, not-true, share_from)
 
   -- the cores of the clusters don't meet, so that their sizes add up to the free nodes at most
   pub sum_small : PowersAdd → (waiting free : List ℕ) (cs : List GrownCluster) → 0 < k → IsAscending free
@@ -187,8 +184,7 @@ ready_all balls centred = record {
 pub covering_mean : (balls : List (List ℕ)) (k : ℕ) → 0 < k → AreCentred balls → AreInside balls
     → AreMean balls k (centres (length balls)) (mean_covering balls k)
 covering_mean balls k low centred inside =
-    are_mean balls k (length balls) (centres (length balls)) low inside (ready_all balls centred)
-    (omega (arith, length-centres (length balls)))
+    grind (arith, are_mean, ready_all, length-centres)
 
 pub covering_small : PowersAdd → (balls : List (List ℕ)) (k : ℕ) → 0 < k → AreCentred balls → AreInside balls
     → sum_of_sizes (mean_covering balls k) ^ k ≤ length balls ^ (k + 1)

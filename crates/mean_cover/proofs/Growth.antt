@@ -13,26 +13,22 @@ module _ (balls : List (List ℕ)) (k a : ℕ) (waiting : List ℕ) (j : ℕ) wh
   not_last_means : is_last balls k waiting a j ≡ false
       → length balls * size_after balls waiting a j ^ k < size_after balls waiting a (suc j) ^ k
   unfolding is_last
-  not_last_means h = leb-false (size_after balls waiting a (suc j) ^ k)
-      (length balls * size_after balls waiting a j ^ k) h
+  not_last_means h = grind (arith, leb-false)
 
   pub last_means : is_last balls k waiting a j ≡ true
       → size_after balls waiting a (suc j) ^ k ≤ length balls * size_after balls waiting a j ^ k
   unfolding is_last
-  last_means h = leb-true (size_after balls waiting a (suc j) ^ k)
-      (length balls * size_after balls waiting a j ^ k) h
+  last_means h = grind (arith, leb-true)
 
   pub last_is : size_after balls waiting a (suc j) ^ k ≤ length balls * size_after balls waiting a j ^ k
       → is_last balls k waiting a j ≡ true
   unfolding is_last
-  last_is h = le-leb (size_after balls waiting a (suc j) ^ k)
-      (length balls * size_after balls waiting a j ^ k) h
+  last_is h = grind (arith, le-leb)
 
   pub not_last_is : (size_after balls waiting a (suc j) ^ k ≤ length balls * size_after balls waiting a j ^ k → ⊥)
       → is_last balls k waiting a j ≡ false
   unfolding is_last
-  not_last_is h = lt-leb (size_after balls waiting a (suc j) ^ k)
-      (length balls * size_after balls waiting a j ^ k) (lt_of_not-le h)
+  not_last_is h = grind (arith, lt-leb, lt_of_not-le)
 
 -- as long as no growth is the last, the number of nodes, to the power k, is above the power of n
 pub growths_few : (balls : List (List ℕ)) (k a : ℕ) (rest : List ℕ) → 0 < k → HoldCentres balls (a ∷ rest)

@@ -1,5 +1,5 @@
 -- What a finished mean cover is, and what follows of its clusters.
-use Rattle.std.proofs.Common.{◌≡◌, ℕ, suc, ◌+◌, ◌^◌, ◌<◌, ◌≤◌, true, List, [], ◌∷◌, length, get_or, map, refl, sym, ◌∙◌, ap, arith}
+use Rattle.std.proofs.Common.{◌≡◌, ℕ, ◌+◌, ◌^◌, ◌<◌, ◌≤◌, true, List, [], ◌∷◌, length, get_or, map, refl, sym, ◌∙◌, ap, arith}
 use Rattle.std.specs.Prelude.{All}
 use Rattle.std.specs.List.{sum_by}
 use Rattle.std.proofs.lemmas.Grind.{same_number_lists}
@@ -7,7 +7,7 @@ use Rattle.std.proofs.lemmas.List.{append-nil, get_or-map, length-map}
 use Rattle.std.proofs.lemmas.List.Elements.{All-weaker}
 use Rattle.std.proofs.lemmas.List.Sums.{sum_by-cons}
 use Rattle.node_set.specs.Ascending.{has}
-use Rattle.node_set.specs.Balls.{AreCentred, AreHomes, AreInside, GrownCluster, IsShaped, ball, centres, home_of}
+use Rattle.node_set.specs.Balls.{AreCentred, AreHomes, AreInside, GrownCluster, ball, centres, home_of}
 use Rattle.node_set.specs.BallLaws.{get_or-map_centres, has_centre, length-centres, union_has}
 use Rattle.node_set.specs.HomeLaws.{home_has, home_within}
 use Rattle.whole_powers.specs.Bounds.{PowersAdd}
@@ -59,8 +59,7 @@ covers_small adds balls k low centred inside = covering_small adds balls k low c
 pub growths_bounded : (balls : List (List ℕ)) (k : ℕ) → 0 < k → AreCentred balls → AreInside balls
     → All (λ c. c.growths ≤ k) (mean_covering balls k)
 growths_bounded balls k low centred inside =
-    All-weaker (IsShaped balls (suc k)) (λ (c : GrownCluster). c.growths ≤ k) (λ c h. omega (arith, h.0))
-    (mean_covering balls k) (clusters_shaped balls k low centred inside)
+    grind (arith, All-weaker, clusters_shaped)
 
 nodes_are : (n : ℕ) (all : List GrownCluster) → member_lists (map (as_mean_cluster n) all)
     ≡ map (λ (c : GrownCluster). c.members) all
@@ -91,8 +90,7 @@ module _ (balls : List (List ℕ)) (k n : ℕ) (cover : MeanCover) (low : 0 < k)
   pub sum_bounded : MeanCoversAreSmall
       → sum_by (λ (c : MeanCluster). length c.members.members) cover.clusters.items ^ k ≤ n ^ (k + 1)
   sum_bounded small =
-      rw size (rw (ap (sum_by (λ (c : MeanCluster). length c.members.members)) is.clusters
-      ∙ sizes_are n (mean_covering balls k)) (small balls k low centred inside))
+      grind (arith, sizes_are)
 
   -- the cluster that is a ball's home has the ball's nodes
   home_has_nodes : (v x : ℕ) → v < length balls → has x (ball balls v) ≡ true

@@ -133,11 +133,7 @@ from_all balls k = ap (λ (n : ℕ). mean_clusters balls k n (centres (length ba
 pub under_way_start : (balls : List (List ℕ)) (k : ℕ) (waiting : List ℕ) (home : List ℕ) → AreCentred balls
     → waiting ≡ centres (length balls) → IsUnderWay balls k waiting [] home
 under_way_start balls k waiting home centred all =
-    rw all (record {
-      ready = ready_all balls centred;
-      clusters_so_far = ap (map (as_mean_cluster (length balls))) (from_all balls k);
-      homes_so_far = λ v h. rw (has_centre (length balls) v h, from_all balls k) (omega arith);
-    })
+    grind (arith, ready_all, from_all, has_centre)
 
 pub clusters_few : (balls : List (List ℕ)) (k : ℕ) → 0 < k → AreCentred balls → AreInside balls
     → length (mean_covering balls k) ≤ length balls

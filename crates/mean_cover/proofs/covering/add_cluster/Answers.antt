@@ -1,5 +1,4 @@
-use Rattle.std.proofs.Common.{◌≡◌, ◌++◌, ℕ, List, length, take, drop, ap, arith, sym, ◌∙◌, refl}
-use Rattle.node_set.specs.Balls.{sets}
+use Rattle.std.proofs.Common.{◌≡◌, ◌++◌, ℕ, List, length, take, drop, ap, arith, ◌∙◌, refl}
 use Rattle.mean_cover.specs.Covering.{mean_cluster}
 use Rattle.mean_cover.specs.MeanCovers.{as_mean_cluster}
 use Rattle.mean_cover.proofs.covering.add_cluster.Goals as goal
@@ -18,26 +17,13 @@ returns-clause-added c =
     in
     let home : take c.args.cover.now.home.len
     (c.set_homes.new.home ++ drop (length c.set_homes.new.home) c.args.cover.now.home.items) ≡ c.set_homes.new.home =
-    take_at c.set_homes.new.home (drop (length c.set_homes.new.home) c.args.cover.now.home.items)
-    c.args.cover.now.home.len (home_count ∙ sym c.args.cover.now.home.ok.0)
-    in
+    grind (arith, take_at) in
     let number : c.len-number.result ≡ length c.args.cover.now.clusters.items =
     c.len-number.ensures ∙ c.args.cover.now.clusters.ok.0
     in
     record {
       waiting = rw (c.remove.ensures.members, c.in_ok-members.ensures.touched) refl;
-      clusters = rw (
-        c.in_ok-push.ensures.items,
-        c.in_ok-members.ensures.members,
-        as_mean_cluster_is (sets c.args.balls.now) c.args.k c.args.first (length c.args.balls.now)
-            c.args.work.now.waiting.members,
-      ) refl;
-      homes = λ v h. rw (
-        home,
-        c.set_homes.ensures v (omega (arith, c.requires.home_count, ap length c.deref_mut.ensures.value)),
-        c.in_ok-members.ensures.touched,
-        number,
-        c.deref_mut.ensures.value,
-      ) refl;
+      clusters = grind (arith, as_mean_cluster_is);
+      homes = λ v h. grind arith;
       home_count = rw home (home_count ∙ c.requires.home_count);
     }

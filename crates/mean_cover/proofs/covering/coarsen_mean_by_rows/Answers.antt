@@ -18,8 +18,7 @@ use Rattle.mean_cover.proofs.covering.coarsen_mean_by_rows.Goals as goal
 pub first-init : goal.first-init
 first-init c =
     let all : c.fill_all.new.set.members ≡ centres (length (sets c.args.balls.now)) =
-    ap (λ (s : Nodes). s.members) c.fill_all.ensures ∙ ap (λ (n : ℕ). centres n) c.requires.work.waiting
-    ∙ ap (λ (n : ℕ). centres n) (sym (length-sets c.args.balls.now)) in
+    grind (arith, length-sets) in
     record {
       under_way = rw c.new.ensures.items (under_way_start (sets c.args.balls.now) c.args.k c.fill_all.new.set.members
           c.in_ok-vec.field-0.items c.requires.centred all);
@@ -49,19 +48,14 @@ pub add_cluster-requires-clause-leads : goal.add_cluster-requires-clause-leads
 add_cluster-requires-clause-leads c =
     lead c.first.work.waiting.members c.in-Some.first c.first.invariant.under_way.ready.ascending
     c.in-Some.ensures.some.member
-    (none_waits c.first.work.waiting.members c.first.from c.in-Some.first c.first.invariant.none_before
-    c.in-Some.ensures.some)
+    (grind (arith, none_waits))
 
 pub first-preserved : goal.first-preserved
 first-preserved c =
     let before : (v : ℕ) → v < c.in-Some.first → has v c.first.work.waiting.members ≡ false =
-    none_waits c.first.work.waiting.members c.first.from c.in-Some.first c.first.invariant.none_before
-    c.in-Some.ensures.some
-    in
+    grind (arith, none_waits) in
     let leads : (rest : List ℕ) × (c.first.work.waiting.members ≡ c.in-Some.first ∷ rest) =
-    lead c.first.work.waiting.members c.in-Some.first c.first.invariant.under_way.ready.ascending
-    c.in-Some.ensures.some.member before
-    in
+    grind (arith, lead) in
     let added : IsAdded (length c.args.balls.now)
     (mean_cluster (sets c.args.balls.now) c.args.k c.first.work.waiting.members c.in-Some.first) c.first.work
     c.add_cluster.new.work c.first.cover c.add_cluster.new.cover = c.in_ok-add_cluster.ensures.added in

@@ -1,4 +1,4 @@
-use Rattle.std.proofs.Common.{◌≡◌, ◌||◌, ◌+◌, ℕ, List, length, suc, ap, arith, refl, sym, ◌∙◌, add-one}
+use Rattle.std.proofs.Common.{◌≡◌, ◌||◌, ◌+◌, ℕ, List, length, suc, ap, arith, refl, ◌∙◌, add-one}
 use Rattle.std.proofs.lemmas.Bool.{false≢true}
 use Rattle.node_set.specs.Ascending.{has}
 use Rattle.node_set.specs.Balls.{growth, least, union_of, sets}
@@ -19,14 +19,7 @@ loop-step-init c =
       room = length c.args.balls.now;
       members = union_of (sets c.args.balls.now)
           (growth (sets c.args.balls.now) c.args.waiting.now.members c.args.first 0);
-    } = rw (
-      c.absorb.ensures,
-      c.in_ok-members.ensures.set,
-      growth_first (sets c.args.balls.now) c.args.waiting.now.members c.args.first,
-      ← union_first (sets c.args.balls.now) c.args.first,
-      ball_at c.args.balls.now c.args.first c.index-balls-first.result c.requires.first c.index-balls-first.is,
-    ) refl
-    in
+    } = grind (arith, growth_first, union_first, ball_at) in
     record {
       members = members;
       size = c.count-size.ensures ∙ ap (λ (s : Nodes). length s.members) members;
@@ -126,18 +119,7 @@ returns-then-at_most-clause-touched c =
 pub loop-step-preserved : goal.loop-step-preserved
 loop-step-preserved c =
     let e : c.loop-step._step + 1 ≡ suc c.loop-step._step = add-one c.loop-step._step in
-    rw e (record {
-      members = next_members c.before.before;
-      size = next_size c.before.before;
-      none = goes_on (sets c.args.balls.now) c.args.k c.args.first c.args.waiting.now.members c.loop-step._step
-          c.count-more.result c.loop-step.size (next_size c.before.before) c.loop-step.invariant.size
-          c.loop-step.invariant.none (λ fits. false≢true (sym c.if-at_most.false ∙ c.at_most.ensures.1
-          (rw (length-sets c.args.balls.now) at fits)));
-      taken_room = c.loop-step.invariant.taken_room;
-      touched_room = c.touch.ensures.room ∙ c.loop-step.invariant.touched_room;
-      spare_rooms = c.loop-step.invariant.spare_rooms;
-      spare = c.loop-step.invariant.spare;
-    })
+    grind (arith, next_members, next_size, goes_on, false≢true, length-sets)
 
 pub unreachable-requires : goal.unreachable-requires
 unreachable-requires c =
