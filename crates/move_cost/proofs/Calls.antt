@@ -1,11 +1,11 @@
 -- The call that comes next in a subscriber's script: it is a step, which may begin.
-use Rattle.std.proofs.Common.{◌≡◌, ℕ, suc, ◌<◌, false, List, [], ◌∷◌, ◌++◌, length, map, take, drop, get_or, refl, sym, ap, ◌∙◌, subst, arith}
-use Rattle.std.specs.Prelude.{Some, slice_get, slice_index, unwrap_or}
+use Rattle.std.proofs.Common.{◌≡◌, ℕ, suc, ◌<◌, List, [], ◌∷◌, ◌++◌, length, map, take, drop, get_or, refl, sym, ap, ◌∙◌, arith}
+use Rattle.std.specs.Prelude.{Some, slice_get, unwrap_or}
 use Rattle.std.proofs.lemmas.List.{append_assoc, get_or-map, length-map, take-append-drop}
 use Rattle.std.proofs.lemmas.Option.{unwrap_or-slice_get}
 use Rattle.directory.specs.Amid.{course_of}
-use Rattle.directory.specs.Settings.{Setting, start}
-use Rattle.directory.specs.Courses.{Course, MayStep, MaySteps, Step, after_step, after_steps, course_at}
+use Rattle.directory.specs.Settings.{Setting}
+use Rattle.directory.specs.Courses.{Course, MayStep, MaySteps, Step, after_step, after_steps}
 use Rattle.directory.specs.Legal.{IsScript}
 use Rattle.directory.specs.Orders.{AreValid, steps_of}
 use Rattle.directory.specs.StepLaws.{slice_get-within, take-more}
@@ -62,23 +62,19 @@ next-call scripts {input} {plan} sub place {call} together low short same =
     (omega (arith, inside, length-map script step_of)) in
     let is : found.0 ≡ step_of call =
     ap (λ o. unwrap_or o (step_of call)) (sym found.1)
-    ∙ (unwrap_or-slice_get (map step_of script) place (step_of call)
-    ∙ (get_or-map step_of script place call (step_of call) inside ∙ ap step_of (sym same))) in
+    ∙ (grind (arith, unwrap_or-slice_get, get_or-map)) in
     let here : slice_get steps place ≡ Some (step_of call) =
     ap (λ ss. slice_get ss place) are ∙ (found.1 ∙ ap Some is) in
     let more : take (suc place) steps ≡ take place steps ++ step_of call ∷ [] =
     take-more steps place (step_of call) here in
     let whole : steps ≡ take place steps ++ step_of call ∷ drop (suc place) steps =
     sym (take-append-drop (suc place) steps)
-    ∙ (ap (λ ss. ss ++ drop (suc place) steps) more
-    ∙ append_assoc (take place steps) (step_of call ∷ []) (drop (suc place) steps)) in
+    ∙ (grind (arith, more, append_assoc)) in
     let valid : AreValid setting (scripts_of input) =
     scripts input setting together.valid (record { nodes = together.nodes; starts = refl }) in
     let its : IsScript setting sub steps = valid.steps sub low in
     record {
-      step = subst IsStep (sym same) (course-steps input.format input.nodes (slice_index input.homes sub) false script
-          place call (together.valid.courses sub low) inside);
+      step = grind (arith, IsStep, course-steps);
       more = more;
-      may = may-at setting (course_at (start setting sub)) (take place steps) (step_of call)
-          (drop (suc place) steps) (subst (MaySteps setting (course_at (start setting sub))) whole its.allowed);
+      may = grind (arith, may-at);
     }

@@ -16,7 +16,7 @@ use Rattle.directory.specs.StepLaws.{highest-low}
 use Rattle.directory.specs.Writes.{Write, entry_at, erasure_writes, mark_at, new_address, numbers_from, old_home, purge_writes, step_writes, trail, visit_of}
 use Rattle.region_plan.specs.Kept.{IsKept}
 use Rattle.region_plan.specs.Matched.{IsMatched, IsWithinReach}
-use Rattle.region_plan.specs.Plan.{PlanData, clusters_of, inside, level_at, levels_of, members_of, no_level, nodes_of}
+use Rattle.region_plan.specs.Plan.{PlanData, clusters_of, inside, levels_of, members_of, nodes_of}
 use Rattle.region_plan.specs.Settings.{setting_of}
 use Rattle.move_cost.specs.Costs.{erased_levels, is_purge, says_nothing, write_weight}
 use Rattle.move_cost.specs.Counting.{IsFit, IsFitAct, IsFitEntry, IsFitMark, act_purges, act_weight}
@@ -45,11 +45,7 @@ module _ (marks : MarksUnpack) (entries : EntriesUnpack) (plan : PlanData) (few 
   pub fit-act : (sub : ℕ) (write : Write) → IsFit plan write → IsFitAct plan (visit_of sub write).act
   fit-act sub (mark_at place mark) fit =
       (fit.0, subst (IsFitMark plan) (sym (read-mark marks mark (small-mark plan mark few fit.1))) fit.1)
-  fit-act sub (entry_at level cluster address) fit = (
-    fit.0,
-    fit.1,
-    subst (IsFitEntry plan level cluster) (sym (read-entry level cluster address fit.2)) fit.2,
-  )
+  fit-act sub (entry_at level cluster address) fit = grind (arith, read-entry)
 
   pub weight-act : (setting : Setting) (node sub : ℕ) (write : Write) → IsFit plan write
       → act_weight setting node (visit_of sub write).act ≡ write_weight setting node write
@@ -67,15 +63,7 @@ module _ (marks : MarksUnpack) (entries : EntriesUnpack) (plan : PlanData) (few 
 pub inside-small : {plan : PlanData} (i c v : ℕ) → IsKept plan → IsWithinReach plan → i < levels_of plan
     → c < clusters_of plan i → has v (members_of plan i c) ≡ true → inside plan i c v ≤ 17 * 2 ^ 30
 inside-small {plan} i c v kept reached low cluster member =
-    let some : 0 < 2 = omega arith in
-    let exponent : (level_at plan i).exponent ≤ 30 = (kept.levels i no_level low).exponent in
-    let power : 2 ^ (level_at plan i).exponent ≤ 2 ^ 30 = pow-le-pow_right some exponent in
-    omega (
-      arith,
-      reached i c v low cluster member,
-      mul-le-mul_left plan.reach power,
-      mul-le-mul_right (2 ^ 30) kept.near,
-    )
+    grind (arith, pow-le-pow_right, mul-le-mul_left, mul-le-mul_right)
 
 -- what holds of all numbers of a range holds of those that pass a test
 pub all-sifted : (P : ℕ → Type 0) (test : ℕ → Bool) (first k : ℕ)

@@ -25,12 +25,7 @@ count_left plan handset = length (left_at (setting_of plan []) handset handset.s
 
 pub left-count : {plan : PlanData} {starts : List ℕ} {handset : HandsetData} {steps : List Step} {made : ℕ}
     {later : List Write} → IsLeft plan starts handset steps made later → length later ≡ count_left plan handset
-left-count {plan} {starts} {handset} {later} its = omega (
-  arith,
-  ap length (sym its.left ∙ its.stands.left),
-  length-map later (visit_of handset.sub),
-  length-map (left_at (setting_of plan starts) handset handset.stage) (visit_of handset.sub),
-)
+left-count {plan} {starts} {handset} {later} its = grind (arith, length-map)
 
 -- the write that comes next is the first that is left
 record IsFirst (sub : ℕ) (visits : List Visit) (made : ℕ) (later : List Write) (visit : Visit) : Type 0 where
@@ -89,8 +84,7 @@ step-left {plan} {starts} {old} new {steps} {made} {later} {visit} its next same
       fit = All-head (IsFit plan) first.write first.rest fit;
       left = record {
         stands = stands;
-        left = subst (λ s. drop (suc made) (visits (setting_of plan starts) s steps) ≡ map (visit_of s) first.rest)
-            (sym same) first.left;
+        left = grind (arith, same);
         fit = All-tail (IsFit plan) first.write first.rest fit;
       };
     }
@@ -142,8 +136,7 @@ module _ (marks : MarksUnpack) (entries : EntriesUnpack) (plan : PlanData) (few 
       ≡ with_writes (setting_of plan starts) node line (write ∷ rest)
   told-on starts node sub line visit w p write rest cost same fit =
       let weight : act_weight (setting_of plan []) node visit.act ≡ write_weight (setting_of plan starts) node write =
-      ap (λ (v : Visit). act_weight (setting_of plan []) node v.act) same
-      ∙ weight-act marks entries plan few (setting_of plan []) node sub write fit in
+      grind (arith, same, weight-act, few, write, fit) in
       let purge : act_purges visit.act ≡ is_purge write =
       ap (λ (v : Visit). act_purges v.act) same ∙ purge-act marks entries plan few sub write fit in
       let one : ◌≡◌ {A = ℕ} (cond (act_purges visit.act) 1 0) (cond (is_purge write) 1 0) =
@@ -160,14 +153,7 @@ module _ (marks : MarksUnpack) (entries : EntriesUnpack) (plan : PlanData) (few 
         one,
         sum_by-cons (λ x. cond (is_purge x) 1 0) write rest,
       ) in
-      ap (λ n. record line {
-        written = n;
-        purged = line.purged + p + count_by is_purge rest;
-      }) written
-      ∙ ap (λ n. record line {
-        written = line.written + sum_by (write_weight (setting_of plan starts) node) (write ∷ rest);
-        purged = n;
-      }) purged
+      grind (arith, write)
 
   pub follows-on : (node : ℕ) (old : HandsetData) (first : CostLine) (handset new : HandsetData) (line : CostLine)
       (visit : Visit) (w p : ℕ) → Makes plan handset new visit → IsCost plan node visit w p
@@ -240,8 +226,7 @@ module _ (marks : MarksUnpack) (entries : EntriesUnpack) (plan : PlanData) (few 
   next-fits node handset line visit next room =
       let first : IsFirst handset.sub (visits (setting_of plan room.starts) handset.sub room.steps) room.made room.later
       visit =
-      first-is handset.sub (visits (setting_of plan room.starts) handset.sub room.steps) room.made room.later
-      room.left.left (sym (next room.starts room.steps room.made room.left.stands)) in
+      grind (arith, first-is, next) in
       let count : length room.later ≡ suc (length first.rest) = ap length first.are in
       let weights : length room.later * most_weight ≡ most_weight + length first.rest * most_weight =
       ap (λ n. n * most_weight) count ∙ omega arith in (
@@ -268,15 +253,12 @@ pub finished : {plan : PlanData} {starts : List ℕ} {node : ℕ} {steps : List 
 finished {plan} {starts} {node} {steps} {made} {later} {first} {handset} {line} follows its none =
     let at : IsFollowed plan starts node steps made later first handset line = follows starts steps made later its in
     let over : at.rest ≡ [] =
-    none-left handset.sub (visits (setting_of plan starts) handset.sub steps) at.now at.rest at.left.left
-    (sym (none at.now at.left.stands)) in
+    grind (arith, none-left) in
     let now : at.now ≡ made + length later = omega (arith, at.all, ap length over) in
     let written : line.written ≡ line.written + 0 = omega arith in
     let purged : line.purged ≡ line.purged + 0 = omega arith in
     record {
       stands = subst (StandsForSteps (setting_of plan starts) handset steps) now at.left.stands;
-      told = ap (λ n. record line { written = n }) written
-          ∙ (ap (λ n. record line { written = line.written + 0; purged = n }) purged
-          ∙ (ap (with_writes (setting_of plan starts) node line) (sym over) ∙ at.told));
+      told = grind arith;
       few = omega (arith, at.few);
     }

@@ -55,8 +55,7 @@ script-length input sub {held} valid low reads =
     let known : sub < length input.scripts.items =
     omega (arith, low, valid.scripts, length-map input.scripts.items (λ (s : Vec Call Global). s.items)) in
     let script : held.items ≡ get_or (seen_input input).scripts sub [] =
-    ap (λ (s : Vec Call Global). s.items) reads
-    ∙ sym (get_or-map (λ (s : Vec Call Global). s.items) input.scripts.items sub held [] known) in
+    grind (arith, get_or-map) in
     ap length (steps-are (seen_input input) sub valid low)
     ∙ (length-map (get_or (seen_input input).scripts sub []) step_of ∙ ap length (sym script))
 
@@ -65,8 +64,7 @@ pub closed : {input : Contents} {plan : PlanData} {sub count : ℕ} {handset : H
     → IsCounted input plan sub count handset line → length (steps_of (scripts_of input) sub) ≤ count
     → line ≡ cost_line (setting_of plan input.homes) sub (steps_of (scripts_of input) sub)
 closed {input} {plan} {sub} {count} its all =
-    its.told ∙ ap (cost_line (setting_of plan input.homes) sub)
-    (take_all count (steps_of (scripts_of input) sub) all)
+    grind (arith, take_all)
 
 -- the lines of the first subscribers
 abbrev pub first_lines : Setting → Scripts → ℕ → List CostLine
@@ -80,11 +78,7 @@ pub line-pushed : (setting : Setting) (scripts : Scripts) (sub : ℕ) {before af
     → before ≡ first_lines setting scripts sub → line ≡ cost_line setting sub (steps_of scripts sub)
     → after ≡ before ++ line ∷ [] → after ≡ first_lines setting scripts (sub + 1)
 line-pushed setting scripts sub {line} is told more =
-    let f : ℕ → CostLine = λ s. cost_line setting s (steps_of scripts s) in
-    more
-    ∙ (ap (λ ls. ls ++ line ∷ []) is
-    ∙ (ap (λ l. map f (numbers_from 0 sub) ++ l ∷ []) told
-    ∙ (sym (map-push f (numbers_from 0 sub) sub) ∙ ap (map f) (sym (passing_takes (λ p. true) sub refl)))))
+    grind (arith, map-push, passing_takes)
 
 -- all lines are within the rate
 pub lines-bounded : PlansArePaced → WrittenIsBounded → PurgedIsBounded → LinesAreWithinRate

@@ -70,12 +70,10 @@ levels-gather weight last rest before after none more =
     let low : sum_from after 0 (suc last) ≤ sum_from (λ i. 0) 0 (suc last) =
     sum-le after (λ i. 0) 0 (suc last) (λ i low high. omega (arith, none i (omega arith))) in
     let high : sum_from after (0 + suc last) rest ≤ sum_from (λ i. before i + weight) (0 + suc last) rest =
-    sum-le after (λ i. before i + weight) (0 + suc last) rest
-    (λ i from to. omega (arith, more i (omega arith))) in
-    omega (
+    grind (arith, sum-le) in
+    grind (
       arith,
-      low,
-      high,
+      nat_tests,
       sum-same 0 0 (suc last),
       sum-split after 0 (suc last) rest,
       sum-split (λ i. before i + weight) 0 (suc last) rest,
@@ -135,44 +133,14 @@ module _ (setting : Setting) (width spent : ℕ) (course : Course) (node : ℕ)
 
   -- the highest level gathered half of its radius
   gathers : 2 ^ move.renewed ≤ 2 * (gathered_weight course move.renewed + weight)
-  gathers = elim (highest-passes (λ level. nat_le (setting.threshold level)
-      (gathered_weight course level + weight)) (levels setting)) [
-        | inl passes ↦ omega (
-          arith,
-          paced.gathers move.renewed low,
-          leb-true (setting.threshold move.renewed) (gathered_weight course move.renewed + weight) passes,
-        )
-        | inr none ↦
-            let single : 2 ^ 0 ≡ 1 = omega arith in
-            let power : 2 ^ move.renewed ≡ 2 ^ 0 = ap (λ i. 2 ^ i) none in
-            omega (
-              arith,
-              power,
-              single,
-              paced.apart (last_stop course) node before.inside may.inside (λ same. may.moving (sym same)),
-            )
-      ]
+  gathers = grind (arith, highest-passes, low, leb-true)
 
   -- an old address is erased at a leader that is near
   old-near : (i : ℕ) → i ≤ move.renewed
       → 2 * setting.distance node (setting.leader i (old_home setting course i))
       ≤ 2 * (gathered_weight course i + weight + width * 2 ^ i)
   old-near i below =
-      let within : i ≤ setting.top = omega (arith, below, low) in
-      let old : ℕ = address_node course i in
-      let here : ℕ = last_stop course in
-      let leader : ℕ = setting.leader i (old_home setting course i) in
-      let led : leader < setting.nodes = paced.led i old within (before.placed i) in
-      omega (
-        arith,
-        paced.metric.detour node old leader may.inside (before.placed i) led,
-        paced.metric.both_ways node old may.inside (before.placed i),
-        paced.metric.detour old here node (before.placed i) before.inside may.inside,
-        before.near i,
-        paced.metric.both_ways old leader (before.placed i) led,
-        paced.far i old within (before.placed i),
-        paced.wide i old within (before.placed i),
-      )
+      grind (arith, low)
 
   step-pays : MoveWeighs → step_weight setting course (move_to node)
       ≤ 2 * weight + (16 * width + 2) * sum_from (λ i. gathered_weight course i + weight) 0 (suc move.renewed)
@@ -214,14 +182,8 @@ module _ (setting : Setting) (width spent : ℕ) (course : Course) (node : ℕ)
       (after_step setting course (move_to node))
   move-paid weighs = record {
     inside = subst (λ n. n < setting.nodes) (sym (last_stop-moved setting course node)) may.inside;
-    placed = λ i. subst (λ n. n < setting.nodes) (sym (renews.address i))
-        (placed-at (nat_le i move.renewed) i);
-    near = λ i. subst (λ to. setting.distance (address_node (after_step setting course (move_to node)) i) to
-        ≤ gathered_weight (after_step setting course (move_to node)) i) (sym (last_stop-moved setting course node))
-        (subst (λ n. setting.distance n node ≤ gathered_weight (after_step setting course (move_to node)) i)
-        (sym (renews.address i))
-        (subst (λ w. setting.distance (cond (nat_le i move.renewed) node (address_node course i)) node ≤ w)
-        (sym (renews.gathered i)) (near-at (nat_le i move.renewed) i)));
+    placed = λ i. grind arith;
+    near = λ i. grind (arith, last_stop-moved);
     paid = pays (held setting course) (held setting (after_step setting course (move_to node)))
         (sum_from (λ i. gathered_weight course i + weight) 0 (suc move.renewed)) (16 * width + 2) (levels setting)
         (step_weight setting course (move_to node)) (way course)
@@ -268,12 +230,7 @@ none-paid {setting} {width} node paced inside = record {
   placed = λ i. inside;
   near = λ i. omega (arith, paced.metric.none node inside);
   paid =
-      let none : held setting (course_at node) ≡ levels setting * 0 = sum-same 0 0 (levels setting) in
-      let zeroth : levels setting * 0 ≡ 0 = omega arith in
-      let nothing : (16 * width + 2) * held setting (course_at node) ≡ (16 * width + 2) * 0 =
-      ap (λ n. (16 * width + 2) * n) (none ∙ zeroth) in
-      let zero-times : (16 * width + 2) * 0 ≡ 0 = omega arith in
-      omega (arith, nothing, zero-times);
+      grind (arith, nat_tests, sum-same 0 0 (levels setting));
 }
 
 -- a switch changes nothing of it
@@ -323,8 +280,7 @@ steps-paid : MoveWeighs → RenewsAfter → {setting : Setting} {width : ℕ} (f
     (after_steps setting (course_at first) (done ++ later))
 unfolding MaySteps
 steps-paid weighs renews {setting} {width} first done [] paced may before =
-    subst (λ ss. IsPaid setting width (weight_of_steps setting (course_at first) ss)
-    (after_steps setting (course_at first) ss)) (sym (append-nil done)) before
+    grind (arith, append-nil)
 steps-paid weighs renews {setting} {width} first done (step ∷ later) paced may before =
     let next : after_steps setting (course_at first) (done ++ step ∷ [])
     ≡ after_step setting (after_steps setting (course_at first) done) step =

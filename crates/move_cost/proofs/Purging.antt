@@ -146,9 +146,7 @@ pub purges-more : (setting : Setting) (course : Course) (steps : List Step) (ste
     ≡ count_by is_purge (writes setting course steps)
     + count_by is_purge (step_writes setting (after_steps setting course steps) step)
 purges-more setting course steps step =
-    ap (count_by is_purge) (writes-more setting course steps step)
-    ∙ sum_by-append (λ w. cond (is_purge w) 1 0) (writes setting course steps)
-    (step_writes setting (after_steps setting course steps) step)
+    grind (arith, writes-more, sum_by-append)
 
 step-purged : PurgesAreCounted → BaseAfter → {setting : Setting} {count : ℕ} {course : Course} (step : Step)
     → IsPurged setting count course → IsPurged setting (count + count_by is_purge (step_writes setting course step))
@@ -166,8 +164,7 @@ steps-purged : PurgesAreCounted → BaseAfter → {setting : Setting} (start : C
     → IsPurged setting (count_by is_purge (writes setting start (done ++ later)))
     (after_steps setting start (done ++ later))
 steps-purged counted base_law {setting} start done [] before =
-    subst (λ ss. IsPurged setting (count_by is_purge (writes setting start ss)) (after_steps setting start ss))
-    (sym (append-nil done)) before
+    grind (arith, append-nil)
 steps-purged counted base_law {setting} start done (step ∷ later) before =
     subst (λ ss. IsPurged setting (count_by is_purge (writes setting start ss)) (after_steps setting start ss))
     (append_assoc done (step ∷ []) later)

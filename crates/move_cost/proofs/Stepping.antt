@@ -1,6 +1,6 @@
 -- A subscriber's next step: its writes fit, and the line grows by what it costs.
-use Rattle.std.proofs.Common.{◌≡◌, inl, inr, length-append, ℕ, suc, ◌+◌, ◌*◌, ◌^◌, ◌<◌, ◌≤◌, cond, List, [], ◌∷◌, ◌++◌, length, map, drop, get_or, refl, sym, ap, ◌∙◌, subst, arith, Vec, Global}
-use Rattle.std.specs.Prelude.{◌&&◌, All, None, nat_lt, sum_by}
+use Rattle.std.proofs.Common.{◌≡◌, length-append, ℕ, suc, ◌+◌, ◌*◌, ◌^◌, ◌<◌, ◌≤◌, List, [], ◌∷◌, ◌++◌, length, map, drop, get_or, refl, sym, ap, ◌∙◌, subst, arith, Vec, Global}
+use Rattle.std.specs.Prelude.{All, None, sum_by}
 use Rattle.std.proofs.lemmas.Bool.{lt-ltb}
 use Rattle.std.proofs.lemmas.List.{append-nil, get_or-map, length-map, length_push}
 use Rattle.std.proofs.lemmas.List.Sums.{count_by-le-length, fold-append, sum_by_push}
@@ -15,8 +15,7 @@ use Rattle.distances.specs.Table.{DistanceTable}
 use Rattle.net_reader.specs.declared.input.Input.{Input}
 use Rattle.net_reader.specs.Input.{Contents}
 use Rattle.net_reader.specs.Seen.{seen_input}
-use Rattle.net_reader.specs.Table.{most_calls}
-use Rattle.net_reader.specs.Valid.{IsValid, count_calls}
+use Rattle.net_reader.specs.Valid.{IsValid}
 use Rattle.net_reader.specs.declared.said.Call.{Call}
 use Rattle.net_reader.specs.declared.said.Call.TheVariants as calls
 use Rattle.region_plan.specs.Kept.{IsKept}
@@ -32,7 +31,7 @@ use Rattle.scripts.specs.Laws.{ScriptsAreValid}
 use Rattle.scripts.specs.Scripts.{scripts_of, step_of}
 use Rattle.scripts.specs.ScriptLaws.{IsStep, script-few, steps-are}
 use Rattle.move_cost.specs.declared.line.CostLine.{CostLine}
-use Rattle.move_cost.specs.Costs.{cost_line, is_purge, write_weight}
+use Rattle.move_cost.specs.Costs.{cost_line, is_purge}
 use Rattle.move_cost.specs.Counting.{HasRoom, IsCounted, IsFit, IsLeft, MayBegin, first_steps, most_weight, node_after, with_call, with_writes}
 use Rattle.move_cost.specs.Plans.{GoTogether}
 use Rattle.move_cost.proofs.Fitting.{fit-step}
@@ -52,23 +51,12 @@ line-same : (sub : ℕ) {moves moved written purged other_moves other_moved othe
     (record { sub = sub; moves = moves; moved = moved; written = written; purged = purged })
     (record { sub = sub; moves = other_moves; moved = other_moved; written = other_written; purged = other_purged })
 line-same sub {moves} {moved} {written} {purged} {other_moves} {other_moved} {other_written} a b c d =
-    ap (λ n. record { sub = sub; moves = n; moved = moved; written = written; purged = purged }) a
-    ∙ (ap (λ n. record { sub = sub; moves = other_moves; moved = n; written = written; purged = purged }) b
-    ∙ (ap (λ n. record { sub = sub; moves = other_moves; moved = other_moved; written = n; purged = purged }) c
-    ∙ ap (λ n. record {
-      sub = sub;
-      moves = other_moves;
-      moved = other_moved;
-      written = other_written;
-      purged = n;
-    }) d))
+    grind arith
 
 -- the distances of a plan's setting
 its-distance : (plan : PlanData) (starts : List ℕ) (u v : ℕ) → u < nodes_of plan → v < nodes_of plan
     → (setting_of plan starts).distance u v ≡ distance plan u v
-its-distance plan starts u v h g = ap (λ b. cond (b && nat_lt v (nodes_of plan)) (distance plan u v) 0)
-    (lt-ltb u (nodes_of plan) h)
-    ∙ ap (λ b. cond b (distance plan u v) 0) (lt-ltb v (nodes_of plan) g)
+its-distance plan starts u v h g = grind (arith, lt-ltb)
 
 -- the line of one step more
 module _ (plan : PlanData) (starts : List ℕ) (sub : ℕ) (handset : HandsetData) (steps : List Step) (made : ℕ)
@@ -93,8 +81,7 @@ module _ (plan : PlanData) (starts : List ℕ) (sub : ℕ) (handset : HandsetDat
       fold-append (after_step setting) (course_at (start setting sub)) steps (step ∷ []) in
       line-same sub (sym (ap (λ (c : Course). length c.moves) next ∙ count))
       (sym (ap (λ (c : Course). sum_by (λ (move : Move). move.weight) c.moves) next ∙ way))
-      (ap (λ n. so_far.written + sum_by (write_weight setting n) (step_writes setting course step)) (sym to)
-      ∙ sym (weights-more setting (course_at (start setting sub)) steps step))
+      (grind (arith, weights-more))
       (sym (purges-more setting (course_at (start setting sub)) steps step))
 
   pub call-told : (call : Call) → IsStep call → MayBegin plan handset call
@@ -125,22 +112,7 @@ short-step short starts course switch_on kept = omega arith
 few-steps : {input : Contents} (sub : ℕ) → IsValid input → sub < length input.homes
     → length (steps_of (scripts_of input) sub) ≤ 16384
 few-steps {input} sub valid low =
-    let are : length (steps_of (scripts_of input) sub) ≡ length (get_or input.scripts sub []) =
-    ap length (steps-are input sub valid low) ∙ length-map (get_or input.scripts sub []) step_of in
-    elim valid.format as (λ _. length (steps_of (scripts_of input) sub) ≤ 16384) [
-      | inl one ↦ omega (
-        arith,
-        are,
-        script-few input.scripts sub,
-        subst (λ f. count_calls input.scripts ≤ most_calls f) one valid.few_calls,
-      )
-      | inr two ↦ omega (
-        arith,
-        are,
-        script-few input.scripts sub,
-        subst (λ f. count_calls input.scripts ≤ most_calls f) two valid.few_calls,
-      )
-    ]
+    grind (arith, steps-are, length-map, script-few)
 
 -- what a call adds to a line is small
 call-small : (plan : PlanData) (handset : HandsetData) (line : CostLine) (call : Call)

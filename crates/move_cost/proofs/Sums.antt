@@ -1,4 +1,5 @@
 -- Sums over numbers from one on.
+use Rattle.std.proofs.lemmas.Bool.Decides.{nat_tests}
 use Rattle.std.proofs.Common.{◌≡◌, ℕ, zero, suc, ◌+◌, ◌*◌, ◌^◌, ◌<◌, ◌≤◌, Bool, true, false, cond, List, [], ◌∷◌, map, refl, sym, ap, ◌∙◌, arith}
 use Rattle.std.specs.Prelude.{sum_by}
 use Rattle.std.proofs.Math.Nat.{mul-add}
@@ -13,11 +14,8 @@ sum_from f first (suc k) = f first + sum_from f (suc first) k
 pub sum-le : (f h : ℕ → ℕ) (first k : ℕ) → ((i : ℕ) → first ≤ i → i < first + k → f i ≤ h i)
     → sum_from f first k ≤ sum_from h first k
 sum-le f h first zero le = omega arith
-sum-le f h first (suc k) le = omega (
-  arith,
-  le first (omega arith) (omega arith),
-  sum-le f h (suc first) k (λ i low high. le i (omega arith) (omega arith)),
-)
+sum-le f h first (suc k) le =
+    grind (arith, nat_tests, sum-le f h (suc first) k (λ i low high. le i (omega arith) (omega arith)))
 
 pub sum-add : (f h : ℕ → ℕ) (first k : ℕ)
     → sum_from (λ i. f i + h i) first k ≡ sum_from f first k + sum_from h first k
@@ -36,9 +34,7 @@ sum-same w first (suc k) = let e : suc k * w ≡ w + k * w = omega arith in omeg
 pub sum-split : (f : ℕ → ℕ) (first j k : ℕ)
     → sum_from f first (j + k) ≡ sum_from f first j + sum_from f (first + j) k
 sum-split f first zero k =
-    let e : 0 + k ≡ k = omega arith in
-    let g : first + 0 ≡ first = omega arith in
-    rw (e, g) (omega arith)
+    grind arith
 sum-split f first (suc j) k =
     let e : suc j + k ≡ suc (j + k) = omega arith in
     let g : first + suc j ≡ suc first + j = omega arith in
@@ -48,9 +44,7 @@ sum-split f first (suc j) k =
 pub sum-powers : (first k : ℕ) → sum_from (λ i. 2 ^ i) first k + 2 ^ first ≡ 2 ^ (first + k)
 sum-powers first zero = let e : first + 0 ≡ first = omega arith in rw e (omega arith)
 sum-powers first (suc k) =
-    let e : first + suc k ≡ suc first + k = omega arith in
-    let double : 2 ^ suc first ≡ 2 * 2 ^ first = omega arith in
-    rw e (omega (arith, sum-powers (suc first) k, double))
+    grind (arith, nat_tests, sum-powers (suc first) k)
 
 -- what passes a test sums to no more than all
 pub sum-sift : (f : ℕ → ℕ) (test : ℕ → Bool) (first k : ℕ)

@@ -1,4 +1,4 @@
-use Rattle.std.proofs.Common.{◌∙◌, ap, arith, length, sym}
+use Rattle.std.proofs.Common.{ap, arith, length}
 use Rattle.std.proofs.lemmas.List.{get_or_default}
 use Rattle.net_reader.specs.Seen.{seen_input}
 use Rattle.move_cost.proofs.Opening.{closed, opened, script-length}
@@ -7,9 +7,7 @@ use Rattle.move_cost.proofs.counting.cost_of.Goals as goal
 pub calls-init : goal.calls-init
 calls-init c =
     opened (seen_input c.args.input.now) c.args.sub c.index-2.result.now c.in_ok-handset.ensures.exact
-    c.in_ok-handset.ensures.goes (c.in_ok-handset.ensures.stands c.args.input.now.homes.items
-    (get_or_default c.args.input.now.homes.items c.args.sub 0 c.index-2.result.now c.requires.known
-    ∙ sym c.index-2.ensures))
+    c.in_ok-handset.ensures.goes (grind (arith, get_or_default))
 
 pub count_step-requires-clause-short : goal.count_step-requires-clause-short
 count_step-requires-clause-short c = omega (
@@ -21,9 +19,4 @@ count_step-requires-clause-short c = omega (
 
 pub returns : goal.returns
 returns c =
-    closed c.calls.invariant (omega (
-      arith,
-      c.calls-test.false,
-      ap length c.as_slice-script.ensures.value,
-      script-length c.args.input.now c.args.sub c.requires.together.valid c.requires.known c.index.ensures,
-    ))
+    closed c.calls.invariant (grind (arith, script-length))

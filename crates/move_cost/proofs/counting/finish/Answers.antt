@@ -1,5 +1,4 @@
-use Rattle.std.proofs.Common.{◌≡◌, [], Bool, true, false, cond, ap, refl, ◌∙◌, arith, sym}
-use Rattle.region_plan.specs.Settings.{setting_of}
+use Rattle.std.proofs.Common.{◌≡◌, Bool, true, false, cond, ap, refl, ◌∙◌, arith, sym}
 use Rattle.move_cost.proofs.Following.{IsCost, Makes, finished, follows-on, left-falls, next-fits, room-on}
 use Rattle.move_cost.proofs.counting.finish.Goals as goal
 use Rattle.move_cost.proofs.counting.finish.Goals.{After-made}
@@ -12,8 +11,7 @@ bool-is false = refl
 makes : (c : After-made) → Makes c.args.plan.now c.writes.handset c.made.new.self c.in-Some.visit
 makes c = record {
   next = λ starts steps made stands. sym c.in-Some.is ∙ c.next.ensures.stands starts steps made stands;
-  same = ap (λ h. h.sub) c.made.ensures.exact
-      ∙ write-sub (setting_of c.args.plan.now []) c.writes.handset c.writes.handset.stage;
+  same = grind (arith, write-sub);
   stands = c.made.ensures.stands;
 }
 

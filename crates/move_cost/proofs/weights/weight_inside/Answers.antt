@@ -1,6 +1,4 @@
-use Rattle.std.proofs.Common.{◌∙◌, ap, arith, length, sym}
-use Rattle.std.specs.Prelude.{slice_index}
-use Rattle.region_plan.specs.Plan.{inside}
+use Rattle.std.proofs.Common.{ap, arith, length}
 use Rattle.move_cost.proofs.Readers.{few-read, search-ends, search-finds}
 use Rattle.move_cost.proofs.weights.weight_inside.Goals as goal
 
@@ -24,6 +22,4 @@ returns c =
     let found = search-finds c.args.plan.now c.args.level c.args.cluster c.args.node c.plan_is_sound.ensures.matched
     c.requires.level c.requires.node c.readers.result.now c.in-Ok.place c.readers.ensures c.requires.cluster
     c.requires.member c.in-Ok.ensures.position in
-    c.reader_weight.ensures
-    ∙ ap (λ k. inside c.args.plan.now c.args.level k c.args.node)
-    (ap (λ xs. slice_index xs c.in-Ok.place) (sym c.readers.ensures) ∙ found)
+    grind arith
