@@ -76,26 +76,18 @@ calls-step scripts done actor {script} below is grown so_far =
 first : (actor : ℕ) (script : List Call) (scripts : List (List Call))
     → script_of actor (said_from actor (script ∷ scripts)) ≡ script
 first actor script scripts =
-    ap (script_of actor) (said-cons actor script scripts)
-    ∙ script-append actor (said_by actor script) (said_from (actor + 1) scripts)
-    ∙ ap (λ l. l ++ script_of actor (said_from (actor + 1) scripts)) (own actor script)
-    ∙ ap (λ l. script ++ l) (none-below actor (actor + 1) scripts (omega arith))
-    ∙ append-nil script
+    grind (arith, said-cons, script-append, own, none-below, append-nil)
 
 later : (a actor : ℕ) (script : List Call) (scripts : List (List Call)) → actor < a
     → script_of a (said_from actor (script ∷ scripts)) ≡ script_of a (said_from (actor + 1) scripts)
 later a actor script scripts above =
-    let differs : eqb actor a ≡ false = grind (arith, nat_tests) in
-    ap (script_of a) (said-cons actor script scripts)
-    ∙ script-append a (said_by actor script) (said_from (actor + 1) scripts)
-    ∙ ap (λ l. l ++ script_of a (said_from (actor + 1) scripts)) (other a actor script differs)
+    grind (arith, said-cons, script-append, other)
 
 maps-same : (f g : ℕ → List Call) (from n : ℕ) → ((a : ℕ) → from ≤ a → f a ≡ g a)
     → map f (numbers_from from n) ≡ map g (numbers_from from n)
 maps-same f g from zero h = refl
 maps-same f g from (suc n) h =
-    ap (λ s. s ∷ map f (numbers_from (from + 1) n)) (h from (omega arith))
-    ∙ ap (λ l. g from ∷ l) (maps-same f g (from + 1) n (λ a above. h a (omega arith)))
+    grind (arith, nat_tests, maps-same f g (from + 1) n (λ a above. h a (omega arith)))
 
 -- the scripts of the listed calls
 back : (actor : ℕ) (scripts : List (List Call))

@@ -1,5 +1,5 @@
 -- What the lines of calls make of what was said before them.
-use Rattle.std.proofs.Common.{◌≡◌, ◌≢◌, inl, inr, ℕ, ◌+◌, ◌<◌, ◌≤◌, Bool, true, false, cond, eqb, leb, ltb, List, [], ◌∷◌, ◌++◌, map, length, length-append, All, get_or, Ok, codes, refl, sym, ap, subst, ◌∙◌, append-nil, append_assoc, arith}
+use Rattle.std.proofs.Common.{◌≡◌, ◌≢◌, inl, inr, ℕ, ◌+◌, ◌<◌, ◌≤◌, Bool, true, false, cond, eqb, List, [], ◌∷◌, ◌++◌, map, length, length-append, All, Ok, codes, refl, sym, ap, subst, ◌∙◌, append-nil, append_assoc, arith}
 use Rattle.std.proofs.lemmas.Bool.{cases_lt}
 use Rattle.std.proofs.lemmas.Bool.Decides.{nat_tests}
 use Rattle.std.proofs.lemmas.List.Elements.{All-head, All-tail}
@@ -53,8 +53,7 @@ own-go false call script e = cc
 
 own-first : (d : Spoken) (rest : List Spoken) → script_of d.actor (d ∷ rest) ≡ d.call ∷ script_of d.actor rest
 own-first d rest =
-    let mine : eqb d.actor d.actor ≡ true = grind (arith, nat_tests) in
-    script-cons d.actor d rest ∙ own-go (eqb d.actor d.actor) d.call (script_of d.actor rest) mine
+    grind (arith, script-cons, own-go)
 
 -- ---- what is still to be said
 
@@ -77,16 +76,12 @@ heard said d = record said { place = 7; calls = said.calls ++ d ∷ [] }
 place-heard : (said : Said) (d : Spoken) (s : ℕ)
     → place_of (heard said d) s ≡ place_after (place_of said s) (cond (eqb d.actor s) (d.call ∷ []) [])
 place-heard said d s =
-    ap (place_after (get_or said.homes s 0)) (script-append s said.calls (d ∷ [])
-    ∙ ap (λ l. script_of s said.calls ++ l) (script-cons s d [] ∙ append-nil (cond (eqb d.actor s) (d.call ∷ []) [])))
-    ∙ place-append (get_or said.homes s 0) (script_of s said.calls) (cond (eqb d.actor s) (d.call ∷ []) [])
+    grind (arith, script-append, script-cons, append-nil, place-append)
 
 off-heard : (said : Said) (d : Spoken) (s : ℕ)
     → is_off (heard said d) s ≡ off_after (is_off said s) (cond (eqb d.actor s) (d.call ∷ []) [])
 off-heard said d s =
-    ap (off_after false) (script-append s said.calls (d ∷ [])
-    ∙ ap (λ l. script_of s said.calls ++ l) (script-cons s d [] ∙ append-nil (cond (eqb d.actor s) (d.call ∷ []) [])))
-    ∙ off-append false (script_of s said.calls) (cond (eqb d.actor s) (d.call ∷ []) [])
+    grind (arith, script-append, script-cons, append-nil, off-append)
 
 next-are : {said : Said} {d : Spoken} {left : List Spoken} → AreNext said (d ∷ left) → AreNext (heard said d) left
 next-are {said} {d} {left} are = record {
@@ -94,13 +89,7 @@ next-are {said} {d} {left} are = record {
   subs = are.subs;
   callers = are.callers;
   courses = λ s below.
-      subst (λ p. IsCourse said.format said.nodes p (is_off (heard said d) s) (script_of s left)) (sym (place-heard said
-      d s))
-      (subst (λ off. IsCourse said.format said.nodes (place_after (place_of said s) (cond (eqb d.actor s) (d.call ∷ [])
-      [])) off (script_of s left)) (sym (off-heard said d s))
-      (course-past said.format said.nodes (place_of said s) (is_off said s) (eqb d.actor s) d.call (script_of s left)
-      (subst (IsCourse said.format said.nodes (place_of said s) (is_off said s)) (script-cons s d left) (are.courses s
-      below))));
+      grind (arith, place-heard, off-heard, course-past, script-cons);
   searches = λ a above below.
       search-past said.nodes (length said.homes) (eqb d.actor a) d.call (script_of a left)
       (subst (All (IsSearch said.nodes (length said.homes))) (script-cons a d left) (are.searches a above below));
@@ -130,41 +119,26 @@ move-good : (said : Said) (actor to : ℕ) → HasRoom said → actor < length s
     → is_off said actor ≡ false → to ≢ place_of said actor
     → verdict (move_row said (actor ∷ to ∷ [])) ≡ Ok (heard said (record { actor = actor; call = calls.Move to }))
 move-good said actor to room below inside here moves =
-    let a : leb (most_calls said.format) (length said.calls) ≡ false = grind (arith, nat_tests) in
-    let b : leb (length said.homes) actor ≡ false = grind (arith, nat_tests) in
-    let c : leb said.nodes to ≡ false = grind (arith, nat_tests) in
-    let e : eqb (place_of said actor) to ≡ false = grind (arith, nat_tests) in
-    rw (a, b, c, here, e) refl
+    grind arith
 
 find-good : (said : Said) (actor from sub : ℕ) → HasRoom said → length said.homes ≤ actor → actor < actors said
     → from < said.nodes → sub < length said.homes
     → verdict (find_row said (actor ∷ from ∷ sub ∷ []))
     ≡ Ok (heard said (record { actor = actor; call = calls.Find from sub }))
 find-good said actor from sub room above below inside there =
-    let a : leb (most_calls said.format) (length said.calls) ≡ false = grind (arith, nat_tests) in
-    let b : ltb actor (length said.homes) ≡ false = grind (arith, nat_tests) in
-    let c : leb (actors said) actor ≡ false = grind (arith, nat_tests) in
-    let d : leb said.nodes from ≡ false = grind (arith, nat_tests) in
-    let e : leb (length said.homes) sub ≡ false = grind (arith, nat_tests) in
-    rw (a, b, c, d, e) refl
+    grind (arith, actors)
 
 off-good : (said : Said) (actor : ℕ) → HasRoom said → actor < length said.homes → said.format ≡ 2
     → is_off said actor ≡ false
     → verdict (off_row said (actor ∷ [])) ≡ Ok (heard said (record { actor = actor; call = calls.Off }))
 off-good said actor room below switches here =
-    let a : leb (most_calls said.format) (length said.calls) ≡ false = grind (arith, nat_tests) in
-    let b : leb (length said.homes) actor ≡ false = grind (arith, nat_tests) in
-    let c : eqb said.format 2 ≡ true = grind (arith, nat_tests) in
-    rw (c, here, b) (let d : leb 16384 (length said.calls) ≡ false = rw c at a in rw d refl)
+    grind arith
 
 on-good : (said : Said) (actor : ℕ) → HasRoom said → actor < length said.homes → said.format ≡ 2
     → is_off said actor ≡ true
     → verdict (on_row said (actor ∷ [])) ≡ Ok (heard said (record { actor = actor; call = calls.On }))
 on-good said actor room below switches here =
-    let a : leb (most_calls said.format) (length said.calls) ≡ false = grind (arith, nat_tests) in
-    let b : leb (length said.homes) actor ≡ false = grind (arith, nat_tests) in
-    let c : eqb said.format 2 ≡ true = grind (arith, nat_tests) in
-    rw (c, here, b) (let d : leb 16384 (length said.calls) ≡ false = rw c at a in rw d refl)
+    grind arith
 
 -- the line of a subscriber's call, and of a caller's
 course-line : (said : Said) (actor : ℕ) (call : Call) (script : List Call) → may_stand said.place 7 ≡ true
@@ -217,8 +191,7 @@ pub calls-lead : {said : Said} (listed : List ActorCall) → may_stand said.plac
     → AreNext said (map spoken_of listed) → Leads said (concat (map call_line listed))
     (record said { place = behind said.place 7 listed; calls = said.calls ++ map spoken_of listed })
 calls-lead {said} [] stands are =
-    subst (λ (cs : List Spoken). Leads said [] (record said { calls = cs })) (sym (append-nil said.calls)) (leads-none
-    said)
+    subst (λ (cs : List Spoken). Leads said [] (record said { calls = cs })) (sym (append-nil said.calls)) (grind (arith, nat_tests, leads-none said))
 calls-lead {said} (d ∷ listed) stands are =
     let next : Said = heard said (spoken_of d) in
     let all : List Spoken = map spoken_of listed in

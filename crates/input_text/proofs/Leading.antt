@@ -1,5 +1,5 @@
 -- What lines of one kind make of what was said before them.
-use Rattle.std.proofs.Common.{◌≡◌, ◌⊎◌, inl, inr, ℕ, ◌+◌, ◌<◌, ◌≤◌, Bool, true, false, eqb, leb, ltb, ◌&&◌, ◌||◌, List, [], ◌∷◌, ◌++◌, map, length, length-append, All, Option, Ok, codes, refl, sym, ap, subst, ◌∙◌, append-nil, append_assoc, arith}
+use Rattle.std.proofs.Common.{◌≡◌, ◌⊎◌, inl, inr, ℕ, ◌+◌, ◌<◌, ◌≤◌, Bool, true, false, leb, ltb, ◌&&◌, ◌||◌, List, [], ◌∷◌, ◌++◌, map, length, length-append, All, Option, Ok, codes, refl, sym, ap, subst, ◌∙◌, append-nil, append_assoc, arith}
 use Rattle.std.proofs.lemmas.Bool.Decides.{nat_tests}
 use Rattle.std.proofs.lemmas.List.Elements.{All-cons, All-head, All-nil, All-tail}
 use Rattle.std.specs.List.{concat, list_any}
@@ -92,8 +92,7 @@ small-three {a} {b} {c} h i j = All-cons IsSmall a (b ∷ c ∷ []) h (small-two
 pub small-all : (n : ℕ) (numbers : List ℕ) → n ≤ 10000000 → All (λ a. a < n) numbers → All IsSmall numbers
 small-all n [] few h = All-nil IsSmall
 small-all n (a ∷ numbers) few h =
-    let here : a < n = All-head (λ a. a < n) a numbers h in
-    All-cons IsSmall a numbers (omega arith) (small-all n numbers few (All-tail (λ a. a < n) a numbers h))
+    grind (arith, All-head, All-cons, IsSmall, few, All-tail)
 
 -- ---- several lines of one place
 
@@ -116,9 +115,7 @@ track-good (inr e) = rw e refl
 pub nodes-good : (said : Said) (n : ℕ) → 1 ≤ n → n ≤ most_nodes said.format
     → verdict (nodes_row said (n ∷ [])) ≡ Ok (record said { place = 2; nodes = n })
 nodes-good said n some few =
-    let a : eqb n 0 ≡ false = grind (arith, nat_tests) in
-    let b : ltb (most_nodes said.format) n ≡ false = grind (arith, nat_tests) in
-    rw (a, b) refl
+    grind arith
 
 wide-go : (a b c : Bool) → (b ≡ true → c ≡ true → ⊥) → a ≡ false → (a || (b && c)) ≡ false
 wide-go true b c h e = e
@@ -129,13 +126,7 @@ wide-go false false c h e = refl
 pub k-good : (said : Said) (k : ℕ) → 1 ≤ k → k ≤ 8 → (256 < said.nodes → 2 ≤ k)
     → verdict (k_row said (k ∷ [])) ≡ Ok (record said { place = 3; k = k })
 k-good said k some few wide =
-    let a : eqb k 0 ≡ false = grind (arith, nat_tests) in
-    let b : ltb 8 k ≡ false = grind (arith, nat_tests) in
-    let one : eqb k 1 ≡ true → k ≡ 1 = λ e. grind (arith, nat_tests) in
-    let many : ltb 256 said.nodes ≡ true → 256 < said.nodes = λ e. grind (arith, nat_tests) in
-    let large : (ltb 8 k || (eqb k 1 && ltb 256 said.nodes)) ≡ false =
-    wide-go (ltb 8 k) (eqb k 1) (ltb 256 said.nodes) (λ e f. omega (arith, one e, wide (many f))) b in
-    rw (a, large) refl
+    grind (arith, wide-go)
 
 pub callers-good : (said : Said) (callers : ℕ) → callers ≤ 64
     → verdict (callers_row said (callers ∷ [])) ≡ Ok (record said { place = 6; callers = callers })
@@ -148,12 +139,7 @@ edge-good : (said : Said) {edge : Edge} → IsEdge said.nodes edge → length sa
     → verdict (edge_row said (edge.a ∷ edge.b ∷ edge.weight ∷ []))
     ≡ Ok (record said { place = 4; edges = said.edges ++ edge ∷ [] })
 edge-good said {edge} is few =
-    let a : leb said.nodes edge.a ≡ false = grind (arith, nat_tests, is.a_below) in
-    let b : leb said.nodes edge.b ≡ false = grind (arith, nat_tests, is.b_below) in
-    let c : eqb edge.weight 0 ≡ false = grind (arith, nat_tests, is.positive) in
-    let d : ltb 1048576 edge.weight ≡ false = grind (arith, nat_tests, is.light) in
-    let e : leb 32768 (length said.edges) ≡ false = grind (arith, nat_tests) in
-    rw (a, b, c, d, e) refl
+    grind arith
 
 pub edges-lead : (said : Said) (edges : List Edge) → may_stand said.place 4 ≡ true → said.nodes ≤ 1024
     → All (IsEdge said.nodes) edges → length said.edges + length edges ≤ 32768
@@ -187,9 +173,7 @@ edges-lead said (edge ∷ edges) stands nodes are few =
 home-good : (said : Said) (home : ℕ) → home < said.nodes → length said.homes < 64
     → verdict (sub_row said (home ∷ [])) ≡ Ok (record said { place = 5; homes = said.homes ++ home ∷ [] })
 home-good said home below few =
-    let a : leb said.nodes home ≡ false = grind (arith, nat_tests) in
-    let b : leb 64 (length said.homes) ≡ false = grind (arith, nat_tests) in
-    rw (a, b) refl
+    grind arith
 
 pub homes-lead : (said : Said) (homes : List ℕ) → may_stand said.place 5 ≡ true → said.nodes ≤ 1024
     → All (λ home. home < said.nodes) homes → length said.homes + length homes ≤ 64
@@ -233,9 +217,7 @@ none-past n (a ∷ numbers) h =
 order-good : (said : Said) {piece : List ℕ} → IsPiece (actors said) piece
     → verdict (order_row said piece) ≡ Ok (record said { place = 8; order = said.order ++ piece })
 order-good said {piece} is =
-    let a : eqb (length piece) 0 ≡ false = grind (arith, nat_tests, is.some) in
-    let b : ltb 64 (length piece) ≡ false = grind (arith, nat_tests, is.few) in
-    rw (a, b, none-past (actors said) piece is.below) refl
+    grind (arith, nat_tests, none-past (actors said) piece is.below, is.some, is.few, is.below)
 
 pub orders-lead : (said : Said) (pieces : List (List ℕ)) → may_stand said.place 8 ≡ true → actors said ≤ 128
     → All (IsPiece (actors said)) pieces

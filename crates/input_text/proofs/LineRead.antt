@@ -50,10 +50,7 @@ lines-cut so_far (b ∷ line) rest e =
 no-return : (line : List ℕ) → list_all is_inside line ≡ true → without_return line ≡ line
 no-return [] e = refl
 no-return (b ∷ []) e =
-    let both = and_parts (is_inside b) true e in
-    let here : leb 32 b ≡ true = both.0 in
-    let other : eqb b 13 ≡ false = grind (arith, nat_tests) in
-    rw other refl
+    grind (arith, and_parts)
 no-return (b ∷ c ∷ line) e =
     let both = and_parts (is_inside b) (list_all is_inside (c ∷ line)) e in
     ap (λ l. b ∷ l) (no-return (c ∷ line) both.1)
@@ -89,8 +86,7 @@ IsSmall n = n < 10000000
 digits-all : (ds : List ℕ) → AllDigits 10 ds → list_all (λ b. is_ascii_digit b) ds ≡ true
 digits-all [] h = refl
 digits-all (d ∷ ds) h =
-    let digit : IsInRange 48 57 d = digit_at (d ∷ ds) 0 h (omega arith) in
-    and_from (is_ascii_digit d) (list_all (λ b. is_ascii_digit b) ds) (grind (arith, nat_tests)) (digits-all ds h.1)
+    grind (arith, nat_tests, digit_at (d ∷ ds) 0 h (omega arith), digits-all ds h.1, h.1)
 
 digits-dense : (ds : List ℕ) → AllDigits 10 ds → list_all is_dense ds ≡ true
 digits-dense [] h = refl
@@ -118,16 +114,13 @@ written {n} small =
     let short : length (decimal n) ≤ 7 = length-decimal-le 7 n (omega arith) small (omega arith) in record {
       some = some;
       dense = digits-dense (decimal n) numeral.0.1;
-      reads = number-go (leb 1 (length (decimal n))) (leb (length (decimal n)) 18)
-          (list_all (λ b. is_ascii_digit b) (decimal n)) (grind (arith, nat_tests)) (grind (arith, nat_tests))
-          (digits-all (decimal n) numeral.0.1) numeral.1;
+      reads = grind (arith, number-go, digits-all);
     }
 
 -- the fields of a word and numbers behind it
 word-fields : (word : List ℕ) (numbers : List ℕ) → list_all is_dense word ≡ true → All IsSmall numbers
     → fields_from [] (word ++ fields numbers) ≡ piece word ++ map decimal numbers
-word-fields word [] dense small = ap (fields_from []) (append-nil word) ∙ fields-end [] word dense
-    ∙ sym (append-nil (piece word))
+word-fields word [] dense small = grind (arith, append-nil, fields-end, dense)
 word-fields word (n ∷ numbers) dense small =
     let here = written (All-head IsSmall n numbers small) in
     fields-cut [] word (decimal n ++ fields numbers) dense

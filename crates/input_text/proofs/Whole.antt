@@ -1,5 +1,6 @@
 -- The text of a listing reads as the listed input.
-use Rattle.std.proofs.Common.{◌≡◌, ◌⊎◌, ℕ, zero, suc, ◌+◌, ◌<◌, ◌≤◌, Bool, true, false, cond, eqb, ltb, List, [], ◌∷◌, ◌++◌, map, length, take, drop, All, get_or, Result, Ok, codes, refl, sym, ap, subst, ◌∙◌, append-nil, arith, length-drop, length-take}
+use Rattle.std.proofs.lemmas.Bool.Decides.{nat_tests}
+use Rattle.std.proofs.Common.{◌≡◌, ◌⊎◌, ℕ, zero, suc, ◌+◌, ◌<◌, ◌≤◌, Bool, true, false, cond, eqb, ltb, List, [], ◌∷◌, ◌++◌, map, length, take, drop, All, Result, Ok, codes, refl, sym, ap, subst, ◌∙◌, append-nil, arith, length-drop, length-take}
 use Rattle.std.proofs.lemmas.List.{take-append-drop, length-map}
 use Rattle.std.proofs.lemmas.List.Elements.{All-cons, All-head, All-nil, All-tail}
 use Rattle.std.specs.List.{concat}
@@ -11,7 +12,6 @@ use Rattle.net_reader.specs.Input.{IsAnswer, IsInput, read, read_from}
 use Rattle.net_reader.specs.TextLines.{lines_of}
 use Rattle.net_reader.specs.Said.{Said, nothing, script_of}
 use Rattle.net_reader.specs.Table.{may_stand}
-use Rattle.net_reader.specs.Valid.{IsCourse, IsSearch}
 use Rattle.text_line.specs.OrderLines.{order_lines, pieces_within, pieces}
 use Rattle.input_text.specs.declared.listing.ActorCall.{ActorCall}
 use Rattle.input_text.specs.Listing.{ListingValue, actor_lines, call_line, call_lines, contents_in, edge_line, home_line, line_of, lines_from_k, lines_from_nodes, listing_text, network_lines, spoken_of}
@@ -119,11 +119,9 @@ listed-next {l} is =
       subs = valid.few_homes;
       callers = valid.callers;
       courses = λ s below.
-          subst (λ (cs : List Call). IsCourse l.format l.nodes (get_or l.homes s 0) false cs)
-          (script-at script count s (omega (arith, below))) (valid.courses s below);
+          grind (arith, script-at);
       searches = λ a above below.
-          subst (λ (cs : List Call). All (IsSearch l.nodes (length l.homes)) cs) (script-at script count a below)
-          (valid.searches a above (omega (arith, below, scripts)));
+          grind (arith, nat_tests, script-at script count a below, l.nodes, l.homes, valid.searches);
       actors = spoken-actors count l.calls is.actors;
       few = omega (arith, is.few, length-map l.calls spoken_of);
     }

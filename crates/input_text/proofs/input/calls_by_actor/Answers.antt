@@ -1,4 +1,4 @@
-use Rattle.std.proofs.Common.{◌≡◌, ◌<◌, [], get_or, length, map, List, Vec, sym, ap, ◌∙◌, arith}
+use Rattle.std.proofs.Common.{◌≡◌, ◌<◌, [], get_or, length, map, List, Vec, arith}
 use Rattle.std.proofs.lemmas.List.{length-map, get_or-map}
 use Rattle.std.specs.Global.{Global}
 use Rattle.net_reader.specs.declared.said.Call.{Call}
@@ -12,9 +12,7 @@ loop-script-preserved c =
     let items : Vec Call Global → List Call = λ s. s.items in
     let below : actor < length scripts = omega arith in
     let found : get_or (map items scripts) actor [] ≡ c.deref.result.now =
-    get_or-map items scripts actor c.script-item.result [] below
-    ∙ ap items (ap (λ i. get_or scripts i c.script-item.result) c.loop-script.invariant.at ∙ sym c.script-item.is)
-    ∙ sym c.deref.ensures.value in
+    grind (arith, get_or-map) in
     record {
       at = omega arith;
       calls = calls-step (map items scripts) c.loop-script.calls.items actor

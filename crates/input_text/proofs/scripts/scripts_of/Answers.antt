@@ -23,14 +23,9 @@ loop-call-preserved c =
     elim c.if-actor-len.branch [
       | then-actor-len+in_ok-push w ↦
           rw w.scripts-is (call-taken (λ script. script.items) made w.index_mut.result.now w.push.new.self n
-          (map spoken_of (take i calls)) (spoken_of call) c.loop-call.invariant (omega (
-            arith,
-            w.if-actor-len.true,
-            c.len.ensures,
-          ))
+          (map spoken_of (take i calls)) (spoken_of call) c.loop-call.invariant (grind arith)
           w.index_mut.ensures.value
           w.in_ok-push.ensures.items ∙ more)
       | else-actor-len w ↦
-          rw w.scripts-is (call-left_out (λ script. script.items) made n (map spoken_of (take i calls)) (spoken_of call)
-          c.loop-call.invariant (omega (arith, w.if-actor-len.false, c.len.ensures)) ∙ more)
+          rw w.scripts-is (grind (arith, call-left_out))
     ]
