@@ -191,7 +191,8 @@ pub calls-lead : {said : Said} (listed : List ActorCall) → may_stand said.plac
     → AreNext said (map spoken_of listed) → Leads said (concat (map call_line listed))
     (record said { place = behind said.place 7 listed; calls = said.calls ++ map spoken_of listed })
 calls-lead {said} [] stands are =
-    subst (λ (cs : List Spoken). Leads said [] (record said { calls = cs })) (sym (append-nil said.calls)) (grind (arith, nat_tests, leads-none said))
+    subst (λ (cs : List Spoken). Leads said [] (record said { calls = cs })) (sym (append-nil said.calls))
+    (grind (arith, nat_tests, leads-none said))
 calls-lead {said} (d ∷ listed) stands are =
     let next : Said = heard said (spoken_of d) in
     let all : List Spoken = map spoken_of listed in
