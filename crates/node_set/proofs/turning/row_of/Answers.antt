@@ -1,14 +1,9 @@
-use Rattle.std.proofs.Common.{arith}
-use Rattle.std.proofs.Common.{◌≡◌, List, ℕ}
+use Rattle.std.proofs.Common.{◌≡◌, arith}
 use Rattle.node_set.specs.Balls.{ball, sets}
 use Rattle.node_set.specs.BallLaws.{ball_at}
-use Rattle.node_set.specs.Nodes.{Nodes}
 use Rattle.node_set.specs.SetLaws.{passing_inserts, passing_skips}
 use Rattle.node_set.proofs.turning.row_of.Goals as goal
 use Rattle.node_set.proofs.turning.row_of.Goals.{then-has, else-has}
-
-abbrev with_members : ℕ → List ℕ → Nodes
-with_members room members = record { room = room; members = members }
 
 pub loop-u-preserved : goal.loop-u-preserved
 loop-u-preserved c =
