@@ -1,6 +1,5 @@
 -- A step of a move: which visit is made.
-use Rattle.std.proofs.Common.{arith}
-use Rattle.std.proofs.Common.{◌≡◌, ℕ, ◌≤◌, true, [], refl, subst, ap, ◌∙◌, Option}
+use Rattle.std.proofs.Common.{◌≡◌, ℕ, ◌≤◌, true, [], refl, subst, ap, ◌∙◌, Option, arith}
 use Rattle.std.specs.Prelude.{IfSome, Some, None}
 use Rattle.std.specs.Option.{is_some}
 use Rattle.entry_word.specs.declared.visit.Visit.{Visit}

@@ -1,5 +1,4 @@
-use Rattle.std.proofs.Common.{arith}
-use Rattle.std.proofs.Common.{◌∙◌, ◌≡◌, length, List, ℕ, ap}
+use Rattle.std.proofs.Common.{◌∙◌, ◌≡◌, length, List, ℕ, ap, arith}
 use Rattle.node_set.specs.SetLaws.{below-has}
 use Rattle.cluster_tree.proofs.Growing.{err_passed, is_fault, is_tree, members_are}
 use Rattle.cluster_tree.proofs.inside.push_found.Goals as goal

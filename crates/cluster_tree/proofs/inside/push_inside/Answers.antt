@@ -1,5 +1,4 @@
-use Rattle.std.proofs.Common.{arith}
-use Rattle.std.proofs.Common.{refl}
+use Rattle.std.proofs.Common.{arith, refl}
 use Rattle.cluster_tree.proofs.Joining.{members_below, distances_inside}
 use Rattle.cluster_tree.proofs.inside.push_inside.Goals as goal
 

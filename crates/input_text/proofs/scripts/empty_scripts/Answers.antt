@@ -1,5 +1,4 @@
-use Rattle.std.proofs.Common.{arith}
-use Rattle.std.proofs.Common.{ℕ, []}
+use Rattle.std.proofs.Common.{ℕ, [], arith}
 use Rattle.std.proofs.lemmas.List.{map-append}
 use Rattle.net_reader.specs.Said.{script_of}
 use Rattle.net_reader.specs.CallLaws.{scripts-step}

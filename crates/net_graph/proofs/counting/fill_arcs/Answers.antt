@@ -1,5 +1,4 @@
-use Rattle.std.proofs.Common.{arith}
-use Rattle.std.proofs.Common.{◌+◌, length, drop, get_or}
+use Rattle.std.proofs.Common.{◌+◌, length, drop, get_or, arith}
 use Rattle.std.proofs.lemmas.List.{take_all}
 use Rattle.net_graph.specs.declared.edge.Edge.{Edge}
 use Rattle.net_graph.specs.Notes.{notes_of, row_of}

@@ -1,5 +1,4 @@
-use Rattle.std.proofs.Common.{arith}
-use Rattle.std.proofs.Common.{not, sym, ap}
+use Rattle.std.proofs.Common.{not, sym, ap, arith}
 use Rattle.std.proofs.lemmas.List.{take_all}
 use Rattle.net_reader.proofs.OrderLine.{known-more, taken-more, unknown-at}
 use Rattle.net_reader.proofs.known.push_known.Goals as goal

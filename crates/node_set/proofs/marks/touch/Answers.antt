@@ -1,5 +1,4 @@
-use Rattle.std.proofs.Common.{arith}
-use Rattle.std.proofs.Common.{◌≡◌, [], ap}
+use Rattle.std.proofs.Common.{◌≡◌, [], ap, arith}
 use Rattle.node_set.specs.Balls.{sets, union_of}
 use Rattle.node_set.specs.BallLaws.{ascending-union_of}
 use Rattle.node_set.specs.Nodes.{Nodes}

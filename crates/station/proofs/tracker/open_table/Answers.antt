@@ -1,5 +1,4 @@
-use Rattle.std.proofs.Common.{arith}
-use Rattle.std.proofs.Common.{rules, ◌≡◌, ◌<◌, ◌^◌, length}
+use Rattle.std.proofs.Common.{rules, ◌≡◌, ◌<◌, ◌^◌, length, arith}
 use Rattle.station.specs.Opening.{setup_of}
 use Rattle.station.proofs.Forking.{opens}
 use Rattle.station.proofs.Fresh.{matched_lies, start_inside}

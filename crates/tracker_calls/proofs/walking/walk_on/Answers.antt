@@ -1,5 +1,4 @@
-use Rattle.std.proofs.Common.{arith}
-use Rattle.std.proofs.Common.{refl, subst, sym, ◌∙◌}
+use Rattle.std.proofs.Common.{refl, subst, sym, ◌∙◌, arith}
 use Rattle.directory.specs.Keys.{key_node}
 use Rattle.region_plan.specs.Matched.{IsMatched}
 use Rattle.station.specs.Setup.{setting_in}

@@ -1,5 +1,4 @@
-use Rattle.std.proofs.Common.{arith}
-use Rattle.std.proofs.Common.{sym}
+use Rattle.std.proofs.Common.{arith, sym}
 use Rattle.net_reader.specs.Seen.{seen_input}
 use Rattle.machine.proofs.subscriber.Subscriber.write_one.Goals as goal
 

@@ -1,5 +1,4 @@
-use Rattle.std.proofs.Common.{arith}
-use Rattle.std.proofs.Common.{subst, sym, ap}
+use Rattle.std.proofs.Common.{subst, sym, ap, arith}
 use Rattle.station.specs.Setup.{Setup}
 use Rattle.station.specs.Handsets.{Moves}
 use Rattle.station.specs.declared.view.View.{View}

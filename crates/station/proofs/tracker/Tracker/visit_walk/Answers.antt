@@ -1,5 +1,4 @@
-use Rattle.std.proofs.Common.{arith}
-use Rattle.std.proofs.Common.{◌≡◌, subst, [], Option}
+use Rattle.std.proofs.Common.{◌≡◌, subst, [], Option, arith}
 use Rattle.std.specs.Prelude.{Some}
 use Rattle.directory.specs.Finds.{after_word, key_of}
 use Rattle.entry_word.specs.declared.visit.Key.{Key}
