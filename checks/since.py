@@ -21,9 +21,9 @@ import subprocess
 import sys
 import tempfile
 
-# Parts of region_plan, net_reader and machine, and the tests, which stood in the crates that they test.
+# Parts of region_plan, net_reader, machine and report_text, and the tests, which stood in the crates that they test.
 PARTS = (
-    "plan_laws scripts test_networks network_tests text_tests actor_tests tracker_tests runner_tests top_tests"
+    "plan_laws scripts text_line test_networks network_tests text_tests actor_tests tracker_tests runner_tests top_tests"
 ).split()
 BEGINS = re.compile(r"(?:(?:unfoldable|pub|abbrev|record|data|ruleset) )*([^\s:(){}]+)")
 DECLARED = re.compile(r"^ *(?:(?:unfoldable|pub|abbrev) )*([^\s:(){}]+) :", re.M)
