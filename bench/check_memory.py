@@ -1,7 +1,7 @@
 #!/usr/bin/env python3
 """Runs the program with less and less memory: the most addresses that it may have fall from run to run (RLIMIT_AS), so that one
 request for memory after another is refused, those for the stacks of threads too. Each run is to end with status 0 and the right
-text, or with status 3 and a beginning of it. Where the limit is so low that the system can't start the program, that run isn't
+text, or with status 3 and nothing written. Where the limit is so low that the system can't start the program, that run isn't
 counted.
 
 Usage, at the top of the repository: bench/check_memory.py [STEP]        STEP (4096) is how many bytes a limit is below the one
@@ -39,7 +39,7 @@ def check(word, given, step):
     while most > 0:
         status, text = run(word, given, most)
         if status in (0, 3):
-            if text != right and (status == 0 or not right.startswith(text)):
+            if text != (b"" if status else right):
                 raise SystemExit(f"{word} with {most} bytes: status {status}, and another text")
             seen[status] += 1
         elif text or status not in (127, -6, -9, -11):
