@@ -132,7 +132,7 @@ fn play(rt: &impl Abort, cells: &mut PlainCells, plan: &Plan, subs: u32, script:
     }
 }
 
-// Plays a script over the cells of so many subscribers, all at one home.
+// Plays a script over the cells of so many subscribers, which all start at one node.
 fn play_over(
     rt: &impl Abort,
     alloc: Global,
@@ -168,12 +168,12 @@ fn empty(nodes: [u32; 2]) -> Step {
     Step::Empty { sub: 0, nodes }
 }
 
-// The word of a home's presence cell at the opening.
+// The word of a start node's presence cell at the opening.
 fn here() -> u64 {
     pack_mark(PresenceMark::Here { number: 0 })
 }
 
-// The word of an entry that leads to a home.
+// The word of an entry that leads to a start node.
 fn leads_to(node: u16) -> u64 {
     pack_address(Some(Address { number: 0, node }))
 }

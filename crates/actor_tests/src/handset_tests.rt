@@ -130,7 +130,7 @@ fn take(handset: &mut Handset, plan: &Plan, distances: &Distances, step: Step) -
     }
 }
 
-// Each step of a script with a handset at rest at its home is to be seen as the script says.
+// Each step of a script with a handset at rest at its start is to be seen as the script says.
 fn play(
     rt: &impl Abort,
     handset: Handset,

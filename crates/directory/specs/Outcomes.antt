@@ -6,7 +6,7 @@ use Rattle.node_set.specs.Ascending.{IsAscending}
 use Rattle.directory.specs.Settings.{Setting, subs, start}
 use Rattle.directory.specs.Histories.{History, tickets}
 use Rattle.directory.specs.Courses.{Step, move_to, switch_off, switch_on, Move, Course, course_at, last_stop, next_move, after_step, after_steps}
-use Rattle.directory.specs.Writes.{numbers_from, step_writes, visit_of}
+use Rattle.directory.specs.Writes.{commit_place, numbers_from, step_writes, visit_of}
 use Rattle.directory.specs.Finds.{FindCall}
 use Rattle.directory.specs.Looks.{first_of, last_of, IsFind}
 use Rattle.directory.specs.Orders.{Scripts, steps_of, finds_of, Answer, caller_in, history_of}
@@ -16,12 +16,11 @@ use Rattle.directory.specs.declared.answers.Found.TheVariants.{At, Off as OffAt,
 use Rattle.directory.specs.declared.answers.Done.{Done}
 use Rattle.directory.specs.declared.answers.Done.TheVariants.{Moved, Switched, Found as FoundBy, Off as OffBy, Again as AgainBy}
 
--- what became of a move, whose visits have these tickets: the commit comes after a Coming and the
--- new addresses
+-- what became of a move, whose visits have these tickets
 abbrev pub move_line : ℕ → Move → List ℕ → Done
 move_line sub move seen =
     Moved sub move.number move.from move.to move.weight
-    (first_of seen) (slice_index seen (suc (suc move.renewed))) (last_of seen)
+    (first_of seen) (slice_index seen (commit_place move)) (last_of seen)
 
 -- what became of a step that came next in a course, whose visits have these tickets
 abbrev pub step_line : Setting → ℕ → Course → Step → List ℕ → Done

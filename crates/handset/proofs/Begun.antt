@@ -129,7 +129,7 @@ begin-stands setting handset steps made to address_law gathered_law count rests 
     low = highest-low (λ level. nat_le (setting.threshold level) (get_or handset.gathered level 0 + move.weight))
         setting.top
 
--- a handset at rest at its home
+-- a handset at rest at its start
 pub new-stands : (setting : Setting) (plan : PlanData) (sub : ℕ) {home : ℕ} → setting.nodes ≡ nodes_of plan
     → levels setting ≡ levels_of plan → start setting sub ≡ home → home < nodes_of plan
     → StandsForSteps setting (handset_at plan sub home) [] 0

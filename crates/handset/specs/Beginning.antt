@@ -95,7 +95,7 @@ begin_move setting handset to =
       gathered = gathered_after handset.gathered move.renewed move.weight;
     }
 
--- a handset at rest at its home
+-- a handset at rest at its start
 abbrev pub handset_at : PlanData → ℕ → ℕ → HandsetData
 handset_at plan sub home =
     record {

@@ -57,7 +57,7 @@ impl Model for Handset {
 }
 
 impl Handset {
-    /// A handset at rest at its home, with number 0.
+    /// A handset at rest at its start node, with number 0.
     pub fn new(alloc: Global, sub: u32, home: u32, plan: &Plan) -> Result<Handset, AllocError>
         requires node { home < nodes_of plan.now }
         ensures exact { IfOk result (λ handset. handset ≡ handset_at plan.now sub home) }

@@ -6,7 +6,7 @@ ghost use Rattle.handset.specs.Trails.{flags};
 use node_set::NodeSet;
 use std::alloc::{AllocError, Global};
 
-// The trail of a subscriber that hasn't moved from its home.
+// The trail of a subscriber that hasn't moved from its start.
 pub fn trail_at(alloc: Global, nodes: u32, home: u32) -> Result<NodeSet, AllocError>
     requires node { home < nodes }
     requires few { nodes ≤ 1024 }

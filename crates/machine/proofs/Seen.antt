@@ -12,7 +12,7 @@ use Rattle.entry_word.specs.declared.mark.PresenceMark.TheVariants.{Empty, Here,
 use Rattle.entry_word.specs.declared.visit.Visit.{Visit}
 use Rattle.directory.specs.Settings.{Setting, start}
 use Rattle.directory.specs.Courses.{Course, MayStep, MaySteps, Move, Step, after_step, after_steps, last_stop, move_to, next_move, course_at}
-use Rattle.directory.specs.Writes.{Write, erasure_writes, mark_at, move_writes, new_address, numbers_from, purge_writes, step_writes, visit_of, writes, visits}
+use Rattle.directory.specs.Writes.{Write, commit_place, erasure_writes, mark_at, move_writes, new_address, numbers_from, purge_writes, step_writes, visit_of, writes, visits}
 use Rattle.directory.specs.Outcomes.{step_line, step_lines}
 use Rattle.machine.specs.Subscribers.{line_after}
 use Rattle.handset.specs.Stands.{is_commit}
@@ -86,7 +86,7 @@ gone-at sub (x ∷ xs) gone ys q g r (suc i) h =
 pub move-commits : MarksUnpack → (setting : Setting) (sub : ℕ) (course : Course) (move : Move) → move.number < 2 ^ 32
     → move.from < 2 ^ 16 → move.to < 2 ^ 16 → (i : ℕ) {visit : Visit}
     → slice_get (map (visit_of sub) (move_writes setting course move)) i ≡ Some visit
-    → Tells (is_commit visit.act) i (suc (suc move.renewed))
+    → Tells (is_commit visit.act) i (commit_place move)
 move-commits unpack setting sub course move number from to i {visit} h =
     let says : (node : ℕ) (mark : PresenceMark) (b : Bool) → IsSmallMark mark → is_some (commit_of node mark) ≡ b
     → is_some (commit_of node (mark_in (mark_word mark))) ≡ b = grind (arith, read-mark) in
@@ -95,7 +95,7 @@ move-commits unpack setting sub course move number from to i {visit} h =
     let removals : List Write = erasure_writes setting course move ++ purge_writes setting course move in
     let coming : Write = mark_at move.to (Coming move.number move.from) in
     let here : Write = mark_at move.to (Here move.number) in
-    let count : suc (length renewals) ≡ suc (suc move.renewed) =
+    let count : suc (length renewals) ≡ commit_place move =
     ap suc (length-map levels (new_address setting move) ∙ length-passing_all 0 (suc move.renewed)) in
     subst (Tells (is_commit visit.act) i) count
     (gone-at sub (coming ∷ renewals) (mark_at move.from (Gone move.number move.to))
@@ -134,7 +134,7 @@ pub line-grows : MarksUnpack → (setting : Setting) (sub : ℕ) (course : Cours
     (is_commit visit.act) ticket
 line-grows unpack setting sub course (move_to node) seen ticket {visit} may small inside some at =
     let move : Move = next_move setting course node in
-    let tells : Tells (is_commit visit.act) (length seen) (suc (suc move.renewed)) =
+    let tells : Tells (is_commit visit.act) (length seen) (commit_place move) =
     move-commits unpack setting sub course move may.few (omega (arith, inside, small))
     (omega (arith, may.inside, small)) (length seen) at in
     let first : get_or (seen ++ ticket ∷ []) 0 0 ≡ get_or seen 0 0 = get_or-append seen (ticket ∷ []) 0 0 some in

@@ -1,9 +1,8 @@
 -- What a machine stands for: its subscribers and callers before their first visits, and all of it after a visit.
-use Rattle.std.proofs.Common.{◌≡◌, ℕ, ◌+◌, ◌<◌, ◌≤◌, Bool, true, false, List, [], ◌∷◌, ◌++◌, length, map, get_or, refl, sym, ap, ◌∙◌, subst, arith, Vec, Global, ◌≢◌, zero, suc, ◌==◌, append_assoc}
+use Rattle.std.proofs.Common.{◌≡◌, ℕ, ◌+◌, ◌<◌, ◌≤◌, false, List, [], ◌∷◌, ◌++◌, length, map, get_or, refl, sym, ap, ◌∙◌, subst, arith, Vec, Global, ◌≢◌, zero, suc, ◌==◌, append_assoc}
 use Rattle.std.specs.Prelude.{None, vec_capacity, Option, Some, replicate, slice_set}
 use Rattle.std.proofs.lemmas.List.{get_or_push, length_push, length-map, get_or-map, append-nil, length-set, map-append, get_or-set_same, get_or-set_other}
 use Rattle.std.proofs.Math.ListN.{get_or-append}
-use Rattle.std.proofs.lemmas.List.Elements.{All-cons, All-nil, All-weaker}
 use Rattle.directory.specs.Finds.{at_origin}
 use Rattle.directory.specs.Histories.{tickets_from, words_after, History}
 use Rattle.directory.specs.Orders.{next, IsPlayed}
@@ -11,14 +10,15 @@ use Rattle.directory.specs.Outcomes.{step_lines}
 use Rattle.net_reader.specs.declared.said.Call.{Call}
 use Rattle.net_reader.specs.declared.said.Call.TheVariants as calls
 use Rattle.net_reader.specs.Input.{Contents}
-use Rattle.net_reader.specs.Valid.{IsCourse, IsSearch, IsValid}
+use Rattle.net_reader.specs.Valid.{IsValid}
 use Rattle.region_plan.specs.Plan.{PlanData}
 use Rattle.handset.specs.Condition.{GoesWith}
 use Rattle.handset.specs.Stands.{StandsForSteps}
 use Rattle.machine.specs.declared.caller.Caller.{Caller}
 use Rattle.machine.specs.declared.subscriber.Subscriber.{Subscriber}
 use Rattle.scripts.specs.Scripts.{find_of, scripts_of, step_of}
-use Rattle.machine.specs.Stands.{BeginInside, BeginsInside, IsWalking, setting_over, Sees, over, AreMade}
+use Rattle.machine.specs.ScriptVisits.{script-inside}
+use Rattle.machine.specs.Stands.{BeginInside, IsWalking, setting_over, Sees, over, AreMade}
 use Rattle.machine.specs.Callers.{IsCaller, MayLook}
 use Rattle.machine.specs.Subscribers.{IsShown, IsSubscriber, Shown, begun_steps, shown_at, MayTakeTurn}
 use Rattle.machine.proofs.Looked.{by-parts}
@@ -83,26 +83,7 @@ pub each-more : {A : Type 0} (P : ℕ → A → Type 0) (xs : List A) {x : A} {n
     → P s (get_or ys s d)
 each-more P xs {x} {n} more count each last s d low = grind (arith, get_or-append, get_or_push)
 
--- the calls of a valid input are inside
-course-inside : (format n here : ℕ) (off : Bool) (script : List Call) → IsCourse format n here off script
-    → BeginInside n script
-course-inside format n here off [] its = All-nil (BeginsInside n)
-course-inside format n here off (calls.Move to ∷ script) its =
-    All-cons (BeginsInside n) (calls.Move to) script tt (course-inside format n to off script its.3)
-course-inside format n here off (calls.Find from sub ∷ script) its = absurd its
-course-inside format n here off (calls.Off ∷ script) its =
-    All-cons (BeginsInside n) calls.Off script tt (course-inside format n here true script its.2)
-course-inside format n here off (calls.On ∷ script) its =
-    All-cons (BeginsInside n) calls.On script tt (course-inside format n here false script its.2)
-
-search-begins : (n subs : ℕ) (call : Call) → IsSearch n subs call → BeginsInside n call
-search-begins n subs (calls.Find from sub) h = h.0
-search-begins n subs call h = absurd h
-
-script-inside : {input : Contents} (actor : ℕ) → IsValid input → actor < length input.scripts
-    → BeginInside input.nodes (get_or input.scripts actor [])
-script-inside {input} actor valid low = grind (arith, course-inside, search-begins, All-weaker)
-
+-- the scripts of a valid input are inside, as the code holds them
 pub scripts-inside : {input : Contents} (scripts : List (Vec Call Global)) {n : ℕ} → IsValid input
     → input.scripts ≡ map (λ (s : Vec Call Global). s.items) scripts → n ≡ input.nodes → (k : ℕ) (d : Vec Call Global)
     → k < length scripts → BeginInside n (get_or scripts k d).items

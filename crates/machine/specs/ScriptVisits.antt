@@ -1,11 +1,12 @@
 -- Laws of the steps of a script and of their visits, for the proofs of the crates above.
 -- Key laws: `step-at` (the step of the call at a place), `may-at` (that step may come there),
 -- `some-write` (each step writes something), `in-script` (the visits of the first steps are the
--- first visits of the script).
-use Rattle.std.proofs.Common.{◌≡◌, ℕ, zero, suc, ◌<◌, ◌≤◌, List, [], ◌∷◌, ◌++◌, length, map, take, drop, get_or, sym, ap, ◌∙◌, subst, arith, length-append, Vec}
+-- first visits of the script), `script-inside` (its finds begin at nodes of the network).
+use Rattle.std.proofs.Common.{◌≡◌, Bool, true, false, ℕ, zero, suc, ◌<◌, ◌≤◌, List, [], ◌∷◌, ◌++◌, length, map, take, drop, get_or, sym, ap, ◌∙◌, subst, arith, length-append, Vec}
 use Rattle.std.specs.Prelude.{Some, slice_get, unwrap_or, All}
 use Rattle.std.proofs.lemmas.Option.{unwrap_or-slice_get}
 use Rattle.std.proofs.lemmas.List.{append-nil, take-append-drop, length-map, get_or-map}
+use Rattle.std.proofs.lemmas.List.Elements.{All-cons, All-nil, All-weaker}
 use Rattle.entry_word.specs.declared.visit.Visit.{Visit}
 use Rattle.directory.specs.Settings.{Setting, start}
 use Rattle.directory.specs.Courses.{Course, MayStep, MaySteps, Step, after_step, after_steps, course_at, move_to, switch_off, switch_on}
@@ -13,8 +14,10 @@ use Rattle.directory.specs.Orders.{steps_of}
 use Rattle.directory.specs.StepLaws.{slice_get-within, visits-append, writes-append}
 use Rattle.directory.specs.Writes.{step_writes, visit_of, visits, writes}
 use Rattle.net_reader.specs.declared.said.Call.{Call}
+use Rattle.net_reader.specs.declared.said.Call.TheVariants as calls
 use Rattle.net_reader.specs.Input.{Contents}
-use Rattle.net_reader.specs.Valid.{IsValid, IsSearch}
+use Rattle.machine.specs.Stands.{BeginInside, BeginsInside}
+use Rattle.net_reader.specs.Valid.{IsCourse, IsSearch, IsValid}
 use Rattle.scripts.specs.ScriptLaws.{steps-are}
 use Rattle.scripts.specs.Scripts.{scripts_of, step_of}
 use Rattle.region_plan.specs.Plan.{PlanData, nodes_of}
@@ -89,6 +92,28 @@ pub script-searches : {input : Contents} (plan : PlanData) (actor : ℕ) {script
     → All (IsSearch (nodes_of plan) count) script
 script-searches {input} plan actor {script} {count} valid nodes high low same few =
     rw (nodes, few, same) (valid.searches actor high low)
+
+-- the finds of a subscriber's script begin at nodes of the network, since it has none
+course-inside : (format n here : ℕ) (off : Bool) (script : List Call)
+    → IsCourse format n here off script → BeginInside n script
+course-inside format n here off [] its = All-nil (BeginsInside n)
+course-inside format n here off (calls.Move to ∷ script) its =
+    All-cons (BeginsInside n) (calls.Move to) script tt (course-inside format n to off script its.3)
+course-inside format n here off (calls.Find from sub ∷ script) its = absurd its
+course-inside format n here off (calls.Off ∷ script) its =
+    All-cons (BeginsInside n) calls.Off script tt (course-inside format n here true script its.2)
+course-inside format n here off (calls.On ∷ script) its =
+    All-cons (BeginsInside n) calls.On script tt (course-inside format n here false script its.2)
+
+-- a search begins at one of them
+search-inside : (n subs : ℕ) (call : Call) → IsSearch n subs call → BeginsInside n call
+search-inside n subs (calls.Find from sub) its = its.0
+search-inside n subs call its = absurd its
+
+-- so all finds of an actor's script do
+pub script-inside : {input : Contents} (actor : ℕ) → IsValid input → actor < length input.scripts
+    → BeginInside input.nodes (get_or input.scripts actor [])
+script-inside {input} actor valid low = grind (arith, course-inside, search-inside, All-weaker)
 
 -- the script that the code reads
 pub script-is : (scripts : List (Vec Call Global)) (actor : ℕ) {held : Vec Call Global}

@@ -46,7 +46,7 @@ pub struct Subscriber {
 }
 
 impl Subscriber {
-    // A subscriber at its home, before its first step of so many.
+    // A subscriber at its start, before its first step of so many.
     pub fn new(
         alloc: Global,
         sub: u32,

@@ -324,9 +324,9 @@ module _ (laws : Laws) (count : CallersCount) (plan : PlanData) (homes : List �
   )
   line-keeps (Switched actor is_off node n ticket) made right near = (refl, refl, refl)
   line-keeps (FoundBy actor from sub node n level weight first last) made right near =
-      found-keeps false actor from sub node n weight _ made right near
+      found-keeps false actor from sub node n weight _ made right (λ quiet. (near quiet).1)
   line-keeps (OffBy actor from sub node n level weight first last) made right near =
-      found-keeps true actor from sub node n weight _ made right near
+      found-keeps true actor from sub node n weight _ made right (λ quiet. (near quiet).1)
   line-keeps (AgainBy actor from sub why weight first last) made (t, low, high, moves) near =
       let ends = ends-are actor (record { from = from; sub = sub }) (AgainBy actor from sub why weight first last) made
       in (

@@ -39,7 +39,7 @@ use Rattle.scripts.specs.Laws.{VisitsAreFew}
 use Rattle.scripts.specs.Scripts.{most_in, most_of, most_visits, scripts_of}
 use Rattle.trail_laws.specs.RightOutcomes.{IsRightLine}
 use Rattle.trail_laws.specs.Trail.{EntriesTell, MarksTell}
-use Rattle.own_reports.specs.Reports.{OutcomesHaveForm, plan_in}
+use Rattle.own_reports.specs.Reports.{OutcomesHaveForm}
 use Rattle.own_reports.proofs.Cuts.{IsOver, Laws, legal-before}
 use Rattle.own_reports.proofs.Fits.{IsFit, find-fits}
 use Rattle.own_reports.proofs.Inputs.{over-in, plan-bounds, setting-is, setting_in}
@@ -49,6 +49,7 @@ use Rattle.own_reports.proofs.Places.{PlanLaws}
 use Rattle.own_reports.proofs.Sizes.{IsSmall, small-in}
 use Rattle.own_reports.proofs.SlotsTold.{outcome-slots}
 use Rattle.own_reports.proofs.Strangers.{idle}
+use Rattle.report_check.specs.Inputs.{plan_for}
 
 -- ---- numbers
 
@@ -224,7 +225,7 @@ pub record FormLaws : Type 0 where
 
 pub outcomes-formed : Laws → PlanLaws → FormLaws → OutcomesHaveForm
 outcomes-formed laws plans forms contents order valid =
-    let plan : PlanData = plan_in contents in
+    let plan : PlanData = plan_for contents in
     let setting : Setting = setting_in contents in
     let scripts : Scripts = scripts_of contents in
     let history : History = history_of setting scripts order in

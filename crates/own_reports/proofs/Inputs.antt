@@ -1,6 +1,5 @@
 -- What holds of the plan, the setting and the scripts of a valid input.
 use Rattle.std.proofs.Common.{ℕ, ◌^◌, ◌≤◌, List, refl, arith}
-use Rattle.net_graph.specs.Network.{IsNetwork, Network}
 use Rattle.net_reader.specs.Input.{Contents}
 use Rattle.net_reader.specs.Valid.{IsValid}
 use Rattle.directory.specs.Orders.{history_of}
@@ -13,35 +12,20 @@ use Rattle.region_plan.specs.Settings.{setting_of}
 use Rattle.scripts.specs.Laws.{ScriptsAreValid}
 use Rattle.scripts.specs.ScriptLaws.{few-nodes}
 use Rattle.scripts.specs.Scripts.{IsSettingOf, scripts_of}
-use Rattle.own_reports.specs.Reports.{plan_in}
 use Rattle.own_reports.proofs.Cuts.{IsOver}
-use Rattle.net_reader.specs.LineLaws.{most_nodes-within}
-
--- the network of an input
-abbrev pub network_in : Contents → Network
-network_in contents = record { nodes = contents.nodes; edges = contents.edges }
-
-pub network-valid : (contents : Contents) → IsValid contents → IsNetwork (network_in contents)
-network-valid contents valid = record {
-  limits = record {
-    positive = valid.some;
-    few = omega (arith, valid.few, most_nodes-within contents.format);
-    edges = valid.edges;
-  };
-  connected = valid.connected;
-}
+use Rattle.report_check.specs.Inputs.{network-valid, network_of, plan_for}
 
 -- the plan of an input
 pub plan-means : PlansMean → (contents : Contents) → IsValid contents
-    → IsPlanOf (network_in contents) contents.k (plan_in contents)
-plan-means means contents valid = means (network_in contents) contents.k (network-valid contents valid) valid.k_some
+    → IsPlanOf (network_of contents) contents.k (plan_for contents)
+plan-means means contents valid = means (network_of contents) contents.k (network-valid valid) valid.k_some
 
-pub plan-bounds : PlansBoundFinds → (contents : Contents) → IsValid contents → BoundsFinds (plan_in contents)
-plan-bounds bounds contents valid = bounds (network_in contents) contents.k (network-valid contents valid) valid.k_some
+pub plan-bounds : PlansBoundFinds → (contents : Contents) → IsValid contents → BoundsFinds (plan_for contents)
+plan-bounds bounds contents valid = bounds (network_of contents) contents.k (network-valid valid) valid.k_some
 
 -- the setting of an input
 abbrev pub setting_in : Contents → Setting
-setting_in contents = setting_of (plan_in contents) contents.homes
+setting_in contents = setting_of (plan_for contents) contents.homes
 
 pub setting-is : PlansMean → (contents : Contents) → IsValid contents → IsSettingOf contents (setting_in contents)
 setting-is means contents valid = record {
@@ -49,7 +33,7 @@ setting-is means contents valid = record {
   starts = refl;
 }
 
-pub few-in : PlansMean → (contents : Contents) → IsValid contents → nodes_of (plan_in contents) ≤ 2 ^ 16
+pub few-in : PlansMean → (contents : Contents) → IsValid contents → nodes_of (plan_for contents) ≤ 2 ^ 16
 few-in means contents valid =
     omega (arith, few-nodes contents valid, (setting-is means contents valid).nodes)
 

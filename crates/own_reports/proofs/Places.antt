@@ -12,10 +12,11 @@ use Rattle.scripts.specs.Scripts.{scripts_of}
 use Rattle.stretch_laws.specs.NearOutcomes.{PlanOutcomesAreNear}
 use Rattle.stretch_laws.specs.Plans.{PlansTrack}
 use Rattle.trail_laws.specs.RightOutcomes.{OutcomesAreRight}
-use Rattle.own_reports.specs.Reports.{PlacesAreTold, plan_in}
+use Rattle.own_reports.specs.Reports.{PlacesAreTold}
 use Rattle.own_reports.proofs.Cuts.{IsOver, Laws}
 use Rattle.own_reports.proofs.FindParts.{line-keeps}
 use Rattle.own_reports.proofs.Inputs.{over-in, plan-bounds, setting_in}
+use Rattle.report_check.specs.Inputs.{plan_for}
 
 -- the laws of plans and of finds that are used
 pub record PlanLaws : Type 0 where
@@ -31,7 +32,7 @@ pub record PlanLaws : Type 0 where
 
 pub places-told : Laws → CallersCount → PlanLaws → PlacesAreTold
 places-told laws count plans contents order valid =
-    let plan : PlanData = plan_in contents in
+    let plan : PlanData = plan_for contents in
     let setting : Setting = setting_in contents in
     let scripts : Scripts = scripts_of contents in
     let over : IsOver setting scripts (history_of setting scripts order) =

@@ -9,7 +9,7 @@ use Rattle.directory.specs.Settings.{Setting}
 use Rattle.directory.specs.Courses.{Course, Move}
 use Rattle.directory.specs.Standing.{Commit, commit_by}
 use Rattle.directory.specs.States.{write_commit, write_off}
-use Rattle.directory.specs.Writes.{Write, erasure_writes, mark_at, move_writes, new_address, numbers_from, purge_writes}
+use Rattle.directory.specs.Writes.{Write, commit_place, erasure_writes, mark_at, move_writes, new_address, numbers_from, purge_writes}
 use Rattle.own_reports.proofs.StepRuns.{length-numbers}
 use Rattle.directory.specs.ListLaws.{slice_get-right}
 
@@ -75,7 +75,7 @@ abbrev pub back_of : Setting → Course → Move → List Write
 back_of setting course move =
     mark_at move.to (Here move.number) ∷ (erasure_writes setting course move ++ purge_writes setting course move)
 
-pub front-length : (setting : Setting) (move : Move) → length (front_of setting move) ≡ suc (suc move.renewed)
+pub front-length : (setting : Setting) (move : Move) → length (front_of setting move) ≡ commit_place move
 front-length setting move =
     ap suc (length-map (numbers_from 0 (suc move.renewed)) (new_address setting move)
     ∙ length-numbers 0 (suc move.renewed))
@@ -97,14 +97,14 @@ plain-back setting course move = (
 )
 
 -- the commit of a move that has made more writes than come before it
-pub move-commits : (k : ℕ) (setting : Setting) (course : Course) (move : Move) → suc (suc move.renewed) < k
+pub move-commits : (k : ℕ) (setting : Setting) (course : Course) (move : Move) → commit_place move < k
     → commits_in (take k (move_writes setting course move)) ≡ commit_by move ∷ []
 move-commits k setting course move more =
     one-commit k (front_of setting move) (back_of setting course move) (commit_write move) (commit_by move)
     (plain-front setting move) refl (plain-back setting course move) (omega (arith, more, front-length setting move))
 
 -- before that it has none
-pub move-waits : (k : ℕ) (setting : Setting) (course : Course) (move : Move) → k ≤ suc (suc move.renewed)
+pub move-waits : (k : ℕ) (setting : Setting) (course : Course) (move : Move) → k ≤ commit_place move
     → commits_in (take k (move_writes setting course move)) ≡ []
 move-waits k setting course move few =
     ap commits_in (take-append-le k (front_of setting move) (commit_write move ∷ back_of setting course move)
@@ -120,8 +120,8 @@ move-on k setting course move =
 
 -- the confirm comes next behind the commit
 pub move-confirm : (setting : Setting) (course : Course) (move : Move)
-    → slice_get (move_writes setting course move) (suc (suc (suc move.renewed)))
+    → slice_get (move_writes setting course move) (suc (commit_place move))
     ≡ Some (mark_at move.to (Here move.number))
 move-confirm setting course move =
     slice_get-right (front_of setting move) (commit_write move ∷ back_of setting course move)
-    (suc (suc (suc move.renewed))) 1 (omega (arith, front-length setting move))
+    (suc (commit_place move)) 1 (omega (arith, front-length setting move))

@@ -20,8 +20,8 @@ use Rattle.region_plan.specs.Measures.{degree_of}
 use Rattle.region_plan.specs.Plan.{PlanData, nodes_of, top_of}
 use Rattle.stretch_laws.specs.Plans.{PlansTrack}
 use Rattle.stretch_laws.specs.Tracking.{IsTracking}
-use Rattle.own_reports.specs.Reports.{plan_in}
-use Rattle.own_reports.proofs.Inputs.{network-valid, network_in, plan-bounds, plan-means, setting_in}
+use Rattle.own_reports.proofs.Inputs.{plan-bounds, plan-means, setting_in}
+use Rattle.report_check.specs.Inputs.{network-valid, network_of, plan_for}
 
 -- the numbers of a setting are small
 pub record IsSmall (setting : Setting) : Type 0 where
@@ -101,11 +101,11 @@ readers-few setting node from (suc count) few =
 pub small-in : PlansMean → PlansBoundFinds → PlansHaveFewReaders → PlansTrack → (contents : Contents) → IsValid contents
     → IsSmall (setting_in contents)
 small-in means bounds sparse track contents valid =
-    let plan : PlanData = plan_in contents in
-    let is : IsPlanOf (network_in contents) contents.k plan = plan-means means contents valid in
+    let plan : PlanData = plan_for contents in
+    let is : IsPlanOf (network_of contents) contents.k plan = plan-means means contents valid in
     let bounding : BoundsFinds plan = plan-bounds bounds contents valid in
     let tracking : IsTracking (setting_in contents) plan.reach (degree_of plan) = track plan contents.homes bounding in
-    let few_of : HasFewReaders plan = sparse (network_in contents) contents.k (network-valid contents valid)
+    let few_of : HasFewReaders plan = sparse (network_of contents) contents.k (network-valid valid)
     valid.k_some in
     let metric : IsMetric plan.distances = bounding.matched.metric in
     let nodes : nodes_of plan ≤ 1024 = omega (arith, metric.few) in

@@ -16,9 +16,10 @@ use Rattle.report_check.specs.Parts.{again_holds, place_holds, weight_holds}
 use Rattle.report_check.specs.Slots.{slots_for}
 use Rattle.report_check.specs.Verdicts.{bounds_of, end_before, has_call, or_flaw, verdict_from, verdict_on}
 use Rattle.stretch_laws.specs.Plans.{PlansTrack}
-use Rattle.own_reports.specs.Reports.{HaveTickets, KeepsParts, OutcomesHaveForm, OwnReportsAreSound, PlacesAreTold, TicketsAreTold, outcome_under, plan_in}
+use Rattle.own_reports.specs.Reports.{HaveTickets, KeepsParts, OutcomesHaveForm, OwnReportsAreSound, PlacesAreTold, TicketsAreTold, outcome_under}
 use Rattle.own_reports.proofs.Inputs.{setting_in}
 use Rattle.own_reports.proofs.Sizes.{IsSmall, small-in}
+use Rattle.report_check.specs.Inputs.{plan_for}
 
 -- a line that keeps all parts has no flaw
 no-flaw : (a b c d : Bool) (w x y z : Option Flaw) → a ≡ true → b ≡ true → c ≡ true → d ≡ true
@@ -44,7 +45,7 @@ sound-from plan homes scripts outcome lines before (call ∷ later) held kept kn
 pub own-sound : ReportsAreRead → OutcomesHaveForm → TicketsAreTold → PlacesAreTold → PlansMean → PlansBoundFinds
     → PlansHaveFewReaders → PlansTrack → OwnReportsAreSound
 own-sound read form tickets places means bounds sparse track contents order valid =
-    let plan : PlanData = plan_in contents in
+    let plan : PlanData = plan_for contents in
     let outcome : Outcome = outcome_under contents order in
     let small : IsSmall (setting_in contents) = small-in means bounds sparse track contents valid in
     let held = tickets contents order valid in

@@ -6,7 +6,7 @@ use Rattle.entry_word.specs.declared.visit.Visit.{Visit}
 use Rattle.directory.specs.Settings.{Setting, start, subs}
 use Rattle.directory.specs.Courses.{Course, Move, Step, after_step, course_at, move_to, next_move}
 use Rattle.entry_word.specs.declared.mark.PresenceMark.TheVariants.{Gone, Here}
-use Rattle.directory.specs.Writes.{Write, erasure_writes, mark_at, move_writes, new_address, numbers_from, purge_writes, step_writes, visit_of, writes}
+use Rattle.directory.specs.Writes.{Write, commit_place, erasure_writes, mark_at, move_writes, new_address, numbers_from, purge_writes, step_writes, visit_of, writes}
 use Rattle.directory.specs.Histories.{History, own, tickets}
 use Rattle.directory.specs.HistoryLaws.{next-sub, tickets-count}
 use Rattle.directory.specs.Orders.{IsDone, IsPlayed, Scripts, script_visits, steps_of}
@@ -22,7 +22,7 @@ length-numbers from (suc count) = ap suc (length-numbers (suc from) count)
 
 -- how many writes a move has before its commit, and that some come after it
 pub move-long : (setting : Setting) (course : Course) (move : Move)
-    → suc (suc (suc move.renewed)) < length (move_writes setting course move)
+    → suc (commit_place move) < length (move_writes setting course move)
 move-long setting course move =
     let addresses : List Write = map (new_address setting move) (numbers_from 0 (suc move.renewed)) in
     let last : List Write =
@@ -55,7 +55,7 @@ step-run : (setting : Setting) (sub : ℕ) (course : Course) (step : Step) (seen
 step-run setting sub course (move_to node) seen p e ends fits =
     let move : Move = next_move setting course node in
     let n : ℕ = length (move_writes setting course move) in
-    let long : suc (suc (suc move.renewed)) < n = move-long setting course move in
+    let long : suc (commit_place move) < n = move-long setting course move in
     let count : length (take n (drop p seen)) ≡ n = part-length seen p n (omega (arith, ends, fits)) in
     let last_place : p + (n - 1) ≡ e = omega (arith, ends, long) in (
       refl,
@@ -67,10 +67,10 @@ step-run setting sub course (move_to node) seen p e ends fits =
               ∙ ap (slice_index seen) last_place,
         ),
         (
-          p + suc (suc move.renewed),
+          p + commit_place move,
           omega arith,
           omega (arith, ends, long),
-          part-at seen p n (suc (suc move.renewed)) (omega (arith, long)),
+          part-at seen p n (commit_place move) (omega (arith, long)),
         ),
       ),
     )

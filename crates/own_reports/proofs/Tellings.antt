@@ -15,7 +15,7 @@ use Rattle.directory.specs.Outcomes.{step_line, step_lines}
 use Rattle.directory.specs.Standing.{Commit, commit_by}
 use Rattle.directory.specs.States.{write_commit, write_off}
 use Rattle.directory.specs.StepLaws.{take-append}
-use Rattle.directory.specs.Writes.{Write, mark_at, move_writes, step_writes, writes}
+use Rattle.directory.specs.Writes.{Write, commit_place, mark_at, move_writes, step_writes, writes}
 use Rattle.directory.specs.declared.answers.Done.{Done}
 use Rattle.directory.specs.declared.answers.Done.TheVariants.{Moved, Switched}
 use Rattle.report_check.specs.Parts.{tell, told_before}
@@ -124,10 +124,10 @@ module _ (setting : Setting) (homes : List ℕ) (sub ticket : ℕ) (seen : List 
       let ws : List Write = move_writes setting course move in
       let n : ℕ = length ws in
       let chunk : List ℕ = take n (drop p seen) in
-      let long : suc (suc (suc move.renewed)) < n = move-long setting course move in
-      let i : ℕ = p + suc (suc move.renewed) in
-      let here : slice_index chunk (suc (suc move.renewed)) ≡ slice_index seen i =
-      part-at seen p n (suc (suc move.renewed)) (omega (arith, long)) in
+      let long : suc (commit_place move) < n = move-long setting course move in
+      let i : ℕ = p + commit_place move in
+      let here : slice_index chunk (commit_place move) ≡ slice_index seen i =
+      part-at seen p n (commit_place move) (omega (arith, long)) in
       let inside : suc i < length seen = omega (arith, long, amid.fits) in
       let still : off_by (off_by false (take m done)) (take (m - p) ws) ≡ off_by false (take m done) =
       elim (cases_lt p m) [
@@ -142,18 +142,18 @@ module _ (setting : Setting) (homes : List ℕ) (sub ticket : ℕ) (seen : List 
             let more : i < m = count.below i (omega (arith, inside)) low in
             let confirm : slice_get all (suc i) ≡ Some (mark_at move.to (Here move.number)) =
             ap (λ (xs : List Write). slice_get xs (suc i)) amid.all_is
-            ∙ slice_get-right done (ws ++ later) (suc i) (suc (suc (suc move.renewed))) (omega (arith, amid.place))
-            ∙ slice_get-left ws later (suc (suc (suc move.renewed))) (mark_at move.to (Here move.number))
+            ∙ slice_get-right done (ws ++ later) (suc i) (suc (commit_place move)) (omega (arith, amid.place))
+            ∙ slice_get-left ws later (suc (commit_place move)) (mark_at move.to (Here move.number))
             (move-confirm setting course move) in
             told-moved lines (take m done) (take (m - p) ws) move (slice_index chunk 0)
-            (slice_index chunk (suc (suc move.renewed))) (slice_index chunk (length chunk - 1)) told
+            (slice_index chunk (commit_place move)) (slice_index chunk (length chunk - 1)) told
             (omega (arith, here, low)) (move-commits (m - p) setting course move (omega (arith, more))) still
             (i, inside, here, confirm, refl)
         | inr far ↦
             told-still lines (take m done) (take (m - p) ws) (Moved sub move.number move.from move.to move.weight
-            (slice_index chunk 0) (slice_index chunk (suc (suc move.renewed))) (slice_index chunk (length chunk - 1)))
+            (slice_index chunk 0) (slice_index chunk (commit_place move)) (slice_index chunk (length chunk - 1)))
             _ told (move-waits (m - p) setting course move (omega (arith, count.past i (omega (arith, inside)) far)))
-            (rw (test-later sub (slice_index chunk (suc (suc move.renewed))) ticket (omega (arith, here, far))) refl)
+            (rw (test-later sub (slice_index chunk (commit_place move)) ticket (omega (arith, here, far))) refl)
             (still ∙ sym told.is_off)
       ]
 

@@ -10,12 +10,13 @@ use Rattle.directory.specs.Writes.{numbers_from}
 use Rattle.directory.specs.declared.answers.Done.{Done}
 use Rattle.region_plan.specs.Settings.{setting_of}
 use Rattle.scripts.specs.Scripts.{scripts_of}
-use Rattle.own_reports.specs.Reports.{HaveTickets, TicketsAreTold, plan_in}
+use Rattle.own_reports.specs.Reports.{HaveTickets, TicketsAreTold}
 use Rattle.own_reports.proofs.FindRuns.{caller-runs}
 use Rattle.own_reports.proofs.Order.{AreTickets, actors_of, tickets-are}
 use Rattle.own_reports.proofs.Runs.{IsFrom, rows-hold}
 use Rattle.own_reports.proofs.StepRuns.{sub-runs}
 use Rattle.own_reports.proofs.Strangers.{no-strangers}
+use Rattle.report_check.specs.Inputs.{plan_for}
 
 -- the calls of a history that is played to its end have their tickets
 calls-hold : TicketsAscend → ScriptsInOrder → CallersCount → (setting : Setting) (scripts : Scripts) (history : History)
@@ -38,7 +39,7 @@ calls-hold ascend in_order count setting scripts history played done =
 
 pub tickets-told : TicketsAscend → ScriptsInOrder → CallersCount → OrdersArePlayed → OrdersAreDone → TicketsAreTold
 tickets-told ascend in_order count played done contents order valid =
-    let setting : Setting = setting_of (plan_in contents) contents.homes in
+    let setting : Setting = setting_of (plan_for contents) contents.homes in
     let scripts : Scripts = scripts_of contents in (
       calls-hold ascend in_order count setting scripts (history_of setting scripts order)
           (played setting scripts order) (done setting scripts order),

@@ -11,31 +11,26 @@ use Rattle.directory.specs.Outcomes.{Outcome, outcome_of}
 use Rattle.net_reader.specs.Input.{Contents}
 use Rattle.net_reader.specs.Valid.{IsValid}
 use Rattle.region_plan.specs.Plan.{PlanData}
-use Rattle.region_plan.specs.Regions.{plan_of}
 use Rattle.region_plan.specs.Settings.{setting_of}
 use Rattle.scripts.specs.Scripts.{scripts_of}
 use Rattle.report_text.specs.ReportText.{report_of}
 use Rattle.report_check.specs.declared.verdict.Verdict.TheVariants.{Sound}
 use Rattle.report_check.specs.Forms.{HasForm}
+use Rattle.report_check.specs.Inputs.{plan_for}
 use Rattle.report_check.specs.Parts.{again_holds, none_left, place_holds, tickets_hold, weight_holds}
 use Rattle.report_check.specs.Slots.{slots_for}
 use Rattle.report_check.specs.Verdicts.{bounds_of, end_before, has_call, is_last, verdict_of}
 
--- the plan of an input's network, with its k
-abbrev pub plan_in : Contents → PlanData
-plan_in contents =
-    plan_of (record { nodes = contents.nodes; edges = contents.edges }) contents.k
-
 -- what becomes of an input's calls under an order
 abbrev pub outcome_under : Contents → List ℕ → Outcome
 outcome_under contents order =
-    outcome_of (setting_of (plan_in contents) contents.homes) (scripts_of contents) order
+    outcome_of (setting_of (plan_for contents) contents.homes) (scripts_of contents) order
 
 -- the report has the form that the checker reads (`outcomes_have_form`)
 abbrev pub OutcomesHaveForm : Type 0
 OutcomesHaveForm =
     (contents : Contents) (order : List ℕ) → IsValid contents
-    → HasForm (bounds_of (plan_in contents)) (slots_for contents) (outcome_under contents order)
+    → HasForm (bounds_of (plan_for contents)) (slots_for contents) (outcome_under contents order)
 
 -- each of these calls has its tickets, the end of the call before the first being this one, and
 -- behind an actor's last call it has no ticket
@@ -64,11 +59,11 @@ KeepsParts plan homes calls order call =
 abbrev pub PlacesAreTold : Type 0
 PlacesAreTold =
     (contents : Contents) (order : List ℕ) → IsValid contents
-    → All (KeepsParts (plan_in contents) contents.homes (outcome_under contents order).calls
+    → All (KeepsParts (plan_for contents) contents.homes (outcome_under contents order).calls
     (outcome_under contents order).order) (outcome_under contents order).calls
 
 -- what the directory reports is sound (`own_reports_are_sound`)
 abbrev pub OwnReportsAreSound : Type 0
 OwnReportsAreSound =
     (contents : Contents) (order : List ℕ) → IsValid contents
-    → verdict_of (plan_in contents) contents (report_of (outcome_under contents order)) ≡ Sound
+    → verdict_of (plan_for contents) contents (report_of (outcome_under contents order)) ≡ Sound

@@ -4,7 +4,7 @@
 use Rattle.std.specs.Prelude.{◌≡◌, ◌≢◌, ℕ, ◌+◌, ◌-◌, ◌<◌, ◌≤◌, ◌==◌, if◌then◌else◌, Bool, true, false, fold, List, length, take, drop, map, slice_index, slice_index_or}
 use Rattle.std.specs.List.{list_any}
 use Rattle.directory.specs.declared.answers.Done.{Done}
-use Rattle.directory.specs.declared.answers.Done.TheVariants.{Moved, Switched, Found, Off, Again}
+use Rattle.directory.specs.declared.answers.Done.TheVariants.{Switched}
 use Rattle.report_check.specs.declared.blocks.Block.{Block}
 use Rattle.report_check.specs.declared.blocks.LinesByActor.{LinesByActor}
 use Rattle.report_check.specs.ReadLines.{done_of}
@@ -13,11 +13,8 @@ use Rattle.report_check.specs.Parts.{is_of, is_switch_at, tell}
 
 -- whether it is a switch's
 abbrev pub is_switched : Done → Bool
-is_switched (Moved actor number from to weight first commit last) = false
 is_switched (Switched actor off node number ticket) = true
-is_switched (Found actor from sub node number level weight first last) = false
-is_switched (Off actor from sub node number level weight first last) = false
-is_switched (Again actor from sub why weight first last) = false
+is_switched call = false
 
 -- no line in front of the block is one that counts, and none from its end on
 pub record IsBlock (counts : Done → Bool) (calls : List Done) (block : Block) : Type 0 where

@@ -10,3 +10,4 @@ pub mod Blocks
 pub mod Examples
 pub mod Laws
 pub mod Forms
+pub mod Inputs

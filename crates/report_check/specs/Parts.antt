@@ -9,9 +9,12 @@
 -- Key laws: `check` finds the first flaw (`verdict_of`); `worked_reports` computes rows.
 use Rattle.std.specs.Prelude.{ℕ, suc, ◌+◌, ◌*◌, ◌==◌, ◌&&◌, ◌||◌, Bool, true, false, not, nat_lt, nat_le, if◌then◌else◌, fold, List, [], ◌∷◌, drop, slice_get, slice_index, Option, Some, None}
 use Rattle.std.specs.List.{list_any}
-use Rattle.directory.specs.CallLines.{actor_of}
+use Rattle.directory.specs.CallLines.{actor_of, by_find, is_answered}
 use Rattle.directory.specs.declared.answers.Done.{Done}
-use Rattle.directory.specs.declared.answers.Done.TheVariants.{Moved, Switched, Found, Off, Again}
+use Rattle.directory.specs.declared.answers.Done.TheVariants.{Moved, Switched}
+use Rattle.directory.specs.declared.answers.Found.{Found}
+use Rattle.directory.specs.declared.answers.Found.TheVariants.{At, Off as OffAt, Again}
+use Rattle.directory.specs.Finds.{found_weight}
 use Rattle.region_plan.specs.Measures.{stretch_of}
 use Rattle.region_plan.specs.Plan.{PlanData}
 use Rattle.region_plan.specs.Settings.{setting_of}
@@ -21,13 +24,17 @@ use Rattle.report_check.specs.declared.told.Told.{Told}
 abbrev pub is_of : ℕ → Done → Bool
 is_of actor call = actor_of call == actor
 
+-- what is asked of the place that an answer names, with whether its subscriber is off
+abbrev pub if_answered : (Bool → ℕ → ℕ → Bool) → Found → Bool
+if_answered holds (At node number level weight) = holds false node number
+if_answered holds (OffAt node number level weight) = holds true node number
+if_answered holds (Again why weight) = true
+
 -- the end of a call: its last ticket
 abbrev pub end_of : Done → ℕ
 end_of (Moved actor number from to weight first commit last) = last
 end_of (Switched actor off node number ticket) = ticket
-end_of (Found actor from sub node number level weight first last) = last
-end_of (Off actor from sub node number level weight first last) = last
-end_of (Again actor from sub why weight first last) = last
+end_of call = by_find 0 (λ find. find.last) call
 
 -- whether this number is there
 abbrev pub is_number : ℕ → Option ℕ → Bool
@@ -67,12 +74,8 @@ tickets_hold order before (Moved actor number from to weight first commit last) 
     && (is_ticket order actor commit && (nat_lt first commit && nat_lt commit last))
 tickets_hold order before (Switched actor off node number ticket) =
     is_number ticket (next_ticket order actor before)
-tickets_hold order before (Found actor from sub node number level weight first last) =
-    has_tickets order before actor first last
-tickets_hold order before (Off actor from sub node number level weight first last) =
-    has_tickets order before actor first last
-tickets_hold order before (Again actor from sub why weight first last) =
-    has_tickets order before actor first last
+tickets_hold order before call =
+    by_find true (λ find. has_tickets order before find.actor find.first find.last) call
 
 -- whether there is none
 abbrev pub is_missing : Option ℕ → Bool
@@ -101,9 +104,7 @@ tell sub ticket told (Moved actor number from to weight first commit last) =
     } else told
 tell sub ticket told (Switched actor off node number at) =
     if actor == sub && nat_lt at ticket then record told { is_off = off } else told
-tell sub ticket told (Found actor from other node number level weight first last) = told
-tell sub ticket told (Off actor from other node number level weight first last) = told
-tell sub ticket told (Again actor from other why weight first last) = told
+tell sub ticket told call = told
 
 -- what the lines tell of a subscriber before a ticket
 abbrev pub told_before : List ℕ → List Done → ℕ → ℕ → Told
@@ -117,21 +118,14 @@ is_told told off node number =
 
 -- Place: only a find that answers names one
 abbrev pub place_holds : List ℕ → List Done → Done → Bool
-place_holds homes calls (Moved actor number from to weight first commit last) = true
-place_holds homes calls (Switched actor off node number ticket) = true
-place_holds homes calls (Found actor from sub node number level weight first last) =
-    is_told (told_before homes calls sub last) false node number
-place_holds homes calls (Off actor from sub node number level weight first last) =
-    is_told (told_before homes calls sub last) true node number
-place_holds homes calls (Again actor from sub why weight first last) = true
+place_holds homes calls call =
+    by_find true
+    (λ find. if_answered (is_told (told_before homes calls find.sub find.last)) find.found) call
 
 -- whether a line is that of a switch with this ticket
 abbrev pub is_switch_at : ℕ → Done → Bool
-is_switch_at ticket (Moved actor number from to weight first commit last) = false
 is_switch_at ticket (Switched actor off node number at) = at == ticket
-is_switch_at ticket (Found actor from sub node number level weight first last) = false
-is_switch_at ticket (Off actor from sub node number level weight first last) = false
-is_switch_at ticket (Again actor from sub why weight first last) = false
+is_switch_at ticket call = false
 
 -- whether a ticket of an actor is of a move: a subscriber's tickets are of moves, but for those of
 -- its switches
@@ -156,12 +150,9 @@ meets_move calls order sub first last =
 
 -- Again: a find that is to be made again met a move
 abbrev pub again_holds : List Done → List ℕ → Done → Bool
-again_holds calls order (Moved actor number from to weight first commit last) = true
-again_holds calls order (Switched actor off node number ticket) = true
-again_holds calls order (Found actor from sub node number level weight first last) = true
-again_holds calls order (Off actor from sub node number level weight first last) = true
-again_holds calls order (Again actor from sub why weight first last) =
-    meets_move calls order sub first last
+again_holds calls order call =
+    by_find true
+    (λ find. is_answered find.found || meets_move calls order find.sub find.first find.last) call
 
 -- the weight of a move that isn't confirmed by a ticket: the confirm is the next ticket behind the
 -- commit
@@ -185,13 +176,11 @@ is_light plan homes calls order from sub node weight first last =
 
 -- Weight: a move weighs its distance, and a find that answers is light
 abbrev pub weight_holds : PlanData → List ℕ → List Done → List ℕ → Done → Bool
-weight_holds plan homes calls order (Moved actor number from to weight first commit last) =
+weight_holds plan homes calls order
+    (Moved actor number from to weight first commit last) =
     (setting_of plan homes).distance from to == weight
-weight_holds plan homes calls order (Switched actor off node number ticket) = true
-weight_holds plan homes calls order
-    (Found actor from sub node number level weight first last) =
-    is_light plan homes calls order from sub node weight first last
-weight_holds plan homes calls order
-    (Off actor from sub node number level weight first last) =
-    is_light plan homes calls order from sub node weight first last
-weight_holds plan homes calls order (Again actor from sub why weight first last) = true
+weight_holds plan homes calls order call =
+    by_find true
+    (λ find. if_answered
+    (λ off node number. is_light plan homes calls order find.from find.sub node
+    (found_weight find.found) find.first find.last) find.found) call

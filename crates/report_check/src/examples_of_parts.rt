@@ -41,7 +41,7 @@ pub fn finds_of_off()
         codes "order 0 0 0 0 0 0 1" then codes "end 7" then []) ≡ Sound }
 {}
 
-/// Moves within a find, behind its last visit, and around it, and a subscriber's own home.
+/// Moves within a find, behind its last visit, and around it, and a subscriber's own start.
 pub fn moves_within_finds()
     ensures by_its_last { verdict_for one_move (
         codes "move 0 1 3 2 weight 1 first 1 commit 2 last 3" then
@@ -59,7 +59,7 @@ pub fn moves_within_finds()
         codes "move 0 1 3 2 weight 1 first 0 commit 1 last 4" then
         codes "find 1 2 0 at 2 number 1 level - weight 1 first 3 last 3" then
         codes "order 0 0 0 1 0" then codes "end 5" then []) ≡ Unsound 2 Weight }
-    ensures home_of_its_own { verdict_for second_found (
+    ensures start_of_its_own { verdict_for second_found (
         codes "find 2 3 1 at 0 number 0 level - weight 3 first 0 last 0" then
         codes "order 2" then codes "end 1" then []) ≡ Sound }
 {}

@@ -121,12 +121,12 @@ fn is_told(told: Told, off: bool, place: Place) -> bool
         && (if off { told.is_off } else { !told.is_off })
 }
 
-// The home of a subscriber; there is one where it is known.
-fn home_of(homes: &[u32], sub: u32) -> u32
+// The start node of a subscriber; there is one where it is known.
+fn start_of(homes: &[u32], sub: u32) -> u32
     ensures { result ≡ slice_index homes.now sub }
 {
     match homes.get(sub as usize) {
-        Some(home) => *home,
+        Some(node) => *node,
         None => 0,
     }
 }
@@ -144,7 +144,7 @@ fn place_holds(ground: &Ground<'_>, lines: &LinesByActor<'_>, line: &Line) -> bo
             visits,
             ..
         } => {
-            let told = told_of(lines, home_of(ground.homes, sub), sub, visits.last);
+            let told = told_of(lines, start_of(ground.homes, sub), sub, visits.last);
             is_told(told, off, place)
         }
         _ => true,
@@ -225,7 +225,7 @@ fn is_light(
     if meets_move(lines, order, sub, visits.first, visits.last) {
         return true;
     }
-    let told = told_of(lines, home_of(ground.homes, sub), sub, visits.last);
+    let told = told_of(lines, start_of(ground.homes, sub), sub, visits.last);
     let passage = open_passage(order, sub, visits.last, told);
     let way = distance(ground, from, place.node);
     is_within(visits.weight, ground.stretch, way, passage)

@@ -82,13 +82,13 @@ fn number_after(number: u32, call: Call) -> u32
 fn push_slots(
     slots: &mut Vec<Slot>,
     actor: u32,
-    home: u32,
+    start: u32,
     script: &[Call],
 ) -> Result<(), AllocError>
     requires few { length script.now < 2 ^ 32 - 1 }
-    ensures { OnOk result (slots.new.items ≡ slots.old.items ++ slots_in actor home 0 script.now) }
+    ensures { OnOk result (slots.new.items ≡ slots.old.items ++ slots_in actor start 0 script.now) }
 {
-    let mut place = home;
+    let mut place = start;
     let mut number = 0;
     'calls: for call in script {
         slots.push(slot_of(actor, place, number, *call))?;
@@ -98,12 +98,12 @@ fn push_slots(
     Ok(())
 }
 
-// The home of a subscriber; a caller has none, and gets node 0.
-fn home_of(homes: &[u32], actor: usize) -> u32
+// The start node of a subscriber; a caller has none, and gets node 0.
+fn start_of(homes: &[u32], actor: usize) -> u32
     ensures { result ≡ slice_index homes.now actor }
 {
     match homes.get(actor) {
-        Some(home) => *home,
+        Some(node) => *node,
         None => 0,
     }
 }
@@ -115,8 +115,8 @@ pub(crate) fn slots_of(alloc: Global, input: &Input) -> Result<Vec<Slot>, AllocE
 {
     let mut slots = Vec::new(alloc);
     'actors: for actor in 0..input.scripts.len() {
-        let home = home_of(&input.homes, actor);
-        push_slots(&mut slots, actor as u32, home, &input.scripts[actor])?;
+        let start = start_of(&input.homes, actor);
+        push_slots(&mut slots, actor as u32, start, &input.scripts[actor])?;
     }
     Ok(slots)
 }

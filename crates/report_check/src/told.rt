@@ -78,10 +78,10 @@ fn at_start(node: u32) -> Told
 }
 
 // What some lines tell of a subscriber before a ticket.
-fn told_before(home: u32, calls: &[Line], sub: u32, ticket: u64) -> Told
-    ensures { result ≡ fold (tell sub ticket) (at_start home) (map done_of calls.now) }
+fn told_before(start: u32, calls: &[Line], sub: u32, ticket: u64) -> Told
+    ensures { result ≡ fold (tell sub ticket) (at_start start) (map done_of calls.now) }
 {
-    let mut told = at_start(home);
+    let mut told = at_start(start);
     'lines: for line in calls {
         told = tell(sub, ticket, told, line);
     }
@@ -89,11 +89,11 @@ fn told_before(home: u32, calls: &[Line], sub: u32, ticket: u64) -> Told
 }
 
 // What all lines tell of a subscriber before a ticket, by those among which its own stand.
-pub(crate) fn told_of(lines: &LinesByActor<'_>, home: u32, sub: u32, ticket: u64) -> Told
+pub(crate) fn told_of(lines: &LinesByActor<'_>, start: u32, sub: u32, ticket: u64) -> Told
     requires { AreBlocks lines.now }
-    ensures { result ≡ fold (tell sub ticket) (at_start home) (map done_of lines.now.calls.now) }
+    ensures { result ≡ fold (tell sub ticket) (at_start start) (map done_of lines.now.calls.now) }
 {
-    told_before(home, lines.of_actor(sub), sub, ticket)
+    told_before(start, lines.of_actor(sub), sub, ticket)
 }
 
 // Whether a line is that of a switch with this ticket.

@@ -5,3 +5,4 @@ mod Finishing
 mod Playing
 mod Starting
 mod Turning
+mod Idle

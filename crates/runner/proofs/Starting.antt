@@ -1,6 +1,5 @@
 -- What a worker does before its first visit, and how many visits it makes at most.
-use Rattle.std.proofs.Common.{◌≡◌, inl, inr, ℕ, ◌<◌, ◌≤◌, List, [], length, map, get_or, refl, sym, ap, ◌∙◌, arith}
-use Rattle.std.proofs.lemmas.Bool.{cases_lt}
+use Rattle.std.proofs.Common.{◌≡◌, ℕ, ◌<◌, ◌≤◌, List, [], length, map, get_or, refl, sym, ap, ◌∙◌, arith}
 use Rattle.std.proofs.lemmas.List.{length-map}
 use Rattle.directory.specs.Settings.{Setting, start}
 use Rattle.directory.specs.Courses.{course_at}
@@ -12,16 +11,15 @@ use Rattle.directory.specs.Statements.{CallersKept, MovesAreShort}
 use Rattle.directory.specs.Writes.{visit_of, writes}
 use Rattle.handset.specs.Condition.{GoesWith}
 use Rattle.handset.specs.Stands.{StandsForSteps}
-use Rattle.machine.specs.Stands.{BeginInside, BeginsInside, IsWalking}
+use Rattle.machine.specs.Stands.{BeginInside, IsWalking}
 use Rattle.net_reader.specs.declared.said.Call.{Call}
 use Rattle.net_reader.specs.declared.said.Call.TheVariants as calls
 use Rattle.net_reader.specs.Input.{Contents}
-use Rattle.net_reader.specs.Valid.{IsSearch}
 use Rattle.region_plan.specs.Plan.{PlanData, nodes_of}
 use Rattle.region_plan.specs.Settings.{setting_of}
 use Rattle.scripts.specs.Laws.{ScriptsAreValid}
 use Rattle.scripts.specs.MostLaws.{finds-most, steps-most}
-use Rattle.scripts.specs.ScriptLaws.{IsStep, course-steps, finds-are, steps-are}
+use Rattle.scripts.specs.ScriptLaws.{finds-are, steps-are}
 use Rattle.scripts.specs.Scripts.{find_of, most_in, scripts_of, step_of}
 use Rattle.station.specs.HandsetLaws.{no-steps}
 use Rattle.station.specs.Setup.{Setup, setting_in}
@@ -31,28 +29,13 @@ use Rattle.runner.specs.Roles.{IsFinder, IsMover, IsSetFor, MayStart}
 use Rattle.runner.specs.declared.finder.Finder.{Finder}
 use Rattle.runner.specs.declared.mover.Mover.{Mover}
 use Rattle.runner.proofs.Finding.{looks-origin, room-of, set-setting}
-use Rattle.machine.specs.ScriptVisits.{script-searches}
+use Rattle.machine.specs.ScriptVisits.{script-inside, script-searches}
 
 -- all finds of an actor's script begin at nodes of the plan
-step-inside : (nodes : ℕ) (call : Call) → IsStep call → BeginsInside nodes call
-step-inside nodes (calls.Find from sub) its = absurd its
-step-inside nodes call its = tt
-
-search-inside : (nodes subs : ℕ) (call : Call) → IsSearch nodes subs call → BeginsInside nodes call
-search-inside nodes subs (calls.Find from sub) its = its.0
-search-inside nodes subs call its = tt
-
 pub begin-inside : {input : Contents} {plan : PlanData} {actor : ℕ} {script : List Call} → MayStart input plan actor
     → script ≡ get_or input.scripts actor [] → BeginInside (nodes_of plan) script
-begin-inside {input} {plan} {actor} {script} may same k d low =
-    elim (cases_lt actor (length input.homes)) as (λ _. BeginsInside (nodes_of plan) (get_or script k d)) [
-      | inl sub ↦ step-inside (nodes_of plan) (get_or script k d)
-          (rw same (course-steps input.format input.nodes (get_or input.homes actor 0) _
-          (get_or input.scripts actor []) k d (may.together.valid.courses actor sub)
-          (omega (arith, low, ap length same))))
-      | inr high ↦ search-inside (nodes_of plan) (length input.homes) (get_or script k d)
-          (script-searches plan actor may.together.valid may.together.nodes high may.known same refl k d low)
-    ]
+begin-inside {actor = actor} may same =
+    rw (same, may.together.nodes) (script-inside actor may.together.valid may.known)
 
 -- a new subscriber's part
 pub mover-at : ScriptsAreValid → MovesAreShort → {input : Contents} {plan : PlanData} {actor visits : ℕ} (mover : Mover)

@@ -33,7 +33,7 @@ pub struct Mover {
 }
 
 impl Mover {
-    // A subscriber at its home, before its first step.
+    // A subscriber at its start, before its first step.
     pub fn new(
         alloc: Global,
         script: &[Call],

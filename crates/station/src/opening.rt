@@ -13,7 +13,7 @@ use region_plan::Plan;
 use std::alloc::Global;
 use visit_log::{PlainCells, cell_numbers};
 
-// All words: nobody has visited, no node is entered, and each subscriber is at its home.
+// All words: nobody has visited, no node is entered, and each subscriber is at its start.
 pub fn opening_words(alloc: Global, plan: &Plan, homes: &[u32]) -> Result<Vec<u64>, OutOfMemory>
     requires some { 1 ≤ length homes.now }
     requires few { length homes.now ≤ 64 }

@@ -37,13 +37,13 @@ near_line : (limit : ℕ → ℕ → ℕ) (setting : Setting) (history : History
     → line ≡ found_line actor call found (first_of seen) (last_of seen) → IsLineWithin limit setting history line
 near_line limit setting history within actor call (At node n level weight) seen line is legal find tells =
     subst (IsLineWithin limit setting history) (sym tells)
-    (λ quiet. (within actor call (At node n level weight) seen is.inside legal find quiet).1)
+    (within actor call (At node n level weight) seen is.inside legal find)
 near_line limit setting history within actor call (OffAt node n level weight) seen line is legal find tells =
     subst (IsLineWithin limit setting history) (sym tells)
-    (λ quiet. (within actor call (OffAt node n level weight) seen is.inside legal find quiet).1)
+    (within actor call (OffAt node n level weight) seen is.inside legal find)
 near_line limit setting history within actor call (Again why weight) seen line is legal find tells =
     subst (IsLineWithin limit setting history) (sym tells)
-    (λ quiet. (within actor call (Again why weight) seen is.inside legal find quiet).0)
+    (within actor call (Again why weight) seen is.inside legal find)
 
 find_near : (limit : ℕ → ℕ → ℕ) (setting : Setting) (scripts : Scripts) (history : History)
     → FindsAreWithin limit setting history → AreValid setting scripts

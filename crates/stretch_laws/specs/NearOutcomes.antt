@@ -3,20 +3,22 @@
 -- distance and the open passage, both told at its last visit.
 -- Key laws: `outcomes_are_near`, `plan_outcomes_are_near` (so it is for every order of valid
 -- scripts).
-use Rattle.std.specs.Prelude.{ℕ, ◌+◌, ◌*◌, ◌≤◌, ◌^◌, All, List}
+use Rattle.std.specs.Prelude.{ℕ, ◌+◌, ◌*◌, ◌≤◌, ◌^◌, All, IfSome, List}
 use Rattle.directory.specs.Settings.{Setting}
+use Rattle.directory.specs.CallLines.{find_of}
+use Rattle.directory.specs.Finds.{found_weight}
 use Rattle.directory.specs.Histories.{History, through}
 use Rattle.directory.specs.Looks.{IsQuiet}
 use Rattle.directory.specs.Standing.{passage, standing}
 use Rattle.directory.specs.Orders.{AreValid, history_of, Scripts}
 use Rattle.directory.specs.Outcomes.{outcome_of}
 use Rattle.directory.specs.declared.answers.Done.{Done}
-use Rattle.directory.specs.declared.answers.Done.TheVariants.{Moved, Switched, Found as FoundBy, Off as OffBy, Again as AgainBy}
 use Rattle.region_plan.specs.Matched.{BoundsFinds}
 use Rattle.region_plan.specs.Plan.{nodes_of, PlanData}
 use Rattle.region_plan.specs.Settings.{setting_of}
 use Rattle.stretch_laws.specs.Plans.{bound_of}
 use Rattle.stretch_laws.specs.Tracking.{IsTracking, stretch}
+use Rattle.trail_laws.specs.Rightness.{IsAnswered}
 
 -- a weight is within the limit on the distance to where a subscriber stands and on the passage that
 -- is open, after a history
@@ -25,19 +27,13 @@ IsLimited limit setting from sub weight history =
     weight ≤ limit (setting.distance from (standing setting sub history))
     (passage setting sub history)
 
--- what a line says of its find is within the limit, where the find was quiet; and a find that is
--- to be made again wasn't quiet
+-- where the find of a line was quiet, it has its answer, and its weight is within the limit
 abbrev pub IsLineWithin : (ℕ → ℕ → ℕ) → Setting → History → Done → Type 0
-IsLineWithin limit setting history (Moved actor n from to weight first commit last) = Unit {0}
-IsLineWithin limit setting history (Switched actor is_off node n ticket) = Unit {0}
-IsLineWithin limit setting history (FoundBy actor from sub node n level weight first last) =
-    IsQuiet history sub first last
-    → IsLimited limit setting from sub weight (through last history)
-IsLineWithin limit setting history (OffBy actor from sub node n level weight first last) =
-    IsQuiet history sub first last
-    → IsLimited limit setting from sub weight (through last history)
-IsLineWithin limit setting history (AgainBy actor from sub why weight first last) =
-    IsQuiet history sub first last → ⊥
+IsLineWithin limit setting history line =
+    IfSome (find_of line)
+    (λ find. IsQuiet history find.sub find.first find.last → IsAnswered find.found
+    × IsLimited limit setting find.from find.sub (found_weight find.found)
+    (through find.last history))
 
 -- so are the lines of every order of valid scripts, with the stretch (`outcomes_are_near`)
 abbrev pub OutcomesAreNear : Type 0

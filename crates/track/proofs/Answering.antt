@@ -1,7 +1,7 @@
 -- A graph's plan is the plan of the edges that it was made of.
-use Rattle.std.proofs.Common.{◌≡◌, ℕ, ◌<◌, ◌≤◌, List, Err, subst, arith}
+use Rattle.std.proofs.Common.{◌≡◌, ℕ, ◌<◌, ◌≤◌, List, Err, subst}
 use Rattle.net_graph.specs.declared.edge.Edge.{Edge}
-use Rattle.net_graph.specs.Network.{Network, IsFirstApart, IsGraphOf, IsNetwork}
+use Rattle.net_graph.specs.Network.{Network, IsFirstApart, IsGraphOf}
 use Rattle.net_graph.specs.Walks.{IsReached, everywhere}
 use Rattle.net_reader.specs.Input.{Contents}
 use Rattle.net_reader.specs.Reading.{IsReadWithGraph}
@@ -15,22 +15,11 @@ use Rattle.region_plan.specs.Meanings.{CoveredPlansMean, PlansMean}
 use Rattle.region_plan.specs.Plan.{nodes_of}
 use Rattle.region_plan.specs.Regions.{covered_plan, plan_of}
 use Rattle.region_plan.specs.declared.covering.Covering.{Covering}
-use Rattle.track.specs.Results.{IsInputText, IsJudged, IsRefused, network_of, plan_for}
+use Rattle.track.specs.Results.{IsInputText, IsJudged, IsRefused}
 use Rattle.track.specs.declared.status.Status.{Status}
-use Rattle.net_reader.specs.LineLaws.{most_nodes-within}
+use Rattle.report_check.specs.Inputs.{network-valid, network_of, plan_for}
 
 -- ---- the plan of the input's network
-
--- the network of a valid input is one within the limits
-pub network-valid : {contents : Contents} → IsValid contents → IsNetwork (network_of contents)
-network-valid {contents} valid = record {
-  limits = record {
-    positive = valid.some;
-    few = omega (arith, valid.few, most_nodes-within contents.format);
-    edges = valid.edges;
-  };
-  connected = valid.connected;
-}
 
 -- it has as many nodes as the input
 pub plan-nodes : PlansMean → {contents : Contents} → IsValid contents → nodes_of (plan_for contents) ≡ contents.nodes

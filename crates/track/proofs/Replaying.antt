@@ -25,7 +25,7 @@ use Rattle.census_text.specs.TextLaws.{texts-same}
 use Rattle.report_text.specs.ReportText.{report_of}
 use Rattle.own_reports.specs.Reports.{OwnReportsAreSound}
 use Rattle.report_check.specs.declared.verdict.Verdict.TheVariants.{Sound}
-use Rattle.track.specs.Results.{IsCensusText, IsReportOver, history_for, in_order, outcome_for, outcome_over, plan_for, setting_for, verdict_for, plan_setting}
+use Rattle.track.specs.Results.{IsCensusText, IsReportOver, history_for, in_order, outcome_for, outcome_over, setting_for, verdict_for, plan_setting}
 use Rattle.track.proofs.Answering.{plan-nodes}
 use Rattle.scripts.specs.Laws.{ScriptsAreValid}
 use Rattle.scripts.specs.ScriptLaws.{few-nodes}
@@ -37,6 +37,7 @@ use Rattle.region_plan.specs.Settings.{setting_of}
 use Rattle.machine.specs.declared.machine.Machine.{Machine}
 use Rattle.machine.specs.Machines.{IsSame, HasHistory, scripts_at, setting_at}
 use Rattle.machine.specs.RestLaws.{of_same}
+use Rattle.report_check.specs.Inputs.{plan_for}
 
 -- the checker finds no flaw in the report of a valid input, under whatever order
 pub sound-text : OwnReportsAreSound → {contents : Contents} (order : List ℕ) {text : List ℕ} → IsValid contents

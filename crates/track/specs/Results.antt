@@ -6,7 +6,6 @@
 -- reads nothing: a made input, or the summary of its replay. Key laws: `bytes_have_one_text`,
 -- `runs_are_replayed` (a replay under the order that a run printed writes the same).
 use Rattle.std.specs.Prelude.{◌≡◌, ◌⊎◌, ℕ, ◌+◌, ◌-◌, ◌*◌, ◌++◌, ◌∷◌, [], Bool, true, false, All, List, Option, Some, None, Result, Ok, Err, ◌<◌, codes, length}
-use Rattle.net_graph.specs.Network.{Network}
 use Rattle.net_reader.specs.declared.fault.InputFault.{InputFault}
 use Rattle.net_reader.specs.declared.fault.ReadRefusal.{ReadRefusal}
 use Rattle.net_reader.specs.declared.fault.ReadRefusal.TheVariants as refusals
@@ -24,7 +23,7 @@ use Rattle.stretch_laws.specs.Plans.{bound_of}
 use Rattle.stretch_laws.specs.NearOutcomes.{IsLineWithin}
 use Rattle.scripts.specs.Scripts.{scripts_of}
 use Rattle.region_plan.specs.Matched.{BoundsFinds, HasSmallSum}
-use Rattle.region_plan.specs.Regions.{mean_plan, plan_of}
+use Rattle.region_plan.specs.Regions.{mean_plan}
 use Rattle.census_text.specs.CensusText.{census_text_of}
 use Rattle.make_load.specs.Load.{IsLoad, load_contents, load_text_of}
 use Rattle.report_text.specs.SummaryText.{summary_of}
@@ -41,6 +40,7 @@ use Rattle.report_check.specs.declared.verdict.Verdict.{Verdict}
 use Rattle.report_check.specs.declared.verdict.Verdict.TheVariants as verdicts
 use Rattle.report_check.specs.declared.verdict.Verdict.TheVariants.{Sound}
 use Rattle.report_check.specs.Cuts.{input_part, report_part}
+use Rattle.report_check.specs.Inputs.{network_of, plan_for}
 use Rattle.report_check.specs.Verdicts.{verdict_of}
 use Rattle.report_check.specs.VerdictText.{verdict_line_of}
 use Rattle.word_line.specs.declared.command.Command.{Command}
@@ -48,15 +48,7 @@ use Rattle.word_line.specs.declared.command.Command.TheVariants.{Cover, Replay, 
 use Rattle.track.specs.declared.status.Status.{Status}
 use Rattle.track.specs.declared.status.Status.TheVariants.{Done, Refused, Unsound}
 
--- the network of an input
-abbrev pub network_of : Contents → Network
-network_of contents = record { nodes = contents.nodes; edges = contents.edges }
-
--- the plan of an input's network, with its k
-abbrev pub plan_for : Contents → PlanData
-plan_for contents = plan_of (network_of contents) contents.k
-
--- its plan over mean covers, with its k
+-- the plan of an input's network over mean covers, with its k
 abbrev pub mean_plan_for : Contents → PlanData
 mean_plan_for contents = mean_plan (network_of contents) contents.k
 

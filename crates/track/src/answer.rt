@@ -15,7 +15,8 @@ ghost use Rattle.region_plan.specs.Coverings.{trade_off_of};
 ghost use Rattle.region_plan.specs.Regions.{covered_plan};
 ghost use Rattle.report_text.specs.PlanText.{plan_text_of};
 ghost use Rattle.track.specs.Results.{IsInputText, IsMeanPlanText, IsReport, IsReportOver, IsResult};
-ghost use Rattle.track.specs.Results.{IsRefused, IsRightAnswer, is_made_alike, network_of};
+ghost use Rattle.track.specs.Results.{IsRefused, IsRightAnswer, is_made_alike};
+ghost use Rattle.report_check.specs.Inputs.{network_of};
 ghost use Rattle.track.specs.Results.{outcome_for, outcome_over};
 
 use crate::census::census;

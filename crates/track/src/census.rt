@@ -14,7 +14,7 @@ use scripts::scripts_are_valid;
 use std::alloc::{AllocError, Global};
 use trail_laws::censuses_are_right;
 
-// Where a subscriber is after its script, from its home on: nowhere while it is off.
+// Where a subscriber is after its script, from its start on: nowhere while it is off.
 fn last_place(home: u32, script: &[Call]) -> Option<u32>
     ensures { result ≡ node_if_on (place_at_end home (map step_of script.now)) }
 {

@@ -14,8 +14,9 @@ ghost use Rattle.stretch_laws.specs.Plans.{bound_of};
 ghost use Rattle.trail_laws.specs.Censuses.{IsCounted, who_ends_at};
 ghost use Rattle.trail_laws.specs.RightOutcomes.{IsRightLine, TellInTurn, TellRisingNumbers};
 ghost use Rattle.track.specs.Laws.{BytesHaveOneText, IsComplete, IsCompleteAlone, RunsAreReplayed};
+ghost use Rattle.report_check.specs.Inputs.{plan_for};
 ghost use Rattle.track.specs.Results.{IsCensusText, IsCostText, IsMeanPlanText, IsReport, IsReportJson, IsRunReport};
-ghost use Rattle.track.specs.Results.{history_for, mean_plan_for, outcome_for, plan_for, setting_for, verdict_for};
+ghost use Rattle.track.specs.Results.{history_for, mean_plan_for, outcome_for, setting_for, verdict_for};
 
 use json_form::one_text;
 use net_reader::text_says_one;

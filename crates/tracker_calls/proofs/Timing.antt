@@ -5,12 +5,12 @@ use Rattle.std.proofs.lemmas.List.{get_or_append_left, get_or_push}
 use Rattle.std.proofs.lemmas.Bool.Decides.{nat_tests}
 use Rattle.directory.specs.Courses.{Move}
 use Rattle.directory.specs.Settings.{Setting}
+use Rattle.directory.specs.Writes.{commit_place}
 use Rattle.handset.specs.Beginning.{begin_move, is_rest, journey_to}
 use Rattle.handset.specs.Condition.{HandsetData, IsMoveStage}
 use Rattle.handset.specs.StepWrites.{after_write, erasing_at, first_with, go_on, is_behind, purging_at}
 use Rattle.handset.specs.declared.stage.Stage.{Stage}
 use Rattle.handset.specs.declared.stage.Stage.TheVariants.{Resting, Coming, Renewing, Committing, Confirming, Erasing, Purging, Switching}
-use Rattle.tracker_calls.specs.WholeMoves.{commit_place}
 
 -- whether a move is under way that isn't committed, and how many puts of it are then made
 abbrev pub is_early : Stage → Bool

@@ -3,10 +3,10 @@
 use Rattle.std.specs.Prelude.{◌≡◌, ℕ, zero, suc, ◌<◌, ◌≤◌, List, [], ◌∷◌, ◌++◌, length, map, slice_index, Some, None}
 use Rattle.entry_word.specs.declared.visit.Visit.{Visit}
 use Rattle.directory.specs.Settings.{Setting}
-use Rattle.directory.specs.Courses.{Move, Step, move_to}
+use Rattle.directory.specs.Courses.{Step, move_to}
 use Rattle.directory.specs.Histories.{own, puts_to}
 use Rattle.directory.specs.Looks.{first_of, last_of}
-use Rattle.directory.specs.Writes.{most_writes, step_writes, visit_of}
+use Rattle.directory.specs.Writes.{commit_place, most_writes, step_writes, visit_of}
 use Rattle.handset.specs.Beginning.{begin_move, journey_to, move_fault}
 use Rattle.handset.specs.Condition.{HandsetData}
 use Rattle.handset.specs.StepWrites.{after_write, due}
@@ -45,10 +45,6 @@ IsMoveToFault plan pass handset to (Unreserved need) =
 abbrev pub puts_of_move : Setting → ℕ → List Step → ℕ → List Visit
 puts_of_move setting sub steps to =
     map (visit_of sub) (step_writes setting (course_of setting sub steps) (move_to to))
-
--- the commit of a move comes after the mark at the new node and the new addresses
-abbrev pub commit_place : Move → ℕ
-commit_place move = suc (suc move.renewed)
 
 -- a handset after so many of the writes that it has left
 unfoldable pub after_writes : Setting → HandsetData → ℕ → HandsetData

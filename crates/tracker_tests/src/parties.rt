@@ -29,7 +29,8 @@ pub enum Task {
     SwitchOff,
 }
 
-// A tracker of a subscriber at this home, and its parties; each pass has room for so many visits.
+// A tracker of a subscriber that starts at this node, and its parties; each pass has room for so
+// many visits.
 pub fn open(
     alloc: Global,
     plan: &Plan,

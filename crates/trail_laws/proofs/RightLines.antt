@@ -13,7 +13,7 @@ use Rattle.directory.specs.Orders.{AreValid, IsFindCall, Scripts, history_of}
 use Rattle.directory.specs.Outcomes.{IsMade, found_line, outcome_of}
 use Rattle.directory.specs.Statements.{LinesAreMade, OrdersAreDone, OrdersArePlayed, PlayedIsLegal}
 use Rattle.directory.specs.declared.answers.Done.{Done}
-use Rattle.directory.specs.declared.answers.Done.TheVariants.{Found as FoundBy, Off as OffBy}
+use Rattle.directory.specs.declared.answers.Done.TheVariants.{Found as FoundBy, Off as OffBy, Again as AgainBy}
 use Rattle.directory.specs.declared.answers.Found.{Found}
 use Rattle.directory.specs.declared.answers.Found.TheVariants.{Again}
 use Rattle.trail_laws.specs.Rightness.{AgainHasItsCause, AnswersAreRight, HasNumber, NumbersNeverFall, ReadsTop}
@@ -64,6 +64,7 @@ numbered {setting} {scripts} history valid (FoundBy actor from sub node n level 
     grind (arith, call_of_valid)
 numbered {setting} {scripts} history valid (OffBy actor from sub node n level weight first last) s p ticket h told =
     grind (arith, call_of_valid)
+numbered history valid (AgainBy actor from sub why weight first last) s p ticket h told = absurd told.1
 numbered history valid line s p ticket h told = absurd told
 
 at_place : {A : Type 0} (P : A → Type 0) (xs : List A) (i : ℕ) (x : A) → All P xs → slice_get xs i ≡ Some x → P x

@@ -3,7 +3,7 @@
 -- a visit of a move of its subscriber within it. Key laws: `outcomes_are_right` (so it is for every
 -- order of valid scripts), `lines_are_in_turn` (each of a caller's lines begins behind the one
 -- before).
-use Rattle.std.specs.Prelude.{◌≡◌, ℕ, ◌<◌, ◌≤◌, ◌^◌, true, All, IfSome, List, Some, slice_get}
+use Rattle.std.specs.Prelude.{◌≡◌, ℕ, ◌<◌, ◌≤◌, ◌^◌, true, All, IfSome, IsSomeAnd, List, Some, slice_get}
 use Rattle.directory.specs.Settings.{Setting}
 use Rattle.directory.specs.Histories.{History}
 use Rattle.directory.specs.Looks.{moves_at}
@@ -14,8 +14,7 @@ use Rattle.directory.specs.declared.answers.FindLine.{FindLine}
 use Rattle.directory.specs.declared.answers.Found.{Found}
 use Rattle.directory.specs.declared.answers.Found.TheVariants.{At, Off as OffAt, Again}
 use Rattle.directory.specs.declared.answers.Done.{Done}
-use Rattle.directory.specs.declared.answers.Done.TheVariants.{Moved, Switched, Found as FoundBy, Off as OffBy, Again as AgainBy}
-use Rattle.trail_laws.specs.Rightness.{IsRight, ReadsTop}
+use Rattle.trail_laws.specs.Rightness.{HasNumber, IsRight, ReadsTop}
 
 -- what was answered to a find with this first visit and this last is right: an answer at the last
 -- visit; and where the find is to be made again, a visit of a move of its subscriber fell within it
@@ -43,13 +42,9 @@ OutcomesAreRight =
 
 -- a line tells a number of a subscriber, at a ticket: that of its find's last visit
 abbrev pub TellsNumber : Done → ℕ → ℕ → ℕ → Type 0
-TellsNumber (Moved actor n from to weight first commit last) s q ticket = ⊥
-TellsNumber (Switched actor is_off node n at) s q ticket = ⊥
-TellsNumber (FoundBy actor from sub node n level weight first last) s q ticket =
-    (sub ≡ s) × (n ≡ q) × (last ≡ ticket)
-TellsNumber (OffBy actor from sub node n level weight first last) s q ticket =
-    (sub ≡ s) × (n ≡ q) × (last ≡ ticket)
-TellsNumber (AgainBy actor from sub why weight first last) s q ticket = ⊥
+TellsNumber line s q ticket =
+    IsSomeAnd (find_of line)
+    (λ find. (find.sub ≡ s) × HasNumber find.found q × (find.last ≡ ticket))
 
 -- of two lines that tell a number of a subscriber, whoever looked for it, the one with the later
 -- last visit tells no lower number

@@ -40,7 +40,7 @@ impl Model for PlainCells {
 }
 
 impl PlainCells {
-    /// The cells at the opening, of subscribers that start at these homes.
+    /// The cells at the opening, of subscribers that start at these nodes.
     pub fn new(alloc: Global, plan: &Plan, homes: &[u32]) -> Result<PlainCells, AllocError>
         requires some { 1 ≤ length homes.now }
         requires few { length homes.now ≤ 64 }

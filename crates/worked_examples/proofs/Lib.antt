@@ -3,3 +3,4 @@ mod Looks
 mod Held
 mod Named
 mod Square
+mod Unlike

@@ -14,9 +14,9 @@ pub returns-clause-met_behind : goal.returns-clause-met_behind
 unfolding judged
 returns-clause-met_behind c = refl
 
-pub returns-clause-home_of_its_own : goal.returns-clause-home_of_its_own
+pub returns-clause-start_of_its_own : goal.returns-clause-start_of_its_own
 unfolding judged
-returns-clause-home_of_its_own c = refl
+returns-clause-start_of_its_own c = refl
 
 pub returns-clause-confirmed : goal.returns-clause-confirmed
 unfolding judged

@@ -11,7 +11,8 @@ returns c = λ plan is.
     let homes = c.args.ground.now.homes.now in
     let weight = c.args.visits.weight in
     let told : c.told_of-told.result ≡ told_before homes calls c.args.sub c.args.visits.last =
-    c.told_of-told.ensures ∙ ap (λ h. fold (tell c.args.sub c.args.visits.last) (at_start h) calls) c.home_of.ensures in
+    c.told_of-told.ensures
+    ∙ ap (λ h. fold (tell c.args.sub c.args.visits.last) (at_start h) calls) c.start_of.ensures in
     let passage : c.open_passage-passage.result
     ≡ open_passage c.args.order.now c.args.sub c.args.visits.last
     (told_before homes calls c.args.sub c.args.visits.last)

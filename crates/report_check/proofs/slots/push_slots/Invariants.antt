@@ -7,5 +7,5 @@ invariant-calls l =
     record {
       few : l.number ≤ l.call-index;
       same : l.slots.items ++ slots_in l.actor l.place l.number (drop l.call-index l.script)
-          ≡ l.fn.slots.items ++ slots_in l.actor l.home 0 l.script;
+          ≡ l.fn.slots.items ++ slots_in l.actor l.start 0 l.script;
     }

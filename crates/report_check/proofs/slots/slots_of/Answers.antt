@@ -21,8 +21,8 @@ actors-preserved c =
     get_or-map (λ s. s.items) c.args.input.now.scripts.items c.actors.actor c.index.result.now []
     (omega (arith, c.actors-test.true, c.len-actor-end.ensures))
     ∙ ap (λ s. s.items) (sym c.index.ensures) ∙ sym c.deref-in-actors.ensures.value in
-    let home : c.home_of-home.result ≡ get_or c.args.input.now.homes.items c.actors.actor 0 =
-    c.home_of-home.ensures ∙ ap (λ homes. get_or homes c.actors.actor 0) c.deref.ensures.value in
+    let home : c.start_of-start.result ≡ get_or c.args.input.now.homes.items c.actors.actor 0 =
+    c.start_of-start.ensures ∙ ap (λ homes. get_or homes c.actors.actor 0) c.deref.ensures.value in
     scripts-step c.args.input.now.homes.items _ c.actors.actor (seen_input c.args.input.now).scripts (omega (
       arith,
       c.actors-test.true,

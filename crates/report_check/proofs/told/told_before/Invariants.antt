@@ -7,5 +7,5 @@ abbrev pub invariant-lines : goal.invariant-lines
 invariant-lines l = record {
   few : l.told.number ≤ l.line-index;
   same : fold (tell l.sub l.ticket) l.told (map done_of (drop l.line-index l.calls))
-      ≡ fold (tell l.sub l.ticket) (at_start l.home) (map done_of l.calls);
+      ≡ fold (tell l.sub l.ticket) (at_start l.start) (map done_of l.calls);
 }

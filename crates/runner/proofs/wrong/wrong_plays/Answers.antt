@@ -1,7 +1,7 @@
 use Rattle.std.proofs.Common.{◌≡◌, ℕ, suc, ◌+◌, List, [], ◌∷◌, ◌++◌, Some, None, Option, cond, eq-eqb, length, map, take, drop, refl, sym, ap, ◌∙◌, subst, arith, length-append}
 use Rattle.std.proofs.lemmas.List.{append-nil, append_cancel_left}
 use Rattle.std.proofs.lemmas.List.Elements.{All-head}
-use Rattle.directory.specs.Histories.{History, IsFront, own, words_after}
+use Rattle.directory.specs.Histories.{History, IsFront, own}
 use Rattle.directory.specs.Keys.{act_node}
 use Rattle.directory.specs.Orders.{next}
 use Rattle.directory.specs.Settings.{Setting}
@@ -16,11 +16,12 @@ use Rattle.station.specs.Views.{turn_at}
 use Rattle.station.specs.declared.view.NodeTurn.{NodeTurn}
 use Rattle.station.specs.declared.view.TurnEvent.{TurnEvent}
 use Rattle.station.specs.declared.view.TurnEvent.TheVariants.{GivenBack, Lost, Won}
-use Rattle.runner.specs.Examples.{HasSeen, count_by, idle_input, line_setup, moving_input, moving_visits, switching_input}
+use Rattle.runner.specs.Examples.{HasSeen, count_by, line_setup, moving_input, moving_visits, switching_input}
 use Rattle.runner.specs.Playing.{next_of}
 use Rattle.runner.specs.Workers.{AreLostBefore, HasGoneOn, HaveTurns}
 use Rattle.runner.specs.declared.worker.Worker.{Worker}
 use Rattle.runner.proofs.Turning.{turns-mine}
+use Rattle.runner.proofs.Idle.{idle-next}
 use Rattle.runner.proofs.wrong.wrong_plays.Goals as goal
 
 lost_more : {input : Contents} {tracker : TrackerData} {old new : Worker} {held : ℕ}
@@ -148,11 +149,7 @@ lost_turns : {input : Contents} {tracker : TrackerData} {old new : Worker} {held
 lost_turns gone before after =
     sym (gone.logged.lost ∙ ap (λ ts. ts ++ lost_in gone.events) before) ∙ after
 
-idle-next : next (setting_in line_setup) (scripts_of idle_input) [] 1 ≡ None
-unfolding words_after
-idle-next = refl
-
--- the first visit of the subscriber that is switched off is at its home
+-- the first visit of the subscriber that is switched off is where it starts
 off-next : (visit : Visit) × (next (setting_in line_setup) (scripts_of switching_input) [] 0 ≡ Some visit)
     × (act_node (setting_in line_setup) visit.act ≡ 3)
 unfolding writes

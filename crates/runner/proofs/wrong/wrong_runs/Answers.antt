@@ -1,7 +1,7 @@
-use Rattle.std.proofs.Common.{◌≡◌, ◌≤◌, ℕ, List, [], ◌∷◌, None, refl, sym, ap, ◌∙◌, subst, arith}
+use Rattle.std.proofs.Common.{◌≡◌, ◌≤◌, ℕ, List, [], ◌∷◌, refl, sym, ap, ◌∙◌, subst, arith}
 use Rattle.std.specs.Prelude.{slice_index}
 use Rattle.directory.specs.Histories.{History, IsFront, own, words_after}
-use Rattle.directory.specs.Orders.{IsPlayed, next}
+use Rattle.directory.specs.Orders.{IsPlayed}
 use Rattle.directory.specs.Outcomes.{Outcome, outcome_of, step_lines}
 use Rattle.directory.specs.Writes.{writes}
 use Rattle.directory.specs.declared.answers.Done.{Done}
@@ -12,6 +12,7 @@ use Rattle.station.specs.declared.view.View.{View}
 use Rattle.runner.specs.Examples.{count_by, idle_input, line_setup, switching_input}
 use Rattle.runner.specs.Roles.{HasBegunNone}
 use Rattle.runner.specs.Runs.{actors_of}
+use Rattle.runner.proofs.Idle.{idle-next}
 use Rattle.runner.proofs.wrong.wrong_runs.Goals as goal
 
 some-no : (visit : Visit) → ◌≡◌ {A = List Visit} (visit ∷ []) [] → ⊥
@@ -73,10 +74,6 @@ returns-clause-stranger c = λ input setup worker outcome run one.
     let mine : own 1 run.history ≡ count_by 1 ∷ [] = ap (λ (h : History). own 1 h) one in
     let at : 1 ≤ 1 = omega arith in
     some-no (count_by 1) (sym mine ∙ run.known 1 at)
-
-idle-next : next (setting_in line_setup) (scripts_of idle_input) [] 1 ≡ None
-unfolding words_after
-idle-next = refl
 
 pub returns-clause-unplayed : goal.returns-clause-unplayed
 returns-clause-unplayed c = λ workers outcome run one.

@@ -1,7 +1,7 @@
-use Rattle.std.proofs.Common.{◌≡◌, ℕ, [], ◌∷◌, None, length, refl, sym, ap, ◌∙◌, arith}
+use Rattle.std.proofs.Common.{◌≡◌, ℕ, [], ◌∷◌, length, refl, sym, ap, ◌∙◌, arith}
 use Rattle.std.specs.Prelude.{slice_index_or}
-use Rattle.directory.specs.Histories.{History, own, words_after}
-use Rattle.directory.specs.Orders.{next, script_visits}
+use Rattle.directory.specs.Histories.{History, own}
+use Rattle.directory.specs.Orders.{script_visits}
 use Rattle.directory.specs.Writes.{writes}
 use Rattle.scripts.specs.Scripts.{scripts_of}
 use Rattle.station.specs.Passes.{actor_of}
@@ -12,6 +12,7 @@ use Rattle.runner.specs.Playing.{IsPlayedBy}
 use Rattle.runner.specs.Roles.{IsRole}
 use Rattle.runner.specs.declared.role.Role.{Role}
 use Rattle.runner.specs.declared.role.Role.TheVariants as roles
+use Rattle.runner.proofs.Idle.{idle-next}
 use Rattle.runner.proofs.wrong.wrong_workers.Goals as goal
 
 pub returns-clause-inside : goal.returns-clause-inside
@@ -19,10 +20,6 @@ returns-clause-inside c = λ input tracker worker its at. cc (sym its.outside �
 
 pub returns-clause-unknown : goal.returns-clause-unknown
 returns-clause-unknown c = λ tracker worker seen its. omega (arith, its.known, seen.low)
-
-idle-next : next (setting_in line_setup) (scripts_of idle_input) [] 1 ≡ None
-unfolding words_after
-idle-next = refl
 
 pub returns-clause-unplayed : goal.returns-clause-unplayed
 returns-clause-unplayed c = λ tracker worker set seen its.

@@ -3,9 +3,8 @@ use Rattle.std.proofs.lemmas.Result.{IfOk-weaker}
 use Rattle.net_reader.specs.Seen.{seen_input}
 use Rattle.region_plan.specs.declared.covering.Covering.TheVariants.{Mean}
 use Rattle.report_text.specs.PlanText.{plan_text_of}
-use Rattle.track.specs.Results.{network_of}
-use Rattle.track.proofs.Answering.{network-valid}
 use Rattle.track.proofs.answer.mean_cover.Goals as goal
+use Rattle.report_check.specs.Inputs.{network-valid, network_of}
 
 pub returns : goal.returns
 returns c =

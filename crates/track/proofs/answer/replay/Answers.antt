@@ -8,10 +8,11 @@ use Rattle.region_plan.specs.Matched.{BoundsFinds}
 use Rattle.region_plan.specs.Plan.{PlanData}
 use Rattle.region_plan.specs.Coverings.{trade_off_of}
 use Rattle.region_plan.specs.Regions.{covered_plan}
-use Rattle.track.specs.Results.{network_of, outcome_over}
+use Rattle.track.specs.Results.{outcome_over}
 use Rattle.track.proofs.Answering.{covered-nodes, covered_of_graph}
 use Rattle.track.proofs.Replaying.{report-says}
 use Rattle.track.proofs.answer.replay.Goals as goal
+use Rattle.report_check.specs.Inputs.{network_of}
 
 pub returns : goal.returns
 returns c =

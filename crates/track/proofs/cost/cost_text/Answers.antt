@@ -7,9 +7,10 @@ use Rattle.region_plan.specs.Settings.{setting_of}
 use Rattle.scripts.specs.Scripts.{scripts_of}
 use Rattle.move_cost.specs.Costs.{cost_lines}
 use Rattle.move_cost.specs.CostText.{costs_text_of}
-use Rattle.track.specs.Results.{network_of, plan_for, setting_for}
-use Rattle.track.proofs.Answering.{network-valid, plan-nodes, plan_of_graph}
+use Rattle.track.specs.Results.{setting_for}
+use Rattle.track.proofs.Answering.{plan-nodes, plan_of_graph}
 use Rattle.track.proofs.cost.cost_text.Goals as goal
+use Rattle.report_check.specs.Inputs.{network-valid, network_of, plan_for}
 
 pub returns : goal.returns
 returns c =

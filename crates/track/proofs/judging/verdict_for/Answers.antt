@@ -3,9 +3,9 @@ use Rattle.std.proofs.lemmas.Result.{IfOk-weaker}
 use Rattle.net_reader.specs.Seen.{seen_input}
 use Rattle.region_plan.specs.Plan.{PlanData}
 use Rattle.report_check.specs.Verdicts.{verdict_of}
-use Rattle.track.specs.Results.{plan_for}
 use Rattle.track.proofs.Answering.{plan_of_graph}
 use Rattle.track.proofs.judging.verdict_for.Goals as goal
+use Rattle.report_check.specs.Inputs.{plan_for}
 
 pub returns : goal.returns
 returns c =

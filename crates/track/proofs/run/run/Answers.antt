@@ -8,10 +8,11 @@ use Rattle.report_text.specs.ReportText.{report_of}
 use Rattle.runner.specs.Runs.{IsOutcomeOfRun}
 use Rattle.scripts.specs.Scripts.{scripts_of}
 use Rattle.trail_laws.specs.RightOutcomes.{TellInTurn}
-use Rattle.track.specs.Results.{in_order, outcome_for, plan_for, setting_for}
+use Rattle.track.specs.Results.{in_order, outcome_for, setting_for}
 use Rattle.track.proofs.Answering.{plan-nodes, plan_of_graph}
 use Rattle.track.proofs.Replaying.{report-says, sound-text}
 use Rattle.track.proofs.run.run.Goals as goal
+use Rattle.report_check.specs.Inputs.{plan_for}
 
 pub returns : goal.returns
 returns g c =

@@ -2,14 +2,12 @@ use Rattle.std.proofs.Common.{◌≡◌, ℕ, List, [], ◌∷◌, map, ap, subs
 use Rattle.std.specs.Prelude.{slice_index}
 use Rattle.entry_word.specs.declared.visit.Visit.{Visit}
 use Rattle.directory.specs.Histories.{History, IsFront, own}
+use Rattle.worked_examples.proofs.Unlike.{cons-no}
 use Rattle.worked_examples.proofs.closing.wrong_orders.Goals as goal
 
 -- the actors of a history
 abbrev actors : History → List ℕ
 actors history = map (λ (visit : Visit). visit.actor) history
-
-some-no : {A : Type 0} (x : A) (xs : List A) → ◌≡◌ {A = List A} (x ∷ xs) [] → ⊥
-some-no x xs e = cc
 
 more-no : (x y z : ℕ) (xs : List ℕ) → ◌≡◌ {A = List ℕ} (x ∷ []) (y ∷ z ∷ xs) → ⊥
 more-no x y z xs e = cc
@@ -17,12 +15,12 @@ more-no x y z xs e = cc
 -- a history without actors has no visit
 none : (history : History) → [] ≡ actors history → history ≡ []
 none [] e = refl
-none (visit ∷ history) e = absurd (some-no visit.actor (actors history) (sym e))
+none (visit ∷ history) e = absurd (cons-no visit.actor (actors history) (sym e))
 
 -- and one of one actor has one visit, by it
 one : (actor : ℕ) (history : History) → actor ∷ [] ≡ actors history
     → (visit : Visit) × (visit.actor ≡ actor) × (history ≡ visit ∷ [])
-one actor [] e = absurd (some-no actor [] e)
+one actor [] e = absurd (cons-no actor [] e)
 one actor (visit ∷ []) e = (visit, sym (ap (λ (xs : List ℕ). slice_index xs 0) e), refl)
 one actor (visit ∷ other ∷ history) e =
     absurd (more-no actor visit.actor other.actor (actors history) e)
@@ -31,7 +29,7 @@ pub returns-clause-missing : goal.returns-clause-missing
 returns-clause-missing c = λ sub caller is_sub is_caller closed.
     let whole = subst (λ h. IsFront sub.view.seen h) (none closed.history closed.actors)
     (closed.seen 0 sub refl) in
-    some-no _ _ (subst (λ s. IsFront s []) is_sub.seen_is whole)
+    cons-no _ _ (subst (λ s. IsFront s []) is_sub.seen_is whole)
 
 pub returns-clause-other : goal.returns-clause-other
 returns-clause-other c = λ sub caller is_sub is_caller closed.
@@ -50,7 +48,7 @@ returns-clause-more c = λ sub caller is_sub is_caller closed.
     let none_seen : own 1 closed.history ≡ [] = subst (λ s. own 1 closed.history ≡ own 1 s) is_caller.seen_is by in
     let alone : own 1 (found.0 ∷ []) ≡ [] = subst (λ h. own 1 h ≡ []) found.2 none_seen in
     let mine : own 1 (found.0 ∷ []) ≡ found.0 ∷ [] = rw found.1 refl in
-    some-no found.0 [] (sym mine ∙ alone)
+    cons-no found.0 [] (sym mine ∙ alone)
 
 pub returns-clause-unknown : goal.returns-clause-unknown
 returns-clause-unknown c = λ passes closed.
@@ -58,4 +56,4 @@ returns-clause-unknown c = λ passes closed.
     let alone : own 2 (found.0 ∷ []) ≡ [] = subst (λ h. own 2 h ≡ []) found.2
     (closed.known 2 (omega arith)) in
     let mine : own 2 (found.0 ∷ []) ≡ found.0 ∷ [] = rw found.1 refl in
-    some-no found.0 [] (sym mine ∙ alone)
+    cons-no found.0 [] (sym mine ∙ alone)

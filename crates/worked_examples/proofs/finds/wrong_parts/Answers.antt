@@ -1,17 +1,9 @@
-use Rattle.std.proofs.Common.{◌≡◌, ℕ, ◌+◌, arith, Option, Some, None, sym, ◌∙◌, ap}
-use Rattle.entry_word.specs.declared.address.Address.{Address}
+use Rattle.std.proofs.Common.{◌≡◌, ℕ, ◌+◌, arith, sym, ◌∙◌, ap}
 use Rattle.directory.specs.Parts.{LeadOn}
 use Rattle.plan_laws.specs.Examples.{line_setting}
+use Rattle.worked_examples.proofs.Square.{same}
+use Rattle.worked_examples.proofs.Unlike.{none-no, some-no}
 use Rattle.worked_examples.proofs.finds.wrong_parts.Goals as goal
-
-some-no : (address : Address) → ◌≡◌ {A = Option Address} (Some address) None → ⊥
-some-no address e = cc
-
-none-no : (to : ℕ) → ◌≡◌ {A = Option ℕ} None (Some to) → ⊥
-none-no to e = cc
-
-one-node : (from to : ℕ) → ◌≡◌ {A = Option ℕ} (Some from) (Some to) → from ≡ to
-one-node from to e = cc
 
 pub returns-clause-address : goal.returns-clause-address
 returns-clause-address c = λ are. some-no (record { number = 1; node = 1 }) are.0
@@ -30,12 +22,12 @@ returns-clause-coming c = λ last_known last weight on. none-no on.0 on.2
 pub returns-clause-to : goal.returns-clause-to
 unfolding LeadOn
 returns-clause-to c = λ last_known last weight on.
-    sym (one-node 0 on.0 on.2 ∙ on.4.1)
+    sym (same 0 on.0 on.2 ∙ on.4.1)
 
 pub returns-clause-way : goal.returns-clause-way
 unfolding LeadOn
 returns-clause-way c = λ last_known last weight on.
-    let way = on.3 ∙ ap (λ (to : ℕ). line_setting.distance 3 to + on.1) (sym (one-node 0 on.0 on.2)) in
+    let way = on.3 ∙ ap (λ (to : ℕ). line_setting.distance 3 to + on.1) (sym (same 0 on.0 on.2)) in
     let three : weight ≡ 3 + on.1 = way in
     omega (arith, three, on.4.2)
 

@@ -1,19 +1,15 @@
-use Rattle.std.proofs.Common.{◌≡◌, ◌<◌, ℕ, arith, Option, Some, None, sym, ◌∙◌, subst}
+use Rattle.std.proofs.Common.{◌<◌, arith, sym, ◌∙◌, subst}
 use Rattle.station.specs.Setup.{Setup, nodes_in}
+use Rattle.worked_examples.proofs.Square.{same}
+use Rattle.worked_examples.proofs.Unlike.{none-no}
 use Rattle.worked_examples.proofs.passes.wrong_stays.Goals as goal
-
-none-no : (node : ℕ) → ◌≡◌ {A = Option ℕ} None (Some node) → ⊥
-none-no node e = cc
-
-one-node : (node : ℕ) → ◌≡◌ {A = Option ℕ} (Some 2) (Some node) → 2 ≡ node
-one-node node e = cc
 
 pub returns-clause-outside : goal.returns-clause-outside
 returns-clause-outside c = λ stay pass outside is. none-no stay.node (sym outside ∙ is.inside)
 
 pub returns-clause-elsewhere : goal.returns-clause-elsewhere
 returns-clause-elsewhere c = λ stay pass inside elsewhere is.
-    omega (arith, elsewhere, one-node stay.node (sym inside ∙ is.inside))
+    omega (arith, elsewhere, same 2 stay.node (sym inside ∙ is.inside))
 
 pub returns-clause-other : goal.returns-clause-other
 returns-clause-other c = λ stay pass has other is. omega (arith, other, is.actor, has.low)

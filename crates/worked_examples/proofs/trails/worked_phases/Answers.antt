@@ -1,9 +1,10 @@
-use Rattle.std.proofs.Common.{◌≡◌, ℕ, List, [], ◌∷◌, refl, arith}
+use Rattle.std.proofs.Common.{◌≡◌, ℕ, refl, arith}
 use Rattle.entry_word.specs.declared.mark.PresenceMark.{PresenceMark}
 use Rattle.entry_word.specs.declared.mark.PresenceMark.TheVariants.{Coming, Here}
 use Rattle.directory.specs.Courses.{highest}
 use Rattle.directory.specs.Puts.{steps_from}
 use Rattle.directory.specs.Writes.{writes}
+use Rattle.worked_examples.proofs.Unlike.{cons-no}
 use Rattle.worked_examples.proofs.trails.worked_phases.Goals as goal
 
 -- a Here is no Coming
@@ -13,9 +14,6 @@ here-no p q from e = cc
 -- Comings from two nodes are two marks
 from-other : (p : ℕ) → ◌≡◌ {A = PresenceMark} (Coming p 3) (Coming p 1) → ⊥
 from-other p e = cc
-
-some-left : {A : Type 0} (x : A) (xs : List A) → ◌≡◌ {A = List A} (x ∷ xs) [] → ⊥
-some-left x xs e = cc
 
 pub returns-clause-begun : goal.returns-clause-begun
 unfolding writes highest steps_from
@@ -71,4 +69,4 @@ returns-clause-rest c = refl
 
 pub returns-clause-unrested : goal.returns-clause-unrested
 unfolding writes highest steps_from
-returns-clause-unrested c = λ rests. some-left _ _ rests
+returns-clause-unrested c = λ rests. cons-no _ _ rests

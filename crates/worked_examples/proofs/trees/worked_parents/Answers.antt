@@ -2,6 +2,7 @@ use Rattle.std.proofs.Common.{◌≡◌, ◌≢◌, ◌<◌, ℕ, zero, suc, [],
 use Rattle.net_graph.specs.Trees.{IsParent, LeadsTo, at_node}
 use Rattle.worked_examples.specs.Trees.{square, square_weights}
 use Rattle.worked_examples.proofs.Square.{leads-0-1, leads-0-2, leads-1-3, no-lead, same}
+use Rattle.worked_examples.proofs.Unlike.{none-no, some-no}
 use Rattle.worked_examples.proofs.trees.worked_parents.Goals as goal
 
 -- the parents
@@ -11,12 +12,6 @@ tree = None ∷ Some 0 ∷ Some 0 ∷ Some 1 ∷ []
 -- what a parent of a node is
 abbrev Stands : ℕ → ℕ → Type 0
 Stands v p = (v ≢ 0) × (p < 4) × IsParent square.edges square_weights v p
-
-none-no : (p : ℕ) → ◌≡◌ {A = Option ℕ} None (Some p) → ⊥
-none-no p e = cc
-
-some-no : (p : ℕ) → ◌≡◌ {A = Option ℕ} (Some p) None → ⊥
-some-no p e = cc
 
 below-one : (q : ℕ) → q < 1 → LeadsTo square.edges square_weights q 3 → ⊥
 below-one zero low leads = no-lead leads

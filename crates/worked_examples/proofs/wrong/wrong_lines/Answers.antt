@@ -54,13 +54,13 @@ pub returns-clause-late_cause : goal.returns-clause-late_cause
 returns-clause-late_cause c = λ r. true≢false (sym r.3 ∙ first-no r.0 r.2)
 
 pub returns-clause-heavy : goal.returns-clause-heavy
-returns-clause-heavy c = λ r. let e : 412 ≤ 137 * 3 + 2 * 0 = r (λ t a b. refl) in omega (arith, e)
+returns-clause-heavy c = λ r. let e : 412 ≤ 137 * 3 + 2 * 0 = (r (λ t a b. refl)).1 in omega (arith, e)
 
 pub returns-clause-heavy_off : goal.returns-clause-heavy_off
-returns-clause-heavy_off c = λ r. let e : 412 ≤ 137 * 3 + 2 * 0 = r (λ t a b. refl) in omega (arith, e)
+returns-clause-heavy_off c = λ r. let e : 412 ≤ 137 * 3 + 2 * 0 = (r (λ t a b. refl)).1 in omega (arith, e)
 
 pub returns-clause-quiet_again : goal.returns-clause-quiet_again
-returns-clause-quiet_again c = λ r. r (λ t a b. refl)
+returns-clause-quiet_again c = λ r. (r (λ t a b. refl)).0
 
 pub returns-clause-falling : goal.returns-clause-falling
 returns-clause-falling c = λ r. let e : 2 ≤ 1 = r 0 1 _ _ refl refl 0 2 1 3 5 (refl, refl, refl) (refl, refl, refl)
