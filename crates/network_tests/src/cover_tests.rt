@@ -63,7 +63,8 @@ fn tell_counts(cover: &Cover, told: &mut Vec<u64>) {
 
 // The leader, the phase and the nodes of a cluster.
 fn tell_cluster(cover: &Cover, place: u32, told: &mut Vec<u64>) {
-    if let Some(cluster) = cover.clusters.get(place as usize) {
+    if (place as usize) < cover.clusters.len() {
+        let cluster = &cover.clusters[place as usize];
         tell(told, u64::from(cluster.first));
         tell(told, u64::from(cluster.phase));
         tell_set(told, &cluster.members);
@@ -79,11 +80,9 @@ fn tell_span(told: &mut Vec<u64>, set: &NodeSet) {
 // The home of ball `v`; and of cluster `c` the leader, the phase, the lowest node and how many
 // nodes it has.
 fn tell_on_path(cover: &Cover, v: u32, c: u32, told: &mut Vec<u64>) {
-    if let (Some(home), Some(cluster)) = (
-        cover.home.get(v as usize),
-        cover.clusters.get(c as usize),
-    ) {
-        tell(told, u64::from(*home));
+    if (v as usize) < cover.home.len() && (c as usize) < cover.clusters.len() {
+        let cluster = &cover.clusters[c as usize];
+        tell(told, u64::from(cover.home[v as usize]));
         tell(told, u64::from(cluster.first));
         tell(told, u64::from(cluster.phase));
         tell_span(told, &cluster.members);
@@ -113,7 +112,8 @@ fn tell_mean_homes(cover: &MeanCover, told: &mut Vec<u64>) {
 
 // The leader and the nodes of a cluster.
 fn tell_mean_cluster(cover: &MeanCover, place: u32, told: &mut Vec<u64>) {
-    if let Some(cluster) = cover.clusters.get(place as usize) {
+    if (place as usize) < cover.clusters.len() {
+        let cluster = &cover.clusters[place as usize];
         tell(told, u64::from(cluster.first));
         tell_set(told, &cluster.members);
     }
@@ -131,11 +131,9 @@ fn tell_mean_counts(cover: &MeanCover, told: &mut Vec<u64>) {
 
 // The home of ball `v`; and of cluster `c` the leader, the lowest node and how many nodes it has.
 fn tell_on_mean_path(cover: &MeanCover, v: u32, c: u32, told: &mut Vec<u64>) {
-    if let (Some(home), Some(cluster)) = (
-        cover.home.get(v as usize),
-        cover.clusters.get(c as usize),
-    ) {
-        tell(told, u64::from(*home));
+    if (v as usize) < cover.home.len() && (c as usize) < cover.clusters.len() {
+        let cluster = &cover.clusters[c as usize];
+        tell(told, u64::from(cover.home[v as usize]));
         tell(told, u64::from(cluster.first));
         tell_span(told, &cluster.members);
     }

@@ -319,36 +319,22 @@ fn threads_may_share_them(_rt: HostRuntime) {
     shares::<Distances>();
 }
 
-// How many levels the plan of two nodes has whose edge has this weight.
-fn levels_at(alloc: Global, weight: u32) -> Result<u64, Fail> {
-    let plan = plan_of(alloc, "with", [2, weight, 2, 0, 0])?;
-    Ok(u64::from(plan.levels()))
-}
-
-// So many levels are there at each diameter from the first one to the last.
-fn have_levels(rt: &impl Abort, alloc: Global, row: &str) -> Result<(), Fail> {
-    let [first, last, levels, ..] = five_numbers(row);
+// The plan of two nodes has a level for each power of two below its diameter, and one whose radius
+// reaches it: at each diameter from the first to the last.
+fn have_levels(rt: &impl Abort, alloc: Global, first: u32, last: u32) -> Result<(), Fail> {
     for diameter in first..=last {
-        same(
-            rt,
-            "levels",
-            row,
-            &[levels_at(alloc, diameter)?],
-            &[u64::from(levels)],
-        );
+        let plan = plan_of(alloc, "with", [2, diameter, 2, 0, 0])?;
+        let below = u32::BITS - diameter.saturating_sub(1).leading_zeros();
+        let wanted = [u64::from(diameter), u64::from(below) + 1];
+        let found = [u64::from(diameter), u64::from(plan.levels())];
+        same(rt, "levels", "at each diameter", &found, &wanted);
     }
     Ok(())
 }
 
-// Whatever the diameter is, there is a plan, with a level for each power of two below it, and one
-// whose radius reaches it.
+// Whatever the diameter is, there is a plan.
 #[test]
 fn a_plan_at_each_diameter(rt: HostRuntime) -> Result<(), Fail> {
-    // the first diameter, the last one, and the levels
-    let rows = "1 1 1|2 2 2|3 4 3|5 8 4|9 16 5|17 32 6|33 64 7|65 128 8|129 256 9|257 512 10|\
-        1048500 1048576 21|";
-    for row in rows.split_terminator('|') {
-        have_levels(&rt, rt.alloc(), row)?;
-    }
-    Ok(())
+    have_levels(&rt, rt.alloc(), 1, 512)?;
+    have_levels(&rt, rt.alloc(), 1_048_500, 1_048_576)
 }

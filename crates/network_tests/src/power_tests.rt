@@ -20,16 +20,20 @@ fn tell_growth(told: &mut Vec<u64>, z: u32, k: u32, r: u32, y: u32) {
 }
 
 // Two numbers ask for a power, and four whether one grows no further than the other.
+fn tell_asked(told: &mut Vec<u64>, asked: &str) {
+    let [a, b, c, d, _] = five_numbers(asked);
+    if c == u32::MAX {
+        tell_power(told, a, b);
+    } else {
+        tell_growth(told, a, b, c, d);
+    }
+}
+
 fn ask_powers(rt: &impl Abort, alloc: Global, rows: &str) {
     for row in rows.split_terminator('|') {
         let (asked, _) = halves(row, '=');
-        let [a, b, c, d, _] = five_numbers(asked);
         let mut told = Vec::new(alloc);
-        if c == u32::MAX {
-            tell_power(&mut told, a, b);
-        } else {
-            tell_growth(&mut told, a, b, c, d);
-        }
+        tell_asked(&mut told, asked);
         check(rt, alloc, "powers", row, &told);
     }
 }

@@ -1,7 +1,7 @@
-//! Tables that are one text: the prover takes a table of tuples apart, value by value, and a text at
-//! once. `SUBJECT: ROWS;` says what is asked, and each row `QUESTION = NUMBERS|` what answers it.
-//! Where a number is wanted a word is a number too, always the same: `none` stands for what isn't
-//! there, and `outside` for a fault.
+//! Tables that are one text: the prover takes a table of tuples apart, value by value, and a text
+//! at once. `SUBJECT: ROWS;` says what is asked, and each row `QUESTION = NUMBERS|` what answers
+//! it. Where a number is wanted a word is a number too, always the same: `none` stands for what
+//! isn't there, and `outside` for a fault.
 use crate::sameness::same;
 use std::alloc::Global;
 use std::process::Abort;

@@ -75,7 +75,8 @@ fn tell_change(told: &mut Vec<u64>, set: &mut NodeSet, other: &NodeSet, name: &s
     tell_meet(told, set, other);
 }
 
-// Plays a row: a change by the set of these numbers, and what is told of it.
+// Plays a row: a change by the set of these numbers and what is told of it, or the next number from
+// this one on.
 fn play_row(
     rt: &impl Abort,
     alloc: Global,
@@ -91,7 +92,11 @@ fn play_row(
     }
     let other = set_of(alloc, room, &five_numbers(numbers))?;
     let mut told = Vec::new(alloc);
-    tell_change(&mut told, set, &other, name);
+    if name == "next" {
+        tell_node(&mut told, set.next_from(five_numbers(numbers)[0]));
+    } else {
+        tell_change(&mut told, set, &other, name);
+    }
     check(rt, alloc, head, row, &told);
     Ok(())
 }
@@ -111,7 +116,7 @@ fn play_set(rt: &impl Abort, alloc: Global, subject: &str) -> Result<(), Fail> {
 }
 
 // Each row is a change, whether the two sets met before, the room, the count and the numbers of
-// either, which come twice, and whether the sets meet then.
+// either, which come twice, and whether the sets meet then. A look changes nothing.
 #[test]
 fn sets_on_both_sides_of_a_word(rt: HostRuntime) -> Result<(), Fail> {
     let subjects = "130:look = 0 0  130 0  130 0  0 0|;\
@@ -119,11 +124,15 @@ fn sets_on_both_sides_of_a_word(rt: HostRuntime) -> Result<(), Fail> {
         1024 0:absorb 1023 = 0 0  1024 2 0 0 1023 1023  1024 1 1023 1023  1 1|;\
         0:absorb = 0 0  0 0  0 0  0 0|;\
         130 2:\
-        assign 0 63 64 129 = 0 0  130 4 0 0 63 63 64 64 129 129  130 4 0 0 63 63 64 64 129 129  1 1|\
+        assign 0 63 64 129 = 0 0  130 4 0 0 63 63 64 64 129 129 \
+        130 4 0 0 63 63 64 64 129 129  1 1|\
         keep 1 63 129 = 1 1  130 2 63 63 129 129  130 3 1 1 63 63 129 129  1 1|;\
         130 0 63 64 129:\
         remove 1 63 129 = 1 1  130 2 0 0 64 64  130 3 1 1 63 63 129 129  0 0|\
-        clear 0 = 1 1  130 0  130 1 0 0  0 0|;";
+        clear 0 = 1 1  130 0  130 1 0 0  0 0|;\
+        300 0 63 64 290:\
+        next 0 = 0|next 1 = 63|next 64 = 64|next 65 = 290|next 290 = 290|next 291 = none|\
+        next 4294967295 = none|;";
     for subject in subjects.split_terminator(';') {
         play_set(&rt, rt.alloc(), subject)?;
     }
@@ -183,23 +192,6 @@ fn lanes_of_every_length(rt: HostRuntime) {
             &last_of(count, 3),
         );
     }
-}
-
-#[test]
-fn the_next_number(rt: HostRuntime) -> Result<(), Fail> {
-    let set = set_of(rt.alloc(), 300, &[0, 63, 64, 290])?;
-    let mut told = Vec::new(rt.alloc());
-    for from in [0, 1, 64, 65, 290, 291, u32::MAX] {
-        tell_node(&mut told, set.next_from(from));
-    }
-    check(
-        &rt,
-        rt.alloc(),
-        "next",
-        "= 0 63 64 290 290 none none",
-        &told,
-    );
-    Ok(())
 }
 
 // The numbers go 0, 1, .., 6, and again from 0.

@@ -170,14 +170,28 @@ fn network_of(alloc: Global, n: u32) -> Result<(Graph, Distances), Fail>
     }
 }
 
+// Asks each row.
+fn ask_rows(
+    rt: &impl Abort,
+    alloc: Global,
+    graph: &Graph,
+    distances: &Distances,
+    head: &str,
+    rows: &str,
+) -> Result<(), Fail>
+    requires belongs { AreDistancesOf graph.now distances.now }
+{
+    for row in rows.split_terminator('|') {
+        ask_row(rt, alloc, graph, distances, head, row)?;
+    }
+    Ok(())
+}
+
 // Asks the clusters of a network.
 fn ask_clusters(rt: &impl Abort, alloc: Global, subject: &str) -> Result<(), Fail> {
     let (head, rows) = halves(subject, ':');
     let (graph, distances) = network_of(alloc, five_numbers(head)[0])?;
-    for row in rows.split_terminator('|') {
-        ask_row(rt, alloc, &graph, &distances, head, row)?;
-    }
-    Ok(())
+    ask_rows(rt, alloc, &graph, &distances, head, rows)
 }
 
 // The answer for a tree is its depth and the weights of its members, and for what is inside a
