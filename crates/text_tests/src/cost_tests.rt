@@ -1,13 +1,17 @@
 //! What the moves of whole inputs cost, as text. The values are those of worked examples, and of a
 //! program that was written apart from this one.
 
+ghost use Rattle.std.specs.Prelude.{IfOk};
+ghost use Rattle.move_cost.specs.Plans.{GoTogether};
 ghost use Rattle.net_reader.specs.Seen.{seen_input};
 ghost use Rattle.net_reader.specs.Valid.{IsValid};
 
 use crate::rows::{row_of, rows_in};
 use crate::sameness::same_text;
+use distances::Distances;
 use move_cost::{costs, costs_text};
 use net_reader::Input;
+use region_plan::Plan;
 use std::alloc::Global;
 use std::process::Abort;
 use std::test::Fail;
@@ -16,13 +20,34 @@ use test_networks::{input_of, plan_of};
 // The line 0 - 1 - 2 - 3 of unit weights.
 const LINE: &str = "nodes 4\nk 2\nedge 0 1 1\nedge 1 2 1\nedge 2 3 1\n";
 
+// What the moves of an input cost over its plan, as text.
+fn costs_by(
+    alloc: Global,
+    input: &Input,
+    plan: &Plan,
+    distances: &Distances,
+) -> Result<Vec<u8>, Fail>
+    requires { GoTogether (seen_input input.now) plan.now distances.now }
+{
+    let lines = costs(alloc, input, plan, distances)?;
+    Ok(costs_text(alloc, &lines)?)
+}
+
 // What the moves of an input cost, as text.
 fn costs_over(alloc: Global, input: &Input) -> Result<Vec<u8>, Fail>
     requires { IsValid (seen_input input.now) }
 {
     let (plan, distances) = plan_of(alloc, input)?;
-    let lines = costs(alloc, input, &plan, &distances)?;
-    Ok(costs_text(alloc, &lines)?)
+    costs_by(alloc, input, &plan, &distances)
+}
+
+// The input of a network, with actors and calls behind their format.
+fn input_over(alloc: Global, network: &str, calls: &str) -> Result<Input, Fail>
+    ensures { IfOk result (λ input. IsValid (seen_input input)) }
+{
+    let (format, actors) = calls.split_once(' ').unwrap_or((calls, ""));
+    let text = format!(in alloc; "track {format}\n{network}{actors}")?;
+    input_of(alloc, text.as_bytes())
 }
 
 // The moves of a network's actors and calls, in this format, are to cost this.
@@ -34,9 +59,7 @@ fn tell_costs(
     calls: &str,
     wanted: &str,
 ) -> Result<(), Fail> {
-    let (format, actors) = calls.split_once(' ').unwrap_or((calls, ""));
-    let text = format!(in alloc; "track {format}\n{network}{actors}")?;
-    let input = input_of(alloc, text.as_bytes())?;
+    let input = input_over(alloc, network, calls)?;
     same_text(rt, place, &costs_over(alloc, &input)?, wanted.as_bytes());
     Ok(())
 }

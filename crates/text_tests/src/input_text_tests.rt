@@ -91,11 +91,18 @@ fn joined(alloc: Global, listing: Listing<'_>) -> Result<Vec<u8>, Fail> {
     Ok(text)
 }
 
+// The lines of a load's listing.
+fn lines_of(alloc: Global, load: Load) -> Result<Vec<u8>, Fail>
+    requires { IsLoad load }
+{
+    let workload = Workload::new(alloc, load)?;
+    joined(alloc, workload.listing())
+}
+
 #[test]
 fn lines_of_a_load(rt: HostRuntime) -> Result<(), Fail> {
     let load = load_of(rt.alloc(), "make 3 4 3 2 2 9")?;
-    let workload = Workload::new(rt.alloc(), load)?;
-    let text = joined(rt.alloc(), workload.listing())?;
+    let text = lines_of(rt.alloc(), load)?;
     same_text(&rt, 0, &text, &load_text(rt.alloc(), load)?);
     Ok(())
 }
