@@ -105,14 +105,14 @@ fn take(cells: &mut PlainCells, plan: &Plan, subs: u32, step: &str) -> Option<u6
     ensures subs { cells.new.subs ≡ subs }
 {
     let (name, words) = step.split_once(' ').unwrap_or((step, ""));
-    if name == "look" {
-        return word_in(cells, plan, subs, words, None);
+    match name {
+        "look" => word_in(cells, plan, subs, words, None),
+        "put" => {
+            let (word, cell) = words.split_once(' ').unwrap_or((words, ""));
+            word_in(cells, plan, subs, cell, word.parse::<u64>().ok())
+        }
+        _ => told_of(cells, plan, subs, name, words),
     }
-    if name != "put" {
-        return told_of(cells, plan, subs, name, words);
-    }
-    let (word, cell) = words.split_once(' ').unwrap_or((words, ""));
-    word_in(cells, plan, subs, cell, word.parse::<u64>().ok())
 }
 
 // Each row is a step over the cells of so many subscribers. The word 2^48 is that of a subscriber's

@@ -1,6 +1,6 @@
 //! Turns of a machine, one and many: whose turns make a visit, and how many.
 
-ghost use Rattle.std.specs.Prelude.{◌≡◌, ◌<◌, ℕ, [], length};
+ghost use Rattle.std.specs.Prelude.{◌≡◌, ◌<◌, length};
 ghost use Rattle.directory.specs.Histories.{History};
 ghost use Rattle.region_plan.specs.Cells.{IsCell};
 ghost use Rattle.machine.specs.Machines.{HasHistory, IsSame};
@@ -72,12 +72,30 @@ fn play(rt: &impl Abort, alloc: Global, machine: &mut Machine<'_>, rows: &str) -
     Ok(())
 }
 
+fn play_and_look(
+    rt: &impl Abort,
+    alloc: Global,
+    machine: &mut Machine<'_>,
+    input: &Input,
+    plan: &Plan,
+    rows: &str,
+    word: &str,
+) -> Result<(), Fail>
+    requires stands { (history : History) × HasHistory machine.old history }
+    requires input { machine.old.input.now ≡ input.now }
+    requires plan { machine.old.plan.now ≡ plan.now }
+{
+    play(rt, alloc, machine, rows)?;
+    let seen = word_at_second(machine, input, plan);
+    same_shown(rt, alloc, rows_in(rows), &seen, word)
+}
+
 /// Plays turns of a machine, and what its second node then says of the first subscriber is to be
 /// shown so.
 pub fn play_turns(
     rt: &impl Abort,
     alloc: Global,
-    mut machine: Machine<'_>,
+    machine: Machine<'_>,
     input: &Input,
     plan: &Plan,
     rows: &str,
@@ -87,9 +105,8 @@ pub fn play_turns(
     requires input { machine.input.now ≡ input.now }
     requires plan { machine.plan.now ≡ plan.now }
 {
-    play(rt, alloc, &mut machine, rows)?;
-    let seen = word_at_second(&machine, input, plan);
-    same_shown(rt, alloc, rows_in(rows), &seen, word)
+    let mut machine = machine;
+    play_and_look(rt, alloc, &mut machine, input, plan, rows, word)
 }
 
 // An actor without calls, and one that isn't there. The word is that of a subscriber at the node
