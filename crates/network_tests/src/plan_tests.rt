@@ -332,9 +332,20 @@ fn have_levels(rt: &impl Abort, alloc: Global, first: u32, last: u32) -> Result<
     Ok(())
 }
 
-// Whatever the diameter is, there is a plan.
+// Whatever the diameter is, there is a plan: at each small one, at the last ones, and on both sides
+// of each power of two between them, where a level more is wanted.
 #[test]
 fn a_plan_at_each_diameter(rt: HostRuntime) -> Result<(), Fail> {
-    have_levels(&rt, rt.alloc(), 1, 512)?;
+    have_levels(&rt, rt.alloc(), 1, 1_100)?;
+    let powers = [
+        2_048u32, 4_096, 8_192, 16_384, 32_768, 65_536, 131_072, 262_144, 524_288,
+    ];
+    for place in 0..powers.len() {
+        let (first, last) = (
+            powers[place].saturating_sub(16),
+            powers[place].saturating_add(16),
+        );
+        have_levels(&rt, rt.alloc(), first, last)?;
+    }
     have_levels(&rt, rt.alloc(), 1_048_500, 1_048_576)
 }
