@@ -8,7 +8,11 @@ mod handset_tests;
 #[cfg(test)]
 mod machine_tests;
 #[cfg(test)]
+mod plays;
+#[cfg(test)]
 mod route_tests;
+#[cfg(test)]
+mod rows;
 #[cfg(test)]
 mod sameness;
 #[cfg(test)]

@@ -1,150 +1,61 @@
 //! Finds over the line 0 - 1 - 2 - 3 of unit weights, and over a path of the most nodes.
-ghost use Rattle.std.specs.Prelude.{◌≡◌, ◌≤◌, IfSome};
+ghost use Rattle.std.specs.Prelude.{◌≡◌, ◌<◌};
 ghost use Rattle.region_plan.specs.Plan.{nodes_of};
 ghost use Rattle.walk.specs.Walks.{IsWalkOver, IsWordBelow};
 ghost use Rattle.walk.specs.declared.progress.Progress.{Progress};
 
-use crate::sameness::same;
-use directory::{Found, Why};
+use crate::plays::{self, Over, Subject};
+use crate::rows::{row_of, rows_in};
+use crate::sameness::same_shown;
 use distances::Distances;
-use entry_word::{Key, PresenceMark, pack_mark};
+use entry_word::{PresenceMark, pack_mark};
 use net_graph::MAX_NODES;
 use region_plan::Plan;
 use std::alloc::Global;
 use std::process::Abort;
 use std::test::Fail;
-use test_networks::{line_of_four, plan_of_most_nodes};
-use walk::{Walk, WalkFault, empty_words};
+use walk::{Walk, empty_words};
 
-#[test]
-fn refusals(rt: HostRuntime) -> Result<(), Fail> {
-    let (plan, _) = line_of_four(rt.alloc())?;
-    let faults = [
-        Walk::new(4, 0, 1, &plan).err(),
-        Walk::new(0, 1, 1, &plan).err(),
-        Walk::new(3, 0, 1, &plan).err(),
-    ];
-    let wanted = [Some(WalkFault::NoNode), Some(WalkFault::NoSubscriber), None];
-    assert!(rt; faults == wanted);
-    Ok(())
-}
-
-// A find of the last subscriber from a node.
-fn start(plan: &Plan, from: u32, subs: u32) -> Option<Walk>
-    ensures { IfSome result (IsWalkOver plan.now) }
-{
-    Walk::new(from, subs.saturating_sub(1), subs, plan).ok()
-}
-
-// The walk sees nothing in its next cell.
-fn see_nothing(walk: &mut Walk, plan: &Plan, distances: &Distances)
-    requires goes { IsWalkOver plan.now walk.old }
-    requires belongs { plan.now.distances ≡ distances.now }
-    ensures { IsWalkOver plan.now walk.new }
+// The word that a read has by its name, which names no node beyond the plan, whatever the cell: of
+// a subscriber that is here with move number 7, which an entry reads as the address of node 0 with
+// that number; that is coming from node 0; that left for node 0 or for the last node; or nothing.
+fn word_of(plan: &Plan, name: &str) -> u64
+    requires { 0 < nodes_of plan.now }
+    ensures { (progress : Progress) → IsWordBelow (nodes_of plan.now) progress result }
 {
     empty_words();
-    walk.saw(plan, distances, 0);
+    match name {
+        "here" => pack_mark(PresenceMark::Here { number: 7 }),
+        "coming" => pack_mark(PresenceMark::Coming { number: 1, from: 0 }),
+        "gone-to-first" => pack_mark(PresenceMark::Gone { number: 1, to: 0 }),
+        "gone-to-last" if plan.nodes() == MAX_NODES => pack_mark(PresenceMark::Gone {
+            number: 1,
+            to: 1023,
+        }),
+        _ => 0,
+    }
 }
 
-// The walk reads a word that names no node beyond the plan, whatever its cell.
-fn see(walk: &mut Walk, plan: &Plan, distances: &Distances, word: u64)
+// The walk reads the word of a name.
+fn read(walk: &mut Walk, plan: &Plan, distances: &Distances, name: &str)
     requires goes { IsWalkOver plan.now walk.old }
     requires belongs { plan.now.distances ≡ distances.now }
-    requires word { (progress : Progress) → IsWordBelow (nodes_of plan.now) progress word }
     ensures { IsWalkOver plan.now walk.new }
 {
+    let word = word_of(plan, name);
     walk.saw(plan, distances, word);
-}
-
-// The walk reads that the subscriber is here with move number 7. An entry that is read so has the
-// address of node 0 with that number.
-fn see_subscriber(walk: &mut Walk, plan: &Plan, distances: &Distances)
-    requires goes { IsWalkOver plan.now walk.old }
-    requires belongs { plan.now.distances ≡ distances.now }
-    ensures { IsWalkOver plan.now walk.new }
-{
-    let word = pack_mark(PresenceMark::Here { number: 7 });
-    see(walk, plan, distances, word);
-}
-
-// The walk reads that the subscriber is coming from node 0.
-fn see_coming(walk: &mut Walk, plan: &Plan, distances: &Distances)
-    requires goes { IsWalkOver plan.now walk.old }
-    requires belongs { plan.now.distances ≡ distances.now }
-    ensures { IsWalkOver plan.now walk.new }
-{
-    let word = pack_mark(PresenceMark::Coming { number: 1, from: 0 });
-    see(walk, plan, distances, word);
-}
-
-// The walk reads that the subscriber left for node 0.
-fn see_gone_to_first(walk: &mut Walk, plan: &Plan, distances: &Distances)
-    requires goes { IsWalkOver plan.now walk.old }
-    requires belongs { plan.now.distances ≡ distances.now }
-    ensures { IsWalkOver plan.now walk.new }
-{
-    let word = pack_mark(PresenceMark::Gone { number: 1, to: 0 });
-    see(walk, plan, distances, word);
-}
-
-// The walk reads that the subscriber left for the last node.
-fn see_gone_to_last(walk: &mut Walk, plan: &Plan, distances: &Distances)
-    requires goes { IsWalkOver plan.now walk.old }
-    requires belongs { plan.now.distances ≡ distances.now }
-    requires nodes { nodes_of plan.now ≡ MAX_NODES }
-    ensures { IsWalkOver plan.now walk.new }
-{
-    let word = pack_mark(PresenceMark::Gone {
-        number: 1,
-        to: 1023,
-    });
-    see(walk, plan, distances, word);
 }
 
 // The walk is sent from one end of the path to the other and back, so many times.
 fn go_to_and_fro(walk: &mut Walk, plan: &Plan, distances: &Distances, times: u32)
     requires goes { IsWalkOver plan.now walk.old }
     requires belongs { plan.now.distances ≡ distances.now }
-    requires nodes { nodes_of plan.now ≡ MAX_NODES }
     ensures { IsWalkOver plan.now walk.new }
 {
     'hops: for _ in 0..times {
-        see_gone_to_last(walk, plan, distances);
-        see_gone_to_first(walk, plan, distances);
+        read(walk, plan, distances, "gone-to-last");
+        read(walk, plan, distances, "gone-to-first");
     }
-}
-
-// What a script does to a walk.
-#[derive(Clone, Copy)]
-enum Step {
-    Next,
-    Answer,
-    Climb,
-    /// Goes on where its climb is.
-    Resume,
-    ReadNothing,
-    ReadSubscriber,
-    ReadComing,
-    ReadGoneToLast,
-    /// Reads in turn that it left for the last node and for the first, so many times.
-    GoToAndFro(u32),
-}
-
-// What it sees of it.
-#[derive(Clone, Copy, PartialEq, Eq, Debug)]
-enum Seen {
-    Next(Option<Key>),
-    Answer(Option<Found>),
-    /// The level, the place among its readers and the weight.
-    Climb(Option<(u32, u32, u64)>),
-    Read,
-    NoSuchNode,
-}
-
-// Where a walk climbs: the level, the place among its readers and the weight.
-fn climb_of(walk: &Walk) -> Option<(u32, u32, u64)> {
-    let climb = walk.climb()?;
-    Some((climb.level, climb.index, climb.weight))
 }
 
 // The walk goes on where its climb is.
@@ -157,175 +68,156 @@ fn resume(walk: &mut Walk, plan: &Plan)
     }
 }
 
-fn take(walk: &mut Walk, plan: &Plan, distances: &Distances, step: Step) -> Seen
+// Where a walk climbs: the level, the place among its readers and the weight.
+fn climb_of(walk: &Walk) -> Option<(u32, u32, u64)> {
+    let climb = walk.climb()?;
+    Some((climb.level, climb.index, climb.weight))
+}
+
+fn play_row(
+    rt: &impl Abort,
+    alloc: Global,
+    place: usize,
+    walk: &mut Walk,
+    plan: &Plan,
+    distances: &Distances,
+    step: &str,
+    wanted: &str,
+) -> Result<(), Fail>
     requires goes { IsWalkOver plan.now walk.old }
     requires belongs { plan.now.distances ≡ distances.now }
     ensures { IsWalkOver plan.now walk.new }
 {
     match step {
-        Step::Next => return Seen::Next(walk.next(plan)),
-        Step::Answer => return Seen::Answer(walk.answer()),
-        Step::Climb => return Seen::Climb(climb_of(walk)),
-        Step::Resume => resume(walk, plan),
-        Step::ReadNothing => see_nothing(walk, plan, distances),
-        Step::ReadSubscriber => see_subscriber(walk, plan, distances),
-        Step::ReadComing => see_coming(walk, plan, distances),
-        Step::ReadGoneToLast if plan.nodes() == MAX_NODES => {
-            see_gone_to_last(walk, plan, distances);
-        }
-        Step::GoToAndFro(times) if plan.nodes() == MAX_NODES => {
-            go_to_and_fro(walk, plan, distances, times);
-        }
-        Step::ReadGoneToLast | Step::GoToAndFro(_) => return Seen::NoSuchNode,
+        "next" => return same_shown(rt, alloc, place, &walk.next(plan), wanted),
+        "answer" => return same_shown(rt, alloc, place, &walk.answer(), wanted),
+        "climb" => return same_shown(rt, alloc, place, &climb_of(walk), wanted),
+        "resume" => resume(walk, plan),
+        "to-and-fro" => go_to_and_fro(walk, plan, distances, 513),
+        _ => read(walk, plan, distances, step),
     }
-    Seen::Read
+    Ok(())
 }
 
-// Each step of a script is to be seen as the script says.
+// Each row is a step of a walk: what comes next, its answer, or where it climbs, and how it is
+// shown; that it goes on there; 513 times that it reads in turn that the subscriber left for the
+// last node and for the first; or what it reads.
 fn play(
     rt: &impl Abort,
+    alloc: Global,
     walk: &mut Walk,
     plan: &Plan,
     distances: &Distances,
-    script: &[(Step, Seen)],
-)
+    rows: &str,
+) -> Result<(), Fail>
     requires goes { IsWalkOver plan.now walk.old }
     requires belongs { plan.now.distances ≡ distances.now }
 {
-    'steps: for at in 0..script.len() {
-        let (step, wanted) = script[at];
-        same(rt, at, take(walk, plan, distances, step), wanted);
+    'steps: for place in 0..rows_in(rows) {
+        let (step, wanted) = row_of(rows, place);
+        play_row(rt, alloc, place, walk, plan, distances, step, wanted)?;
+    }
+    Ok(())
+}
+
+/// A find of the last of so many subscribers from a node; rows of one that can't begin are its
+/// fault.
+pub fn play_from(
+    rt: &impl Abort,
+    alloc: Global,
+    plan: &Plan,
+    distances: &Distances,
+    from: u32,
+    subs: u32,
+    rows: &str,
+) -> Result<(), Fail>
+    requires belongs { plan.now.distances ≡ distances.now }
+{
+    match Walk::new(from, subs.saturating_sub(1), subs, plan) {
+        Ok(mut walk) => play(rt, alloc, &mut walk, plan, distances, rows),
+        Err(fault) => same_shown(rt, alloc, 0, &fault, rows),
     }
 }
 
-// A find of the last subscriber over the line of four.
-fn play_on_line(rt: &impl Abort, alloc: Global, script: &[(Step, Seen)]) -> Result<(), Fail> {
-    let (plan, distances) = line_of_four(alloc)?;
-    let mut walk = start(&plan, 3, 1).expect(rt, "node 3 is a node");
-    play(rt, &mut walk, &plan, &distances, script);
-    Ok(())
-}
-
-// A find of the last of 64 subscribers from the last node of the longest path.
-fn play_on_path(rt: &impl Abort, alloc: Global, script: &[(Step, Seen)]) -> Result<(), Fail> {
-    let (plan, distances) = plan_of_most_nodes(alloc)?;
-    let mut walk = start(&plan, 1023, 64).expect(rt, "node 1023 is a node");
-    play(rt, &mut walk, &plan, &distances, script);
-    Ok(())
-}
-
-fn presence(node: u32, sub: u32) -> Seen {
-    Seen::Next(Some(Key::Presence { node, sub }))
-}
-
-fn entry(level: u32, cluster: u32, sub: u32) -> Seen {
-    Seen::Next(Some(Key::Entry {
-        level,
-        cluster,
-        sub,
-    }))
-}
-
-fn again(why: Why, weight: u64) -> Seen {
-    Seen::Answer(Some(Found::Again { why, weight }))
-}
-
-// The subscriber is at a node, with move number 7.
-fn found(node: u32, level: Option<u32>, weight: u64) -> Seen {
-    Seen::Answer(Some(Found::At {
-        node,
-        number: 7,
-        level,
-        weight,
-    }))
+#[test]
+fn on_the_line(rt: HostRuntime) -> Result<(), Fail> {
+    let no_entry = "next>Some(Presence { node: 3, sub: 0 })|\
+        answer>None|\
+        nothing|\
+        next>Some(Entry { level: 0, cluster: 0, sub: 0 })|\
+        nothing|\
+        next>Some(Entry { level: 0, cluster: 1, sub: 0 })|\
+        nothing|\
+        next>Some(Entry { level: 1, cluster: 0, sub: 0 })|\
+        nothing|\
+        nothing|\
+        next>None|\
+        answer>Some(Again { why: NoEntry, weight: 18 })|";
+    let climbs = "climb>None|\
+        resume|\
+        nothing|\
+        climb>Some((0, 0, 0))|\
+        nothing|\
+        resume|\
+        climb>Some((0, 1, 6))|\
+        next>Some(Entry { level: 0, cluster: 1, sub: 0 })|\
+        nothing|\
+        climb>Some((1, 0, 6))|\
+        nothing|\
+        climb>Some((2, 0, 12))|\
+        nothing|\
+        climb>None|\
+        answer>Some(Again { why: NoEntry, weight: 18 })|";
+    let at_origin = "here|answer>Some(At { node: 3, number: 7, level: None, weight: 0 })|";
+    let subject = Subject::Walk { from: 3, subs: 1 };
+    plays::play(
+        &rt,
+        rt.alloc(),
+        Over::Line,
+        subject,
+        &[no_entry, climbs, at_origin],
+    )
 }
 
 #[test]
-fn no_entry(rt: HostRuntime) -> Result<(), Fail> {
-    let script = [
-        (Step::Next, presence(3, 0)),
-        (Step::Answer, Seen::Answer(None)),
-        (Step::ReadNothing, Seen::Read),
-        (Step::Next, entry(0, 0, 0)),
-        (Step::ReadNothing, Seen::Read),
-        (Step::Next, entry(0, 1, 0)),
-        (Step::ReadNothing, Seen::Read),
-        (Step::Next, entry(1, 0, 0)),
-        (Step::ReadNothing, Seen::Read),
-        (Step::ReadNothing, Seen::Read),
-        (Step::Next, Seen::Next(None)),
-        (Step::Answer, again(Why::NoEntry, 18)),
-    ];
-    play_on_line(&rt, rt.alloc(), &script)
+fn refusals(rt: HostRuntime) -> Result<(), Fail> {
+    let beyond = Subject::Walk { from: 4, subs: 1 };
+    plays::play(&rt, rt.alloc(), Over::Line, beyond, &["NoNode"])?;
+    let nobody = Subject::Walk { from: 0, subs: 0 };
+    plays::play(&rt, rt.alloc(), Over::Line, nobody, &["NoSubscriber"])
 }
 
+// The last of 64 subscribers is looked for from the last node. A chase has three looks more than
+// there are nodes, and its last hop isn't made.
 #[test]
-fn where_it_climbs(rt: HostRuntime) -> Result<(), Fail> {
-    let script = [
-        (Step::Climb, Seen::Climb(None)),
-        (Step::Resume, Seen::Read),
-        (Step::ReadNothing, Seen::Read),
-        (Step::Climb, Seen::Climb(Some((0, 0, 0)))),
-        (Step::ReadNothing, Seen::Read),
-        (Step::Resume, Seen::Read),
-        (Step::Climb, Seen::Climb(Some((0, 1, 6)))),
-        (Step::Next, entry(0, 1, 0)),
-        (Step::ReadNothing, Seen::Read),
-        (Step::Climb, Seen::Climb(Some((1, 0, 6)))),
-        (Step::ReadNothing, Seen::Read),
-        (Step::Climb, Seen::Climb(Some((2, 0, 12)))),
-        (Step::ReadNothing, Seen::Read),
-        (Step::Climb, Seen::Climb(None)),
-        (Step::Answer, again(Why::NoEntry, 18)),
-    ];
-    play_on_line(&rt, rt.alloc(), &script)
-}
-
-#[test]
-fn at_its_origin(rt: HostRuntime) -> Result<(), Fail> {
-    let script = [
-        (Step::ReadSubscriber, Seen::Read),
-        (Step::Answer, found(3, None, 0)),
-    ];
-    play_on_line(&rt, rt.alloc(), &script)
-}
-
-#[test]
-fn looks_from_the_last_node(rt: HostRuntime) -> Result<(), Fail> {
-    let script = [
-        (Step::Next, presence(1023, 63)),
-        (Step::ReadNothing, Seen::Read),
-        (Step::Next, entry(0, 0, 63)),
-        (Step::ReadNothing, Seen::Read),
-        (Step::Answer, again(Why::NoEntry, 2046)),
-    ];
-    play_on_path(&rt, rt.alloc(), &script)
-}
-
-#[test]
-fn finds_from_the_last_node(rt: HostRuntime) -> Result<(), Fail> {
-    let script = [
-        (Step::ReadNothing, Seen::Read),
-        (Step::ReadSubscriber, Seen::Read),
-        (Step::Next, presence(0, 63)),
-        (Step::ReadSubscriber, Seen::Read),
-        (Step::Answer, found(0, Some(0), 1023)),
-    ];
-    play_on_path(&rt, rt.alloc(), &script)
-}
-
-// A chase has three looks more than there are nodes, and its last hop isn't made.
-#[test]
-fn a_chase_over_the_most_nodes(rt: HostRuntime) -> Result<(), Fail> {
-    let script = [
-        (Step::ReadComing, Seen::Read),
-        (Step::GoToAndFro(513), Seen::Read),
-        (Step::Answer, Seen::Answer(None)),
-        (Step::Next, presence(0, 63)),
-        (Step::ReadGoneToLast, Seen::Read),
-        (Step::Answer, again(Why::Chased, 1027 * 1023)),
-    ];
-    play_on_path(&rt, rt.alloc(), &script)
+fn over_the_most_nodes(rt: HostRuntime) -> Result<(), Fail> {
+    let looks = "next>Some(Presence { node: 1023, sub: 63 })|\
+        nothing|\
+        next>Some(Entry { level: 0, cluster: 0, sub: 63 })|\
+        nothing|\
+        answer>Some(Again { why: NoEntry, weight: 2046 })|";
+    let finds = "nothing|\
+        here|\
+        next>Some(Presence { node: 0, sub: 63 })|\
+        here|\
+        answer>Some(At { node: 0, number: 7, level: Some(0), weight: 1023 })|";
+    let chase = "coming|\
+        to-and-fro|\
+        answer>None|\
+        next>Some(Presence { node: 0, sub: 63 })|\
+        gone-to-last|\
+        answer>Some(Again { why: Chased, weight: 1050621 })|";
+    let subject = Subject::Walk {
+        from: 1023,
+        subs: 64,
+    };
+    plays::play(
+        &rt,
+        rt.alloc(),
+        Over::MostNodes,
+        subject,
+        &[looks, finds, chase],
+    )
 }
 
 fn sends<T: Send>() {}

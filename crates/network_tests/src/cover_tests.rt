@@ -1,176 +1,31 @@
-//! Covers: of the line 0 - 1 - 2 - 3 of unit weights, by its balls of radius 1; of longer paths;
-//! and of balls that don't hold each other's centres.
-ghost use Rattle.std.specs.Prelude.{◌≡◌, ◌<◌, ◌≤◌, [], ◌∷◌, IfOk, All, length, true};
-ghost use Rattle.node_set.specs.Ascending.{has, with_number};
+//! Covers and mean covers: of the line 0 - 1 - 2 - 3 of unit weights, by its balls of radius 1; of
+//! longer paths; and of balls that don't hold each other's centres.
+ghost use Rattle.std.specs.Prelude.{◌≡◌, ◌<◌, ◌≤◌, IfOk, All, length, true};
+ghost use Rattle.node_set.specs.Ascending.{has};
 ghost use Rattle.node_set.specs.Balls.{sets, AreCentred};
 ghost use Rattle.node_set.specs.Nodes.{Nodes};
 
-use crate::sameness::{same, same_numbers};
+use crate::rows::{Asked, ask_rows, check, five_numbers, halves, tell, tell_unknown};
+use crate::sameness::same;
+use crate::set_tests::tell_set;
 use coarse_cover::{Cover, coarsen};
+use mean_cover::{MeanCover, coarsen_mean};
 use node_set::NodeSet;
 use std::alloc::{AllocError, Global};
 use std::process::Abort;
 use std::test::Fail;
 
-pub(crate) fn ball(alloc: Global, a: u32, b: u32, c: u32) -> Result<NodeSet, AllocError>
-    requires a { a < 4 }
-    requires b { b < 4 }
-    requires c { c < 4 }
-    ensures { IfOk result (λ s. s ≡
-        record { room = 4; members = with_number c (with_number b (with_number a [])) }) }
-{
-    let mut set = NodeSet::empty(alloc, 4)?;
-    set.insert(a);
-    set.insert(b);
-    set.insert(c);
-    Ok(set)
-}
-
-fn cover_of_line(alloc: Global, k: u32) -> Result<Cover, AllocError>
-    requires low { 0 < k }
-    requires high { k < 9 }
-{
-    let zero = ball(alloc, 0, 1, 1)?;
-    let one = ball(alloc, 0, 1, 2)?;
-    let two = ball(alloc, 1, 2, 3)?;
-    let three = ball(alloc, 2, 3, 3)?;
-    coarsen(alloc, &[zero, one, two, three], k)
-}
-
-// The leader, the phase, the room and the members of a cluster.
-fn parts_of(alloc: Global, cover: &Cover, place: usize) -> Result<Vec<u64>, Fail> {
-    if place >= cover.clusters.len() {
-        return Err("the cluster is there".into());
-    }
-    let cluster = &cover.clusters[place];
-    let room = cluster.members.room();
-    let measures = [
-        u64::from(cluster.first),
-        u64::from(cluster.phase),
-        u64::from(room),
-    ];
-    let mut parts = Vec::from_slice(alloc, &measures)?;
-    for v in 0..room {
-        if cluster.members.has(v) {
-            parts.push(u64::from(v))?;
-        }
-    }
-    Ok(parts)
-}
-
-// The number of clusters, that of phases, and the home of each ball.
-fn homes_of(alloc: Global, cover: &Cover) -> Result<Vec<u64>, Fail> {
-    let counts = [cover.clusters.len() as u64, u64::from(cover.phases)];
-    let mut homes = Vec::from_slice(alloc, &counts)?;
-    for home in &cover.home {
-        homes.push(u64::from(*home))?;
-    }
-    Ok(homes)
-}
-
-// A cover's clusters have these parts, one after another, and the whole has these homes.
-fn is_cover(
-    rt: &impl Abort,
-    alloc: Global,
-    cover: &Cover,
-    homes: &[u64],
-    clusters: &[&[u64]],
-) -> Result<(), Fail> {
-    same_numbers(rt, 0, &homes_of(alloc, cover)?, homes);
-    for place in 0..clusters.len() {
-        same_numbers(rt, place, &parts_of(alloc, cover, place)?, clusters[place]);
-    }
-    Ok(())
-}
-
-// The cover of the line has these homes and clusters.
-fn is_cover_of_line(
-    rt: &impl Abort,
-    alloc: Global,
-    k: u32,
-    homes: &[u64],
-    clusters: &[&[u64]],
-) -> Result<(), Fail>
-    requires low { 0 < k }
-    requires high { k < 9 }
-{
-    let cover = cover_of_line(alloc, k)?;
-    is_cover(rt, alloc, &cover, homes, clusters)
-}
-
-#[test]
-fn small_clusters(rt: HostRuntime) -> Result<(), Fail> {
-    let clusters: [&[u64]; 4] = [
-        &[0, 0, 4, 0, 1],
-        &[3, 0, 4, 2, 3],
-        &[1, 1, 4, 0, 1, 2],
-        &[2, 2, 4, 1, 2, 3],
-    ];
-    is_cover_of_line(&rt, rt.alloc(), 1, &[4, 3, 0, 2, 3, 1], &clusters)
-}
-
-#[test]
-fn larger_clusters(rt: HostRuntime) -> Result<(), Fail> {
-    let clusters: [&[u64]; 2] = [&[0, 0, 4, 0, 1, 2, 3], &[3, 1, 4, 2, 3]];
-    is_cover_of_line(&rt, rt.alloc(), 2, &[2, 2, 0, 0, 0, 1], &clusters)
-}
-
-#[test]
-fn the_largest_trade_off(rt: HostRuntime) -> Result<(), Fail> {
-    let clusters: [&[u64]; 1] = [&[0, 0, 4, 0, 1, 2, 3]];
-    is_cover_of_line(&rt, rt.alloc(), 8, &[1, 1, 0, 0, 0, 0], &clusters)
-}
-
-// Each node reaches itself and node 1 alone. So the row of node 1 has all centres.
-fn cover_of_lopsided_balls(alloc: Global, k: u32) -> Result<Cover, AllocError>
-    requires low { 0 < k }
-    requires high { k < 9 }
-{
-    let zero = ball(alloc, 0, 1, 1)?;
-    let one = ball(alloc, 1, 1, 1)?;
-    let two = ball(alloc, 2, 1, 1)?;
-    let three = ball(alloc, 3, 1, 1)?;
-    coarsen(alloc, &[zero, one, two, three], k)
-}
-
-// The cover of the lopsided balls has these homes and clusters.
-fn is_lopsided(
-    rt: &impl Abort,
-    alloc: Global,
-    k: u32,
-    homes: &[u64],
-    clusters: &[&[u64]],
-) -> Result<(), Fail>
-    requires low { 0 < k }
-    requires high { k < 9 }
-{
-    let cover = cover_of_lopsided_balls(alloc, k)?;
-    is_cover(rt, alloc, &cover, homes, clusters)
-}
-
-#[test]
-fn lopsided_balls(rt: HostRuntime) -> Result<(), Fail> {
-    let clusters: [&[u64]; 4] = [
-        &[0, 0, 4, 0, 1],
-        &[1, 1, 4, 1],
-        &[2, 2, 4, 1, 2],
-        &[3, 3, 4, 1, 3],
-    ];
-    is_lopsided(&rt, rt.alloc(), 1, &[4, 4, 0, 1, 2, 3], &clusters)?;
-    let whole: [&[u64]; 1] = [&[0, 0, 4, 0, 1, 2, 3]];
-    is_lopsided(&rt, rt.alloc(), 2, &[1, 1, 0, 0, 0, 0], &whole)
-}
-
-// The nodes of a path at most `reach` away from `v`.
-fn ball_on_path(alloc: Global, n: u32, v: u32, reach: u32) -> Result<NodeSet, AllocError>
+// The nodes of a path at most `reach` away from `v`, and node 1 where `v` is one of the nodes from
+// `joined` on.
+fn ball_of(alloc: Global, n: u32, v: u32, reach: u32, joined: u32) -> Result<NodeSet, AllocError>
     requires small { n ≤ 1024 }
     requires below { v < n }
     ensures room { IfOk result (λ ball. ball.room ≡ n) }
     ensures centre { IfOk result (λ ball. has v ball.members ≡ true) }
 {
     let mut ball = NodeSet::empty(alloc, n)?;
-    for node in v.saturating_sub(reach)..n {
-        if node - v.min(node) <= reach {
+    for node in 0..n {
+        if node.abs_diff(v) <= reach || (node == 1 && joined <= v) {
             ball.insert(node);
         }
     }
@@ -178,8 +33,8 @@ fn ball_on_path(alloc: Global, n: u32, v: u32, reach: u32) -> Result<NodeSet, Al
     Ok(ball)
 }
 
-// The balls round all nodes of a path.
-pub(crate) fn balls_on_path(alloc: Global, n: u32, reach: u32) -> Result<Vec<NodeSet>, AllocError>
+// The balls of all nodes.
+fn balls_of(alloc: Global, n: u32, reach: u32, joined: u32) -> Result<Vec<NodeSet>, AllocError>
     requires { n ≤ 1024 }
     ensures count { IfOk result (λ balls. length balls.items ≡ n) }
     ensures rooms { IfOk result (λ balls. All (λ (b : Nodes). b.room ≡ n) balls.items) }
@@ -187,70 +42,269 @@ pub(crate) fn balls_on_path(alloc: Global, n: u32, reach: u32) -> Result<Vec<Nod
 {
     let mut balls = Vec::with_capacity(alloc, n as usize)?;
     for v in 0..n {
-        balls.push(ball_on_path(alloc, n, v, reach)?)?;
+        balls.push(ball_of(alloc, n, v, reach, joined)?)?;
     }
     Ok(balls)
 }
 
-fn cover_of_path(alloc: Global, n: u32, reach: u32, k: u32) -> Result<Cover, AllocError>
-    requires small { n ≤ 1024 }
-    requires low { 0 < k }
-    requires high { k < 9 }
-{
-    let balls = balls_on_path(alloc, n, reach)?;
-    coarsen(alloc, &balls, k)
+// The number of clusters, that of phases, and the home of each ball.
+fn tell_homes(cover: &Cover, told: &mut Vec<u64>) {
+    tell_counts(cover, told);
+    for home in &cover.home {
+        tell(told, u64::from(*home));
+    }
 }
 
-// A cover has so many clusters and phases.
-fn is_large(rt: &impl Abort, cover: &Cover, clusters: u64, phases: u64) {
-    let found = [cover.clusters.len() as u64, u64::from(cover.phases)];
-    same_numbers(rt, 0, &found, &[clusters, phases]);
+// The number of clusters, and that of phases.
+fn tell_counts(cover: &Cover, told: &mut Vec<u64>) {
+    tell(told, cover.clusters.len() as u64);
+    tell(told, u64::from(cover.phases));
+}
+
+// The leader, the phase and the nodes of a cluster.
+fn tell_cluster(cover: &Cover, place: u32, told: &mut Vec<u64>) {
+    if (place as usize) < cover.clusters.len() {
+        let cluster = &cover.clusters[place as usize];
+        tell(told, u64::from(cluster.first));
+        tell(told, u64::from(cluster.phase));
+        tell_set(told, &cluster.members);
+    }
+}
+
+// The lowest node of a set, and how many it has.
+fn tell_span(told: &mut Vec<u64>, set: &NodeSet) {
+    tell(told, u64::from(set.next_from(0).unwrap_or(1024)));
+    tell(told, u64::from(set.count()));
 }
 
 // The home of ball `v`; and of cluster `c` the leader, the phase, the lowest node and how many
 // nodes it has.
-fn on_path(cover: &Cover, v: u32, c: u32) -> [u32; 5] {
-    if v as usize >= cover.home.len() || c as usize >= cover.clusters.len() {
-        return [u32::MAX; 5];
-    }
-    let cluster = &cover.clusters[c as usize];
-    [
-        cover.home[v as usize],
-        cluster.first,
-        cluster.phase,
-        cluster.members.next_from(0).unwrap_or(1024),
-        cluster.members.count(),
-    ]
-}
-
-fn is_on_path(rt: &impl Abort, cover: &Cover, v: u32, c: u32, wanted: [u32; 5]) {
-    same(rt, v as usize, on_path(cover, v, c), wanted);
-}
-
-// No ball grows, since five balls aren't too many for 130 of them: each is a cluster, and a phase
-// has every fifth one.
-fn stay_small(rt: &impl Abort, cover: &Cover) {
-    is_large(rt, cover, 130, 5);
-    for v in 0..130u32 {
-        let c = v % 5 * 26 + v / 5;
-        let low = v.saturating_sub(2);
-        let count = (v + 2).min(129) - low + 1;
-        is_on_path(rt, cover, v, c, [c, v, v % 5, low, count]);
+fn tell_on_path(cover: &Cover, v: u32, c: u32, told: &mut Vec<u64>) {
+    if (v as usize) < cover.home.len() && (c as usize) < cover.clusters.len() {
+        let cluster = &cover.clusters[c as usize];
+        tell(told, u64::from(cover.home[v as usize]));
+        tell(told, u64::from(cluster.first));
+        tell(told, u64::from(cluster.phase));
+        tell_span(told, &cluster.members);
     }
 }
 
-#[test]
-fn small_trade_offs_past_a_word(rt: HostRuntime) -> Result<(), Fail> {
-    for k in [1, 2, 3] {
-        stay_small(&rt, &cover_of_path(rt.alloc(), 130, 2, k)?);
+impl Asked for Cover {
+    fn answer(&self, _alloc: Global, name: &str, numbers: [u32; 5], told: &mut Vec<u64>) {
+        let [first, second, ..] = numbers;
+        match name {
+            "homes" => tell_homes(self, told),
+            "counts" => tell_counts(self, told),
+            "cluster" => tell_cluster(self, first, told),
+            "ball" => tell_on_path(self, first, second, told),
+            _ => tell_unknown(told),
+        }
+    }
+}
+
+// The number of clusters, and the home of each ball.
+fn tell_mean_homes(cover: &MeanCover, told: &mut Vec<u64>) {
+    tell(told, cover.clusters.len() as u64);
+    for home in &cover.home {
+        tell(told, u64::from(*home));
+    }
+}
+
+// The leader and the nodes of a cluster.
+fn tell_mean_cluster(cover: &MeanCover, place: u32, told: &mut Vec<u64>) {
+    if (place as usize) < cover.clusters.len() {
+        let cluster = &cover.clusters[place as usize];
+        tell(told, u64::from(cluster.first));
+        tell_set(told, &cluster.members);
+    }
+}
+
+// The number of clusters, and the sum of their sizes.
+fn tell_mean_counts(cover: &MeanCover, told: &mut Vec<u64>) {
+    let mut sum = 0u64;
+    for cluster in &cover.clusters {
+        sum = sum.saturating_add(u64::from(cluster.members.count()));
+    }
+    tell(told, cover.clusters.len() as u64);
+    tell(told, sum);
+}
+
+// The home of ball `v`; and of cluster `c` the leader, the lowest node and how many nodes it has.
+fn tell_on_mean_path(cover: &MeanCover, v: u32, c: u32, told: &mut Vec<u64>) {
+    if (v as usize) < cover.home.len() && (c as usize) < cover.clusters.len() {
+        let cluster = &cover.clusters[c as usize];
+        tell(told, u64::from(cover.home[v as usize]));
+        tell(told, u64::from(cluster.first));
+        tell_span(told, &cluster.members);
+    }
+}
+
+impl Asked for MeanCover {
+    fn answer(&self, _alloc: Global, name: &str, numbers: [u32; 5], told: &mut Vec<u64>) {
+        let [first, second, ..] = numbers;
+        match name {
+            "homes" => tell_mean_homes(self, told),
+            "counts" => tell_mean_counts(self, told),
+            "cluster" => tell_mean_cluster(self, first, told),
+            "ball" => tell_on_mean_path(self, first, second, told),
+            _ => tell_unknown(told),
+        }
+    }
+}
+
+// Asks the cover of balls.
+fn ask_coarse(
+    rt: &impl Abort,
+    alloc: Global,
+    balls: &[NodeSet],
+    k: u32,
+    head: &str,
+    rows: &str,
+) -> Result<(), Fail>
+    requires small { length balls.now ≤ 1024 }
+    requires rooms { All (λ (b : Nodes). b.room ≡ length balls.now) balls.now }
+    requires centred { AreCentred (sets balls.now) }
+    requires low { 1 ≤ k }
+    requires high { k ≤ 8 }
+{
+    let cover = coarsen(alloc, balls, k)?;
+    ask_rows(rt, alloc, &cover, head, rows);
+    Ok(())
+}
+
+// Asks the mean cover of balls.
+fn ask_mean(
+    rt: &impl Abort,
+    alloc: Global,
+    balls: &[NodeSet],
+    k: u32,
+    head: &str,
+    rows: &str,
+) -> Result<(), Fail>
+    requires small { length balls.now ≤ 1024 }
+    requires rooms { All (λ (b : Nodes). b.room ≡ length balls.now) balls.now }
+    requires centred { AreCentred (sets balls.now) }
+    requires low { 1 ≤ k }
+    requires high { k ≤ 8 }
+{
+    let cover = coarsen_mean(alloc, balls, k)?;
+    ask_rows(rt, alloc, &cover, head, rows);
+    Ok(())
+}
+
+// Asks a cover. The subject is its kind; the trade-off; and of the balls their number, how far they
+// reach, and the node from which on they have node 1.
+fn ask_cover(rt: &impl Abort, alloc: Global, subject: &str) -> Result<(), Fail> {
+    let (head, rows) = halves(subject, ':');
+    let [k, n, reach, joined, _] = five_numbers(head);
+    if n > 1024 || k < 1 || k > 8 {
+        return Err("a cover is within the limits".into());
+    }
+    let balls = balls_of(alloc, n, reach, joined)?;
+    if head.starts_with("mean") {
+        ask_mean(rt, alloc, &balls, k, head, rows)
+    } else {
+        ask_coarse(rt, alloc, &balls, k, head, rows)
+    }
+}
+
+fn ask_covers(rt: &impl Abort, alloc: Global, subjects: &str) -> Result<(), Fail> {
+    for subject in subjects.split_terminator(';') {
+        ask_cover(rt, alloc, subject)?;
     }
     Ok(())
 }
 
-// The cluster that is the home of ball `v`, where each cluster of the first phase grows once: it
-// has nine balls about it, and five are its own. The four between two such are one cluster of the
-// second phase each.
-fn grown(v: u32) -> [u32; 5]
+#[test]
+fn covers_of_a_line(rt: HostRuntime) -> Result<(), Fail> {
+    let subjects = "cover 1 4 1 4:\
+        homes = 4 3 0 2 3 1|\
+        cluster 0 = 0 0 4 2 0 0 1 1|\
+        cluster 1 = 3 0 4 2 2 2 3 3|\
+        cluster 2 = 1 1 4 3 0 0 1 1 2 2|\
+        cluster 3 = 2 2 4 3 1 1 2 2 3 3|;\
+        cover 2 4 1 4:\
+        homes = 2 2 0 0 0 1|\
+        cluster 0 = 0 0 4 4 0 0 1 1 2 2 3 3|\
+        cluster 1 = 3 1 4 2 2 2 3 3|;\
+        cover 8 4 1 4:\
+        homes = 1 1 0 0 0 0|\
+        cluster 0 = 0 0 4 4 0 0 1 1 2 2 3 3|;\
+        mean 1 4 1 4:\
+        homes = 2 0 0 0 1|\
+        cluster 0 = 0 4 4 0 0 1 1 2 2 3 3|\
+        cluster 1 = 3 4 2 2 2 3 3|;\
+        mean 2 4 1 4:\
+        homes = 2 0 0 0 1|\
+        cluster 0 = 0 4 4 0 0 1 1 2 2 3 3|\
+        cluster 1 = 3 4 2 2 2 3 3|;\
+        mean 8 4 1 4:\
+        homes = 1 0 0 0 0|\
+        cluster 0 = 0 4 4 0 0 1 1 2 2 3 3|;";
+    ask_covers(&rt, rt.alloc(), subjects)
+}
+
+// Each node reaches itself and node 1 alone, so the row of node 1 has all centres. In the mean
+// cover node 0 doesn't reach node 1.
+#[test]
+fn covers_of_lopsided_balls(rt: HostRuntime) -> Result<(), Fail> {
+    let subjects = "cover 1 4 0 0:\
+        homes = 4 4 0 1 2 3|\
+        cluster 0 = 0 0 4 2 0 0 1 1|\
+        cluster 1 = 1 1 4 1 1 1|\
+        cluster 2 = 2 2 4 2 1 1 2 2|\
+        cluster 3 = 3 3 4 2 1 1 3 3|;\
+        cover 2 4 0 0:\
+        homes = 1 1 0 0 0 0|\
+        cluster 0 = 0 0 4 4 0 0 1 1 2 2 3 3|;\
+        mean 2 4 0 1:\
+        homes = 2 0 1 1 1|\
+        cluster 0 = 0 4 1 0 0|\
+        cluster 1 = 1 4 3 1 1 2 2 3 3|;";
+    ask_covers(&rt, rt.alloc(), subjects)
+}
+
+#[test]
+fn covers_past_a_word_and_at_the_limits(rt: HostRuntime) -> Result<(), Fail> {
+    let subjects = "cover 8 1024 5 1024:\
+        counts = 98 2|\
+        ball 1023 97 = 97 1019 1 1014 10|\
+        ball 0 0 = 0 0 0 0 16|;\
+        mean 1 130 2 130:\
+        counts = 26 230|ball 4 0 = 0 0 0 7|ball 5 1 = 1 5 3 9|ball 129 25 = 25 125 123 7|;\
+        mean 2 130 2 130:\
+        counts = 26 230|ball 4 0 = 0 0 0 7|ball 5 1 = 1 5 3 9|ball 129 25 = 25 125 123 7|;\
+        mean 3 130 2 130:\
+        counts = 26 230|ball 4 0 = 0 0 0 7|ball 5 1 = 1 5 3 9|ball 129 25 = 25 125 123 7|;\
+        mean 4 130 2 130:\
+        counts = 26 230|ball 4 0 = 0 0 0 7|ball 5 1 = 1 5 3 9|ball 129 25 = 25 125 123 7|;\
+        mean 5 130 2 130:\
+        counts = 26 230|ball 4 0 = 0 0 0 7|ball 5 1 = 1 5 3 9|ball 129 25 = 25 125 123 7|;\
+        mean 8 130 2 130:\
+        counts = 26 229|ball 5 0 = 0 0 0 11|ball 129 25 = 25 129 127 3|;\
+        mean 1 1024 5 1024:\
+        counts = 94 1950|ball 10 0 = 0 0 0 16|ball 1023 93 = 93 1023 1018 6|;\
+        mean 8 1024 5 1024:\
+        counts = 93 1941|ball 20 0 = 0 0 0 26|ball 1023 92 = 92 1022 1017 7|;";
+    ask_covers(&rt, rt.alloc(), subjects)
+}
+
+// The cluster that is the home of ball `v` of a path of 130 nodes by balls that reach two: its
+// number, leader, phase, lowest node and how many nodes it has.
+//
+// Up to the trade-off 3 no ball grows, since five balls aren't too many for 130 of them: each is a
+// cluster, and a phase has every fifth one.
+fn stay_small(v: u32) -> [u32; 5]
+    requires { v < 130 }
+{
+    let low = v.saturating_sub(2);
+    let count = (v + 2).min(129) - low + 1;
+    [v % 5 * 26 + v / 5, v, v % 5, low, count]
+}
+
+// Above it each cluster of the first phase grows once: it has nine balls about it, and five are its
+// own. The four between two such are one cluster of the second phase each.
+fn grow_once(v: u32) -> [u32; 5]
     requires { v < 130 }
 {
     let own = v / 9;
@@ -262,31 +316,45 @@ fn grown(v: u32) -> [u32; 5]
     }
 }
 
-fn grow_once(rt: &impl Abort, cover: &Cover) {
-    is_large(rt, cover, 29, 2);
-    for v in 0..130u32 {
-        let wanted = grown(v);
-        is_on_path(rt, cover, v, wanted[0], wanted);
+// Tells each ball's home and its parts, and what is wanted of them.
+fn tell_balls(cover: &Cover, k: u32, told: &mut Vec<u64>, wanted: &mut Vec<u64>) {
+    for v in 0..130 {
+        let parts = if k < 4 { stay_small(v) } else { grow_once(v) };
+        tell_on_path(cover, v, parts[0], told);
+        for part in parts {
+            tell(wanted, u64::from(part));
+        }
     }
 }
 
+// What is wanted of each cluster of the path.
+fn has_balls(rt: &impl Abort, alloc: Global, cover: &Cover, k: u32) {
+    let (mut told, mut wanted) = (Vec::new(alloc), Vec::new(alloc));
+    tell_balls(cover, k, &mut told, &mut wanted);
+    same(rt, "all balls", "of a path", &told, &wanted);
+    let mut counts = Vec::new(alloc);
+    tell_counts(cover, &mut counts);
+    check(
+        rt,
+        alloc,
+        "counts",
+        if k < 4 { "= 130 5" } else { "= 29 2" },
+        &counts,
+    );
+}
+
+fn cover_of(alloc: Global, k: u32) -> Result<Cover, AllocError>
+    requires low { 1 ≤ k }
+    requires high { k ≤ 8 }
+{
+    let balls = balls_of(alloc, 130, 2, 130)?;
+    coarsen(alloc, &balls, k)
+}
+
 #[test]
-fn large_trade_offs_past_a_word(rt: HostRuntime) -> Result<(), Fail> {
-    for k in [4, 5, 6, 7, 8] {
-        grow_once(&rt, &cover_of_path(rt.alloc(), 130, 2, k)?);
+fn all_balls_past_a_word(rt: HostRuntime) -> Result<(), Fail> {
+    for k in 1..9 {
+        has_balls(&rt, rt.alloc(), &cover_of(rt.alloc(), k)?, k);
     }
-    Ok(())
-}
-
-fn is_widest(rt: &impl Abort, cover: &Cover) {
-    is_large(rt, cover, 98, 2);
-    is_on_path(rt, cover, 1023, 97, [97, 1019, 1, 1014, 10]);
-    is_on_path(rt, cover, 0, 0, [0, 0, 0, 0, 16]);
-}
-
-#[test]
-fn as_many_balls_as_there_may_be(rt: HostRuntime) -> Result<(), Fail> {
-    let cover = cover_of_path(rt.alloc(), 1024, 5, 8)?;
-    is_widest(&rt, &cover);
     Ok(())
 }

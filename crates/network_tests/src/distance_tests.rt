@@ -1,143 +1,135 @@
 //! Distances on paths, and where all nodes are neighbours.
 ghost use Rattle.std.specs.Prelude.{◌≤◌};
 
-use crate::sameness::same_numbers;
+use crate::rows::{Asked, ask_rows, five_numbers, halves, tell, tell_unknown};
+use crate::set_tests::tell_set;
 use distances::Distances;
 use net_graph::{MAX_NODES, MAX_WEIGHT};
-use node_set::NodeSet;
 use std::alloc::Global;
 use std::process::Abort;
 use std::test::Fail;
 use test_networks::{complete, path};
 
-// The distance between two nodes, and none where one isn't there.
-fn between(distances: &Distances, u: u32, v: u32) -> Option<u64> {
-    if u >= distances.nodes() || v >= distances.nodes() {
-        return None;
-    }
-    Some(distances.between(u, v))
-}
-
-// There are so many nodes, the diameter is this, and each row is two nodes and their distance.
-fn are_apart(
-    rt: &impl Abort,
-    distances: &Distances,
-    nodes: u32,
-    diameter: u64,
-    rows: &[(u32, u32, u64)],
-) {
-    let measures = [u64::from(distances.nodes()), distances.diameter()];
-    same_numbers(rt, 0, &measures, &[u64::from(nodes), diameter]);
-    for place in 0..rows.len() {
-        let (u, v, wanted) = rows[place];
-        same_numbers(rt, place, between(distances, u, v).as_slice(), &[wanted]);
-        same_numbers(rt, place, between(distances, v, u).as_slice(), &[wanted]);
+// The distance between two nodes, both ways.
+fn tell_between(distances: &Distances, u: u32, v: u32, told: &mut Vec<u64>) {
+    if u < distances.nodes() && v < distances.nodes() {
+        tell(told, distances.between(u, v));
+        tell(told, distances.between(v, u));
     }
 }
 
-fn row_of(alloc: Global, distances: &Distances, u: u32) -> Result<Vec<u64>, Fail> {
-    let mut row = Vec::new(alloc);
+fn tell_row(distances: &Distances, u: u32, told: &mut Vec<u64>) {
     if u < distances.nodes() {
         for distance in distances.row(u) {
-            row.push(u64::from(*distance))?;
+            tell(told, u64::from(*distance));
         }
     }
-    Ok(row)
 }
 
-// The room of a ball and its members.
-fn parts(alloc: Global, ball: &NodeSet) -> Result<Vec<u64>, Fail> {
-    let mut parts = Vec::new(alloc);
-    parts.push(u64::from(ball.room()))?;
-    for v in 0..ball.room() {
-        if ball.has(v) {
-            parts.push(u64::from(v))?;
+// The set of the nodes about a node.
+fn tell_ball(alloc: Global, distances: &Distances, v: u32, radius: u32, told: &mut Vec<u64>) {
+    if v < distances.nodes() {
+        if let Ok(ball) = distances.ball(alloc, v, u64::from(radius)) {
+            tell_set(told, &ball);
         }
     }
-    Ok(parts)
 }
 
-fn ball_of(alloc: Global, distances: &Distances, v: u32, radius: u64) -> Result<Vec<u64>, Fail> {
-    if v >= distances.nodes() {
-        return Err("the centre is a node".into());
+impl Asked for Distances {
+    fn answer(&self, alloc: Global, name: &str, numbers: [u32; 5], told: &mut Vec<u64>) {
+        let [first, second, ..] = numbers;
+        match name {
+            "nodes" => tell(told, u64::from(self.nodes())),
+            "diameter" => tell(told, self.diameter()),
+            "between" => tell_between(self, first, second, told),
+            "row" => tell_row(self, first, told),
+            "ball" => tell_ball(alloc, self, first, second, told),
+            _ => tell_unknown(told),
+        }
     }
-    parts(alloc, &distances.ball(alloc, v, radius)?)
 }
 
-// The row of a node has these distances.
-fn is_row(
-    rt: &impl Abort,
-    alloc: Global,
-    distances: &Distances,
-    u: u32,
-    wanted: &[u64],
-) -> Result<(), Fail> {
-    same_numbers(rt, 0, &row_of(alloc, distances, u)?, wanted);
-    Ok(())
-}
-
-// The ball round a node has this room and these members.
-fn is_ball(
-    rt: &impl Abort,
-    alloc: Global,
-    distances: &Distances,
-    v: u32,
-    radius: u64,
-    wanted: &[u64],
-) -> Result<(), Fail> {
-    same_numbers(rt, 1, &ball_of(alloc, distances, v, radius)?, wanted);
-    Ok(())
-}
-
-// A copy has the distances of the line of four.
-fn is_copied(rt: &impl Abort, distances: &Distances, rows: &[(u32, u32, u64)]) -> Result<(), Fail> {
-    are_apart(rt, &distances.copy()?, 4, 3, rows);
-    Ok(())
-}
-
-#[test]
-fn distances_on_a_line(rt: HostRuntime) -> Result<(), Fail> {
-    let (_, distances) = path(rt.alloc(), 4, 1)?;
-    let rows = [(0, 3, 3), (2, 1, 1), (1, 1, 0)];
-    are_apart(&rt, &distances, 4, 3, &rows);
-    is_copied(&rt, &distances, &rows)
-}
-
-#[test]
-fn a_row_and_a_ball_on_a_line(rt: HostRuntime) -> Result<(), Fail> {
-    let (_, distances) = path(rt.alloc(), 4, 1)?;
-    is_row(&rt, rt.alloc(), &distances, 2, &[2, 1, 0, 1])?;
-    is_ball(&rt, rt.alloc(), &distances, 1, 1, &[4, 0, 1, 2])
-}
-
-fn distances_of_neighbours(alloc: Global, n: u32) -> Result<Distances, Fail>
+// Asks the distances where all nodes are neighbours.
+fn ask_complete(rt: &impl Abort, alloc: Global, n: u32, head: &str, rows: &str) -> Result<(), Fail>
     requires some { 1 ≤ n }
     requires few { n ≤ MAX_NODES }
 {
     let graph = complete(alloc, n)?;
-    Ok(Distances::new(alloc, &graph)?)
-}
-
-// Whole rows are lowered, sixteen weights at once and one by one.
-#[test]
-fn distances_where_all_are_neighbours(rt: HostRuntime) -> Result<(), Fail> {
-    let distances = distances_of_neighbours(rt.alloc(), 37)?;
-    let rows = [(3, 9, 6), (36, 0, 10), (36, 26, 10)];
-    are_apart(&rt, &distances, 37, 10, &rows);
+    ask_rows(rt, alloc, &Distances::new(alloc, &graph)?, head, rows);
     Ok(())
 }
 
-#[test]
-fn the_greatest_distance_that_there_is(rt: HostRuntime) -> Result<(), Fail> {
-    let (_, distances) = path(rt.alloc(), MAX_NODES, MAX_WEIGHT)?;
-    let rows = [(1023, 1, 1_071_644_672)];
-    are_apart(&rt, &distances, 1024, 1_072_693_248, &rows);
+// Asks a copy.
+fn ask_copy(
+    rt: &impl Abort,
+    alloc: Global,
+    distances: &Distances,
+    head: &str,
+    rows: &str,
+) -> Result<(), Fail> {
+    ask_rows(rt, alloc, &distances.copy()?, head, rows);
     Ok(())
 }
 
+// Asks the distances of a path, and a copy of them.
+fn ask_path(
+    rt: &impl Abort,
+    alloc: Global,
+    n: u32,
+    weight: u64,
+    head: &str,
+    rows: &str,
+) -> Result<(), Fail>
+    requires some { 1 ≤ n }
+    requires few { n ≤ MAX_NODES }
+    requires positive { 1 ≤ weight }
+    requires light { weight ≤ MAX_WEIGHT }
+{
+    let (_, distances) = path(alloc, n, weight)?;
+    ask_rows(rt, alloc, &distances, head, rows);
+    ask_copy(rt, alloc, &distances, head, rows)
+}
+
+// Asks the distances of a network: of a path the subject is its nodes and the weight of its edges,
+// and where all are neighbours it's their number.
+fn ask_distances(rt: &impl Abort, alloc: Global, subject: &str) -> Result<(), Fail> {
+    let (head, rows) = halves(subject, ':');
+    let [n, weight, ..] = five_numbers(head);
+    let weight = u64::from(weight);
+    if n < 1 || n > MAX_NODES {
+        return Err("a network is within the limits".into());
+    }
+    if weight < 1 || weight > MAX_WEIGHT {
+        return ask_complete(rt, alloc, n, head, rows);
+    }
+    ask_path(rt, alloc, n, weight, head, rows)
+}
+
+// Where all are neighbours whole rows are lowered, sixteen weights at once and one by one.
 #[test]
-fn a_ball_on_a_path(rt: HostRuntime) -> Result<(), Fail> {
-    let (_, distances) = path(rt.alloc(), 130, 5)?;
-    let members = [130, 126, 127, 128, 129];
-    is_ball(&rt, rt.alloc(), &distances, 128, 10, &members)
+fn distances_of_networks(rt: HostRuntime) -> Result<(), Fail> {
+    let subjects = "path 4 1:\
+        nodes = 4|\
+        diameter = 3|\
+        between 0 3 = 3 3|\
+        between 2 1 = 1 1|\
+        between 1 1 = 0 0|\
+        row 2 = 2 1 0 1|\
+        ball 1 1 = 4 3 0 0 1 1 2 2|;\
+        complete 37:\
+        nodes = 37|\
+        diameter = 10|\
+        between 3 9 = 6 6|\
+        between 36 0 = 10 10|\
+        between 36 26 = 10 10|;\
+        path 1024 1048576:\
+        nodes = 1024|\
+        diameter = 1072693248|\
+        between 1023 1 = 1071644672 1071644672|;\
+        path 130 5:\
+        ball 128 10 = 130 4 126 126 127 127 128 128 129 129|;";
+    for subject in subjects.split_terminator(';') {
+        ask_distances(&rt, rt.alloc(), subject)?;
+    }
+    Ok(())
 }

@@ -3,19 +3,17 @@
 #![tactic(auto)]
 
 #[cfg(test)]
-mod asking;
-#[cfg(test)]
 mod cover_tests;
 #[cfg(test)]
 mod distance_tests;
 #[cfg(test)]
 mod graph_tests;
 #[cfg(test)]
-mod mean_cover_tests;
-#[cfg(test)]
 mod plan_tests;
 #[cfg(test)]
 mod power_tests;
+#[cfg(test)]
+mod rows;
 #[cfg(test)]
 mod sameness;
 #[cfg(test)]

@@ -1,31 +1,189 @@
 //! Plans of paths: of the line 0 - 1 - 2 - 3 of unit weights, of one and two nodes, and past a word
 //! and up to the most nodes.
+ghost use Rattle.distances.specs.Table.{AreDistancesOf};
 
-use crate::asking::{Asked, Made, ask_path, ask_path_rows};
-use crate::sameness::same_numbers;
+use crate::rows::{Asked, WORD, ask_rows, five_numbers, halves, tell, tell_unknown};
+use crate::sameness::same;
 use distances::Distances;
-use net_graph::{MAX_NODES, MAX_WEIGHT};
+use net_graph::{Graph, MAX_NODES, MAX_WEIGHT};
 use region_plan::Plan;
 use std::alloc::Global;
 use std::process::Abort;
 use std::test::Fail;
 use test_networks::path;
 
+// Nodes, k, levels, degree, stretch and the most writes.
+fn tell_whole(plan: &Plan, told: &mut Vec<u64>) {
+    tell(told, u64::from(plan.nodes()));
+    tell(told, u64::from(plan.k()));
+    tell(told, u64::from(plan.levels()));
+    tell(told, u64::from(plan.degree()));
+    tell(told, plan.stretch());
+    tell(told, plan.most_writes());
+}
+
+// For each level 1 where it is known to repeat the one below, else 0.
+fn tell_repeats(plan: &Plan, told: &mut Vec<u64>) {
+    for i in 0..plan.levels() {
+        tell(told, u64::from(plan.repeats(i)));
+    }
+}
+
+// The exponent, the threshold, the phases and the clusters of a level.
+fn tell_level(plan: &Plan, i: u32, told: &mut Vec<u64>) {
+    if i >= plan.levels() {
+        return tell(told, WORD);
+    }
+    tell(told, u64::from(plan.exponent(i)));
+    tell(told, plan.threshold(i));
+    tell(told, u64::from(plan.phases(i)));
+    tell(told, u64::from(plan.clusters(i)));
+}
+
+// The home of a node at a level.
+fn tell_home(plan: &Plan, i: u32, v: u32, told: &mut Vec<u64>) {
+    if i < plan.levels() && v < plan.nodes() {
+        tell(told, u64::from(plan.home(i, v)));
+    }
+}
+
+// The homes of all nodes at a level.
+fn tell_homes(plan: &Plan, i: u32, told: &mut Vec<u64>) {
+    for v in 0..plan.nodes() {
+        tell_home(plan, i, v, told);
+    }
+}
+
+// The phase, the leader and the depth of a cluster.
+fn tell_cluster(plan: &Plan, i: u32, c: u32, told: &mut Vec<u64>) {
+    if i < plan.levels() && c < plan.clusters(i) {
+        tell(told, u64::from(plan.phase_of(i, c)));
+        tell(told, u64::from(plan.leader(i, c)));
+        tell(told, plan.depth(i, c));
+    }
+}
+
+// The members of a cluster.
+fn tell_members(plan: &Plan, i: u32, c: u32, told: &mut Vec<u64>) {
+    if i < plan.levels() && c < plan.clusters(i) {
+        for node in plan.members(i, c) {
+            tell(told, u64::from(*node));
+        }
+    }
+}
+
+// The weight of each member of a cluster.
+fn tell_weights(plan: &Plan, i: u32, c: u32, told: &mut Vec<u64>) {
+    if i < plan.levels() && c < plan.clusters(i) {
+        for v in 0..plan.nodes() {
+            if plan.member(i, c, v) {
+                tell(told, plan.tree_weight(i, c, v));
+            }
+        }
+    }
+}
+
+// The readers of a node at a level, and then the weights inside these.
+fn tell_readers(plan: &Plan, i: u32, v: u32, told: &mut Vec<u64>) {
+    if i < plan.levels() && v < plan.nodes() {
+        for c in plan.readers(i, v) {
+            tell(told, u64::from(*c));
+        }
+        for place in 0..plan.nodes() {
+            if (place as usize) < plan.readers(i, v).len() {
+                tell(told, plan.reader_weight(i, v, place));
+            }
+        }
+    }
+}
+
+// The most looks from a node.
+fn tell_looks(plan: &Plan, v: u32, told: &mut Vec<u64>) {
+    if v < plan.nodes() {
+        tell(told, plan.most_looks(v));
+    }
+}
+
+impl Asked for Plan {
+    fn answer(&self, _alloc: Global, name: &str, numbers: [u32; 5], told: &mut Vec<u64>) {
+        let [first, second, ..] = numbers;
+        match name {
+            "whole" => tell_whole(self, told),
+            "repeats" => tell_repeats(self, told),
+            "level" => tell_level(self, first, told),
+            "homes" => tell_homes(self, first, told),
+            "home" => tell_home(self, first, second, told),
+            "cluster" => tell_cluster(self, first, second, told),
+            "members" => tell_members(self, first, second, told),
+            "weights" => tell_weights(self, first, second, told),
+            "readers" => tell_readers(self, first, second, told),
+            "looks" => tell_looks(self, first, told),
+            _ => tell_unknown(told),
+        }
+    }
+}
+
+// The plan built with a trade-off, over mean covers with one, or flat.
+fn plan_over(
+    alloc: Global,
+    graph: &Graph,
+    distances: &Distances,
+    made: &str,
+    k: u32,
+) -> Result<Plan, Fail>
+    requires belongs { AreDistancesOf graph.now distances.now }
+{
+    if k < 1 || k > 8 {
+        return Err("the trade-off is from 1 to 8".into());
+    }
+    let plan = if made.starts_with("with") {
+        Plan::build(alloc, graph, distances, k)
+    } else if made.starts_with("mean") {
+        Plan::build_mean(alloc, graph, distances, k)
+    } else {
+        Plan::flat(alloc, graph, distances)
+    };
+    Ok(plan?)
+}
+
+// The plan of a path with this number of nodes, weight of each edge, and trade-off.
+fn plan_of(alloc: Global, made: &str, numbers: [u32; 5]) -> Result<Plan, Fail> {
+    let [n, weight, k, ..] = numbers;
+    let weight = u64::from(weight);
+    if n < 1 || n > MAX_NODES || weight < 1 || weight > MAX_WEIGHT {
+        return Err("a path is within the limits".into());
+    }
+    let (graph, distances) = path(alloc, n, weight)?;
+    plan_over(alloc, &graph, &distances, made, k)
+}
+
+// Asks the plan of a path: the subject is how it is made, its nodes, the weight of its edges, and
+// the trade-off.
+fn ask_plan(rt: &impl Abort, alloc: Global, subject: &str) -> Result<(), Fail> {
+    let (head, rows) = halves(subject, ':');
+    let plan = plan_of(alloc, head, five_numbers(head))?;
+    ask_rows(rt, alloc, &plan, head, rows);
+    Ok(())
+}
+
+fn ask_plans(rt: &impl Abort, alloc: Global, subjects: &str) -> Result<(), Fail> {
+    for subject in subjects.split_terminator(';') {
+        ask_plan(rt, alloc, subject)?;
+    }
+    Ok(())
+}
+
 #[test]
-fn levels_of_a_line(rt: HostRuntime) -> Result<(), Fail> {
-    let rows = "whole = 4 2 3 2 144 13|\
+fn plans_of_a_line(rt: HostRuntime) -> Result<(), Fail> {
+    let subjects = "with 4 1 2:\
+        whole = 4 2 3 2 144 13|\
         level 0 = 0 1 2 2|\
         homes 0 = 0 0 0 1|\
         level 1 = 1 1 1 1|\
         homes 1 = 0 0 0 0|\
         level 2 = 2 2 1 1|\
-        homes 2 = 0 0 0 0|";
-    ask_path_rows(&rt, rt.alloc(), 4, 1, Made::With(2), rows)
-}
-
-#[test]
-fn clusters_of_a_line(rt: HostRuntime) -> Result<(), Fail> {
-    let rows = "cluster 0 0 = 0 0 3|\
+        homes 2 = 0 0 0 0|\
+        cluster 0 0 = 0 0 3|\
         members 0 0 = 0 1 2 3|\
         weights 0 0 = 0 1 2 3|\
         cluster 0 1 = 1 3 1|\
@@ -35,87 +193,24 @@ fn clusters_of_a_line(rt: HostRuntime) -> Result<(), Fail> {
         weights 1 0 = 0 1 2 3|\
         cluster 2 0 = 0 0 3|\
         members 2 0 = 0 1 2 3|\
-        weights 2 0 = 0 1 2 3|";
-    ask_path_rows(&rt, rt.alloc(), 4, 1, Made::With(2), rows)
-}
-
-#[test]
-fn readers_on_a_line(rt: HostRuntime) -> Result<(), Fail> {
-    let rows = "readers 0 1 = 0|\
-        readers 0 2 = 0 1|\
-        reader-weights 0 2 = 2 1|\
-        readers 0 3 = 0 1|\
-        readers 2 2 = 0|\
+        weights 2 0 = 0 1 2 3|\
+        readers 0 1 = 0 1|\
+        readers 0 2 = 0 1 2 1|\
+        readers 0 3 = 0 1 3 0|\
+        readers 2 2 = 0 2|\
         looks 2 = 12|\
-        looks 0 = 11|";
-    ask_path_rows(&rt, rt.alloc(), 4, 1, Made::With(2), rows)
-}
-
-#[test]
-fn plan_of_two_nodes(rt: HostRuntime) -> Result<(), Fail> {
-    let rows = "whole = 2 1 1 2 56 7|\
-        level 0 = 0 1 2 2|\
-        homes 0 = 0 1|\
-        cluster 0 0 = 0 0 1|\
-        weights 0 0 = 0 1|\
-        cluster 0 1 = 1 1 1|\
-        weights 0 1 = 1 0|\
-        readers 0 0 = 0 1|";
-    ask_path_rows(&rt, rt.alloc(), 2, 1, Made::With(1), rows)
-}
-
-#[test]
-fn plan_of_the_heaviest_edge(rt: HostRuntime) -> Result<(), Fail> {
-    let rows = "whole = 2 8 21 1 432 47|\
-        level 0 = 0 1 1 2|\
-        homes 0 = 0 1|\
-        level 19 = 19 262144 1 2|\
-        homes 19 = 0 1|\
-        cluster 19 1 = 0 1 0|\
-        weights 19 1 = 0|\
-        level 20 = 20 524288 1 1|\
-        homes 20 = 0 0|\
-        weights 20 0 = 0 1048576|";
-    ask_path_rows(&rt, rt.alloc(), 2, MAX_WEIGHT, Made::With(8), rows)
-}
-
-// A level repeats the one below it where no distance lies between their radii: so do those below
-// the weight of the only edge. On the line each radius takes another distance in.
-#[test]
-fn levels_that_repeat(rt: HostRuntime) -> Result<(), Fail> {
-    let heavy = "repeats = 0 1 1 1 1 1 1 1 1 1 1 1 1 1 1 1 1 1 1 1 0|";
-    ask_path_rows(&rt, rt.alloc(), 2, MAX_WEIGHT, Made::With(8), heavy)?;
-    ask_path_rows(&rt, rt.alloc(), 2, MAX_WEIGHT, Made::Mean(8), heavy)?;
-    let line = "repeats = 0 0 0|";
-    ask_path_rows(&rt, rt.alloc(), 4, 1, Made::With(2), line)?;
-    ask_path_rows(&rt, rt.alloc(), 4, 1, Made::Mean(2), line)
-}
-
-#[test]
-fn plan_of_one_node(rt: HostRuntime) -> Result<(), Fail> {
-    let rows = "whole = 1 1 1 1 40 6|\
-        level 0 = 0 1 1 1|\
-        homes 0 = 0|\
-        cluster 0 0 = 0 0 0|\
-        weights 0 0 = 0|";
-    ask_path_rows(&rt, rt.alloc(), 1, 1, Made::With(1), rows)
-}
-
-#[test]
-fn flat_plan_of_a_line(rt: HostRuntime) -> Result<(), Fail> {
-    let rows = "whole = 4 1 1 1 40 9|\
+        looks 0 = 11|\
+        repeats = 0 0 0|;\
+        flat 4 1 1:\
+        whole = 4 1 1 1 40 9|\
         level 0 = 2 1 1 1|\
         homes 0 = 0 0 0 0|\
         cluster 0 0 = 0 0 3|\
         weights 0 0 = 0 1 2 3|\
-        readers 0 3 = 0|\
-        looks 1 = 9|";
-    ask_path_rows(&rt, rt.alloc(), 4, 1, Made::Flat, rows)
-}
-
-#[test]
-fn mean_plan_of_a_line(rt: HostRuntime) -> Result<(), Fail> {
-    let rows = "whole = 4 2 3 2 232 13|\
+        readers 0 3 = 0 3|\
+        looks 1 = 9|;\
+        mean 4 1 2:\
+        whole = 4 2 3 2 232 13|\
         level 0 = 0 1 1 2|\
         homes 0 = 0 0 0 1|\
         cluster 0 0 = 0 0 3|\
@@ -124,148 +219,133 @@ fn mean_plan_of_a_line(rt: HostRuntime) -> Result<(), Fail> {
         cluster 0 1 = 0 3 1|\
         members 0 1 = 2 3|\
         weights 0 1 = 1 0|\
-        readers 0 2 = 0 1|\
+        readers 0 2 = 0 1 2 1|\
         level 2 = 2 2 1 1|\
-        homes 2 = 0 0 0 0|";
-    ask_path_rows(&rt, rt.alloc(), 4, 1, Made::Mean(2), rows)
+        homes 2 = 0 0 0 0|\
+        repeats = 0 0 0|;";
+    ask_plans(&rt, rt.alloc(), subjects)
+}
+
+// A level repeats the one below it where no distance lies between their radii: so do those below
+// the weight of the only edge. On the line each radius takes another distance in.
+#[test]
+fn plans_of_one_node_and_of_two(rt: HostRuntime) -> Result<(), Fail> {
+    let subjects = "with 1 1 1:\
+        whole = 1 1 1 1 40 6|\
+        level 0 = 0 1 1 1|\
+        homes 0 = 0|\
+        cluster 0 0 = 0 0 0|\
+        weights 0 0 = 0|;\
+        with 2 1 1:\
+        whole = 2 1 1 2 56 7|\
+        level 0 = 0 1 2 2|\
+        homes 0 = 0 1|\
+        cluster 0 0 = 0 0 1|\
+        weights 0 0 = 0 1|\
+        cluster 0 1 = 1 1 1|\
+        weights 0 1 = 1 0|\
+        readers 0 0 = 0 1 0 1|;\
+        with 2 1048576 8:\
+        whole = 2 8 21 1 432 47|\
+        level 0 = 0 1 1 2|\
+        homes 0 = 0 1|\
+        level 19 = 19 262144 1 2|\
+        homes 19 = 0 1|\
+        cluster 19 1 = 0 1 0|\
+        weights 19 1 = 0|\
+        level 20 = 20 524288 1 1|\
+        homes 20 = 0 0|\
+        weights 20 0 = 0 1048576|\
+        repeats = 0 1 1 1 1 1 1 1 1 1 1 1 1 1 1 1 1 1 1 1 0|;\
+        mean 2 1048576 8:\
+        repeats = 0 1 1 1 1 1 1 1 1 1 1 1 1 1 1 1 1 1 1 1 0|;";
+    ask_plans(&rt, rt.alloc(), subjects)
 }
 
 #[test]
-fn all_trade_offs_of_mean_plans(rt: HostRuntime) -> Result<(), Fail> {
-    // the trade-off, the stretch, the clusters of level 2
-    let rows = [
-        (1, 144, 15),
-        (2, 232, 15),
-        (3, 320, 15),
-        (4, 408, 15),
-        (5, 496, 15),
-        (6, 584, 14),
-        (7, 672, 14),
-        (8, 760, 9),
-    ];
-    for (k, stretch, clusters) in rows {
-        let rows: [(Asked, &[u64]); 2] = [
-            (Asked::Whole, &[130, u64::from(k), 9, 2, stretch, 151]),
-            (Asked::Level(2), &[2, 2, 1, clusters]),
-        ];
-        ask_path(&rt, rt.alloc(), 130, 1, Made::Mean(k), &rows)?;
-    }
-    Ok(())
+fn all_trade_offs_past_two_words(rt: HostRuntime) -> Result<(), Fail> {
+    let subjects = "with 130 1 1:whole = 130 1 9 130 2104 151|level 2 = 2 2 9 130|;\
+        with 130 1 2:whole = 130 2 9 9 480 151|level 2 = 2 2 9 130|;\
+        with 130 1 3:whole = 130 3 9 5 472 151|level 2 = 2 2 3 17|;\
+        with 130 1 4:whole = 130 4 9 3 432 151|level 2 = 2 2 3 17|;\
+        with 130 1 5:whole = 130 5 9 3 552 151|level 2 = 2 2 3 17|;\
+        with 130 1 6:whole = 130 6 9 2 496 151|level 2 = 2 2 2 16|;\
+        with 130 1 7:whole = 130 7 9 2 584 151|level 2 = 2 2 2 16|;\
+        with 130 1 8:whole = 130 8 9 2 672 151|level 2 = 2 2 2 11|;\
+        mean 130 1 1:whole = 130 1 9 2 144 151|level 2 = 2 2 1 15|;\
+        mean 130 1 2:whole = 130 2 9 2 232 151|level 2 = 2 2 1 15|;\
+        mean 130 1 3:whole = 130 3 9 2 320 151|level 2 = 2 2 1 15|;\
+        mean 130 1 4:whole = 130 4 9 2 408 151|level 2 = 2 2 1 15|;\
+        mean 130 1 5:whole = 130 5 9 2 496 151|level 2 = 2 2 1 15|;\
+        mean 130 1 6:whole = 130 6 9 2 584 151|level 2 = 2 2 1 14|;\
+        mean 130 1 7:whole = 130 7 9 2 672 151|level 2 = 2 2 1 14|;\
+        mean 130 1 8:whole = 130 8 9 2 760 151|level 2 = 2 2 1 9|;";
+    ask_plans(&rt, rt.alloc(), subjects)
 }
 
 #[test]
-fn mean_plans_at_the_limits(rt: HostRuntime) -> Result<(), Fail> {
-    let heavy = "whole = 256 2 29 2 232 317|\
-        level 22 = 22 2097152 1 29|\
-        home 22 255 = 28|\
-        level 23 = 23 4194304 1 16|\
-        home 23 255 = 15|\
-        level 28 = 28 134217728 1 1|";
-    ask_path_rows(&rt, rt.alloc(), 256, MAX_WEIGHT, Made::Mean(2), heavy)?;
-    let most = "whole = 1024 8 11 2 760 1049|\
-        level 2 = 2 2 1 113|";
-    ask_path_rows(&rt, rt.alloc(), MAX_NODES, 1, Made::Mean(8), most)
-}
-
-#[test]
-fn all_trade_offs_on_a_path(rt: HostRuntime) -> Result<(), Fail> {
-    // the trade-off, the degree, the stretch; the phases and the clusters of level 2
-    let rows = [
-        (1, 130, 2104, 9, 130),
-        (2, 9, 480, 9, 130),
-        (3, 5, 472, 3, 17),
-        (4, 3, 432, 3, 17),
-        (5, 3, 552, 3, 17),
-        (6, 2, 496, 2, 16),
-        (7, 2, 584, 2, 16),
-        (8, 2, 672, 2, 11),
-    ];
-    for (k, degree, stretch, phases, clusters) in rows {
-        let rows: [(Asked, &[u64]); 2] = [
-            (Asked::Whole, &[130, u64::from(k), 9, degree, stretch, 151]),
-            (Asked::Level(2), &[2, 2, phases, clusters]),
-        ];
-        ask_path(&rt, rt.alloc(), 130, 1, Made::With(k), &rows)?;
-    }
-    Ok(())
-}
-
-#[test]
-fn path_of_the_heaviest_edges(rt: HostRuntime) -> Result<(), Fail> {
-    let rows = "whole = 256 2 29 9 480 317|\
+fn the_heaviest_edges_and_the_most_nodes(rt: HostRuntime) -> Result<(), Fail> {
+    let subjects = "with 256 1048576 2:\
+        whole = 256 2 29 9 480 317|\
         level 19 = 19 262144 1 256|\
         level 23 = 23 4194304 3 17|\
         home 19 255 = 255|\
         home 22 255 = 115|\
         level 28 = 28 134217728 1 1|\
         cluster 28 0 = 0 0 267386880|\
-        level 29 = 0 0 0 0|";
-    ask_path_rows(&rt, rt.alloc(), 256, MAX_WEIGHT, Made::With(2), rows)
-}
-
-#[test]
-fn as_many_nodes_as_there_may_be(rt: HostRuntime) -> Result<(), Fail> {
-    let built = "whole = 1024 8 11 3 912 1049|";
-    ask_path_rows(&rt, rt.alloc(), MAX_NODES, 1, Made::With(8), built)?;
-    let flat = "level 0 = 10 1 1 1|\
-        cluster 0 0 = 0 0 1023|";
-    ask_path_rows(&rt, rt.alloc(), MAX_NODES, 1, Made::Flat, flat)
+        level 29 = none|;\
+        mean 256 1048576 2:\
+        whole = 256 2 29 2 232 317|\
+        level 22 = 22 2097152 1 29|\
+        home 22 255 = 28|\
+        level 23 = 23 4194304 1 16|\
+        home 23 255 = 15|\
+        level 28 = 28 134217728 1 1|;\
+        with 1024 1 8:whole = 1024 8 11 3 912 1049|;\
+        mean 1024 1 8:\
+        whole = 1024 8 11 2 760 1049|\
+        level 2 = 2 2 1 113|;\
+        flat 1024 1 1:\
+        level 0 = 10 1 1 1|\
+        cluster 0 0 = 0 0 1023|;";
+    ask_plans(&rt, rt.alloc(), subjects)
 }
 
 fn shares<T: Sync>() {}
 
 #[test]
-fn threads_may_share_them(_rt: HostRuntime) -> Result<(), Fail> {
+fn threads_may_share_them(_rt: HostRuntime) {
     shares::<Plan>();
     shares::<Distances>();
-    Ok(())
 }
 
-// How many levels the plan of two nodes has whose edge has this weight.
-fn levels_at(alloc: Global, weight: u64) -> Result<u64, Fail> {
-    if weight == 0 || weight > MAX_WEIGHT {
-        return Err("an edge has this weight".into());
-    }
-    let (graph, distances) = path(alloc, 2, weight)?;
-    let plan = Plan::build(alloc, &graph, &distances, 2)?;
-    Ok(u64::from(plan.levels()))
-}
-
-// So many levels are there at each diameter from the first one to the last.
-fn have_levels(
-    rt: &impl Abort,
-    alloc: Global,
-    first: u64,
-    last: u64,
-    levels: u64,
-) -> Result<(), Fail> {
+// The plan of two nodes has a level for each power of two below its diameter, and one whose radius
+// reaches it: at each diameter from the first to the last.
+fn have_levels(rt: &impl Abort, alloc: Global, first: u32, last: u32) -> Result<(), Fail> {
     for diameter in first..=last {
-        let found = levels_at(alloc, diameter)?;
-        same_numbers(rt, diameter as usize, &[found], &[levels]);
+        let plan = plan_of(alloc, "with", [2, diameter, 2, 0, 0])?;
+        let below = u32::BITS - diameter.saturating_sub(1).leading_zeros();
+        let wanted = [u64::from(diameter), u64::from(below) + 1];
+        let found = [u64::from(diameter), u64::from(plan.levels())];
+        same(rt, "levels", "at each diameter", &found, &wanted);
     }
     Ok(())
 }
 
-// Whatever the diameter is, there is a plan, with a level for each power of two below it, and one
-// whose radius reaches it.
+// Whatever the diameter is, there is a plan: at each small one, at the last ones, and on both sides
+// of each power of two between them, where a level more is wanted.
 #[test]
 fn a_plan_at_each_diameter(rt: HostRuntime) -> Result<(), Fail> {
-    let rows = [
-        (1, 1, 1),
-        (2, 2, 2),
-        (3, 4, 3),
-        (5, 8, 4),
-        (9, 16, 5),
-        (17, 32, 6),
-        (33, 64, 7),
-        (65, 128, 8),
-        (129, 256, 9),
-        (257, 512, 10),
-        (1_048_500, 1_048_576, 21),
+    have_levels(&rt, rt.alloc(), 1, 1_100)?;
+    let powers = [
+        2_048u32, 4_096, 8_192, 16_384, 32_768, 65_536, 131_072, 262_144, 524_288,
     ];
-    for place in 0..rows.len() {
-        let (first, last, levels) = rows[place];
-        have_levels(&rt, rt.alloc(), first, last, levels)?;
+    for place in 0..powers.len() {
+        let (first, last) = (
+            powers[place].saturating_sub(16),
+            powers[place].saturating_add(16),
+        );
+        have_levels(&rt, rt.alloc(), first, last)?;
     }
-    Ok(())
+    have_levels(&rt, rt.alloc(), 1_048_500, 1_048_576)
 }

@@ -1,14 +1,15 @@
 //! Sets on both sides of a word of 64 numbers, and at the most room.
 ghost use Rattle.std.specs.Prelude.{◌≡◌, ◌≤◌, IfOk, length};
 
-use crate::sameness::{same, same_numbers};
+use crate::rows::{check, five_numbers, halves, tell, tell_node};
+use crate::sameness::same;
 use node_set::{NodeSet, lanes_absorb, lanes_meet};
 use std::alloc::Global;
 use std::process::Abort;
 use std::test::Fail;
 
-// The set of these numbers.
-fn set_of(alloc: Global, room: u32, numbers: &[u32]) -> Result<NodeSet, Fail>
+/// The set of these numbers.
+pub fn set_of(alloc: Global, room: u32, numbers: &[u32]) -> Result<NodeSet, Fail>
     requires { room ≤ 1024 }
     ensures { IfOk result (λ set. set.room ≡ room) }
 {
@@ -21,238 +22,236 @@ fn set_of(alloc: Global, room: u32, numbers: &[u32]) -> Result<NodeSet, Fail>
     Ok(set)
 }
 
-// The numbers of a set, one after another.
-fn numbers_by_next(alloc: Global, set: &NodeSet) -> Result<Vec<u64>, Fail> {
-    let mut numbers = Vec::new(alloc);
+// Whether a set has a number.
+fn has(set: &NodeSet, v: u32) -> bool {
+    v < set.room() && set.has(v)
+}
+
+/// Tells the room of a set, how many numbers it has, and which: those that it says that it has, and
+/// those that come next where it has them, so that each number comes twice.
+pub fn tell_set(told: &mut Vec<u64>, set: &NodeSet) {
+    tell(told, u64::from(set.room()));
+    tell(told, u64::from(set.count()));
     for v in 0..1024 {
+        if has(set, v) {
+            tell(told, u64::from(v));
+        }
         if set.next_from(v) == Some(v) {
-            numbers.push(u64::from(v))?;
+            tell(told, u64::from(v));
         }
     }
-    Ok(numbers)
 }
 
-// The numbers that a set says that it has.
-fn numbers_it_has(alloc: Global, set: &NodeSet) -> Result<Vec<u64>, Fail> {
-    let mut numbers = Vec::new(alloc);
-    for v in 0..set.room() {
-        if set.has(v) {
-            numbers.push(u64::from(v))?;
-        }
+// Changes a set by another one.
+fn change(set: &mut NodeSet, other: &NodeSet, name: &str)
+    requires { set.old.room ≡ other.now.room }
+{
+    match name {
+        "absorb" => set.absorb(other),
+        "assign" => set.assign(other),
+        "keep" => set.keep(other),
+        "remove" => set.remove(other),
+        "clear" => set.clear(),
+        _ => {}
     }
-    Ok(numbers)
 }
 
-// A set of this room has these numbers and no other.
-fn has_all(
-    rt: &impl Abort,
-    alloc: Global,
-    place: usize,
-    set: &NodeSet,
-    room: u32,
-    numbers: &[u64],
-) -> Result<(), Fail> {
-    let measures = [u64::from(set.room()), u64::from(set.count())];
-    let wanted = [u64::from(room), numbers.len() as u64];
-    same_numbers(rt, place, &measures, &wanted);
-    same_numbers(rt, place, &numbers_it_has(alloc, set)?, numbers);
-    come_next(rt, alloc, place, set, numbers)
+// Tells whether two sets meet, either way.
+fn tell_meet(told: &mut Vec<u64>, set: &NodeSet, other: &NodeSet) {
+    if set.room() == other.room() {
+        tell(told, u64::from(set.meets(other)));
+        tell(told, u64::from(other.meets(set)));
+    }
 }
 
-// The numbers of a set come one after another.
-fn come_next(
+// Changes a set by another one. Tells whether they met before, both sets, and whether they meet.
+fn tell_change(told: &mut Vec<u64>, set: &mut NodeSet, other: &NodeSet, name: &str)
+    requires { set.old.room ≡ other.now.room }
+{
+    tell_meet(told, set, other);
+    change(set, other, name);
+    tell_set(told, set);
+    tell_set(told, other);
+    tell_meet(told, set, other);
+}
+
+// Plays a row: a change by the set of these numbers and what is told of it, or the next number from
+// this one on.
+fn play_row(
     rt: &impl Abort,
     alloc: Global,
-    place: usize,
-    set: &NodeSet,
-    numbers: &[u64],
+    set: &mut NodeSet,
+    head: &str,
+    row: &str,
 ) -> Result<(), Fail> {
-    same_numbers(rt, place, &numbers_by_next(alloc, set)?, numbers);
+    let (change, _) = halves(row, '=');
+    let (name, numbers) = halves(change, ' ');
+    let room = set.room();
+    if room > 1024 {
+        return Err("a set has room for 1024".into());
+    }
+    let other = set_of(alloc, room, &five_numbers(numbers))?;
+    let mut told = Vec::new(alloc);
+    if name == "next" {
+        tell_node(&mut told, set.next_from(five_numbers(numbers)[0]));
+    } else {
+        tell_change(&mut told, set, &other, name);
+    }
+    check(rt, alloc, head, row, &told);
     Ok(())
 }
 
-// A set of this room that is made of some numbers has these.
-fn is_made(
-    rt: &impl Abort,
-    alloc: Global,
-    place: usize,
-    made_of: &[u32],
-    numbers: &[u64],
-) -> Result<(), Fail> {
-    let set = set_of(alloc, 130, made_of)?;
-    has_all(rt, alloc, place, &set, 130, numbers)
+// Plays the changes of a set: its room, and the numbers that it has before them.
+fn play_set(rt: &impl Abort, alloc: Global, subject: &str) -> Result<(), Fail> {
+    let (head, rows) = halves(subject, ':');
+    let numbers = five_numbers(head);
+    if numbers[0] > 1024 {
+        return Err("a set has room for 1024".into());
+    }
+    let mut set = set_of(alloc, numbers[0], &numbers)?;
+    for row in rows.split_terminator('|') {
+        play_row(rt, alloc, &mut set, head, row)?;
+    }
+    Ok(())
 }
 
+// Each row is a change, whether the two sets met before, the room, the count and the numbers of
+// either, which come twice, and whether the sets meet then. A look changes nothing.
 #[test]
-fn numbers_on_both_sides_of_a_word(rt: HostRuntime) -> Result<(), Fail> {
-    is_made(&rt, rt.alloc(), 0, &[], &[])?;
-    is_made(&rt, rt.alloc(), 1, &[63, 64, 129, 64], &[63, 64, 129])
+fn sets_on_both_sides_of_a_word(rt: HostRuntime) -> Result<(), Fail> {
+    let subjects = "130:look = 0 0  130 0  130 0  0 0|;\
+        130 63 64 129 64:look = 0 0  130 3 63 63 64 64 129 129  130 0  0 0|;\
+        1024 0:absorb 1023 = 0 0  1024 2 0 0 1023 1023  1024 1 1023 1023  1 1|;\
+        0:absorb = 0 0  0 0  0 0  0 0|;\
+        130 2:\
+        assign 0 63 64 129 = 0 0  130 4 0 0 63 63 64 64 129 129 \
+        130 4 0 0 63 63 64 64 129 129  1 1|\
+        keep 1 63 129 = 1 1  130 2 63 63 129 129  130 3 1 1 63 63 129 129  1 1|;\
+        130 0 63 64 129:\
+        remove 1 63 129 = 1 1  130 2 0 0 64 64  130 3 1 1 63 63 129 129  0 0|\
+        clear 0 = 1 1  130 0  130 1 0 0  0 0|;\
+        300 0 63 64 290:\
+        next 0 = 0|next 1 = 63|next 64 = 64|next 65 = 290|next 290 = 290|next 291 = none|\
+        next 4294967295 = none|;";
+    for subject in subjects.split_terminator(';') {
+        play_set(&rt, rt.alloc(), subject)?;
+    }
+    Ok(())
 }
 
-// One set absorbs the other; whether they met before.
-fn absorb(set: &mut NodeSet, other: &NodeSet) -> bool
-    requires { set.old.room ≡ other.now.room }
-    ensures { set.new.room ≡ set.old.room }
+// Words of which the last one below a count is another than those before it, and those behind it
+// are 1.
+fn last_of(count: usize, last: u64) -> [u64; 17]
+    requires { count ≤ 16 }
 {
-    let meets = set.meets(other);
-    set.absorb(other);
-    meets
-}
-
-// Both sets of the most room have these numbers.
-fn have_all(
-    rt: &impl Abort,
-    alloc: Global,
-    low: &NodeSet,
-    lows: &[u64],
-    high: &NodeSet,
-    highs: &[u64],
-) -> Result<(), Fail> {
-    has_all(rt, alloc, 0, low, 1024, lows)?;
-    has_all(rt, alloc, 1, high, 1024, highs)
-}
-
-#[test]
-fn the_last_word_meets_and_is_absorbed(rt: HostRuntime) -> Result<(), Fail> {
-    let mut low = set_of(rt.alloc(), 1024, &[0])?;
-    let high = set_of(rt.alloc(), 1024, &[1023])?;
-    let before = absorb(&mut low, &high);
-    assert!(rt; !before && low.meets(&high) && high.meets(&low));
-    have_all(&rt, rt.alloc(), &low, &[0, 1023], &high, &[1023])
-}
-
-// So many words, of which the last one is 1, and so many zeros.
-fn last_of(alloc: Global, count: usize, last: u64) -> Result<Vec<u64>, Fail>
-    ensures { IfOk result (λ words. length words.items ≡ count) }
-{
-    let mut words = vec![in alloc; 0u64; count]?;
+    let mut words = [0; 17];
+    for place in count..17 {
+        words[place] = 1;
+    }
     if count > 0 {
         words[count - 1] = last;
     }
-    Ok(words)
+    words
 }
 
-#[test]
-fn lanes_of_every_length(rt: HostRuntime) -> Result<(), Fail> {
-    for count in [0, 1, 3, 4, 5, 16] {
-        let zeros = last_of(rt.alloc(), count, 0)?;
-        let last = last_of(rt.alloc(), count, 1)?;
-        let mut both = last_of(rt.alloc(), count, 2)?;
-        let meets = lanes_meet(&last, &last) == (count > 0);
-        lanes_absorb(&mut both, &last);
-        let wanted = last_of(rt.alloc(), count, 3)?;
-        same_numbers(&rt, count, &both, &wanted);
-        assert!(rt; meets && !lanes_meet(&last, &zeros), "{count} words");
-    }
-    Ok(())
-}
-
-#[test]
-fn no_room(rt: HostRuntime) -> Result<(), Fail> {
-    let mut set = set_of(rt.alloc(), 0, &[])?;
-    let other = set_of(rt.alloc(), 0, &[])?;
-    let meets = absorb(&mut set, &other);
-    assert!(rt; !meets);
-    has_all(&rt, rt.alloc(), 0, &set, 0, &[])
-}
-
-#[test]
-fn the_next_number(rt: HostRuntime) -> Result<(), Fail> {
-    let set = set_of(rt.alloc(), 300, &[0, 63, 64, 290])?;
-    let rows = [
-        (0, Some(0)),
-        (1, Some(63)),
-        (64, Some(64)),
-        (65, Some(290)),
-        (290, Some(290)),
-        (291, None),
-        (u32::MAX, None),
-    ];
-    for (from, next) in rows {
-        same(&rt, from as usize, set.next_from(from), next);
-    }
-    Ok(())
-}
-
-// A set takes the numbers of another, and then keeps those of a third.
-fn keeps(rt: &impl Abort, alloc: Global, set: &NodeSet, other: &NodeSet) -> Result<(), Fail>
-    requires room { set.now.room ≡ 130 }
-    requires other { other.now.room ≡ 130 }
+// Whether lanes of so many words meet where the last word does, and where none does.
+fn lanes_met(count: usize) -> [u64; 2]
+    requires { count ≤ 16 }
 {
-    let mut kept = set_of(alloc, 130, &[2])?;
-    kept.assign(set);
-    has_all(rt, alloc, 0, &kept, 130, &[0, 63, 64, 129])?;
-    kept.keep(other);
-    has_all(rt, alloc, 1, &kept, 130, &[63, 129])
+    let (last, zeros) = (last_of(count, 1), last_of(count, 0));
+    [
+        u64::from(lanes_meet(&last[..count], &last[..count])),
+        u64::from(lanes_meet(&last[..count], &zeros[..count])),
+    ]
 }
 
-// A set loses the numbers of another, and then all.
-fn removes(rt: &impl Abort, alloc: Global, set: &mut NodeSet, other: &NodeSet) -> Result<(), Fail>
-    requires room { set.old.room ≡ 130 }
-    requires other { other.now.room ≡ 130 }
+// What lanes of so many words have absorbed, and the words behind them.
+fn lanes_absorbed(count: usize) -> [u64; 17]
+    requires { count ≤ 16 }
 {
-    set.remove(other);
-    has_all(rt, alloc, 2, set, 130, &[0, 64])?;
-    set.clear();
-    has_all(rt, alloc, 3, set, 130, &[])
+    let mut both = last_of(count, 2);
+    lanes_absorb(&mut both[..count], &last_of(count, 1)[..count]);
+    both
 }
 
 #[test]
-fn what_is_kept_and_removed(rt: HostRuntime) -> Result<(), Fail> {
-    let mut set = set_of(rt.alloc(), 130, &[0, 63, 64, 129])?;
-    let other = set_of(rt.alloc(), 130, &[1, 63, 129])?;
-    keeps(&rt, rt.alloc(), &set, &other)?;
-    removes(&rt, rt.alloc(), &mut set, &other)?;
-    has_all(&rt, rt.alloc(), 4, &other, 130, &[1, 63, 129])
-}
-
-// The numbers go 0, 1, .., 6, and again from 0: three of seven are at most 2.
-fn sevens(alloc: Global, length: u32) -> Result<Vec<u32>, Fail> {
-    let mut numbers = Vec::new(alloc);
-    for place in 0..length {
-        numbers.push(place % 7)?;
+fn lanes_of_every_length(rt: HostRuntime) {
+    for count in 0..17 {
+        same(
+            &rt,
+            "lanes",
+            "meet",
+            &lanes_met(count),
+            &[u64::from(count > 0), 0],
+        );
+        same(
+            &rt,
+            "lanes",
+            "absorb",
+            &lanes_absorbed(count),
+            &last_of(count, 3),
+        );
     }
-    Ok(numbers)
 }
 
-// The places below a length of the numbers that are at most 2.
-fn low_places(alloc: Global, length: u32) -> Result<Vec<u64>, Fail> {
-    let mut places = Vec::new(alloc);
+// The numbers go 0, 1, .., 6, and again from 0.
+fn sevens() -> [u32; 1024] {
+    let mut numbers = [0; 1024];
+    for place in 0..1024 {
+        numbers[place] = place as u32 % 7;
+    }
+    numbers
+}
+
+// Three of seven numbers are at most 2. Tells what the set of their places below a length is.
+fn tell_low(told: &mut Vec<u64>, length: u64) {
+    tell(told, length);
+    tell(told, length / 7 * 3 + (length % 7).min(3));
     for place in 0..length {
         if place % 7 <= 2 {
-            places.push(u64::from(place))?;
+            tell(told, place);
+            tell(told, place);
         }
     }
-    Ok(places)
+}
+
+fn are_low(rt: &impl Abort, alloc: Global, numbers: &[u32]) -> Result<(), Fail>
+    requires { length numbers.now ≤ 1024 }
+{
+    let set = NodeSet::within(alloc, numbers, 2)?;
+    let mut told = Vec::new(alloc);
+    tell_set(&mut told, &set);
+    let mut wanted = Vec::new(alloc);
+    tell_low(&mut wanted, numbers.len() as u64);
+    same(rt, "places", "within a limit", &told, &wanted);
+    Ok(())
 }
 
 #[test]
 fn places_within_a_limit(rt: HostRuntime) -> Result<(), Fail> {
     for length in [0, 1, 63, 64, 65, 130, 1024] {
-        let numbers = sevens(rt.alloc(), length)?;
-        assert!(rt; numbers.len() <= 1024);
-        let set = NodeSet::within(rt.alloc(), &numbers, 2)?;
-        let places = low_places(rt.alloc(), length)?;
-        has_all(&rt, rt.alloc(), length as usize, &set, length, &places)?;
+        are_low(&rt, rt.alloc(), &sevens()[..length])?;
     }
     Ok(())
 }
 
 // Bytes past two words of which the first, one and the last are low.
-fn bytes_of_nine(alloc: Global) -> Result<Vec<u8>, Fail>
-    ensures { IfOk result (λ bytes. length bytes.items ≡ 130) }
-{
-    let mut bytes = vec![in alloc; 9u8; 130]?;
+#[test]
+fn bytes_within_a_limit_past_two_words(rt: HostRuntime) -> Result<(), Fail> {
+    let mut bytes = [9; 130];
     bytes[0] = 3;
     bytes[64] = 4;
     bytes[129] = 0;
-    Ok(bytes)
-}
-
-#[test]
-fn bytes_within_a_limit_past_two_words(rt: HostRuntime) -> Result<(), Fail> {
-    let bytes = bytes_of_nine(rt.alloc())?;
     let mut set = set_of(rt.alloc(), 130, &[1])?;
     set.fill_within(&bytes, 3);
-    has_all(&rt, rt.alloc(), 0, &set, 130, &[0, 129])
+    let mut told = Vec::new(rt.alloc());
+    tell_set(&mut told, &set);
+    check(
+        &rt,
+        rt.alloc(),
+        "bytes",
+        "within 3 = 130 2 0 0 129 129",
+        &told,
+    );
+    Ok(())
 }

@@ -1,156 +1,79 @@
 //! Trees of clusters, and the weights inside clusters: on paths, and in a triangle of which two
 //! nodes are joined best by way of the third.
-ghost use Rattle.std.specs.Prelude.{◌≡◌, ◌<◌, ◌≤◌, [], IfErr, IfOk, IsTrue};
-ghost use Rattle.cluster_tree.specs.Faults.{IsTreeFault};
+ghost use Rattle.std.specs.Prelude.{◌≡◌, ◌<◌, ◌++◌, IfOk, IsTrue, OnOk};
 ghost use Rattle.distances.specs.Table.{AreDistancesOf};
-ghost use Rattle.node_set.specs.Ascending.{has, with_number};
+ghost use Rattle.node_set.specs.Ascending.{has};
 
-use crate::sameness::{same, same_numbers};
+use crate::rows::{WORD, check, five_numbers, halves, tell};
+use crate::set_tests::set_of;
 use cluster_tree::{ClusterTree, TreeFault, inside_weights};
 use distances::Distances;
 use net_graph::{Graph, MAX_NODES};
-use node_set::NodeSet;
+use node_set::{NodeSet, fill_all, set_is_sound};
 use std::alloc::{AllocError, Global};
 use std::process::Abort;
 use std::test::Fail;
 use test_networks::{edge, path};
 
-// A set of three numbers, or of fewer where some are the same.
-fn three(alloc: Global, room: u32, a: u32, b: u32, c: u32) -> Result<NodeSet, AllocError>
-    requires small { room ≤ 1024 }
-    requires a { a < room }
-    requires b { b < room }
-    requires c { c < room }
-    ensures { IfOk result (λ set. set ≡ record {
-      room = room;
-      members = with_number c (with_number b (with_number a []));
-    }) }
-{
-    let mut set = NodeSet::empty(alloc, room)?;
-    set.insert(a);
-    set.insert(b);
-    set.insert(c);
-    Ok(set)
-}
-
-// The weights of the last two nodes of a line of four in their cluster, and its depth.
-fn end_of_line(alloc: Global, graph: &Graph) -> Result<[u64; 3], TreeFault>
-    requires { graph.now.nodes ≡ 4 }
-{
-    let members = three(alloc, 4, 2, 3, 3)?;
-    let tree = ClusterTree::new(alloc, graph, &members, 3)?;
-    Ok([tree.weight_of(2), tree.weight_of(3), tree.depth()])
-}
-
-#[test]
-fn the_end_of_a_line(rt: HostRuntime) -> Result<(), Fail> {
-    let (graph, _) = path(rt.alloc(), 4, 1)?;
-    same_numbers(&rt, 0, &end_of_line(rt.alloc(), &graph)?, &[1, 0, 1]);
-    Ok(())
-}
-
-// The depth of a cluster from its leader.
-fn depth_of(alloc: Global, graph: &Graph, members: &NodeSet, leader: u32) -> Result<u64, TreeFault>
-    requires room { members.now.room ≡ graph.now.nodes }
-    requires leader { IsTrue (has leader members.now.members) }
-{
-    let tree = ClusterTree::new(alloc, graph, members, leader)?;
-    Ok(tree.depth())
-}
-
-// The depth of a cluster of a path of `n` nodes.
-fn depth_on_path(
-    alloc: Global,
-    n: u32,
-    members: &NodeSet,
-    leader: u32,
-) -> Result<Result<u64, TreeFault>, Fail>
-    requires some { 1 ≤ n }
-    requires few { n ≤ MAX_NODES }
-    requires room { members.now.room ≡ n }
-    requires leader { IsTrue (has leader members.now.members) }
-{
-    let (graph, _) = path(alloc, n, 1)?;
-    Ok(depth_of(alloc, &graph, members, leader))
-}
-
-#[test]
-fn both_ends_of_a_line_past_two_words(rt: HostRuntime) -> Result<(), Fail> {
-    let members = three(rt.alloc(), 130, 0, 129, 0)?;
-    let fault = depth_on_path(rt.alloc(), 130, &members, 0)?.err();
-    assert!(rt; matches!(fault, Some(TreeFault::Outside { node: 129 })));
-    Ok(())
-}
-
-fn all_below(alloc: Global, n: u32) -> Result<NodeSet, Fail>
-    requires { n ≤ 1024 }
-    ensures { IfOk result (λ set. set.room ≡ n) }
-{
-    let mut set = NodeSet::empty(alloc, n)?;
-    'nodes: for v in 0..n {
-        set.insert(v);
+// Tells which member is outside.
+fn tell_fault(told: &mut Vec<u64>, fault: TreeFault) {
+    if let TreeFault::Outside { node } = fault {
+        tell(told, WORD);
+        tell(told, u64::from(node));
     }
-    Ok(set)
 }
 
-#[test]
-fn a_line_of_the_most_nodes(rt: HostRuntime) -> Result<(), Fail> {
-    let members = all_below(rt.alloc(), MAX_NODES)?;
-    if !members.has(1023) {
-        return Err("all nodes are members".into());
-    }
-    let depth = depth_on_path(rt.alloc(), MAX_NODES, &members, 1023)?;
-    assert!(rt; matches!(depth, Ok(1023)));
-    Ok(())
-}
-
-fn triangle(alloc: Global) -> Result<(Graph, Distances), Fail>
-    ensures nodes { IfOk result (λ network. network.0.nodes ≡ 3) }
-    ensures distances { IfOk result (λ network. AreDistancesOf network.0 network.1) }
-{
-    let graph = Graph::new(alloc, 3, &[edge(0, 1, 1), edge(1, 2, 1), edge(0, 2, 5)])?;
-    let distances = Distances::new(alloc, &graph)?;
-    Ok((graph, distances))
-}
-
-// Appends the weights inside a cluster, by the distances from its leader.
-fn weigh(
+// The depth of a cluster, and the weights of these members.
+fn tell_tree(
     alloc: Global,
     graph: &Graph,
-    distances: &Distances,
     cluster: &NodeSet,
-    members: &[u32],
     leader: u32,
-    weights: &mut Vec<u32>,
-) -> Result<u32, TreeFault>
-    requires belongs { AreDistancesOf graph.now distances.now }
+    members: &[u32],
+    told: &mut Vec<u64>,
+) -> Result<(), Fail>
     requires room { cluster.now.room ≡ graph.now.nodes }
-    requires members { members.now ≡ cluster.now.members }
     requires leader { IsTrue (has leader cluster.now.members) }
-    requires inside { leader < graph.now.nodes }
-    ensures { IfErr result (IsTreeFault graph.now members.now leader) }
 {
-    inside_weights(
-        alloc,
-        graph,
-        distances.row(leader),
-        cluster,
-        members,
-        leader,
-        weights,
-    )
+    match ClusterTree::new(alloc, graph, cluster, leader) {
+        Ok(tree) => {
+            tell(told, tree.depth());
+            for v in members {
+                if *v < cluster.room() && cluster.has(*v) {
+                    tell(told, tree.weight_of(*v));
+                }
+            }
+        }
+        Err(fault) => tell_fault(told, fault),
+    }
+    Ok(())
+}
+
+// Appends the numbers of a set.
+fn push_members(set: &NodeSet, list: &mut Vec<u32>) -> Result<(), AllocError>
+    ensures { OnOk result (list.new.items ≡ list.old.items ++ set.now.members) }
+{
+    // The numbers ascend.
+    set_is_sound(set);
+    let mut from = 0;
+    'member: while let Some(v) = set.next_from(from) {
+        list.push(v)?;
+        from = v + 1;
+    }
+    Ok(())
 }
 
 // The weights inside a cluster, behind so many that stood there, and then its depth.
-fn weights_behind(
+fn tell_inside(
     alloc: Global,
-    stood: usize,
     graph: &Graph,
     distances: &Distances,
     cluster: &NodeSet,
-    members: &[u32],
     leader: u32,
-) -> Result<Vec<u32>, TreeFault>
+    members: &[u32],
+    stood: usize,
+    told: &mut Vec<u64>,
+) -> Result<(), Fail>
     requires belongs { AreDistancesOf graph.now distances.now }
     requires room { cluster.now.room ≡ graph.now.nodes }
     requires members { members.now ≡ cluster.now.members }
@@ -158,100 +81,136 @@ fn weights_behind(
     requires inside { leader < graph.now.nodes }
 {
     let mut weights = vec![in alloc; 7; stood]?;
-    let depth = weigh(
-        alloc,
-        graph,
-        distances,
-        cluster,
-        members,
-        leader,
-        &mut weights,
-    )?;
-    weights.push(depth)?;
-    Ok(weights)
+    let row = distances.row(leader);
+    match inside_weights(alloc, graph, row, cluster, members, leader, &mut weights) {
+        Ok(depth) => {
+            for weight in &weights {
+                tell(told, u64::from(*weight));
+            }
+            tell(told, u64::from(depth));
+        }
+        Err(fault) => tell_fault(told, fault),
+    }
+    Ok(())
 }
 
-// The weights inside a cluster of a path of `n` nodes.
-fn weights_on_path(
+// Tells what the question of this name asks of a cluster.
+fn tell_cluster(
     alloc: Global,
-    n: u32,
-    stood: usize,
+    graph: &Graph,
+    distances: &Distances,
     cluster: &NodeSet,
-    members: &[u32],
     leader: u32,
-) -> Result<Result<Vec<u32>, TreeFault>, Fail>
-    requires some { 1 ≤ n }
-    requires few { n ≤ MAX_NODES }
-    requires room { cluster.now.room ≡ n }
-    requires members { members.now ≡ cluster.now.members }
+    name: &str,
+    told: &mut Vec<u64>,
+) -> Result<(), Fail>
+    requires belongs { AreDistancesOf graph.now distances.now }
+    requires room { cluster.now.room ≡ graph.now.nodes }
     requires leader { IsTrue (has leader cluster.now.members) }
-    requires inside { leader < n }
+    requires inside { leader < graph.now.nodes }
 {
-    let (graph, distances) = path(alloc, n, 1)?;
-    let weights = weights_behind(alloc, stood, &graph, &distances, cluster, members, leader);
-    Ok(weights)
-}
-
-// The weights inside a cluster of the triangle from node 0.
-fn weights_in_triangle(
-    alloc: Global,
-    stood: usize,
-    cluster: &NodeSet,
-    members: &[u32],
-) -> Result<Result<Vec<u32>, TreeFault>, Fail>
-    requires room { cluster.now.room ≡ 3 }
-    requires members { members.now ≡ cluster.now.members }
-    requires leader { IsTrue (has 0 cluster.now.members) }
-{
-    let (graph, distances) = triangle(alloc)?;
-    let weights = weights_behind(alloc, stood, &graph, &distances, cluster, members, 0);
-    Ok(weights)
-}
-
-// The weights and the depth are these.
-fn are_weights(rt: &impl Abort, weights: Result<Vec<u32>, TreeFault>, wanted: &[u32]) {
-    match weights {
-        Ok(weights) => same(rt, 0, weights.as_slice(), wanted),
-        Err(_) => assert!(rt; false, "there are weights"),
+    let mut members = Vec::new(alloc);
+    push_members(cluster, &mut members)?;
+    match name {
+        "depth" => tell_tree(alloc, graph, cluster, leader, &[], told),
+        "inside" => tell_inside(alloc, graph, distances, cluster, leader, &members, 0, told),
+        "behind" => tell_inside(alloc, graph, distances, cluster, leader, &members, 1, told),
+        _ => tell_tree(alloc, graph, cluster, leader, &members, told),
     }
 }
 
-#[test]
-fn weights_inside_all_nodes(rt: HostRuntime) -> Result<(), Fail> {
-    let cluster = three(rt.alloc(), 3, 2, 1, 0)?;
-    let weights = weights_in_triangle(rt.alloc(), 0, &cluster, &[0, 1, 2])?;
-    are_weights(&rt, weights, &[0, 1, 2, 2]);
+// Asks a row: of a cluster's tree, or of the weights inside it. Its numbers are the leader and the
+// other members, but the depth is that of a cluster of all nodes.
+fn ask_row(
+    rt: &impl Abort,
+    alloc: Global,
+    graph: &Graph,
+    distances: &Distances,
+    head: &str,
+    row: &str,
+) -> Result<(), Fail>
+    requires belongs { AreDistancesOf graph.now distances.now }
+{
+    let (question, _) = halves(row, '=');
+    let (name, numbers) = halves(question, ' ');
+    let numbers = five_numbers(numbers);
+    let mut cluster = set_of(alloc, graph.nodes(), &numbers)?;
+    if name == "depth" {
+        fill_all(&mut cluster);
+    }
+    let leader = numbers[0];
+    if leader >= graph.nodes() || !cluster.has(leader) {
+        return Err("a leader is a member".into());
+    }
+    let mut told = Vec::new(alloc);
+    tell_cluster(alloc, graph, distances, &cluster, leader, name, &mut told)?;
+    check(rt, alloc, head, row, &told);
     Ok(())
 }
 
-#[test]
-fn a_detour_inside_a_pair(rt: HostRuntime) -> Result<(), Fail> {
-    let cluster = three(rt.alloc(), 3, 2, 0, 0)?;
-    let weights = weights_in_triangle(rt.alloc(), 1, &cluster, &[0, 2])?;
-    are_weights(&rt, weights, &[7, 0, 5, 5]);
+fn triangle(alloc: Global) -> Result<(Graph, Distances), Fail>
+    ensures { IfOk result (λ network. AreDistancesOf network.0 network.1) }
+{
+    let graph = Graph::new(alloc, 3, &[edge(0, 1, 1), edge(1, 2, 1), edge(0, 2, 5)])?;
+    let distances = Distances::new(alloc, &graph)?;
+    Ok((graph, distances))
+}
+
+// The path of so many nodes, but three make the triangle.
+fn network_of(alloc: Global, n: u32) -> Result<(Graph, Distances), Fail>
+    ensures { IfOk result (λ network. AreDistancesOf network.0 network.1) }
+{
+    if n < 1 || n > MAX_NODES {
+        return Err("a network is within the limits".into());
+    }
+    if n == 3 {
+        triangle(alloc)
+    } else {
+        path(alloc, n, 1)
+    }
+}
+
+// Asks each row.
+fn ask_rows(
+    rt: &impl Abort,
+    alloc: Global,
+    graph: &Graph,
+    distances: &Distances,
+    head: &str,
+    rows: &str,
+) -> Result<(), Fail>
+    requires belongs { AreDistancesOf graph.now distances.now }
+{
+    for row in rows.split_terminator('|') {
+        ask_row(rt, alloc, graph, distances, head, row)?;
+    }
     Ok(())
 }
 
-#[test]
-fn a_pair_past_two_words(rt: HostRuntime) -> Result<(), Fail> {
-    let near = three(rt.alloc(), 130, 129, 128, 128)?;
-    let weights = weights_on_path(rt.alloc(), 130, 1, &near, &[128, 129], 129)?;
-    are_weights(&rt, weights, &[7, 1, 0, 1]);
-    Ok(())
+// Asks the clusters of a network.
+fn ask_clusters(rt: &impl Abort, alloc: Global, subject: &str) -> Result<(), Fail> {
+    let (head, rows) = halves(subject, ':');
+    let (graph, distances) = network_of(alloc, five_numbers(head)[0])?;
+    ask_rows(rt, alloc, &graph, &distances, head, rows)
 }
 
+// The answer for a tree is its depth and the weights of its members, and for what is inside a
+// cluster the weights and then the depth.
 #[test]
-fn a_torn_pair_past_two_words(rt: HostRuntime) -> Result<(), Fail> {
-    let far = three(rt.alloc(), 130, 129, 64, 64)?;
-    let fault = weights_on_path(rt.alloc(), 130, 1, &far, &[64, 129], 129)?.err();
-    assert!(rt; matches!(fault, Some(TreeFault::Outside { node: 64 })));
-    Ok(())
-}
-
-#[test]
-fn a_pair_of_the_most_nodes(rt: HostRuntime) -> Result<(), Fail> {
-    let cluster = three(rt.alloc(), MAX_NODES, 1023, 1022, 1022)?;
-    let weights = weights_on_path(rt.alloc(), MAX_NODES, 0, &cluster, &[1022, 1023], 1022)?;
-    are_weights(&rt, weights, &[0, 1, 1]);
+fn clusters_of_networks(rt: HostRuntime) -> Result<(), Fail> {
+    let subjects = "4:tree 3 2 = 1 1 0|;\
+        3:\
+        inside 0 1 2 = 0 1 2 2|\
+        behind 0 2 = 7 0 5 5|;\
+        130:\
+        tree 0 129 = outside 129|\
+        behind 129 128 = 7 1 0 1|\
+        behind 129 64 = outside 64|;\
+        1024:\
+        depth 1023 = 1023|\
+        inside 1022 1023 = 0 1 1|;";
+    for subject in subjects.split_terminator(';') {
+        ask_clusters(&rt, rt.alloc(), subject)?;
+    }
     Ok(())
 }

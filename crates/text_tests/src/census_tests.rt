@@ -1,5 +1,5 @@
 //! Censuses of the line 0 - 1 - 2 - 3 of unit weights, and of places.
-ghost use Rattle.std.specs.Prelude.{◌≡◌, ◌<◌, ◌≤◌, All, length};
+ghost use Rattle.std.specs.Prelude.{◌≡◌, ◌<◌, ◌≤◌, ◌^◌, All, length};
 ghost use Rattle.region_plan.specs.Plan.{nodes_of};
 ghost use Rattle.visit_log.specs.Cells.{GoWith};
 
@@ -105,16 +105,18 @@ fn is_long(rt: &impl Abort, text: &[u8], begin: &[u8], end: &[u8]) {
     assert!(rt; text.starts_with(begin) && text.ends_with(end));
 }
 
-// The census of 64 subscribers at node 1 of the line.
-fn census_of_crowd(alloc: Global) -> Result<Vec<u8>, Fail> {
-    let (plan, _) = line_of_four(alloc)?;
-    let cells = PlainCells::new(alloc, &plan, &[1; 64])?;
-    Ok(census(alloc, &plan, &cells, 64)?)
+// The census of 64 subscribers at node 1 of four.
+fn census_of_crowd(alloc: Global, plan: &Plan) -> Result<Vec<u8>, Fail>
+    requires nodes { nodes_of plan.now ≡ 4 }
+{
+    let cells = PlainCells::new(alloc, plan, &[1; 64])?;
+    Ok(census(alloc, plan, &cells, 64)?)
 }
 
 #[test]
 fn as_many_subscribers_as_there_may_be(rt: HostRuntime) -> Result<(), Fail> {
-    let text = census_of_crowd(rt.alloc())?;
+    let (plan, _) = line_of_four(rt.alloc())?;
+    let text = census_of_crowd(rt.alloc(), &plan)?;
     is_long(
         &rt,
         &text,
@@ -124,24 +126,31 @@ fn as_many_subscribers_as_there_may_be(rt: HostRuntime) -> Result<(), Fail> {
     Ok(())
 }
 
+// The census of places is this text; or begins and ends so, where an end is given.
+fn tells_places(
+    rt: &impl Abort,
+    alloc: Global,
+    nodes: u32,
+    places: &[Option<u32>],
+    first: &str,
+    last: &str,
+) -> Result<(), Fail>
+    requires few { length places.now < 2 ^ 32 }
+{
+    let text = census_of_places(alloc, nodes, places)?;
+    if last.is_empty() {
+        same_text(rt, places.len(), &text, first.as_bytes());
+    }
+    is_long(rt, &text, first.as_bytes(), last.as_bytes());
+    Ok(())
+}
+
 #[test]
 fn who_is_where_by_places(rt: HostRuntime) -> Result<(), Fail> {
     let places = [Some(3), None, Some(1), Some(3)];
-    let text = census_of_places(rt.alloc(), 4, &places)?;
-    same_text(
-        &rt,
-        0,
-        &text,
-        b"node 1 count 1 subs 2\nnode 3 count 2 subs 0 3\nend 3\n",
-    );
-    let nobody = census_of_places(rt.alloc(), 1024, &[None; 64])?;
-    same_text(&rt, 1, &nobody, b"end 0\n");
-    let last = census_of_places(rt.alloc(), 1024, &[Some(1023); 64])?;
-    is_long(
-        &rt,
-        &last,
-        b"node 1023 count 64 subs 0 1 2 3 ",
-        b" 61 62 63\nend 64\n",
-    );
-    Ok(())
+    let here = "node 1 count 1 subs 2\nnode 3 count 2 subs 0 3\nend 3\n";
+    tells_places(&rt, rt.alloc(), 4, &places, here, "")?;
+    tells_places(&rt, rt.alloc(), 1024, &[None; 64], "end 0\n", "")?;
+    let (first, last) = ("node 1023 count 64 subs 0 1 2 3 ", " 61 62 63\nend 64\n");
+    tells_places(&rt, rt.alloc(), 1024, &[Some(1023); 64], first, last)
 }

@@ -4,7 +4,8 @@ ghost use Rattle.net_reader.specs.Seen.{seen_input};
 ghost use Rattle.net_reader.specs.Valid.{IsValid};
 ghost use Rattle.report_check.specs.Verdicts.{most_bytes};
 
-use crate::sameness::same;
+use crate::rows::{row_of, rows_in};
+use crate::sameness::{same_shown, same_text};
 use distances::Distances;
 use net_reader::Input;
 use region_plan::Plan;
@@ -23,13 +24,6 @@ move 0 2\nfind 1 3 0\n";
 // The same subscriber switches off and on, and is looked for.
 const SWITCHED: &str = "track 2\nnodes 4\nk 2\nedge 0 1 1\nedge 1 2 1\nedge 2 3 1\nsub 3\n\
 callers 1\noff 0\non 0\nfind 1 3 0\n";
-
-// A report, and the verdict on it.
-type Step<'a> = (&'a str, Verdict);
-
-fn unsound(line: u32, cause: Flaw) -> Verdict {
-    Verdict::Unsound { line, cause }
-}
 
 fn verdict_on(
     alloc: Global,
@@ -53,81 +47,62 @@ fn play_over(
     input: &Input,
     plan: &Plan,
     distances: &Distances,
-    steps: &[Step<'_>],
+    rows: &str,
 ) -> Result<(), Fail>
     requires valid { IsValid (seen_input input.now) }
     requires distances { distances.now ≡ plan.now.distances }
 {
-    'steps: for place in 0..steps.len() {
-        let (report, wanted) = steps[place];
-        same(
-            rt,
-            place,
-            verdict_on(alloc, input, plan, distances, report)?,
-            wanted,
-        );
+    for place in 0..rows_in(rows) {
+        let (report, wanted) = row_of(rows, place);
+        let verdict = verdict_on(alloc, input, plan, distances, report)?;
+        same_shown(rt, alloc, place, &verdict, wanted)?;
     }
     Ok(())
 }
 
-// Each report on a text's input, over the line, is to have this verdict.
-fn play(rt: &impl Abort, alloc: Global, text: &str, steps: &[Step<'_>]) -> Result<(), Fail> {
-    let input = input_of(alloc, text.as_bytes())?;
+fn play_on_line(rt: &impl Abort, alloc: Global, input: &Input, rows: &str) -> Result<(), Fail>
+    requires valid { IsValid (seen_input input.now) }
+{
     let (plan, distances) = line_of_four(alloc)?;
-    play_over(rt, alloc, &input, &plan, &distances, steps)
+    play_over(rt, alloc, input, &plan, &distances, rows)
+}
+
+// Each row is a report on a text's input, over the line, and the verdict that it is to have.
+fn play(rt: &impl Abort, alloc: Global, text: &str, rows: &str) -> Result<(), Fail> {
+    let input = input_of(alloc, text.as_bytes())?;
+    play_on_line(rt, alloc, &input, rows)
 }
 
 #[test]
 fn moves_and_finds(rt: HostRuntime) -> Result<(), Fail> {
-    let steps = [
-        (
-            "move 0 1 3 2 weight 1 first 0 commit 3 last 5\n\
-find 1 3 0 at 2 number 1 level 0 weight 5 first 6 last 8\norder 0 0 0 0 0 0 1 1 1\nend 9\n",
-            Verdict::Sound,
-        ),
-        (
-            "move 0 1 3 2 weight 1 first 0 commit 3 last 5\n\
-find 1 3 0 at 3 number 1 level 0 weight 5 first 6 last 8\norder 0 0 0 0 0 0 1 1 1\nend 9\n",
-            unsound(2, Flaw::Place),
-        ),
-        (
-            "move 0 1 3 2 weight 1 first 0 commit 3 last 5\n\
-find 1 3 0 at 2 number 1 level 0 weight 145 first 6 last 8\norder 0 0 0 0 0 0 1 1 1\nend 9\n",
-            unsound(2, Flaw::Weight),
-        ),
-        (
-            "move 0 1 3 2 weight 1 first 0 commit 5 last 5\n\
-find 1 3 0 at 2 number 1 level 0 weight 5 first 6 last 8\norder 0 0 0 0 0 0 1 1 1\nend 9\n",
-            unsound(1, Flaw::Tickets),
-        ),
-        (
-            "move 0 1 3 2 weight 1 first 0 commit 3 last 5\n\
-again 1 3 0 none weight 5 first 6 last 8\norder 0 0 0 0 0 0 1 1 1\nend 9\n",
-            unsound(2, Flaw::Again),
-        ),
-        ("", unsound(1, Flaw::Form)),
-    ];
-    play(&rt, rt.alloc(), MOVED, &steps)
+    let rows = "move 0 1 3 2 weight 1 first 0 commit 3 last 5\n\
+find 1 3 0 at 2 number 1 level 0 weight 5 first 6 last 8\norder 0 0 0 0 0 0 1 1 1\nend 9\n>\
+Sound|\
+move 0 1 3 2 weight 1 first 0 commit 3 last 5\n\
+find 1 3 0 at 3 number 1 level 0 weight 5 first 6 last 8\norder 0 0 0 0 0 0 1 1 1\nend 9\n>\
+Unsound { line: 2, cause: Place }|\
+move 0 1 3 2 weight 1 first 0 commit 3 last 5\n\
+find 1 3 0 at 2 number 1 level 0 weight 145 first 6 last 8\norder 0 0 0 0 0 0 1 1 1\nend 9\n>\
+Unsound { line: 2, cause: Weight }|\
+move 0 1 3 2 weight 1 first 0 commit 5 last 5\n\
+find 1 3 0 at 2 number 1 level 0 weight 5 first 6 last 8\norder 0 0 0 0 0 0 1 1 1\nend 9\n>\
+Unsound { line: 1, cause: Tickets }|\
+move 0 1 3 2 weight 1 first 0 commit 3 last 5\n\
+again 1 3 0 none weight 5 first 6 last 8\norder 0 0 0 0 0 0 1 1 1\nend 9\n>\
+Unsound { line: 2, cause: Again }|\
+>Unsound { line: 1, cause: Form }|";
+    play(&rt, rt.alloc(), MOVED, rows)
 }
 
 #[test]
 fn switches(rt: HostRuntime) -> Result<(), Fail> {
-    let steps = [
-        (
-            "switch 0 off 3 number 0 ticket 0\nswitch 0 on 3 number 0 ticket 2\n\
-off 1 3 0 at 3 number 0 level - weight 0 first 1 last 1\norder 0 1 0\nend 3\n",
-            Verdict::Sound,
-        ),
-        (
-            "switch 0 off 3 number 0 ticket 0\nswitch 0 on 3 number 0 ticket 2\n\
-find 1 3 0 at 3 number 0 level - weight 0 first 1 last 1\norder 0 1 0\nend 3\n",
-            unsound(3, Flaw::Place),
-        ),
-    ];
-    play(&rt, rt.alloc(), SWITCHED, &steps)
-}
-
-#[test]
-fn names(rt: HostRuntime) {
-    same(&rt, 0, Flaw::Tickets.name(), "tickets");
+    let rows = "switch 0 off 3 number 0 ticket 0\nswitch 0 on 3 number 0 ticket 2\n\
+off 1 3 0 at 3 number 0 level - weight 0 first 1 last 1\norder 0 1 0\nend 3\n>\
+Sound|\
+switch 0 off 3 number 0 ticket 0\nswitch 0 on 3 number 0 ticket 2\n\
+find 1 3 0 at 3 number 0 level - weight 0 first 1 last 1\norder 0 1 0\nend 3\n>\
+Unsound { line: 3, cause: Place }|";
+    play(&rt, rt.alloc(), SWITCHED, rows)?;
+    same_text(&rt, 2, Flaw::Tickets.name().as_bytes(), b"tickets");
+    Ok(())
 }

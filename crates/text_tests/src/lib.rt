@@ -23,6 +23,8 @@ mod plan_text_tests;
 #[cfg(test)]
 mod report_tests;
 #[cfg(test)]
+mod rows;
+#[cfg(test)]
 mod sameness;
 #[cfg(test)]
 mod summary_tests;

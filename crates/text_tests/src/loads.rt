@@ -3,16 +3,15 @@ ghost use Rattle.std.specs.Prelude.{IfOk};
 ghost use Rattle.make_load.specs.Load.{IsLoad};
 
 use make_load::words_are_loads;
-use std::alloc::Global;
+use std::alloc::{AllocError, Global};
 use std::test::Fail;
 use word_line::{Command, Load, WordsFault, read_words};
 
-fn words(alloc: Global, line: &str) -> Result<Vec<String>, Fail> {
-    let mut words = Vec::new(alloc);
-    for word in line.split(' ') {
-        words.push(String::from_str(alloc, word)?)?;
-    }
-    Ok(words)
+/// The words of a line, each behind a blank but the first; the empty line has none.
+pub(crate) fn words_of(alloc: Global, line: &str) -> Result<Vec<String>, AllocError> {
+    line.split_terminator(' ')
+        .map(|word| -> Result<String, AllocError> { String::from_str(alloc, word) })
+        .try_collect(alloc)
 }
 
 /// The load that these words make.
@@ -20,7 +19,7 @@ pub(crate) fn load_of(alloc: Global, line: &str) -> Result<Load, Fail>
     ensures { IfOk result (λ load. IsLoad load) }
 {
     words_are_loads();
-    match read_words(&words(alloc, line)?) {
+    match read_words(&words_of(alloc, line)?) {
         Ok(Command::Make(load)) => Ok(load),
         _ => Err(WordsFault::Refused.into()),
     }

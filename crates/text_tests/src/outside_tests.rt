@@ -2,64 +2,86 @@
 //! writers do below them.
 ghost use Rattle.std.specs.Prelude.{Some};
 
+use crate::rows::{row_of, rows_in};
 use crate::sameness::{same, same_text};
 use outside::{Gave, MemorySink, MemorySource, Sink, Source, StdSink, StdSource, Took};
+use std::alloc::Global;
 use std::io::{Error, ErrorKind, Read, Write};
 use std::process::Abort;
 use std::test::Fail;
 
-// Each read of a source is to give this, and to leave these bytes in the buffer.
-fn reads(rt: &impl Abort, source: &mut impl Source, buffer: &mut [u8], rows: &[(Took, &[u8])]) {
-    for place in 0..rows.len() {
-        let (took, bytes) = rows[place];
+// What a source or a sink answers, by a word: a count of bytes, `!` for a fault, or else the end.
+fn took_of(word: &str) -> Took {
+    match word.parse::<usize>() {
+        Ok(count) => Took::Got(count),
+        Err(_) if word == "!" => Took::Failed,
+        Err(_) => Took::End,
+    }
+}
+
+fn gave_of(word: &str) -> Gave {
+    match word.parse::<usize>() {
+        Ok(count) => Gave::Wrote(count),
+        Err(_) => Gave::Failed,
+    }
+}
+
+// Each row `TOOK>BYTES` is what a read of a source is to give, and what the buffer then holds.
+fn reads(rt: &impl Abort, source: &mut impl Source, buffer: &mut [u8], rows: &str) {
+    for place in 0..rows_in(rows) {
+        let (took, bytes) = row_of(rows, place);
         assert!(rt; buffer.len() > 0);
-        same(rt, place, source.read(buffer), took);
-        same_text(rt, place, buffer, bytes);
+        same(rt, place, source.read(buffer), took_of(took));
+        same_text(rt, place, buffer, bytes.as_bytes());
+    }
+}
+
+// What a call of `fill` handed over: a mark `!` is a fault.
+fn piece_of(took: Took, buffer: &[u8]) -> &[u8] {
+    match took {
+        Took::Got(count) => buffer.get(..count).unwrap_or(b"?"),
+        Took::End => b"",
+        Took::Failed => b"!",
     }
 }
 
 // Calls of `fill` are to hand over these pieces, with `|` behind each. A mark `!` is a fault, and
 // an empty piece the end.
 fn fills(rt: &impl Abort, source: &mut impl Source, buffer: &mut [u8], pieces: &str) {
-    for (place, piece) in pieces.split_terminator('|').enumerate() {
+    for place in 0..rows_in(pieces) {
+        let (piece, _) = row_of(pieces, place);
         assert!(rt; buffer.len() > 0);
-        let wanted = piece.as_bytes();
-        match source.fill(buffer) {
-            Took::Got(count) => same_text(rt, place, &buffer[..count], wanted),
-            Took::End => same_text(rt, place, b"", wanted),
-            Took::Failed => same_text(rt, place, b"!", wanted),
-        }
+        let took = source.fill(buffer);
+        same_text(rt, place, piece_of(took, buffer), piece.as_bytes());
     }
 }
 
-// Each write to a sink is to give this.
-fn writes(rt: &impl Abort, sink: &mut impl Sink, rows: &[(&[u8], Gave)]) {
-    for place in 0..rows.len() {
-        let (bytes, gave) = rows[place];
+// Each row `BYTES>GAVE` is a write to a sink, and what it is to give.
+fn writes(rt: &impl Abort, sink: &mut impl Sink, rows: &str) {
+    for place in 0..rows_in(rows) {
+        let (bytes, gave) = row_of(rows, place);
         assert!(rt; bytes.len() > 0);
-        same(rt, place, sink.write(bytes), gave);
+        same(rt, place, sink.write(bytes.as_bytes()), gave_of(gave));
     }
+}
+
+// Six bytes, of which a call gives four at most; the second call fails.
+fn six_bytes(alloc: Global) -> Result<MemorySource, Fail> {
+    let bytes = Vec::from_slice(alloc, b"abcdef")?;
+    let failing = Vec::from_slice(alloc, &[1])?;
+    Ok(MemorySource::new(bytes, 4, failing))
 }
 
 #[test]
 fn source_in_memory(rt: HostRuntime) -> Result<(), Fail> {
-    let bytes = Vec::from_slice(rt.alloc(), b"abcdef")?;
-    let mut source = MemorySource::new(bytes, 4, vec![in rt.alloc(); 1]?);
-    let rows: [(Took, &[u8]); 4] = [
-        (Took::Got(4), b"abcd-"),
-        (Took::Failed, b"abcd-"),
-        (Took::Got(2), b"efcd-"),
-        (Took::End, b"efcd-"),
-    ];
-    reads(&rt, &mut source, &mut [b'-'; 5], &rows);
+    let rows = "4>abcd-|!>abcd-|2>efcd-|.>efcd-|";
+    reads(&rt, &mut six_bytes(rt.alloc())?, &mut [b'-'; 5], rows);
     Ok(())
 }
 
 #[test]
 fn source_in_memory_fills(rt: HostRuntime) -> Result<(), Fail> {
-    let bytes = Vec::from_slice(rt.alloc(), b"abcdef")?;
-    let mut source = MemorySource::new(bytes, 4, vec![in rt.alloc(); 1]?);
-    fills(&rt, &mut source, &mut [0; 5], "abcd|!|ef||");
+    fills(&rt, &mut six_bytes(rt.alloc())?, &mut [0; 5], "abcd|!|ef||");
     Ok(())
 }
 
@@ -81,27 +103,75 @@ impl Source for Plain {
 
 #[test]
 fn source_that_only_reads_fills(rt: HostRuntime) -> Result<(), Fail> {
-    let bytes = Vec::from_slice(rt.alloc(), b"abcdef")?;
-    let mut source = Plain {
-        inner: MemorySource::new(bytes, 4, vec![in rt.alloc(); 1]?),
-    };
-    fills(&rt, &mut source, &mut [0; 5], "abcd|!|ef||");
+    let inner = six_bytes(rt.alloc())?;
+    fills(&rt, &mut Plain { inner }, &mut [0; 5], "abcd|!|ef||");
     Ok(())
+}
+
+// A sink of five bytes, of which a call takes four at most; the second call fails.
+fn five_bytes(alloc: Global) -> Result<MemorySink, Fail> {
+    let room = Vec::with_capacity(alloc, 5)?;
+    let failing = Vec::from_slice(alloc, &[1])?;
+    Ok(MemorySink::new(room, 5, 4, failing))
 }
 
 #[test]
 fn sink_in_memory(rt: HostRuntime) -> Result<(), Fail> {
-    let room = Vec::with_capacity(rt.alloc(), 5)?;
-    let mut sink = MemorySink::new(room, 5, 4, vec![in rt.alloc(); 1]?);
-    let rows: [(&[u8], Gave); 4] = [
-        (b"abcdef", Gave::Wrote(4)),
-        (b"ef", Gave::Failed),
-        (b"ef", Gave::Wrote(1)),
-        (b"f", Gave::Failed),
-    ];
-    writes(&rt, &mut sink, &rows);
+    let mut sink = five_bytes(rt.alloc())?;
+    writes(&rt, &mut sink, "abcdef>4|ef>!|ef>1|f>!|");
     same_text(&rt, 4, &sink.into_bytes(), b"abcde");
     Ok(())
+}
+
+#[test]
+fn source_over_a_reader(rt: HostRuntime) {
+    let text: &[u8] = b"abc";
+    reads(
+        &rt,
+        &mut StdSource::new(text),
+        &mut [b'-'; 2],
+        "2>ab|1>cb|.>cb|",
+    );
+    fills(&rt, &mut StdSource::new(text), &mut [0; 2], "ab|c||");
+}
+
+// A text that is longer than the buffer of `read`.
+fn long_text(alloc: Global) -> Result<Vec<u8>, Fail> {
+    let mut text = vec![in alloc; b'a'; 16_384]?;
+    text.extend_from_slice(b"bcd")?;
+    Ok(text)
+}
+
+// A read of more than the buffer of `read` takes what that holds, and the next one goes on behind
+// it.
+fn reads_in_two(rt: &impl Abort, source: &mut impl Source, into: &mut [u8]) {
+    assert!(rt; into.len() > 0);
+    same(rt, 0, source.read(into), Took::Got(16_384));
+    same_text(rt, 1, into.get(16_382..16_386).unwrap_or(b""), b"aa--");
+    reads(
+        rt,
+        source,
+        into.get_mut(..4).unwrap_or(&mut []),
+        "3>bcda|.>bcda|",
+    );
+}
+
+#[test]
+fn source_over_a_long_reader(rt: HostRuntime) -> Result<(), Fail> {
+    let text = long_text(rt.alloc())?;
+    reads_in_two(
+        &rt,
+        &mut StdSource::new(text.as_slice()),
+        &mut [b'-'; 20_000],
+    );
+    Ok(())
+}
+
+#[test]
+fn sink_over_a_writer(rt: HostRuntime) {
+    let mut bytes = Vec::new(rt.alloc());
+    writes(&rt, &mut StdSink::new(&mut bytes), "ab>2|c>1|");
+    same_text(&rt, 2, &bytes, b"abc");
 }
 
 // A device whose every call fails in one way.
@@ -124,75 +194,6 @@ impl Write for Broken {
     fn flush(&mut self) -> std::io::Result<()> {
         Ok(())
     }
-}
-
-#[test]
-fn source_over_a_reader(rt: HostRuntime) {
-    let text: &[u8] = b"abc";
-    let mut source = StdSource::new(text);
-    let rows: [(Took, &[u8]); 3] = [
-        (Took::Got(2), b"ab"),
-        (Took::Got(1), b"cb"),
-        (Took::End, b"cb"),
-    ];
-    reads(&rt, &mut source, &mut [b'-'; 2], &rows);
-}
-
-#[test]
-fn source_over_a_reader_fills(rt: HostRuntime) {
-    let text: &[u8] = b"abc";
-    fills(&rt, &mut StdSource::new(text), &mut [0; 2], "ab|c||");
-}
-
-// A call that fails is a fault, also one that a stream interrupts or would let wait.
-#[test]
-fn devices_that_fail(rt: HostRuntime) {
-    for kind in [
-        ErrorKind::Other,
-        ErrorKind::Interrupted,
-        ErrorKind::WouldBlock,
-    ] {
-        let mut source = StdSource::new(Broken { kind });
-        reads(&rt, &mut source, &mut [b'-'; 2], &[(Took::Failed, b"--")]);
-        fills(&rt, &mut source, &mut [0; 2], "!|");
-        writes(
-            &rt,
-            &mut StdSink::new(Broken { kind }),
-            &[(b"a", Gave::Failed)],
-        );
-    }
-}
-
-// A read of more than the buffer of `read` takes what that holds, and the next one goes on behind
-// it.
-#[test]
-fn source_over_a_long_reader(rt: HostRuntime) -> Result<(), Fail> {
-    let mut text = vec![in rt.alloc(); b'a'; 16_384]?;
-    text.extend_from_slice(b"bcd")?;
-    let mut source = StdSource::new(text.as_slice());
-    let mut into = vec![in rt.alloc(); b'-'; 20_000]?;
-    let first = source.read(&mut into);
-    let edge = (
-        into.get(16_383) == Some(&b'a'),
-        into.get(16_384) == Some(&b'-'),
-    );
-    same(&rt, 0, (first, edge), (Took::Got(16_384), (true, true)));
-    let next = (source.read(&mut into), source.read(&mut into));
-    let begins = into.starts_with(b"bcda");
-    same(&rt, 1, (next, begins), ((Took::Got(3), Took::End), true));
-    Ok(())
-}
-
-#[test]
-fn sink_over_a_writer(rt: HostRuntime) {
-    let mut bytes = Vec::new(rt.alloc());
-    let mut sink = StdSink::new(&mut bytes);
-    writes(
-        &rt,
-        &mut sink,
-        &[(b"ab", Gave::Wrote(2)), (b"c", Gave::Wrote(1))],
-    );
-    same_text(&rt, 2, &bytes, b"abc");
 }
 
 // A device that takes one byte a call, and shows what it took where it is flushed.
@@ -225,12 +226,7 @@ fn sink_over_a_slow_writer(rt: HostRuntime) {
         held: None,
         shown: Vec::new(rt.alloc()),
     };
-    let mut sink = StdSink::new(&mut slow);
-    writes(
-        &rt,
-        &mut sink,
-        &[(b"ab", Gave::Wrote(1)), (b"b", Gave::Wrote(1))],
-    );
+    writes(&rt, &mut StdSink::new(&mut slow), "ab>1|b>1|");
     same_text(&rt, 2, &slow.shown, b"ab");
 }
 
@@ -246,11 +242,6 @@ impl Write for Full {
     fn flush(&mut self) -> std::io::Result<()> {
         Err(Error::from(ErrorKind::StorageFull))
     }
-}
-
-#[test]
-fn sink_that_cannot_flush(rt: HostRuntime) {
-    writes(&rt, &mut StdSink::new(Full), &[(b"a", Gave::Failed)]);
 }
 
 // A device that fails at its first call. From then on a read gives one byte, and a write takes all.
@@ -287,29 +278,33 @@ impl Write for Late {
     }
 }
 
-// A write that failed isn't tried again.
+// A call that fails in some way is a fault.
+fn fails(rt: &impl Abort, kind: ErrorKind) {
+    let mut source = StdSource::new(Broken { kind });
+    reads(rt, &mut source, &mut [b'-'; 2], "!>--|");
+    fills(rt, &mut source, &mut [0; 2], "!|");
+    writes(rt, &mut StdSink::new(Broken { kind }), "a>!|");
+}
+
+// Also one that a stream interrupts or would let wait, and one that fails where it is flushed.
 #[test]
-fn sink_over_a_late_writer(rt: HostRuntime) {
+fn devices_that_fail(rt: HostRuntime) {
+    fails(&rt, ErrorKind::Other);
+    fails(&rt, ErrorKind::Interrupted);
+    fails(&rt, ErrorKind::WouldBlock);
+    writes(&rt, &mut StdSink::new(Full), "a>!|");
+}
+
+// A write that failed isn't tried again, nor is a read.
+#[test]
+fn devices_that_fail_once(rt: HostRuntime) {
     writes(
         &rt,
         &mut StdSink::new(Late { has_failed: false }),
-        &[(b"ab", Gave::Failed), (b"ab", Gave::Wrote(2))],
+        "ab>!|ab>2|",
     );
-}
-
-// Nor is a read that failed.
-#[test]
-fn source_over_a_late_reader(rt: HostRuntime) {
-    reads(
-        &rt,
-        &mut StdSource::new(Late { has_failed: false }),
-        &mut [b'-'; 2],
-        &[(Took::Failed, b"--"), (Took::Got(1), b"a-")],
-    );
-    fills(
-        &rt,
-        &mut StdSource::new(Late { has_failed: false }),
-        &mut [0; 2],
-        "!|a|",
-    );
+    let mut source = StdSource::new(Late { has_failed: false });
+    reads(&rt, &mut source, &mut [b'-'; 2], "!>--|1>a-|");
+    let mut source = StdSource::new(Late { has_failed: false });
+    fills(&rt, &mut source, &mut [0; 2], "!|a|");
 }

@@ -1,4 +1,5 @@
 //! The report of a few calls, whole and line by line, and the lines that refuse inputs.
+use crate::rows::row_of;
 use crate::sameness::{same_numbers, same_text};
 use directory::{Done, Outcome, Why};
 use net_reader::{InputCause, InputFault};
@@ -83,27 +84,36 @@ fn lines_of_many_visits(rt: HostRuntime) -> Result<(), Fail> {
     Ok(())
 }
 
-// An input is refused at line 68 by this line.
-fn refuses(rt: &impl Abort, alloc: Global, cause: InputCause, wanted: &str) -> Result<(), Fail> {
+// An input is refused at line 68 by a line with these words.
+fn refuses(
+    rt: &impl Abort,
+    alloc: Global,
+    place: usize,
+    cause: InputCause,
+    words: &str,
+) -> Result<(), Fail> {
     let line = refused_line(alloc, InputFault { line: 68, cause })?;
-    same_text(rt, 0, &line, wanted.as_bytes());
+    let wanted = format!(in alloc; "refused 68 {words}\n")?;
+    same_text(rt, place, &line, wanted.as_bytes());
     Ok(())
 }
 
 #[test]
 fn lines_that_refuse(rt: HostRuntime) -> Result<(), Fail> {
-    let lines = [
-        (InputCause::Form, "refused 68 form\n"),
-        (InputCause::TooLarge, "refused 68 too-large\n"),
-        (InputCause::TooMany, "refused 68 too-many\n"),
-        (InputCause::Unknown, "refused 68 unknown\n"),
-        (InputCause::Switched, "refused 68 switched\n"),
-        (InputCause::Nowhere, "refused 68 nowhere\n"),
-        (InputCause::Unfinished, "refused 68 unfinished\n"),
-        (InputCause::Apart { node: 2 }, "refused 68 apart 2\n"),
+    let causes = [
+        InputCause::Form,
+        InputCause::TooLarge,
+        InputCause::TooMany,
+        InputCause::Unknown,
+        InputCause::Switched,
+        InputCause::Nowhere,
+        InputCause::Unfinished,
+        InputCause::Apart { node: 2 },
     ];
-    for (cause, wanted) in lines {
-        refuses(&rt, rt.alloc(), cause, wanted)?;
+    let words = "form|too-large|too-many|unknown|switched|nowhere|unfinished|apart 2|";
+    for place in 0..causes.len() {
+        let (words, _) = row_of(words, place);
+        refuses(&rt, rt.alloc(), place, causes[place], words)?;
     }
     Ok(())
 }

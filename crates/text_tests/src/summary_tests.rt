@@ -64,6 +64,13 @@ const AGAIN: Done = Done::Again {
     last: 16,
 };
 
+// These calls and so many visits.
+fn outcome_of(alloc: Global, calls: &[Done], visits: usize) -> Result<Outcome, Fail> {
+    let calls = Vec::from_slice(alloc, calls)?;
+    let order = vec![in alloc; 1; visits]?;
+    Ok(Outcome { calls, order })
+}
+
 // The summary of these calls and so many visits is to be this line.
 fn sums_up(
     rt: &impl Abort,
@@ -72,10 +79,7 @@ fn sums_up(
     visits: usize,
     wanted: &str,
 ) -> Result<(), Fail> {
-    let outcome = Outcome {
-        calls: Vec::from_slice(alloc, calls)?,
-        order: vec![in alloc; 1; visits]?,
-    };
+    let outcome = outcome_of(alloc, calls, visits)?;
     same_text(rt, visits, &summary(alloc, &outcome)?, wanted.as_bytes());
     Ok(())
 }
@@ -115,15 +119,8 @@ const WHOLE: &str = "{\"calls\":[\
 
 #[test]
 fn report_as_json(rt: HostRuntime) -> Result<(), Fail> {
-    let outcome = Outcome {
-        calls: Vec::from_slice(rt.alloc(), &[moved(1), SWITCHED, FOUND, OFF, AGAIN])?,
-        order: vec![in rt.alloc(); 1; 1]?,
-    };
-    same_text(
-        &rt,
-        0,
-        &report_json(rt.alloc(), &outcome)?,
-        WHOLE.as_bytes(),
-    );
+    let outcome = outcome_of(rt.alloc(), &[moved(1), SWITCHED, FOUND, OFF, AGAIN], 1)?;
+    let text = report_json(rt.alloc(), &outcome)?;
+    same_text(&rt, 0, &text, WHOLE.as_bytes());
     Ok(())
 }

@@ -1,12 +1,12 @@
 //! Sources and sinks that fail at one call and would go on at the next: the first fault ends the
 //! work.
-use crate::runs::{FOUR, Lines, READING, ROOM, Run, ends, text_of};
+use crate::runs::{FOUR, READING, ROOM, Run, ends, text_of};
 use std::alloc::Global;
 use std::process::Abort;
 use std::test::Fail;
 use std::thread::Threads;
 
-const CALLS: Lines<'static> = Lines(FOUR, "", b"move 0 2\nfind 1 3 0\n", 1);
+const CALLS: &str = "move 0 2\nfind 1 3 0\n";
 
 const REPORT: &str = "move 0 1 3 2 weight 1 first 0 commit 3 last 5\n\
         find 1 3 0 at 2 number 1 level 0 weight 5 first 6 last 8\norder 0 0 0 0 0 0 1 1 1\nend 9\n";
@@ -53,31 +53,30 @@ const WORDS: [&str; 6] = [
     "meanreplay",
 ];
 
-// A run over an input at so many bytes a call, some of whose calls fail.
-#[derive(Clone, Copy)]
-struct Broken<'a> {
-    word: &'a str,
-    most: usize,
-    reads: &'a [u64],
-    writes: &'a [u64],
-}
-
+// A run of a word over an input at so many bytes a call, some of whose calls fail.
 fn breaks<R: Threads + Sync + Abort>(
     rt: &R,
     alloc: Global,
-    place: usize,
-    broken: Broken<'_>,
+    word: &str,
+    most: usize,
+    failing_reads: &[u64],
+    failing_writes: &[u64],
     input: &[u8],
     status: u8,
     text: &[u8],
 ) -> Result<(), Fail> {
     let run = Run {
-        words: &[broken.word],
+        words: &[word],
         input,
-        most: broken.most,
+        most,
         room: ROOM,
-        failing_reads: broken.reads,
-        failing_writes: broken.writes,
+        failing_reads,
+        failing_writes,
+    };
+    // Where a read fails, its place says which; a write that fails is told by what stands written.
+    let place = match failing_reads.first() {
+        Some(call) => *call as usize,
+        None => text.len(),
     };
     ends(rt, alloc, place, &run, status, text)
 }
@@ -90,20 +89,14 @@ fn read_fails<R: Threads + Sync + Abort>(
     input: &[u8],
 ) -> Result<(), Fail> {
     for call in 0..13u64 {
-        let broken = Broken {
-            word,
-            most: 8,
-            reads: &[call],
-            writes: &[],
-        };
-        breaks(rt, alloc, call as usize, broken, input, 4, b"")?;
+        breaks(rt, alloc, word, 8, &[call], &[], input, 4, b"")?;
     }
     Ok(())
 }
 
 #[test]
 fn each_read_fails(rt: HostRuntime) -> Result<(), Fail> {
-    let input = text_of(rt.alloc(), CALLS)?;
+    let input = text_of(rt.alloc(), FOUR, CALLS)?;
     for word in READING {
         read_fails(&rt, rt.alloc(), word, &input)?;
     }
@@ -113,16 +106,10 @@ fn each_read_fails(rt: HostRuntime) -> Result<(), Fail> {
 // No read comes behind the end.
 #[test]
 fn a_later_read_would_fail(rt: HostRuntime) -> Result<(), Fail> {
-    let input = text_of(rt.alloc(), CALLS)?;
+    let input = text_of(rt.alloc(), FOUR, CALLS)?;
     for word in WORDS {
-        let broken = Broken {
-            word,
-            most: 8,
-            reads: &[13],
-            writes: &[],
-        };
-        let text = text_by(word);
-        breaks(&rt, rt.alloc(), 13, broken, &input, 0, text.as_bytes())?;
+        let text = text_by(word).as_bytes();
+        breaks(&rt, rt.alloc(), word, 8, &[13], &[], &input, 0, text)?;
     }
     Ok(())
 }
@@ -138,28 +125,15 @@ fn write_fails<R: Threads + Sync + Abort>(
     for call in 0..40u64 {
         let written = text.len().min(10 * call as usize);
         let status = if written < text.len() { 5 } else { 0 };
-        let broken = Broken {
-            word,
-            most: 10,
-            reads: &[],
-            writes: &[call],
-        };
-        breaks(
-            rt,
-            alloc,
-            call as usize,
-            broken,
-            input,
-            status,
-            &text[..written],
-        )?;
+        let text = &text[..written];
+        breaks(rt, alloc, word, 10, &[], &[call], input, status, text)?;
     }
     Ok(())
 }
 
 #[test]
 fn each_write_fails(rt: HostRuntime) -> Result<(), Fail> {
-    let input = text_of(rt.alloc(), CALLS)?;
+    let input = text_of(rt.alloc(), FOUR, CALLS)?;
     for word in WORDS {
         let text = text_by(word).as_bytes();
         write_fails(&rt, rt.alloc(), word, text, &input)?;
@@ -178,19 +152,16 @@ fn replay_breaks<R: Threads + Sync + Abort>(
     status: u8,
     text: &str,
 ) -> Result<(), Fail> {
-    let broken = Broken {
-        word: "replay",
-        most,
-        reads,
-        writes,
-    };
-    breaks(rt, alloc, 0, broken, input, status, text.as_bytes())
+    let text = text.as_bytes();
+    breaks(
+        rt, alloc, "replay", most, reads, writes, input, status, text,
+    )
 }
 
 // The second read of 64 bytes, which has the end of the input, and the third write of 10.
 #[test]
 fn one_call_fails(rt: HostRuntime) -> Result<(), Fail> {
-    let input = text_of(rt.alloc(), CALLS)?;
+    let input = text_of(rt.alloc(), FOUR, CALLS)?;
     replay_breaks(&rt, rt.alloc(), &input, &[1], &[], 64, 4, "")?;
     replay_breaks(
         &rt,
@@ -207,7 +178,7 @@ fn one_call_fails(rt: HostRuntime) -> Result<(), Fail> {
 // A fault of reading comes before the length, that before the faults of the input.
 #[test]
 fn a_long_input_and_a_fault(rt: HostRuntime) -> Result<(), Fail> {
-    let input = text_of(rt.alloc(), Lines("", "", b"#", 4_194_305))?;
+    let input = text_of(rt.alloc(), "", "^#*4194305")?;
     replay_breaks(&rt, rt.alloc(), &input, &[0], &[0], 100_000, 4, "")?;
     replay_breaks(&rt, rt.alloc(), &input, &[], &[0], 100_000, 6, "")
 }
@@ -215,7 +186,7 @@ fn a_long_input_and_a_fault(rt: HostRuntime) -> Result<(), Fail> {
 // The faults of writing come last.
 #[test]
 fn a_refused_input_and_a_fault(rt: HostRuntime) -> Result<(), Fail> {
-    let input = text_of(rt.alloc(), Lines("track 3\n", "", b"", 0))?;
+    let input = text_of(rt.alloc(), "", "track 3\n")?;
     replay_breaks(&rt, rt.alloc(), &input, &[0], &[0], 10, 4, "")?;
     replay_breaks(&rt, rt.alloc(), &input, &[1], &[], 10, 4, "")?;
     replay_breaks(&rt, rt.alloc(), &input, &[], &[0], 10, 5, "")?;

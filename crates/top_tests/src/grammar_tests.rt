@@ -1,6 +1,6 @@
 //! Inputs that are refused, cut short or meant to do harm, at the top call.
 use crate::rows::play_rows;
-use crate::runs::{FOUR, Lines, READING, ROOM, Row, Run, ends, play, text_of};
+use crate::runs::{FOUR, READING, play_words, text_of};
 use std::alloc::Global;
 use std::process::Abort;
 use std::test::Fail;
@@ -34,11 +34,9 @@ fn refused_inputs(rt: HostRuntime) -> Result<(), Fail> {
 
 #[test]
 fn refused_subscribers(rt: HostRuntime) -> Result<(), Fail> {
-    let rows: [Row<'_>; 2] = [
-        (Lines(ONE, "", b"sub 0\n", 64), 1, "refused 67 unfinished\n"),
-        (Lines(ONE, "", b"sub 0\n", 65), 1, "refused 68 too-many\n"),
-    ];
-    play(&rt, rt.alloc(), &READING, &[1, 7, 64], &rows)
+    let rows = "^sub 0\n*64>1 refused 67 unfinished\n|\
+        ^sub 0\n*65>1 refused 68 too-many\n|";
+    play_rows(&rt, rt.alloc(), &READING, &[1, 7, 64], ONE, rows)
 }
 
 // Both sides of the limits of numbers.
@@ -60,23 +58,7 @@ fn limits_of_numbers(rt: HostRuntime) -> Result<(), Fail> {
     play_rows(&rt, rt.alloc(), &["replay"], &[64], "", rows)
 }
 
-// The text of a move and a find, cut behind so many bytes: within line 2, behind lines 3 and 6,
-// within line 8, before the LF of line 8, and within line 10.
-#[test]
-fn cut_inputs(rt: HostRuntime) -> Result<(), Fail> {
-    let rows = [
-        (10, 1, "refused 2 form\n"),
-        (20, 1, "refused 3 unfinished\n"),
-        (53, 1, "refused 6 unfinished\n"),
-        (66, 1, "refused 8 form\n"),
-        (86, 1, "refused 10 form\n"),
-    ];
-    'rows: for (length, status, text) in rows {
-        cut_behind(&rt, rt.alloc(), &READING, length, status, text)?;
-    }
-    cut_behind(&rt, rt.alloc(), &["replay", "run"], 68, 0, "end 0\n")
-}
-
+// The text of a move and a find, cut behind so many bytes, is answered so by these words.
 fn cut_behind<R: Threads + Sync + Abort>(
     rt: &R,
     alloc: Global,
@@ -85,55 +67,44 @@ fn cut_behind<R: Threads + Sync + Abort>(
     status: u8,
     text: &str,
 ) -> Result<(), Fail> {
-    let mut input = text_of(alloc, Lines(FOUR, "", b"move 0 2\nfind 1 3 0\n", 1))?;
+    let mut input = text_of(alloc, FOUR, "move 0 2\nfind 1 3 0\n")?;
     input.truncate(length);
-    for word in words {
-        let run = Run {
-            words: &[word],
-            input: &input,
-            most: 7,
-            room: ROOM,
-            failing_reads: &[],
-            failing_writes: &[],
-        };
-        ends(rt, alloc, length, &run, status, text.as_bytes())?;
-    }
-    Ok(())
+    play_words(rt, alloc, length, words, &[7], &input, status, text)
 }
 
-// Lines behind a callers line that are meant to do harm.
+// Within line 2, behind lines 3 and 6, within line 8, before the LF of line 8, and within line 10.
+#[test]
+fn cut_inputs(rt: HostRuntime) -> Result<(), Fail> {
+    cut_behind(&rt, rt.alloc(), &READING, 10, 1, "refused 2 form\n")?;
+    cut_behind(&rt, rt.alloc(), &READING, 20, 1, "refused 3 unfinished\n")?;
+    cut_behind(&rt, rt.alloc(), &READING, 53, 1, "refused 6 unfinished\n")?;
+    cut_behind(&rt, rt.alloc(), &READING, 66, 1, "refused 8 form\n")?;
+    cut_behind(&rt, rt.alloc(), &["replay", "run"], 68, 0, "end 0\n")?;
+    cut_behind(&rt, rt.alloc(), &READING, 86, 1, "refused 10 form\n")
+}
+
+// Lines behind a callers line that are meant to do harm, and such lines of many words.
 #[test]
 fn harmful_lines(rt: HostRuntime) -> Result<(), Fail> {
     let rows = "order 999999999999999999>1 refused 9 unknown\n|\
         order 9999999999999999999>1 refused 9 form\n|\
         find 0 1 0>1 refused 9 unknown\n|\
-        find 1 4 0>1 refused 9 unknown\n|";
+        find 1 4 0>1 refused 9 unknown\n|\
+        order^ 9*65>1 refused 9 too-many\n|\
+        order^ 9*64>1 refused 9 unknown\n|\
+        order^ 1*200000>1 refused 9 too-many\n|\
+        find^find*250000>1 refused 9 form\n|";
     play_rows(&rt, rt.alloc(), &READING, &[64], FOUR, rows)
-}
-
-// Such lines of many words.
-#[test]
-fn harmful_words(rt: HostRuntime) -> Result<(), Fail> {
-    let rows: [Row<'_>; 4] = [
-        (Lines(FOUR, "order", b" 9", 65), 1, "refused 9 too-many\n"),
-        (Lines(FOUR, "order", b" 9", 64), 1, "refused 9 unknown\n"),
-        (
-            Lines(FOUR, "order", b" 1", 200_000),
-            1,
-            "refused 9 too-many\n",
-        ),
-        (Lines(FOUR, "find", b"find", 250_000), 1, "refused 9 form\n"),
-    ];
-    play(&rt, rt.alloc(), &READING, &[64], &rows)
 }
 
 // Bytes that no other test has: a comment with a byte that begins no character, tabs between
 // fields, NUL within a field.
 #[test]
 fn unusual_bytes(rt: HostRuntime) -> Result<(), Fail> {
+    let input =
+        b"track 1\nnodes 4\nk 2\nedge 0 1 1\nedge 1 2 1\nedge 2 3 1\nsub 3\ncallers 1\n#\xff";
     let words = ["replay", "run"];
-    let rows: [Row<'_>; 1] = [(Lines(FOUR, "", b"#\xff", 1), 0, "end 0\n")];
-    play(&rt, rt.alloc(), &words, &[7], &rows)?;
+    play_words(&rt, rt.alloc(), 0, &words, &[7], input, 0, "end 0\n")?;
     let rows = "\t#\t\0\r\r\n \t\r\n>0 end 0\n|\
         find\t1\t3\t0\0\n>1 refused 9 form\n|\
         find 1 3 0\r\r\n>1 refused 9 form\n|";

@@ -1,7 +1,7 @@
 //! Inputs and reports as JSON: worked rows, what is refused, and what the reader of JSON makes of
 //! numbers, keys and texts.
 use crate::rows::play_rows;
-use crate::runs::{Lines, Row, play};
+use crate::runs::play_words;
 use std::test::Fail;
 
 const TEXT: &str = "track 1\nnodes 2\nk 2\nedge 0 1 1\nsub 1\ncallers 1\nfind 1 0 0\n";
@@ -23,29 +23,29 @@ const BEFORE_K: &str =
 
 #[test]
 fn written_as_json(rt: HostRuntime) -> Result<(), Fail> {
-    let input = Lines(TEXT, "", b"", 0);
-    play(&rt, rt.alloc(), &["tojson"], &MOSTS, &[(input, 0, JSON)])?;
-    play(
+    let input = TEXT.as_bytes();
+    play_words(&rt, rt.alloc(), 0, &["tojson"], &MOSTS, input, 0, JSON)?;
+    play_words(
         &rt,
         rt.alloc(),
+        1,
         &["replayjson"],
         &MOSTS,
-        &[(input, 0, REPORT)],
+        input,
+        0,
+        REPORT,
     )
 }
 
 #[test]
 fn read_from_json(rt: HostRuntime) -> Result<(), Fail> {
-    let rows: [Row<'_>; 2] = [
-        (Lines(JSON, "", b"", 0), 0, TEXT),
-        (
-            Lines("\u{feff}", "", JSON.as_bytes(), 1),
-            1,
-            "refused 0 json\n",
-        ),
-    ];
-    play(&rt, rt.alloc(), &["fromjson"], &MOSTS, &rows)?;
-    let rows = "[>1 refused 0 json\n|{}>1 refused 0 shape\n|";
+    let input = JSON.as_bytes();
+    play_words(&rt, rt.alloc(), 0, &["fromjson"], &MOSTS, input, 0, TEXT)?;
+    let rows = "\u{feff}{\"callers\":1,\"calls\":[[\"find\",1,0,0]],\"edges\":[[0,1,1]],\"k\":2,\
+        \"nodes\":2,\"order\":[],\"subs\":[1],\"track\":1}\n>1 refused 0 json\n|\
+        [>1 refused 0 json\n|\
+        {}>1 refused 0 shape\n|\
+        ^[*127>1 refused 0 json\n|";
     play_rows(&rt, rt.alloc(), &["fromjson"], &MOSTS, "", rows)
 }
 
@@ -68,11 +68,17 @@ fn numbers_from_json(rt: HostRuntime) -> Result<(), Fail> {
 
 #[test]
 fn other_texts(rt: HostRuntime) -> Result<(), Fail> {
-    let rows: [Row<'_>; 2] = [
-        (Lines("", "", b"[", 127), 1, "refused 0 json\n"),
-        (Lines("", "", b"\xff", 1), 1, "refused 0 json\n"),
-    ];
-    play(&rt, rt.alloc(), &["fromjson"], &MOSTS, &rows)?;
+    let answer = "refused 0 json\n";
+    play_words(
+        &rt,
+        rt.alloc(),
+        0,
+        &["fromjson"],
+        &MOSTS,
+        b"\xff",
+        1,
+        answer,
+    )?;
     let rows = "\"\\ud800\"}>1 refused 0 json\n|\
         \"\\ud83d\\ude00\"}>1 refused 0 shape\n|\
         2} }>1 refused 0 json\n|\

@@ -3,7 +3,7 @@ ghost use Rattle.std.specs.Prelude.{◌≤◌, length};
 ghost use Rattle.net_reader.specs.Reading.{most_bytes};
 
 use crate::rows::parts_of;
-use crate::runs::{FOUR, Lines, text_of};
+use crate::runs::{FOUR, text_of};
 use crate::sameness::same;
 use net_graph::{Arc, Graph};
 use net_reader::{Call, Input, InputCause, InputFault, MAX_BYTES, ReadRefusal, Reader, read_input};
@@ -24,33 +24,6 @@ fn fault_of(alloc: Global, text: &[u8]) -> Result<Option<InputFault>, Fail> {
         Err(ReadRefusal::Fault(fault)) => Ok(Some(fault)),
         Err(ReadRefusal::OutOfMemory) => Err(AllocError.into()),
     }
-}
-
-// A text with another behind it is an input, or has this fault.
-fn is_judged(
-    rt: &impl Abort,
-    alloc: Global,
-    lines: Lines<'_>,
-    after: &str,
-    wanted: Option<(u32, InputCause)>,
-) -> Result<(), Fail> {
-    let mut text = text_of(alloc, lines)?;
-    text.extend_from_slice(after.as_bytes())?;
-    is_refused(rt, 0, fault_of(alloc, &text)?, wanted);
-    Ok(())
-}
-
-fn is_refused(
-    rt: &impl Abort,
-    place: usize,
-    fault: Option<InputFault>,
-    wanted: Option<(u32, InputCause)>,
-) {
-    let wanted = match wanted {
-        Some((line, cause)) => Some(InputFault { line, cause }),
-        None => None,
-    };
-    same(rt, place, fault, wanted);
 }
 
 // The input of a text that is read in pieces of one length.
@@ -112,14 +85,19 @@ fn graph_of(alloc: Global, text: &[u8]) -> Result<Graph, Fail> {
     }
 }
 
+// A network of three nodes whose weights from node 2 are these.
+fn has_weights(rt: &impl Abort, alloc: Global, graph: &Graph) -> Result<(), Fail> {
+    assert!(rt; graph.nodes() == 3);
+    let weights = graph.weights_from(alloc, &[true, true, true], 2)?;
+    assert!(rt; weights.as_slice() == [Some(11), Some(7), Some(0)].as_slice());
+    Ok(())
+}
+
 #[test]
 fn graph_of_the_network(rt: HostRuntime) -> Result<(), Fail> {
     let text = b"track 1\nnodes 3\nk 1\nedge 2 1 7\nedge 0 1 5\nedge 0 1 4\nsub 0\ncallers 0\n";
     let graph = graph_of(rt.alloc(), text)?;
-    assert!(rt; graph.nodes() == 3);
-    let weights = graph.weights_from(rt.alloc(), &[true, true, true], 2)?;
-    assert!(rt; weights.as_slice() == [Some(11), Some(7), Some(0)].as_slice());
-    Ok(())
+    has_weights(&rt, rt.alloc(), &graph)
 }
 
 // Node 0 has an edge to each other node, of that one's number as its weight.
@@ -132,15 +110,20 @@ fn star(alloc: Global) -> Result<String, Fail> {
     Ok(text)
 }
 
-#[test]
-fn graph_of_the_most_nodes(rt: HostRuntime) -> Result<(), Fail> {
-    let graph = graph_of(rt.alloc(), star(rt.alloc())?.as_bytes())?;
+// The network of the star.
+fn is_star(rt: &impl Abort, graph: &Graph) {
     assert!(rt; graph.nodes() == 1024 && graph.arcs_of(0).len() == 1023);
     let back = Arc {
         target: 0,
         weight: 1023,
     };
     assert!(rt; graph.nodes() == 1024 && graph.arcs_of(1023) == [back].as_slice());
+}
+
+#[test]
+fn graph_of_the_most_nodes(rt: HostRuntime) -> Result<(), Fail> {
+    let text = star(rt.alloc())?;
+    is_star(&rt, &graph_of(rt.alloc(), text.as_bytes())?);
     Ok(())
 }
 
@@ -153,18 +136,20 @@ fn cause_of(name: &str) -> Option<InputCause> {
         "nowhere" => Some(InputCause::Nowhere),
         "switched" => Some(InputCause::Switched),
         "unfinished" => Some(InputCause::Unfinished),
+        "too-many" => Some(InputCause::TooMany),
         "apart" => Some(InputCause::Apart { node: 2 }),
         _ => None,
     }
 }
 
-// Each row is the end of a text behind `before`, and the line and the cause of its fault.
+// Each row is the end of a text behind `before`, and the line and the cause of its fault, or
+// `none`.
 fn play_texts(rt: &impl Abort, alloc: Global, before: &str, rows: &str) -> Result<(), Fail> {
     for (place, row) in rows.split_terminator('|').enumerate() {
         let Some((end, line, name)) = parts_of(row) else {
             return Err("a row is a text, a line and a cause".into());
         };
-        let text = text_of(alloc, Lines(before, end, b"", 0))?;
+        let text = text_of(alloc, before, end)?;
         is_faulty(rt, place, fault_of(alloc, &text)?, line, name);
     }
     Ok(())
@@ -173,10 +158,10 @@ fn play_texts(rt: &impl Abort, alloc: Global, before: &str, rows: &str) -> Resul
 // The fault is of this line, and has a cause of this name.
 fn is_faulty(rt: &impl Abort, place: usize, fault: Option<InputFault>, line: u32, name: &str) {
     let wanted = match cause_of(name) {
-        Some(cause) => Some((line, cause)),
+        Some(cause) => Some(InputFault { line, cause }),
         None => None,
     };
-    is_refused(rt, place, fault, wanted);
+    same(rt, place, fault, wanted);
 }
 
 #[test]
@@ -233,58 +218,23 @@ fn refused_switches(rt: HostRuntime) -> Result<(), Fail> {
 // What stands on one side of a limit is an input, and one line more is refused.
 #[test]
 fn limits_of_lines(rt: HostRuntime) -> Result<(), Fail> {
-    let one = "track 1\nnodes 1\nk 1\n";
-    let many = InputCause::TooMany;
-    let subs = Lines(one, "", b"sub 0\n", 64);
-    is_judged(&rt, rt.alloc(), subs, "callers 64\n", None)?;
-    let subs = Lines(one, "", b"sub 0\n", 65);
-    is_judged(&rt, rt.alloc(), subs, "callers 64\n", Some((68, many)))?;
-    let edges = Lines(one, "", b"edge 0 0 1\n", 32_768);
-    is_judged(&rt, rt.alloc(), edges, "sub 0\ncallers 0\n", None)?;
-    let edges = Lines(one, "", b"edge 0 0 1\n", 32_769);
-    let wanted = Some((32_772, many));
-    is_judged(&rt, rt.alloc(), edges, "sub 0\ncallers 0\n", wanted)
-}
-
-#[test]
-fn limits_of_calls(rt: HostRuntime) -> Result<(), Fail> {
-    let first = "track 1\nnodes 1\nk 1\nsub 0\ncallers 1\n";
-    let second = "track 2\nnodes 1\nk 1\nsub 0\ncallers 1\n";
-    let find: &[u8] = b"find 1 0 0\n";
-    let many = InputCause::TooMany;
-    is_judged(&rt, rt.alloc(), Lines(first, "", find, 8_192), "", None)?;
-    let more = Lines(first, "", find, 8_193);
-    is_judged(&rt, rt.alloc(), more, "", Some((8_198, many)))?;
-    is_judged(&rt, rt.alloc(), Lines(second, "", find, 16_384), "", None)?;
-    let more = Lines(second, "", find, 16_385);
-    is_judged(&rt, rt.alloc(), more, "", Some((16_390, many)))
+    let rows = "track 1\nnodes 1\nk 1\n^sub 0\n*64^callers 64\n>0 none|\
+        track 1\nnodes 1\nk 1\n^sub 0\n*65^callers 64\n>68 too-many|\
+        track 1\nnodes 1\nk 1\n^edge 0 0 1\n*32768^sub 0\ncallers 0\n>0 none|\
+        track 1\nnodes 1\nk 1\n^edge 0 0 1\n*32769^sub 0\ncallers 0\n>32772 too-many|\
+        track 1\nnodes 1\nk 1\nsub 0\ncallers 1\n^find 1 0 0\n*8192>0 none|\
+        track 1\nnodes 1\nk 1\nsub 0\ncallers 1\n^find 1 0 0\n*8193>8198 too-many|\
+        track 2\nnodes 1\nk 1\nsub 0\ncallers 1\n^find 1 0 0\n*16384>0 none|\
+        track 2\nnodes 1\nk 1\nsub 0\ncallers 1\n^find 1 0 0\n*16385>16390 too-many|";
+    play_texts(&rt, rt.alloc(), "", rows)
 }
 
 #[test]
 fn lines_of_any_length(rt: HostRuntime) -> Result<(), Fail> {
-    let unfinished = Some((1, InputCause::Unfinished));
-    is_judged(
-        &rt,
-        rt.alloc(),
-        Lines("#", "", b" word", 200_000),
-        "",
-        unfinished,
-    )?;
-    let form = Some((1, InputCause::Form));
-    is_judged(&rt, rt.alloc(), Lines("t", "", b"rack", 200_000), "", form)?;
-    is_judged(
-        &rt,
-        rt.alloc(),
-        Lines(FOUR, "", b"# word\n", 100_000),
-        "",
-        None,
-    )
-}
-
-#[test]
-fn numbers_of_an_order(rt: HostRuntime) -> Result<(), Fail> {
-    let order = "track 1\nnodes 1\nk 1\nsub 0\ncallers 0\norder";
-    is_judged(&rt, rt.alloc(), Lines(order, "", b" 0", 64), "", None)?;
-    let many = Some((6, InputCause::TooMany));
-    is_judged(&rt, rt.alloc(), Lines(order, "", b" 0", 65), "", many)
+    let rows = "#^ word*200000>1 unfinished|\
+        t^rack*200000>1 form|\
+        track 1\nnodes 1\nk 1\nsub 0\ncallers 0\norder^ 0*64>0 none|\
+        track 1\nnodes 1\nk 1\nsub 0\ncallers 0\norder^ 0*65>6 too-many|";
+    play_texts(&rt, rt.alloc(), "", rows)?;
+    play_texts(&rt, rt.alloc(), FOUR, "^# word\n*100000>0 none|")
 }

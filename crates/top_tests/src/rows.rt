@@ -1,6 +1,6 @@
 //! Tables that are one text each. The prover takes a table of tuples apart, value by value, and a
 //! text at once.
-use crate::runs::{Lines, play_words, text_of};
+use crate::runs::{play_words, text_of};
 use std::alloc::Global;
 use std::process::Abort;
 use std::test::Fail;
@@ -16,8 +16,8 @@ pub(crate) fn parts_of(row: &str) -> Option<(&str, u32, &str)> {
     }
 }
 
-/// Each row is the end of an input behind `before`, and the status and the text that are wanted of
-/// each of these words, however many bytes come in a call.
+/// Each row is the end of an input behind `before`, as `text_of` takes it, and the status and the
+/// text that are wanted of each of these words, however many bytes come in a call.
 pub(crate) fn play_rows<R: Threads + Sync + Abort>(
     rt: &R,
     alloc: Global,
@@ -30,7 +30,7 @@ pub(crate) fn play_rows<R: Threads + Sync + Abort>(
         let Some((end, status, text)) = parts_of(row) else {
             return Err("a row is an input, a status and a text".into());
         };
-        let input = text_of(alloc, Lines(before, end, b"", 0))?;
+        let input = text_of(alloc, before, end)?;
         let status = u8::try_from(status).unwrap_or(u8::MAX);
         play_words(rt, alloc, place, words, mosts, &input, status, text)?;
     }

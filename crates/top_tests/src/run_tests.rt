@@ -1,7 +1,7 @@
 //! Whole runs over sources and sinks in memory: worked inputs with their texts, and inputs and
 //! reports at the limits.
 use crate::rows::play_rows;
-use crate::runs::{FOUR, Lines, ROOM, Ran, Row, Run, perform, play, play_words, text_of};
+use crate::runs::{FOUR, ROOM, Ran, Run, perform, play_words, text_of};
 use crate::sameness::{same_numbers, same_text};
 use std::alloc::Global;
 use std::process::Abort;
@@ -106,11 +106,9 @@ fn worked_mean_reports(rt: HostRuntime) -> Result<(), Fail> {
 // An input may have 4,194,304 bytes and no more.
 #[test]
 fn longest_input(rt: HostRuntime) -> Result<(), Fail> {
-    let rows: [Row<'_>; 2] = [
-        (Lines("", "", b"#", 4_194_304), 1, "refused 1 unfinished\n"),
-        (Lines("", "", b"#", 4_194_305), 6, ""),
-    ];
-    play(&rt, rt.alloc(), &["cover"], &[100_000], &rows)
+    let rows = "^#*4194304>1 refused 1 unfinished\n|\
+        ^#*4194305>6 |";
+    play_rows(&rt, rt.alloc(), &["cover"], &[100_000], "", rows)
 }
 
 #[test]
@@ -135,37 +133,24 @@ fn words_that_are_refused(rt: HostRuntime) -> Result<(), Fail> {
 // A move, and a find behind it.
 #[test]
 fn worked_report(rt: HostRuntime) -> Result<(), Fail> {
-    let rows: [Row<'_>; 1] = [(
-        Lines(FOUR, "", b"move 0 2\nfind 1 3 0\n", 1),
-        0,
-        "move 0 1 3 2 weight 1 first 0 commit 3 last 5\n\
-            find 1 3 0 at 2 number 1 level 0 weight 5 first 6 last 8\n\
-            order 0 0 0 0 0 0 1 1 1\nend 9\n",
-    )];
-    play(&rt, rt.alloc(), &["replay"], &[1, 7, 64], &rows)
+    let rows = "move 0 2\nfind 1 3 0\n>0 move 0 1 3 2 weight 1 first 0 commit 3 last 5\n\
+        find 1 3 0 at 2 number 1 level 0 weight 5 first 6 last 8\n\
+        order 0 0 0 0 0 0 1 1 1\nend 9\n|";
+    play_rows(&rt, rt.alloc(), &["replay"], &[1, 7, 64], FOUR, rows)
 }
 
 // Who is where at the end: where a move led, and two subscribers at one node.
 #[test]
 fn worked_censuses(rt: HostRuntime) -> Result<(), Fail> {
-    let rows: [Row<'_>; 2] = [
-        (
-            Lines(FOUR, "", b"move 0 2\n", 1),
-            0,
-            "node 2 count 1 subs 0\nend 1\n",
-        ),
-        (
-            Lines(TWO_AT_A_NODE, "", b"", 0),
-            0,
-            "node 3 count 2 subs 0 1\nend 2\n",
-        ),
-    ];
-    play(&rt, rt.alloc(), &["census"], &[7], &rows)
+    let rows = "move 0 2\n>0 node 2 count 1 subs 0\nend 1\n|";
+    play_rows(&rt, rt.alloc(), &["census"], &[7], FOUR, rows)?;
+    let rows = ">0 node 3 count 2 subs 0 1\nend 2\n|";
+    play_rows(&rt, rt.alloc(), &["census"], &[7], TWO_AT_A_NODE, rows)
 }
 
 // The report of an input, into a sink of so much room.
-fn report_of(alloc: Global, lines: Lines<'_>, room: usize) -> Result<Ran, Fail> {
-    let input = text_of(alloc, lines)?;
+fn report_of(alloc: Global, before: &str, end: &str, room: usize) -> Result<Ran, Fail> {
+    let input = text_of(alloc, before, end)?;
     let run = Run {
         words: &["replay"],
         input: &input,
@@ -177,10 +162,17 @@ fn report_of(alloc: Global, lines: Lines<'_>, room: usize) -> Result<Ran, Fail> 
     perform(alloc, &run)
 }
 
+// As many calls as an input of the first format may have.
+const ALL_FINDS: &str = "^find 1 0 0\n*8192";
+
 // The report of so many finds at one node, into a sink of so much room.
-fn report_of_finds(alloc: Global, finds: u32, room: usize) -> Result<Ran, Fail> {
-    let before = "track 1\nnodes 1\nk 1\nsub 0\ncallers 1\n";
-    report_of(alloc, Lines(before, "", b"find 1 0 0\n", finds), room)
+fn report_of_finds(alloc: Global, finds: &str, room: usize) -> Result<Ran, Fail> {
+    report_of(
+        alloc,
+        "track 1\nnodes 1\nk 1\nsub 0\ncallers 1\n",
+        finds,
+        room,
+    )
 }
 
 // A run has this status, and its text these measures: its length, and how it ends.
@@ -190,32 +182,24 @@ fn is_long(rt: &impl Abort, place: usize, ran: &Ran, status: u8, length: u64, en
     assert!(rt; ran.written.ends_with(end));
 }
 
-// As many calls as an input may have, whose report is longer than what waits for the sink, and one
-// call more. The report has 8,192 lines of finds, 128 of orders, and the end.
+// One call more than as many as an input may have.
 #[test]
-fn longest_report(rt: HostRuntime) -> Result<(), Fail> {
-    let whole = report_of_finds(rt.alloc(), 8_192, 1_000_000)?;
-    is_long(&rt, 0, &whole, 0, 531_037, b"end 8192\n");
-    let refused = report_of_finds(rt.alloc(), 8_193, ROOM)?;
-    same_text(&rt, 1, &refused.written, b"refused 8198 too-many\n");
-    same_numbers(&rt, 1, &[u64::from(refused.status)], &[1]);
-    Ok(())
+fn too_long_a_script(rt: HostRuntime) -> Result<(), Fail> {
+    let rows =
+        "track 1\nnodes 1\nk 1\nsub 0\ncallers 1\n^find 1 0 0\n*8193>1 refused 8198 too-many\n|";
+    play_rows(&rt, rt.alloc(), &["replay"], &[100_000], "", rows)
 }
-
-const LONE: &str = "track 2\nnodes 1\nk 1\nsub 0\n";
-
-const PAIR: &str = "track 2\nnodes 2\nk 1\nedge 0 1 1\nsub 0\n";
 
 // The report of an input has this status, this length and this end.
 fn ends_long(
     rt: &impl Abort,
     alloc: Global,
-    lines: Lines<'_>,
+    input: &str,
     status: u8,
     length: u64,
     end: &[u8],
 ) -> Result<(), Fail> {
-    let ran = report_of(alloc, lines, 1_300_000)?;
+    let ran = report_of(alloc, "track 2\n", input, 1_300_000)?;
     is_long(rt, 0, &ran, status, length, end);
     Ok(())
 }
@@ -225,22 +209,29 @@ fn ends_long(
 // for each 64 visits, and the end.
 #[test]
 fn longest_scripts(rt: HostRuntime) -> Result<(), Fail> {
-    let moves = Lines(PAIR, "callers 0\n", b"move 0 1\nmove 0 0\n", 8_192);
+    let moves = "nodes 2\nk 1\nedge 0 1 1\nsub 0\ncallers 0\n^move 0 1\nmove 0 0\n*8192";
     ends_long(&rt, rt.alloc(), moves, 0, 1_204_981, b"end 98304\n")?;
-    let switches = Lines(LONE, "callers 0\n", b"off 0\non 0\n", 8_192);
+    let switches = "nodes 1\nk 1\nsub 0\ncallers 0\n^off 0\non 0\n*8192";
     ends_long(&rt, rt.alloc(), switches, 0, 621_220, b"end 16384\n")?;
-    let finds = Lines(LONE, "callers 1\n", b"find 1 0 0\n", 16_384);
+    let finds = "nodes 1\nk 1\nsub 0\ncallers 1\n^find 1 0 0\n*16384";
     ends_long(&rt, rt.alloc(), finds, 0, 1_077_054, b"end 16384\n")?;
-    let more = Lines(LONE, "callers 1\n", b"find 1 0 0\n", 16_385);
+    let more = "nodes 1\nk 1\nsub 0\ncallers 1\n^find 1 0 0\n*16385";
     ends_long(&rt, rt.alloc(), more, 1, 23, b"refused 16390 too-many\n")
 }
 
 // A sink that is full holds the beginning.
-#[test]
-fn report_that_is_cut(rt: HostRuntime) -> Result<(), Fail> {
-    let whole = report_of_finds(rt.alloc(), 8_192, 1_000_000)?;
-    let cut = report_of_finds(rt.alloc(), 8_192, 100_000)?;
-    is_long(&rt, 0, &cut, 5, 100_000, b"");
+fn is_cut(rt: &impl Abort, alloc: Global, whole: &Ran) -> Result<(), Fail> {
+    let cut = report_of_finds(alloc, ALL_FINDS, 100_000)?;
+    is_long(rt, 0, &cut, 5, 100_000, b"");
     assert!(rt; whole.written.starts_with(&cut.written));
     Ok(())
+}
+
+// As many calls as an input may have, whose report is longer than what waits for the sink. The
+// report has 8,192 lines of finds, 128 of orders, and the end.
+#[test]
+fn longest_report_whole_and_cut(rt: HostRuntime) -> Result<(), Fail> {
+    let whole = report_of_finds(rt.alloc(), ALL_FINDS, 1_000_000)?;
+    is_long(&rt, 0, &whole, 0, 531_037, b"end 8192\n");
+    is_cut(&rt, rt.alloc(), &whole)
 }

@@ -121,42 +121,24 @@ pub(crate) fn ends<R: Threads + Sync + Abort>(
     Ok(())
 }
 
-/// A text, a head, and a line so many times behind them.
-#[derive(Clone, Copy)]
-pub(crate) struct Lines<'a>(
-    pub(crate) &'a str,
-    pub(crate) &'a str,
-    pub(crate) &'a [u8],
-    pub(crate) u32,
-);
-
-pub(crate) fn text_of(alloc: Global, lines: Lines<'_>) -> Result<Vec<u8>, Fail> {
-    let Lines(before, head, line, times) = lines;
-    let mut text = Vec::from_slice(alloc, before.as_bytes())?;
-    text.extend_from_slice(head.as_bytes())?;
-    for _ in 0..times {
-        text.extend_from_slice(line)?;
-    }
-    Ok(text)
+// What stands before a mark, and what stands behind it.
+fn halves(text: &str, mark: char) -> (&str, &str) {
+    text.split_once(mark).unwrap_or((text, ""))
 }
 
-/// An input, and the status and the text that are wanted.
-pub(crate) type Row<'a> = (Lines<'a>, u8, &'a str);
-
-/// Each input is to be answered so by each of these words, however many bytes come in a call.
-pub(crate) fn play<R: Threads + Sync + Abort>(
-    rt: &R,
-    alloc: Global,
-    words: &[&str],
-    mosts: &[usize],
-    rows: &[Row<'_>],
-) -> Result<(), Fail> {
-    for place in 0..rows.len() {
-        let (lines, status, text) = rows[place];
-        let input = text_of(alloc, lines)?;
-        play_words(rt, alloc, place, words, mosts, &input, status, text)?;
+/// A text, and its end: another text, or `HEAD^LINE*TIMES^TAIL`, where the line stands so many
+/// times between the head and the tail.
+pub(crate) fn text_of(alloc: Global, before: &str, end: &str) -> Result<Vec<u8>, Fail> {
+    let (head, lines) = halves(end, '^');
+    let (line, rest) = halves(lines, '*');
+    let (times, tail) = halves(rest, '^');
+    let mut text = Vec::from_slice(alloc, before.as_bytes())?;
+    text.extend_from_slice(head.as_bytes())?;
+    for _ in 0..times.parse::<u32>().unwrap_or(0) {
+        text.extend_from_slice(line.as_bytes())?;
     }
-    Ok(())
+    text.extend_from_slice(tail.as_bytes())?;
+    Ok(text)
 }
 
 /// An input is to be answered so by each of these words, however many bytes come in a call.

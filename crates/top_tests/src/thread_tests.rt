@@ -3,7 +3,7 @@
 ghost use Rattle.std.specs.Prelude.{◌<◌, false};
 
 use crate::rows::play_rows;
-use crate::runs::{FOUR, Lines, ROOM, Ran, Run, perform, perform_by_threads, text_of};
+use crate::runs::{FOUR, Ran, Run, perform, perform_by_threads, text_of};
 use crate::sameness::{same_numbers, same_text};
 use runner::{Gate, OpenGate, RUN_TRIES};
 use std::alloc::Global;
@@ -32,16 +32,16 @@ fn ends<R: Threads + Sync + Abort>(
     run: Run<'_>,
     calls: &str,
     status: u8,
-    text: &str,
+    text: &[u8],
 ) -> Result<(), Fail> {
-    let input = text_of(alloc, Lines(FOUR, calls, b"", 0))?;
+    let input = text_of(alloc, FOUR, calls)?;
     let run = Run {
         input: &input,
         ..run
     };
     let ran = perform_by_threads(rt, alloc, &run, &OpenGate, RUN_TRIES)?;
     same_numbers(rt, 0, &[u64::from(ran.status)], &[u64::from(status)]);
-    same_text(rt, 0, &ran.written, text.as_bytes());
+    same_text(rt, 0, &ran.written, text);
     Ok(())
 }
 
@@ -55,14 +55,8 @@ fn runs_of_one_actor(rt: HostRuntime) -> Result<(), Fail> {
         move 0 2\n>0 move 0 1 3 2 weight 1 first 0 commit 3 last 5\norder 0 0 0 0 0 0\nend 6\n|\
         >0 end 0\n|";
     play_rows(&rt, rt.alloc(), &["run"], &[10], FOUR, rows)?;
-    ends(
-        &rt,
-        rt.alloc(),
-        run_of(&["replay"], b""),
-        "move 0 2\n",
-        0,
-        MOVED,
-    )
+    let replay = run_of(&["replay"], b"");
+    ends(&rt, rt.alloc(), replay, "move 0 2\n", 0, MOVED.as_bytes())
 }
 
 // Other words, and an input that is refused, end a run early.
@@ -75,7 +69,7 @@ fn runs_that_are_refused(rt: HostRuntime) -> Result<(), Fail> {
             failing_writes: &[0],
             ..run_of(words, b"")
         };
-        ends(&rt, rt.alloc(), run, "find 1 0 0\n", 2, "")?;
+        ends(&rt, rt.alloc(), run, "find 1 0 0\n", 2, b"")?;
     }
     let rows = "find 1 4 0\n>1 refused 9 unknown\n|\
         find 0 1 0\n>1 refused 9 unknown\n|\
@@ -99,7 +93,7 @@ fn fails<R: Threads + Sync + Abort>(
         failing_writes,
         ..run_of(&["run"], b"")
     };
-    ends(rt, alloc, run, "find 1 0 0\n", status, text)
+    ends(rt, alloc, run, "find 1 0 0\n", status, text.as_bytes())
 }
 
 #[test]
@@ -117,25 +111,21 @@ fn read_fails<R: Threads + Sync + Abort>(rt: &R, alloc: Global, call: u64) -> Re
         failing_reads: &[call],
         ..run_of(&["run"], b"")
     };
-    ends(rt, alloc, run, "move 0 2\n", status, text)
+    ends(rt, alloc, run, "move 0 2\n", status, text.as_bytes())
 }
 
 // A run whose write of 10 bytes fails: what was written before stays.
 fn write_fails<R: Threads + Sync + Abort>(rt: &R, alloc: Global, call: u64) -> Result<(), Fail>
     requires { call < 100 }
 {
-    let input = text_of(alloc, Lines(FOUR, "move 0 2\n", b"", 0))?;
     let text = MOVED.as_bytes();
     let written = text.len().min(10 * call as usize);
     let status = if written < text.len() { 5 } else { 0 };
     let run = Run {
         failing_writes: &[call],
-        ..run_of(&["run"], &input)
+        ..run_of(&["run"], b"")
     };
-    let ran = perform_by_threads(rt, alloc, &run, &OpenGate, RUN_TRIES)?;
-    same_numbers(rt, call as usize, &[u64::from(ran.status)], &[status]);
-    same_text(rt, call as usize, &ran.written, &text[..written]);
-    Ok(())
+    ends(rt, alloc, run, "move 0 2\n", status, &text[..written])
 }
 
 #[test]
@@ -170,41 +160,72 @@ fn begins_with_both(report: &[u8]) -> bool {
 }
 
 // Whatever order the threads draw, its replay writes the same.
+fn is_replayed<R: Threads + Sync + Abort>(
+    rt: &R,
+    alloc: Global,
+    place: usize,
+    input: &[u8],
+    ran: &Ran,
+) -> Result<(), Fail> {
+    let again = replay_again(alloc, input, &ran.written)?;
+    same_numbers(rt, place, &[u64::from(ran.status)], &[0]);
+    same_text(rt, place, &again.written, &ran.written);
+    Ok(())
+}
+
+fn runs_again<R: Threads + Sync + Abort>(
+    rt: &R,
+    alloc: Global,
+    place: usize,
+    input: &[u8],
+) -> Result<(), Fail> {
+    let run = run_of(&["run"], input);
+    let ran = perform_by_threads(rt, alloc, &run, &OpenGate, RUN_TRIES)?;
+    is_replayed(rt, alloc, place, input, &ran)
+}
+
 #[test]
 fn a_run_is_replayed(rt: HostRuntime) -> Result<(), Fail> {
     let calls = "move 0 2\nmove 0 1\nmove 0 3\nfind 1 0 0\nfind 1 2 0\nfind 1 3 0\n";
-    let input = text_of(rt.alloc(), Lines(FOUR, calls, b"", 0))?;
+    let input = text_of(rt.alloc(), FOUR, calls)?;
     for place in 0..10 {
-        let run = run_of(&["run"], &input);
-        let ran = perform_by_threads(&rt, rt.alloc(), &run, &OpenGate, RUN_TRIES)?;
-        let again = replay_again(rt.alloc(), &input, &ran.written)?;
-        same_numbers(&rt, place, &[u64::from(ran.status)], &[0]);
-        same_text(&rt, place, &again.written, &ran.written);
+        runs_again(&rt, rt.alloc(), place, &input)?;
     }
     Ok(())
+}
+
+// A run by threads of one actor writes what its replay writes.
+fn is_as_replayed<R: Threads + Sync + Abort>(
+    rt: &R,
+    alloc: Global,
+    run: &Run<'_>,
+    replayed: &Ran,
+) -> Result<(), Fail> {
+    let ran = perform_by_threads(rt, alloc, run, &OpenGate, RUN_TRIES)?;
+    same_numbers(rt, 0, &[u64::from(ran.status)], &[0]);
+    same_text(rt, 0, &ran.written, &replayed.written);
+    Ok(())
+}
+
+fn runs_all<R: Threads + Sync + Abort>(rt: &R, alloc: Global, input: &[u8]) -> Result<(), Fail> {
+    let run = Run {
+        most: 65_536,
+        room: 4_194_304,
+        ..run_of(&["run"], input)
+    };
+    let replay = Run {
+        words: &["replay"],
+        ..run
+    };
+    is_as_replayed(rt, alloc, &run, &perform(alloc, &replay)?)
 }
 
 // A caller that makes all calls an input may have: its worker has room for their visits.
 #[test]
 fn a_script_of_all_calls(rt: HostRuntime) -> Result<(), Fail> {
     let head = "track 2\nnodes 2\nk 1\nedge 0 1 1\nsub 0\ncallers 1\n";
-    let input = text_of(rt.alloc(), Lines(head, "", b"find 1 0 0\n", 16_384))?;
-    let run = Run {
-        most: 65_536,
-        room: 4_194_304,
-        ..run_of(&["run"], &input)
-    };
-    let ran = perform_by_threads(&rt, rt.alloc(), &run, &OpenGate, RUN_TRIES)?;
-    let replayed = perform(
-        rt.alloc(),
-        &Run {
-            words: &["replay"],
-            ..run
-        },
-    )?;
-    same_numbers(&rt, 0, &[u64::from(ran.status)], &[0]);
-    same_text(&rt, 0, &ran.written, &replayed.written);
-    Ok(())
+    let input = text_of(rt.alloc(), head, "^find 1 0 0\n*16384")?;
+    runs_all(&rt, rt.alloc(), &input)
 }
 
 // How often a caller reads the other's flag before it gives up.
@@ -300,17 +321,26 @@ impl Gate for Meeting {
 
 const TRIES: u64 = 50_000_000;
 
+// What two callers of a run by threads have seen of one another.
+fn workers_meet<R: Threads + Sync + Abort>(
+    rt: &R,
+    alloc: Global,
+    input: &[u8],
+    gate: &Meeting,
+) -> Result<(), Fail> {
+    let run = run_of(&["run"], input);
+    let ran = perform_by_threads(rt, alloc, &run, gate, TRIES)?;
+    same_numbers(rt, 0, &[u64::from(ran.status)], &[0]);
+    same_numbers(rt, 1, &gate.told(), &[1, 1, 1, 1]);
+    assert!(rt; begins_with_both(&ran.written));
+    Ok(())
+}
+
 // Two callers in threads of their own: where one thread asked for both, the first question of one
 // would look for the other's flag in vain; where nobody asks, nothing is seen.
 #[test]
 fn two_workers_meet(rt: HostRuntime) -> Result<(), Fail> {
     let head = "track 1\nnodes 4\nk 2\nedge 0 1 1\nedge 1 2 1\nedge 2 3 1\nsub 3\ncallers 2\n";
-    let input = text_of(rt.alloc(), Lines(head, "find 1 0 0\nfind 2 0 0\n", b"", 0))?;
-    let gate = Meeting::new();
-    let run = run_of(&["run"], &input);
-    let ran = perform_by_threads(&rt, rt.alloc(), &run, &gate, TRIES)?;
-    same_numbers(&rt, 0, &[u64::from(ran.status)], &[0]);
-    same_numbers(&rt, 1, &gate.told(), &[1, 1, 1, 1]);
-    assert!(rt; begins_with_both(&ran.written));
-    Ok(())
+    let input = text_of(rt.alloc(), head, "find 1 0 0\nfind 2 0 0\n")?;
+    workers_meet(&rt, rt.alloc(), &input, &Meeting::new())
 }

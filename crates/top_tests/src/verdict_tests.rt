@@ -2,7 +2,7 @@
 //! one, inputs that are refused, lengths at the limits, and faults of reading and writing.
 use crate::foreign_reports::{ANSWERS, FORMS, INPUT, REPORT, TICKETS};
 use crate::rows::{parts_of, play_rows};
-use crate::runs::{FOUR, Lines, ROOM, Row, Run, ends, play, text_of};
+use crate::runs::{FOUR, ROOM, Run, ends, play_words, text_of};
 use std::alloc::Global;
 use std::process::Abort;
 use std::test::Fail;
@@ -11,15 +11,9 @@ use std::thread::Threads;
 const CALLS: &str = "track 1\nnodes 4\nk 2\nedge 0 1 1\nedge 1 2 1\nedge 2 3 1\nsub 3\n\
         callers 1\nmove 0 2\nfind 1 3 0\n";
 
-const MOVE: &str = "report\nmove 0 1 3 2 weight 1 first 0 commit 3 last 5\n";
-
-const LATE: &str = "report\nmove 0 1 3 2 weight 1 first 0 commit 5 last 5\n\
-        find 1 3 0 at 2 number 1 level 0 weight 5 first 6 last 8\n";
-
-const FOUND: &str = "report\nmove 0 1 3 2 weight 1 first 0 commit 3 last 5\n\
-        find 1 3 0 at 2 number 1 level 0 weight 5 first 6 last 8\n";
-
-const END: &[u8] = b"order 0 0 0 0 0 0 1 1 1\nend 9\n";
+const REPORTED: &str = "report\nmove 0 1 3 2 weight 1 first 0 commit 3 last 5\n\
+        find 1 3 0 at 2 number 1 level 0 weight 5 first 6 last 8\norder 0 0 0 0 0 0 1 1 1\n\
+        end 9\n";
 
 #[test]
 fn worked_verdicts(rt: HostRuntime) -> Result<(), Fail> {
@@ -35,7 +29,8 @@ fn worked_verdicts(rt: HostRuntime) -> Result<(), Fail> {
     play_rows(&rt, rt.alloc(), &["check"], &[1, 7, ROOM], CALLS, rows)
 }
 
-// The same with other lines of the find.
+// The same with other lines of the find. Under the first format a subscriber is never off: such a
+// line of a find has a form.
 #[test]
 fn worked_finds(rt: HostRuntime) -> Result<(), Fail> {
     let rows = "report\nmove 0 1 3 2 weight 1 first 0 commit 3 last 5\n\
@@ -49,7 +44,10 @@ fn worked_finds(rt: HostRuntime) -> Result<(), Fail> {
         end 9\n>8 no 2 weight\n|\
         report\nmove 0 1 3 2 weight 1 first 0 commit 3 last 5\n\
         again 1 3 0 none weight 5 first 6 last 8\norder 0 0 0 0 0 0 1 1 1\nend 9\n\
-        >8 no 2 again\n|";
+        >8 no 2 again\n|\
+        report\nmove 0 1 3 2 weight 1 first 0 commit 3 last 5\n\
+        off 1 3 0 at 2 number 1 level 0 weight 5 first 6 last 8\n\
+        order 0 0 0 0 0 0 1 1 1\nend 9\n>8 no 2 place\n|";
     play_rows(&rt, rt.alloc(), &["check"], &[ROOM], CALLS, rows)
 }
 
@@ -68,23 +66,6 @@ fn cuts(rt: HostRuntime) -> Result<(), Fail> {
     play_rows(&rt, rt.alloc(), &["check"], &[1, 7, ROOM], FOUR, rows)
 }
 
-// Under the first format a subscriber is never off: such a line of a find has a form.
-#[test]
-fn never_off(rt: HostRuntime) -> Result<(), Fail> {
-    let rows: [Row<'_>; 1] = [(
-        Lines(
-            CALLS,
-            MOVE,
-            b"off 1 3 0 at 2 number 1 level 0 weight 5 first 6 last 8\n\
-            order 0 0 0 0 0 0 1 1 1\nend 9\n",
-            1,
-        ),
-        8,
-        "no 2 place\n",
-    )];
-    play(&rt, rt.alloc(), &["check"], &[ROOM], &rows)
-}
-
 // The input and its report, but for what stands at one place.
 fn changed(alloc: Global, place: u32, line: &str) -> Result<Vec<u8>, Fail> {
     let mut text = Vec::from_slice(alloc, INPUT.as_bytes())?;
@@ -100,25 +81,6 @@ fn changed(alloc: Global, place: u32, line: &str) -> Result<Vec<u8>, Fail> {
     Ok(text)
 }
 
-fn told<R: Threads + Sync + Abort>(
-    rt: &R,
-    alloc: Global,
-    place: usize,
-    input: &[u8],
-    verdict: &str,
-) -> Result<(), Fail> {
-    let run = Run {
-        words: &["check"],
-        input,
-        most: ROOM,
-        room: ROOM,
-        failing_reads: &[],
-        failing_writes: &[],
-    };
-    let status = if verdict == "yes\n" { 0 } else { 8 };
-    ends(rt, alloc, place, &run, status, verdict.as_bytes())
-}
-
 fn play_changes<R: Threads + Sync + Abort>(
     rt: &R,
     alloc: Global,
@@ -129,7 +91,8 @@ fn play_changes<R: Threads + Sync + Abort>(
             return Err("a change is a line, its place and a verdict".into());
         };
         let text = changed(alloc, place, line)?;
-        told(rt, alloc, at, &text, verdict)?;
+        let status = if verdict == "yes\n" { 0 } else { 8 };
+        play_words(rt, alloc, at, &["check"], &[ROOM], &text, status, verdict)?;
     }
     Ok(())
 }
@@ -152,11 +115,9 @@ fn broken_answers(rt: HostRuntime) -> Result<(), Fail> {
 // An input part may have 4,194,304 bytes and no more.
 #[test]
 fn longest_part(rt: HostRuntime) -> Result<(), Fail> {
-    let rows: [Row<'_>; 2] = [
-        (Lines("", "", b"#", 4_194_304), 1, "refused 1 unfinished\n"),
-        (Lines("", "", b"#", 4_194_305), 6, ""),
-    ];
-    play(&rt, rt.alloc(), &["check"], &[100_000], &rows)
+    let rows = "^#*4194304>1 refused 1 unfinished\n|\
+        ^#*4194305>6 |";
+    play_rows(&rt, rt.alloc(), &["check"], &[100_000], "", rows)
 }
 
 // An empty input part, and a report that fills a text up to this length.
@@ -176,25 +137,18 @@ fn long_ends<R: Threads + Sync + Abort>(
     alloc: Global,
     length: usize,
     status: u8,
-    text: &[u8],
+    text: &str,
 ) -> Result<(), Fail> {
     let input = long_text(alloc, length)?;
-    let run = Run {
-        words: &["check"],
-        input: &input,
-        most: 1_000_000,
-        room: ROOM,
-        failing_reads: &[],
-        failing_writes: &[],
-    };
-    ends(rt, alloc, length, &run, status, text)
+    let most = [1_000_000];
+    play_words(rt, alloc, length, &["check"], &most, &input, status, text)
 }
 
 // All of it may have 67,108,864 bytes and no more.
 #[test]
 fn longest_text(rt: HostRuntime) -> Result<(), Fail> {
-    long_ends(&rt, rt.alloc(), 67_108_864, 1, b"refused 0 unfinished\n")?;
-    long_ends(&rt, rt.alloc(), 67_108_865, 6, b"")
+    long_ends(&rt, rt.alloc(), 67_108_864, 1, "refused 0 unfinished\n")?;
+    long_ends(&rt, rt.alloc(), 67_108_865, 6, "")
 }
 
 // How a run over the worked report ends, some of whose calls fail.
@@ -207,7 +161,7 @@ fn breaks<R: Threads + Sync + Abort>(
     status: u8,
     text: &[u8],
 ) -> Result<(), Fail> {
-    let input = text_of(alloc, Lines(CALLS, FOUND, END, 1))?;
+    let input = text_of(alloc, CALLS, REPORTED)?;
     let run = Run {
         words: &["check"],
         input: &input,

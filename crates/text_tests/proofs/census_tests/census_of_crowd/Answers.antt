@@ -5,4 +5,4 @@ use Rattle.text_tests.proofs.census_tests.census_of_crowd.Goals as goal
 
 pub new-requires-clause-inside : goal.new-requires-clause-inside
 new-requires-clause-inside c =
-    All-replicate (λ home. home < nodes_of c.in_ok-plan.plan) 64 1 (omega (arith, c.in_ok-plan.ensures.nodes))
+    All-replicate (λ home. home < nodes_of c.args.plan.now) 64 1 (omega (arith, c.requires.nodes))

@@ -4,7 +4,7 @@ use Rattle.std.specs.Prelude.{◌==◌}
 use Rattle.node_set.specs.Ascending.{has}
 use Rattle.node_set.specs.Nodes.{Nodes}
 use Rattle.node_set.specs.SetLaws.{has-inserted}
-use Rattle.network_tests.proofs.cover_tests.ball_on_path.Goals as goal
+use Rattle.network_tests.proofs.cover_tests.ball_of.Goals as goal
 
 pub returns-clause-centre : goal.returns-clause-centre
 returns-clause-centre c =

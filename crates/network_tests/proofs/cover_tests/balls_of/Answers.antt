@@ -7,7 +7,7 @@ use Rattle.node_set.specs.Ascending.{has}
 use Rattle.node_set.specs.Nodes.{Nodes}
 use Rattle.node_set.specs.Balls.{sets, ball, AreCentred}
 use Rattle.node_set.specs.BallLaws.{length-sets}
-use Rattle.network_tests.proofs.cover_tests.balls_on_path.Goals as goal
+use Rattle.network_tests.proofs.cover_tests.balls_of.Goals as goal
 
 -- one ball more that holds its centre
 more_centred : (balls : List Nodes) (b : Nodes) → AreCentred (sets balls) → has (length balls) b.members ≡ true
@@ -31,13 +31,13 @@ pub loop-v-preserved : goal.loop-v-preserved
 loop-v-preserved c =
     let items = c.in_ok-push.ensures.items in
     record {
-      count = ap (length {A = Nodes}) items ∙ length_push c.loop-v.balls.items c.in_ok-ball_on_path.field-0
+      count = ap (length {A = Nodes}) items ∙ length_push c.loop-v.balls.items c.in_ok-ball_of.field-0
           ∙ ap (λ n. n + 1) c.loop-v.invariant.count;
       rooms = subst (λ (l : List Nodes). All (λ (b : Nodes). b.room ≡ c.args.n) l) (sym items)
-          (All-push (λ (b : Nodes). b.room ≡ c.args.n) c.loop-v.balls.items c.in_ok-ball_on_path.field-0
-          c.loop-v.invariant.rooms c.in_ok-ball_on_path.ensures.room);
+          (All-push (λ (b : Nodes). b.room ≡ c.args.n) c.loop-v.balls.items c.in_ok-ball_of.field-0
+          c.loop-v.invariant.rooms c.in_ok-ball_of.ensures.room);
       centred = subst (λ (l : List Nodes). AreCentred (sets l)) (sym items)
-          (more_centred c.loop-v.balls.items c.in_ok-ball_on_path.field-0 c.loop-v.invariant.centred
-          (subst (λ n. has n c.in_ok-ball_on_path.field-0.members ≡ true) (sym c.loop-v.invariant.count)
-          c.in_ok-ball_on_path.ensures.centre));
+          (more_centred c.loop-v.balls.items c.in_ok-ball_of.field-0 c.loop-v.invariant.centred
+          (subst (λ n. has n c.in_ok-ball_of.field-0.members ≡ true) (sym c.loop-v.invariant.count)
+          c.in_ok-ball_of.ensures.centre));
     }

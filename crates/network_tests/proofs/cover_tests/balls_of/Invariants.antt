@@ -2,7 +2,7 @@ use Rattle.std.proofs.Common.{◌≡◌, length}
 use Rattle.std.specs.Prelude.{All}
 use Rattle.node_set.specs.Nodes.{Nodes}
 use Rattle.node_set.specs.Balls.{sets, AreCentred}
-use Rattle.network_tests.proofs.cover_tests.balls_on_path.Given as goal
+use Rattle.network_tests.proofs.cover_tests.balls_of.Given as goal
 
 abbrev pub invariant-loop-v : goal.invariant-loop-v
 invariant-loop-v l = record {

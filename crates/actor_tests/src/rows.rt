@@ -1,0 +1,35 @@
+//! Tables that are one text each, since the prover takes a text at once, and a table of tuples
+//! value by value. Behind each row stands `|`, and a row is `STEP>SEEN`: a name with its numbers,
+//! and how what is seen is shown.
+
+/// How many rows a table has.
+pub fn rows_in(table: &str) -> usize {
+    table.split_terminator('|').count()
+}
+
+/// The step of a row of a table, and what is to be seen of it.
+pub fn row_of(table: &str, place: usize) -> (&str, &str) {
+    let row = table.split_terminator('|').nth(place).unwrap_or("");
+    row.split_once('>').unwrap_or((row, ""))
+}
+
+/// The number of a word; one that no test names, where the word is none.
+pub fn number_of(word: Option<&str>) -> u32 {
+    match word {
+        Some(word) => word.parse::<u32>().unwrap_or(u32::MAX),
+        None => u32::MAX,
+    }
+}
+
+/// The name of a step and the numbers behind it.
+pub fn step_of(step: &str) -> (&str, [u32; 4]) {
+    let mut words = step.split_ascii_whitespace();
+    let name = words.next().unwrap_or("");
+    let numbers = [
+        number_of(words.next()),
+        number_of(words.next()),
+        number_of(words.next()),
+        number_of(words.next()),
+    ];
+    (name, numbers)
+}

@@ -1,0 +1,82 @@
+//! Tables that are one text: the prover takes a table of tuples apart, value by value, and a text
+//! at once. `SUBJECT: ROWS;` says what is asked, and each row `QUESTION = NUMBERS|` what answers
+//! it. Where a number is wanted a word is a number too, always the same: `none` stands for what
+//! isn't there, and `outside` for a fault.
+use crate::sameness::same;
+use std::alloc::Global;
+use std::process::Abort;
+
+/// The number of a word that is no number.
+pub const WORD: u64 = u64::MAX;
+/// The answer to what can't be asked: no row wants it.
+const UNKNOWN: u64 = u64::MAX - 1;
+
+/// What rows ask.
+pub trait Asked {
+    /// Tells what answers the question of this name, behind which these numbers stand.
+    fn answer(&self, alloc: Global, name: &str, numbers: [u32; 5], told: &mut Vec<u64>);
+}
+
+/// Tells a number. One for which there is no memory is left out, and then missed.
+pub fn tell(told: &mut Vec<u64>, number: u64) {
+    let _ = told.push(number);
+}
+
+/// Tells a node that may not be there.
+pub fn tell_node(told: &mut Vec<u64>, node: Option<u32>) {
+    match node {
+        Some(node) => tell(told, u64::from(node)),
+        None => tell(told, WORD),
+    }
+}
+
+/// Tells that this can't be asked.
+pub fn tell_unknown(told: &mut Vec<u64>) {
+    tell(told, UNKNOWN);
+}
+
+/// The first numbers of a text, and past them a number that nothing has.
+pub fn five_numbers(text: &str) -> [u32; 5] {
+    let mut numbers = [u32::MAX; 5];
+    let mut place = 0;
+    for word in text.split_ascii_whitespace() {
+        if let Ok(number) = word.parse::<u32>() {
+            if place < 5 {
+                numbers[place] = number;
+                place += 1;
+            }
+        }
+    }
+    numbers
+}
+
+/// What stands before a mark, and what stands behind it.
+pub fn halves(text: &str, mark: char) -> (&str, &str) {
+    text.split_once(mark).unwrap_or((text, ""))
+}
+
+// The numbers that a text wants.
+fn wanted_in(alloc: Global, text: &str) -> Vec<u64> {
+    let mut wanted = Vec::new(alloc);
+    for word in text.split_ascii_whitespace() {
+        tell(&mut wanted, word.parse::<u64>().unwrap_or(WORD));
+    }
+    wanted
+}
+
+/// Stops where the answer to a row isn't what it wants.
+pub fn check(rt: &impl Abort, alloc: Global, head: &str, row: &str, told: &[u64]) {
+    let (_, wanted) = halves(row, '=');
+    same(rt, head, row, told, &wanted_in(alloc, wanted));
+}
+
+/// Asks each row.
+pub fn ask_rows<A: Asked>(rt: &impl Abort, alloc: Global, subject: &A, head: &str, rows: &str) {
+    for row in rows.split_terminator('|') {
+        let (question, _) = halves(row, '=');
+        let (name, numbers) = halves(question, ' ');
+        let mut told = Vec::new(alloc);
+        subject.answer(alloc, name, five_numbers(numbers), &mut told);
+        check(rt, alloc, head, row, &told);
+    }
+}
