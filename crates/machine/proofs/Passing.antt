@@ -1,11 +1,11 @@
 -- A climb past many entries, by the row of all readers of its origin, the cells that it comes to, and a caller's looks
 -- at those that hold nothing, many at once: what as many turns make.
-use Rattle.std.proofs.Common.{◌≡◌, ℕ, zero, suc, ◌+◌, ◌<◌, ◌≤◌, Bool, true, false, length, refl, sym, ap, ◌∙◌, arith, ◌++◌, None, add-one}
-use Rattle.std.specs.Prelude.{if◌then◌else◌, Some, unwrap_or}
+use Rattle.std.proofs.Common.{◌≡◌, ℕ, zero, suc, ◌+◌, ◌*◌, ◌<◌, ◌≤◌, Bool, true, false, length, refl, sym, ap, ◌∙◌, subst, arith, ◌++◌, None, add-one}
+use Rattle.std.specs.Prelude.{if◌then◌else◌, nat_lt, slice_index, Some, unwrap_or}
 use Rattle.region_plan.specs.Kept.{IsKept}
 use Rattle.region_plan.specs.Matched.{IsMatched, IsWithinReach}
-use Rattle.region_plan.specs.Plan.{PlanData, nodes_of}
-use Rattle.visit_log.specs.Routes.{IsRung, Rung, rung_at, rung_past, ways_past, entry_place, reader_at, AreRoutes, IsAt, RouteData}
+use Rattle.region_plan.specs.Plan.{PlanData, levels_of, nodes_of, readers}
+use Rattle.visit_log.specs.Routes.{IsRung, Rung, rung_at, rung_past, way_at, ways_past, entry_place, reader_at, AreRoutes, IsAt, RouteData}
 use Rattle.walk.specs.declared.progress.Climb.{Climb}
 use Rattle.walk.specs.Climbs.{ClimbsGoOn, GoesOn, IsClimbOver, climb_past, next_climb, cluster_at, IsClimbOf, PassesEntry, walk_at}
 use Rattle.machine.specs.Climbs.{Passes, rung_of}
@@ -22,7 +22,7 @@ use Rattle.net_reader.specs.Input.{Contents}
 use Rattle.walk.specs.Walks.{WalkData}
 use Rattle.machine.specs.declared.caller.Caller.{Caller}
 use Rattle.scripts.specs.Scripts.{scripts_of}
-use Rattle.machine.specs.Stands.{Sees, setting_over}
+use Rattle.machine.specs.Stands.{AreMade, Sees, setting_over}
 use Rattle.machine.specs.Callers.{HasLooked, HasPassed, IsCaller, Looks}
 use Rattle.machine.specs.declared.turn.Turn.TheVariants.{Finished, Visited}
 use Rattle.machine.proofs.Making.{Makes, made-as, made-count, made-joined, made-none, made-one}
@@ -46,8 +46,18 @@ pub climb-is : (plan : PlanData) (climb : Climb) (count : ℕ)
     → climb_past plan climb count
     ≡ climb_at climb (climb.weight + ways_past plan climb.from (rung_of climb) count)
     (rung_past plan climb.from (rung_of climb) count)
-climb-is plan climb zero = grind arith
-climb-is plan climb (suc count) = grind (arith, climb-is plan climb count, same-next, climb_at)
+climb-is plan climb zero =
+    let none : climb.weight ≡ climb.weight + 0 = omega arith in
+    ap (λ w. let k : Climb = record climb { weight = w } in k) none
+climb-is plan climb (suc count) =
+    let rung : Rung = rung_past plan climb.from (rung_of climb) count in
+    let ways : ℕ = ways_past plan climb.from (rung_of climb) count in
+    let sum : climb.weight + ways + way_at plan climb.from rung ≡ climb.weight + (ways + way_at plan climb.from rung) =
+    omega arith in
+    ap (next_climb plan) (climb-is plan climb count)
+    ∙ (same-next climb (climb.weight + ways + way_at plan climb.from rung) rung
+    (nat_lt (suc rung.index) (length (readers plan rung.level climb.from)))
+    ∙ ap (λ w. climb_at climb w (rung_past plan climb.from (rung_of climb) (suc count))) sum)
 
 module _ (law : ClimbsGoOn) (plan : PlanData) (climb : Climb) (kept : IsKept plan) (matched : IsMatched plan)
     (reached : IsWithinReach plan) (over : IsClimbOver plan climb) where
@@ -55,7 +65,9 @@ module _ (law : ClimbsGoOn) (plan : PlanData) (climb : Climb) (kept : IsKept pla
   on-past : (count : ℕ) → IsClimbOver plan (climb_past plan climb count)
       → IsRung plan climb.from (rung_past plan climb.from (rung_of climb) (suc count))
       → GoesOn plan (climb_past plan climb count)
-  on-past count here rung = grind (arith, climb-is)
+  on-past count here rung =
+      law plan (climb_past plan climb count) kept matched reached here
+      (subst (λ (c : Climb). c.level < levels_of plan) (sym (climb-is plan climb (suc count))) rung.level)
 
   pub past-over : (count : ℕ)
       → ((i : ℕ) → i ≤ count → IsRung plan climb.from (rung_past plan climb.from (rung_of climb) i))
@@ -68,7 +80,8 @@ module _ (law : ClimbsGoOn) (plan : PlanData) (climb : Climb) (kept : IsKept pla
       → ((i : ℕ) → i ≤ suc count → IsRung plan climb.from (rung_past plan climb.from (rung_of climb) i))
       → Passes plan (climb_past plan climb count)
   passes count rungs =
-      let here : IsClimbOver plan (climb_past plan climb count) = grind (arith, past-over) in
+      let here : IsClimbOver plan (climb_past plan climb count) =
+      past-over count (λ i low. rungs i (omega (arith, low))) in
       record { over = here; on = on-past count here (rungs (suc count) (omega arith)) }
 
 -- the same node all along
@@ -78,7 +91,11 @@ past-from plan climb count = ap (λ (c : Climb). c.from) (climb-is plan climb co
 -- a climb is at a reader
 pub climb-at : {plan : PlanData} {routes : RouteData} {climb : Climb} → AreRoutes plan routes → IsClimbOver plan climb
     → IsAt plan routes climb.from (rung_of climb)
-climb-at are over = grind arith
+climb-at are over = record {
+  are = are;
+  inside = over.from;
+  is = record { level = over.progress.0; index = over.progress.1 };
+}
 
 -- the place of a reader's entries is one of a subscriber's
 pub place-below : NumbersBelow → {plan : PlanData} {node : ℕ} {rung : Rung} → IsMatched plan → node < nodes_of plan
@@ -108,7 +125,11 @@ pub ahead-word : {plan : PlanData} {cells : CellData} (climb : Climb) (sub count
     → word_beside cells sub (entry_place plan climb.from (rung_past plan climb.from (rung_of climb) count)) ≡ word
     → word_at plan cells (Entry (climb_past plan climb count).level (cluster_at plan (climb_past plan climb count)) sub)
     ≡ word
-ahead-word {plan} {cells} climb sub count {word} goes is = grind (arith, climb-is)
+ahead-word {plan} {cells} climb sub count {word} goes is =
+    subst (λ (c : Climb). word_at plan cells (Entry c.level (cluster_at plan c) sub) ≡ word)
+    (sym (climb-is plan climb count))
+    (ap (λ w. slice_index cells.words
+    (sub * w + entry_place plan climb.from (rung_past plan climb.from (rung_of climb) count))) (sym goes.width) ∙ is)
 
 -- a caller at a climb, behind so many of them
 abbrev pub behind : WalkData → Caller → ℕ → Climb → ℕ → Caller
@@ -145,7 +166,7 @@ behind-walk walk old ticket climb (suc count) = refl
 -- with no looks it is where it was
 pub behind-none : {walk : WalkData} (old : Caller) (ticket : ℕ) {climb : Climb} → old.walk ≡ Some walk
     → IsClimbOf walk climb → behind walk old ticket climb 0 ≡ old
-behind-none {walk} old ticket held at = grind arith
+behind-none {walk} old ticket held at = ap (λ w. record old { walk = w }) (ap Some at.same ∙ sym held)
 
 module _ {input : Contents} {plan : PlanData} {cells : CellData} {actor : ℕ} where
   -- no looks
@@ -156,7 +177,9 @@ module _ {input : Contents} {plan : PlanData} {cells : CellData} {actor : ℕ} w
   -- one look, as a turn makes it
   pub passed-one : MoreIsPlayed → {history : History} (old : Caller) {new : Caller} → Sees input plan cells history
       → HasLooked input plan history actor old new Visited → HasPassed input plan cells history actor 1 new
-  passed-one more {history} old {new} sees turned = grind (arith, sees-more, made-one)
+  passed-one more {history} old {new} sees turned =
+      made-one history (λ later. IsCaller input plan later actor new) refl turned.1
+      (sees-more more actor turned.0 sees turned.1) turned.2
 
   -- so many looks, one after another
   pub passed-ahead : TicketsGrow → CallersRead → CallerLinesGrow → CallersCount → MoreIsPlayed
@@ -165,7 +188,7 @@ module _ {input : Contents} {plan : PlanData} {cells : CellData} {actor : ℕ} w
       → HasPassed input plan cells history actor 0 (behind walk old ticket climb 0) → (count : ℕ) → count ≤ limit
       → HasPassed input plan cells history actor count (behind walk old ticket (climb_past plan climb count) count)
   passed-ahead grow read lines counts more old place at passed zero low = passed
-  passed-ahead grow read lines counts more {ticket = ticket} old {walk} {climb} place at passed (suc count) low =
+  passed-ahead grow read lines counts more {history} {ticket} old {walk} {climb} place at passed (suc count) low =
       let here : Climb = climb_past plan climb count in
       let there : Climb = climb_past plan climb (suc count) in
       let key : Key = Entry here.level (cluster_at plan here) walk.sub in
@@ -180,7 +203,9 @@ module _ {input : Contents} {plan : PlanData} {cells : CellData} {actor : ℕ} w
       (looks grow (walk_at walk there) at.high its (behind-walk walk old ticket here count) entry.key reads refl
       entry.pursuit) entry.over (sym entry.on)
       (behind-more walk old here there count (λ none. omega (arith, none, far)))) in
-      rw (add-one count) at
+      let New : History → Type 0 =
+      λ later. IsCaller input plan later actor (behind walk old ticket there (suc count)) in
+      subst (λ n. AreMade input plan cells history actor n New) (add-one count)
       (made-joined (passed-ahead grow read lines counts more old place at passed count (omega (arith, low))) place one)
 
   -- looks, and one more

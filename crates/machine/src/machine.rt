@@ -68,9 +68,11 @@ impl<'a> Machine<'a> {
         ensures stands { IfOk result (λ machine. HasHistory machine []) }
         ensures room { IfOk result HasJustRoom }
     {
-        let (homes, routes, cells) = cells_of(alloc, input, plan)?;
+        // The actors first: each call drops what was made before it where it fails, and the prover
+        // goes through each drop.
         let subscribers = subscribers_of(alloc, input, plan, distances)?;
         let callers = callers_of(alloc, input, plan, distances)?;
+        let (homes, routes, cells) = cells_of(alloc, input, plan)?;
         let (order, calls) = rooms_for(alloc, input, plan, &routes)?;
         Ok(Machine {
             input,

@@ -123,7 +123,7 @@ impl Plan {
     {
         graph_is_sound(graph);
         plan_is_sparse();
-        Ok(Plan::build_by(alloc, graph, distances, Covering::Phased(k))?)
+        Plan::build_by(alloc, graph, distances, Covering::Phased(k))
     }
 
     /// The plan of the network over mean covers, with the trade-off `k`: the sizes of a level's
@@ -145,7 +145,7 @@ impl Plan {
     {
         graph_is_sound(graph);
         mean_plan_is_small();
-        Ok(Plan::build_by(alloc, graph, distances, Covering::Mean(k))?)
+        Plan::build_by(alloc, graph, distances, Covering::Mean(k))
     }
 
     /// The plan of the network over either covering, as `build` and `build_mean` make it.

@@ -1,5 +1,5 @@
 -- A ticket is drawn.
-use Rattle.std.proofs.Common.{◌≡◌, ℕ, suc, ◌+◌, ◌%◌, ◌^◌, ◌<◌, ◌≤◌, [], ◌∷◌, ◌++◌, length, set, drop, refl, sym, ap, ◌∙◌, inl, inr, arith, Some, get_or-set_other, get_or-set_same, length-set, length-append}
+use Rattle.std.proofs.Common.{◌≡◌, ℕ, suc, ◌+◌, ◌%◌, ◌^◌, ◌<◌, ◌≤◌, true≢false, [], ◌∷◌, ◌++◌, length, set, drop, refl, sym, ap, ◌∙◌, inl, inr, arith, Some, get_or-set_other, get_or-set_same, length-set, length-append}
 use Rattle.std.specs.Prelude.{slice_index}
 use mathlib.Core.Option.{none}
 use mathlib.Core.Logic.{dite}
@@ -57,14 +57,28 @@ grows law {s} id {x} {new} {v} {act} o me may is =
     let others = alone o id v me may.inside in
     let stands : StandsForActor v v.low = (omega arith, omega (arith, here.alone)) in
     let mine = was.owner_is v.low stands in
-    let words : (k : ℕ) → slice_index ws (suc k) ≡ slice_index s.words (suc k) = grind (arith, get_or-set_other) in
+    let words : (k : ℕ) → slice_index ws (suc k) ≡ slice_index s.words (suc k) = λ k. get_or-set_other s.words 0
+    (suc k) new 0 (λ e. omega arith) in
     let grown : (front : History) → IsFront front history → IsFront front longer =
     λ front f. front-longer front history (visit ∷ []) f in
     let whole = front-itself longer in
     let told = grown v.told was.has.told in
     let last = ap (λ l. visits_at setting x l) (drop_all history visit) in
     let word = λ (key : Key) (put : key_put act ≡ Some key). sym (put_before setup history act put) in
-    let drawn : HasDrawn setup longer w x = search (put_word act) in
+    let drawn : HasDrawn setup longer w x = record {
+      earlier = history;
+      visit = visit;
+      begins = whole;
+      mine = refl;
+      meant = may.intended;
+      at = may.at;
+      count = refl;
+      last = last;
+      put = put_word act;
+      word = word;
+      moves = λ due. due;
+      tally = λ _. refl;
+    } in
     record {
       history = longer;
       owner = o.owner;
@@ -74,9 +88,17 @@ grows law {s} id {x} {new} {v} {act} o me may is =
       tickets = get_or-set_same s.words 0 new 0 wide ∙ (is ∙ sym (omega (arith, length-append history (visit ∷ []))));
       views = each_set (IsSoundView setup ws longer o.owner) s.views id record {
         setup_is = λ _. refl;
-        has = search;
+        has = record { seen = whole; told = told; visits = λ _ _. refl; had = whole; kept = λ _ _. refl };
         owner_is = was.owner_is;
-        inside = grind (arith, same_some, alone, tallied_here);
+        inside = λ node at. rw (← same_some (sym may.inside ∙ at)) record {
+          known = here.known;
+          alone = here.alone;
+          lock = words x ∙ here.lock;
+          drawn = λ _. drawn;
+          owed = λ _. refl;
+          tally = λ _. words _ ∙ o.tallies x here.known
+              (tallied_here o id x v me others (λ due _. true≢false (sym due ∙ may.clear)));
+        };
         unwritten = λ key put. let node = put_node setting act put ∙ may.at in record {
           cell = may.cell key put;
           inside = may.inside ∙ ap (λ (n : ℕ). Some n) (sym node);
@@ -89,18 +111,23 @@ grows law {s} id {x} {new} {v} {act} o me may is =
         others = was.others;
       } (λ k u ne there. let old = o.views k u there in
           let same : (actor : ℕ) → StandsForActor u actor → own actor longer ≡ own actor history =
-          grind (arith, own-other) in
+          λ actor st. own-other actor history visit
+          (λ e. ne (sym (old.owner_is actor st).0 ∙ (ap o.owner (sym e) ∙ mine.0))) in
           resound ws longer old record {
             seen = grown u.seen old.has.seen;
             told = grown u.told old.has.told;
             visits = λ actor st. same actor st ∙ old.has.visits actor st;
             had = grown u.had old.has.had;
             kept = λ actor st. same actor st ∙ old.has.kept actor st;
-          } grown (λ node at none-there. grind (arith, at-push))
+          } grown (λ node at none-there. at-push setting node u.visit_count history visit
+          (λ e. others k u ne there (at ∙ ap (λ (n : ℕ). Some n) (sym e ∙ may.at))) none-there)
           (λ due. due) (λ _ put. put) (λ node _. words node) (λ node _ _. words _) (λ key _ _ _. words _));
       actors = λ actor below. owned s o.owner id actor v w me refl refl near (o.actors actor below);
       known = λ actor above. own-other actor history visit (λ e. omega (arith, mine.1, above, e)) ∙ o.known actor above;
-      few = grind (arith, ℕ_discrete, few_more, own-mine, own-other);
+      few = λ actor. dite (ℕ_discrete v.low actor)
+          (λ e. few_more (own actor history) visit (own actor longer) (own-mine history visit e)
+          (rw (← e, was.has.visits v.low stands) may.few))
+          (λ ne. rw (own-other actor history visit ne) (o.few actor));
       turns = o.turns;
       in_turn = o.in_turn;
       strangers = o.strangers;
@@ -109,15 +136,18 @@ grows law {s} id {x} {new} {v} {act} o me may is =
       locks = λ node actor known names. still_held s o.owner id v w me refl refl
           (o.locks node actor known (sym (words node) ∙ names));
       cells = λ key known quiet. words _ ∙ (o.cells key known (λ k u there put. dite (ℕ_discrete k id)
-          (λ e. grind (arith, same_view, no_some))
+          (λ e. let same = same_view s.views me there e in
+          no_some (sym may.unwritten ∙ (ap (λ (y : View). y.unwritten) (sym same) ∙ put)))
           (λ ne. quiet k u (set_else s.views id k w ne ∙ there) put))
           ∙ sym (cell-push setting key history visit
           ∙ word-unput law key (cell setting history key) act (quiet id w (set_here s.views id w near))));
       tallies = λ node known quiet. words _ ∙ (o.tallies node known (λ k u there due at. dite (ℕ_discrete k id)
-          (λ e. grind (arith, same_view))
+          (λ e. let same = same_view s.views me there e in
+          true≢false (sym due ∙ (ap (λ (y : View). y.owes) same ∙ may.clear)))
           (λ ne. quiet k u (set_else s.views id k w ne ∙ there) due at))
           ∙ sym (ap length (census-push law setting history node visit (dite (ℕ_discrete x node)
-          (λ e. inr (not_true (changes_here setting history act) (λ due. grind (arith, set_here s.views id w near))))
+          (λ e. inr (not_true (changes_here setting history act) (λ due. quiet id w (set_here s.views id w near) due
+          (may.inside ∙ ap (λ (n : ℕ). Some n) e))))
           (λ ne. inl (λ e. ne (sym may.at ∙ e)))))));
       legal = λ sub known. legal_more v sub history act may.may was.has.seen (was.has.visits v.low stands)
           (o.legal sub known);
@@ -134,7 +164,9 @@ draws law n id {x} m {act} may s o wide me small =
     let was = o.views id v me in
     let here = was.inside x may.inside in
     let stands : StandsForActor v v.low = (omega arith, omega (arith, here.alone)) in
-    let new : (found + 1) % 2 ^ 64 ≡ suc (length o.history) = grind (arith, no_wrap, few_visits) in (
+    let new : (found + 1) % 2 ^ 64 ≡ suc (length o.history) =
+    ap (λ (k : ℕ). (k + 1) % 2 ^ 64) o.tickets
+    ∙ no_wrap (length o.history) (few_visits v.setup.actors o.history o.few_actors o.known o.few) in (
       view_with_ticket v x act o.history,
       keeps,
       tt,

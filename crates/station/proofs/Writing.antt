@@ -1,5 +1,5 @@
 -- Stores: a put is written, and a tally.
-use Rattle.std.proofs.Common.{◌≡◌, ◌≢◌, ℕ, ◌<◌, Bool, true, true≢false, length, set, refl, sym, ap, ◌∙◌, inr, arith, Option, Some, get_or-set_other, get_or-set_same, length-set}
+use Rattle.std.proofs.Common.{◌≡◌, ◌≢◌, ℕ, ◌<◌, Bool, true, true≢false, length, set, refl, sym, ap, subst, ◌∙◌, inr, arith, Option, Some, get_or-set_other, get_or-set_same, length-set}
 use Rattle.std.specs.Prelude.{slice_index}
 use mathlib.Core.Option.{none}
 use mathlib.Core.Logic.{dite}
@@ -50,9 +50,11 @@ stored law {setup} {s} o j {x} {i} new {v} {unwritten} {owes} me there word not_
     let w : View = record v { unwritten = unwritten; owes = owes } in
     let was = o.views j v me in
     let known = (was.inside x there).known in
-    let stays : (k : ℕ) → k ≢ i → slice_index ws k ≡ slice_index s.words k = grind (arith, get_or-set_other) in
+    let stays : (k : ℕ) → k ≢ i → slice_index ws k ≡ slice_index s.words k =
+    λ k ne. get_or-set_other s.words i k new 0 ne in
     let at : (F : ℕ → ℕ) (node : ℕ) → v.inside ≡ Some node → F x ≢ i
-    → slice_index ws (F node) ≡ slice_index s.words (F node) = grind (arith, same_some) in
+    → slice_index ws (F node) ≡ slice_index s.words (F node) =
+    λ F node is ne. stays (F node) (subst (λ (n : ℕ). F n ≢ i) (same_some (sym there ∙ is)) ne) in
     changed record {
       me = me;
       known = known;
@@ -89,7 +91,8 @@ writes law below same n id {i} {new} m {key} put known at turn is s o wide me sm
     let here = (o.views id v me).inside x turn.inside in
     let near : i < length s.words = rw (o.size, at) (cell_below below setup known) in
     let others = alone o id v me turn.inside in
-    let word : slice_index ws i ≡ cell (setting_in setup) o.history key = grind (arith, get_or-set_same, cell_seen) in
+    let word : slice_index ws i ≡ cell (setting_in setup) o.history key =
+    get_or-set_same s.words i new 0 near ∙ (is ∙ sym (cell_seen same o id key me turn)) in
     let not_lock : lock_word x ≢ i = λ e. behind (nodes_in setup) x _ here.known (sym (e ∙ at)) in
     let not_tally : tally_word setup x ≢ i = λ e. behind_tally (nodes_in setup) x _ here.known (sym (e ∙ at)) in (
       view_after_put v,
@@ -98,11 +101,16 @@ writes law below same n id {i} {new} m {key} put known at turn is s o wide me sm
       stored law o id new me turn.inside (is_cell key known refl at) (λ e. omega (arith, e, at)) not_lock
           (λ due. (due, not_tally)) (λ _ none. absurd (no_some none))
           (λ other cell_there there quiet. dite (ℕ_discrete (cell_word setup other) i)
-          (λ e. grind (arith, same_number))
+          (λ e. rw (
+            e,
+            ← law setup.plan (subs_in setup) key other known cell_there
+                (same_number (nodes_in setup) _ _ (sym at ∙ sym e)),
+          ) word)
           (λ ne. get_or-set_other s.words i (cell_word setup other) new 0 ne
           ∙ o.cells other cell_there (written_here o id v other me others there
           (λ had. ne (ap (cell_word setup) (same_some (sym had ∙ put)) ∙ sym at)))))
-          (λ quiet. grind (arith, get_or-set_other, tallied_here)),
+          (λ quiet. get_or-set_other s.words i (tally_word setup x) new 0 not_tally
+          ∙ o.tallies x here.known (tallied_here o id x v me others quiet)),
       refl,
     )
 
@@ -116,7 +124,8 @@ tallies law same n id {x} {i} {new} m turn at is s o wide me small =
     let here = (o.views id v me).inside x turn.inside in
     let near : i < length s.words = omega (arith, o.size, here.known, at) in
     let others = alone o id v me turn.inside in
-    let not_cell : (key : Key) → cell_word setup key ≢ i = grind (arith, behind_tally) in (
+    let not_cell : (key : Key) → cell_word setup key ≢ i = λ key e. behind_tally (nodes_in setup) x _ here.known
+    (e ∙ at) in (
       view_after_tally v,
       keeps,
       tt,
@@ -125,6 +134,7 @@ tallies law same n id {x} {i} {new} m turn at is s o wide me small =
           (λ due. absurd (true≢false (sym due))) (λ key put. (put, not_cell key))
           (λ key known there quiet. get_or-set_other s.words i (cell_word setup key) new 0 (not_cell key)
           ∙ o.cells key known (written_here o id v key me others there quiet))
-          (λ quiet. ap (slice_index ws) (sym at) ∙ (grind (arith, get_or-set_same, census_seen))),
+          (λ quiet. ap (slice_index ws) (sym at) ∙ (get_or-set_same s.words i new 0 near
+          ∙ (is ∙ sym (ap length (census_seen same o id me turn))))),
       refl,
     )

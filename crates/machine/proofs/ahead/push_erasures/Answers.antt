@@ -18,18 +18,25 @@ use Rattle.machine.proofs.ahead.push_erasures.Goals.{then-old-new, else-old-new}
 -- a level that is looked at is one of the plan's
 low-above : {plan : PlanData} {handset : HandsetData} {erasures : Erasures} (above : ℕ) → GoesWith plan handset
     → erasures ≡ erasures_from handset erasures.level → above < erasures.last + 1 → above < levels_of plan
-low-above above goes they below = grind arith
+low-above above goes they below = omega (arith, goes.renewed, below, ap (λ (e : Erasures). e.last) they)
 
 -- the node of an address is one of the plan's
 node-inside : {plan : PlanData} {handset : HandsetData} {addresses : List ℕ} (above : ℕ) → GoesWith plan handset
     → addresses ≡ handset.addresses → above < levels_of plan → get_or addresses above 0 < nodes_of plan
-node-inside {plan} above goes same low = grind arith
+node-inside {plan} above goes same low =
+    subst (λ (xs : List ℕ). slice_index xs above < nodes_of plan) (sym same) (goes.inside above low)
 
 pub bounds-of-above : goal.bounds-of-above
-bounds-of-above c = grind (arith, low-above, node-inside)
+bounds-of-above c =
+    let low = low-above c.loop-above.above c.requires.goes c.requires.they c.loop-above-test.true in
+    rw (c.of-in-loop-above.ensures.count c.args.plan.now c.requires.homes
+    (node-inside c.loop-above.above c.requires.goes c.addresses-addresses.ensures low)) low
 
 pub bounds-new-above : goal.bounds-new-above
-bounds-new-above c = grind (arith, low-above)
+bounds-new-above c =
+    rw (c.of-new.ensures.count c.args.plan.now c.requires.homes
+    (rw (ap (λ (e : Erasures). e.node) c.requires.they) c.requires.goes.to))
+    (low-above c.loop-above.above c.requires.goes c.requires.they c.loop-above-test.true)
 
 pub loop-above-init : goal.loop-above-init
 loop-above-init c = grind (arith, at-stage, node-inside, add-one, ahead-none)
@@ -40,13 +47,19 @@ loop-above-preserved c =
     let handset = c.args.handset.now in
     let at : ℕ = c.loop-above.at in
     let above : ℕ = c.loop-above.above in
-    let below : above ≤ handset.last.renewed = grind arith in
+    let below : above ≤ handset.last.renewed =
+    omega (arith, c.loop-above-test.true, ap (λ (e : Erasures). e.last) c.requires.they) in
     let high = low-above above c.requires.goes c.requires.they c.loop-above-test.true in
     let inside = node-inside above c.requires.goes c.addresses-addresses.ensures high in
     let here : get_or c.of-in-loop-above.result.now above 0
-    ≡ home_place plan (slice_index handset.addresses above) above = grind arith in
+    ≡ home_place plan (slice_index handset.addresses above) above =
+    c.of-in-loop-above.ensures.places plan c.requires.homes inside above high
+    ∙ ap (λ (xs : List ℕ). home_place plan (slice_index xs above) above) c.addresses-addresses.ensures in
     let node : c.args.erasures.node ≡ handset.last.to = ap (λ (e : Erasures). e.node) c.requires.they in
-    let there : get_or c.of-new.result.now above 0 ≡ home_place plan handset.last.to above = grind arith in
+    let there : get_or c.of-new.result.now above 0 ≡ home_place plan handset.last.to above =
+    c.of-new.ensures.places plan c.requires.homes
+    (subst (λ n. n < nodes_of plan) (sym node) c.requires.goes.to) above high
+    ∙ ap (λ n. home_place plan n above) node in
     elim c.if-old-new.branch [
       | then-old-new w ↦
           let old : is_old (setting_of plan []) handset above ≡ true =

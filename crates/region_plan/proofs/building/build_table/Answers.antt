@@ -1,7 +1,8 @@
-use Rattle.std.proofs.Common.{rules, ◌≡◌}
+use Rattle.std.proofs.Common.{rules, ◌≡◌, arith}
 use Rattle.std.proofs.lemmas.Result.{IfOk-weaker}
 use Rattle.region_plan.proofs.Levels.{balls_few, balls_rooms, balls_centred, balls_inside, balls_turned, balls_work, cover_spanned, nodes_work, homes_count, rows_few, level_built, level_fits}
 use Rattle.region_plan.specs.Kept.{IsSized, level_of, shape_with}
+use Rattle.region_plan.specs.Meanings.{IsLevelOf}
 use Rattle.region_plan.specs.Regions.{threshold_of}
 use Rattle.region_plan.proofs.building.build_table.Goals as goal
 
@@ -14,13 +15,29 @@ of_cover-requires-clause-spanned c =
     c.in_ok-made.ensures.exact c.requires.belongs c.requires.network c.requires.low c.covering_shape.ensures
 
 pub of_cover-requires-clause-work : goal.of_cover-requires-clause-work
-of_cover-requires-clause-work c = search (rules, nodes_work)
+of_cover-requires-clause-work c =
+    nodes_work c.requires.metric c.args.i c.fill_balls.new.balls c.fill_balls.ensures.balls c.requires.belongs
+    c.cover.ensures.work
 
 pub new-requires : goal.new-requires
-new-requires c = search (rules, homes_count, rows_few)
+new-requires c =
+    let homes = homes_count c.requires.metric c.args.i c.fill_balls.new.balls c.fill_balls.ensures.balls c.args.covering
+    c.in_ok-made.ensures.exact in
+    let rows = rows_few c.requires.metric c.args.i c.fill_balls.new.balls c.fill_balls.ensures.balls c.args.covering
+    c.in_ok-made.ensures.exact c.args.graph.now c.in_ok-clusters.clusters c.in_ok-clusters.ensures.clusters
+    c.in_ok-made.ensures.few in
+    omega (arith, c.requires.metric.few, homes, rows)
 
 pub returns-clause-level : goal.returns-clause-level
-returns-clause-level c = search (rules, IfOk-weaker, level_built)
+returns-clause-level c =
+    IfOk-weaker c.new.result
+    (λ shape. shape ≡ shape_with c.in_ok-made.field-0.phases c.in_ok-clusters.clusters c.in_ok-made.field-0.home.items)
+    (λ shape. IsLevelOf c.args.graph.now c.args.distances.now c.args.covering c.args.i
+    (level_of c.args.i (threshold_of c.args.i) shape))
+    (level_built c.requires.metric c.args.i c.fill_balls.new.balls c.fill_balls.ensures.balls c.args.covering
+    c.in_ok-made.ensures.exact c.args.graph.now c.in_ok-clusters.clusters c.in_ok-clusters.ensures.clusters
+    c.in_ok-made.ensures.few)
+    c.new.ensures
 
 pub returns-clause-sized : goal.returns-clause-sized
 returns-clause-sized c =

@@ -7,4 +7,13 @@ pub loop-member-init : goal.loop-member-init
 loop-member-init c = none_counted c.args.counts.now
 
 pub loop-member-preserved : goal.loop-member-preserved
-loop-member-preserved c = grind (arith, then-member-counts, one_counted, else-member-counts, one_skipped)
+loop-member-preserved c = elim c.if-member-counts.branch [
+  | then-member-counts w ↦
+      rw w.counts-is (one_counted c.args.members.now c.args.counts.now c.loop-member.counts c.loop-member.member-index
+      c.loop-member-test.true c.loop-member.invariant c.requires.ascending
+      (omega (arith, w.if-member-counts.true, c.loop-member.auto.counts)))
+  | else-member-counts w ↦
+      rw w.counts-is (one_skipped c.args.members.now c.args.counts.now c.loop-member.counts c.loop-member.member-index
+      c.loop-member-test.true c.loop-member.invariant
+      (omega (arith, w.if-member-counts.false, c.loop-member.auto.counts)))
+]

@@ -1,4 +1,4 @@
-use Rattle.std.proofs.Common.{rules, arith}
+use Rattle.std.proofs.Common.{arith}
 use Rattle.region_plan.proofs.Gathering.{cluster_counted, counts_few}
 use Rattle.region_plan.proofs.readers.count_readers.Goals as goal
 
@@ -11,4 +11,6 @@ count_members-requires-clause-small c =
     (omega (arith, c.requires.few, c.loop-number-test.true))
 
 pub loop-number-preserved : goal.loop-number-preserved
-loop-number-preserved c = search (rules, cluster_counted)
+loop-number-preserved c =
+    cluster_counted c.args.clusters.now c.loop-number.number c.nodes.ensures.members c.loop-number.invariant
+    c.count_members.ensures

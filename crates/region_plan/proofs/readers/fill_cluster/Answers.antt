@@ -1,4 +1,4 @@
-use Rattle.std.proofs.Common.{rules, ◌∙◌, ◌<◌, ℕ, get_or, length, arith}
+use Rattle.std.proofs.Common.{◌∙◌, ◌<◌, ℕ, get_or, length, arith}
 use Rattle.std.proofs.lemmas.List.{take_all}
 use Rattle.region_plan.proofs.Rows.{length-containing}
 use Rattle.region_plan.proofs.Filling.{its_weight, next_free, next_within, reader_written}
@@ -7,10 +7,26 @@ use Rattle.region_plan.proofs.readers.fill_cluster.Goals as goal
 use Rattle.region_plan.proofs.readers.fill_cluster.Goals.{then-v-taken, else-v-taken}
 
 pub bounds-readers-next : goal.bounds-readers-next
-bounds-readers-next c = grind (arith, next_within)
+bounds-readers-next c = omega (
+  arith,
+  next_within c.args.clusters.now c.args.number c.loop-place.place c.nodes-members.ensures.members
+      c.nodes-members.ensures.ascending c.requires.number c.loop-place-test.true
+      (omega (arith, c.if-v-taken.true, c.loop-place.auto.taken)) c.requires.counts c.loop-place.invariant.counted
+      c.args.starts.now c.requires.room,
+  c.loop-place.auto.readers,
+  c.requires.readers,
+)
 
 pub bounds-weights-next : goal.bounds-weights-next
-bounds-weights-next c = grind (arith, next_within)
+bounds-weights-next c = omega (
+  arith,
+  next_within c.args.clusters.now c.args.number c.loop-place.place c.nodes-members.ensures.members
+      c.nodes-members.ensures.ascending c.requires.number c.loop-place-test.true
+      (omega (arith, c.if-v-taken.true, c.loop-place.auto.taken)) c.requires.counts c.loop-place.invariant.counted
+      c.args.starts.now c.requires.room,
+  c.loop-place.auto.weights,
+  c.requires.weights,
+)
 
 pub overflow_add-taken : goal.overflow_add-taken
 overflow_add-taken c = grind (arith, length-containing)
@@ -34,8 +50,17 @@ loop-place-preserved c = elim c.if-v-taken.branch [
             c.loop-place-test.true c.nodes-members.ensures.ascending c.weights-inside.ensures.weights
             c.weights-inside.ensures.count);
       })
-  | else-v-taken w ↦ search (rules, one_skipped)
+  | else-v-taken w ↦
+      rw (w.taken-is, w.readers-is, w.weights-is) (record {
+        counted = one_skipped c.nodes-members.result.now c.args.taken.now c.loop-place.taken c.loop-place.place
+            c.loop-place-test.true c.loop-place.invariant.counted
+            (omega (arith, w.if-v-taken.false, c.loop-place.auto.taken));
+        filled = c.loop-place.invariant.filled;
+      })
 ]
 
 pub returns-clause-counts : goal.returns-clause-counts
-returns-clause-counts c = search (rules, cluster_counted, take_all)
+returns-clause-counts c =
+    cluster_counted c.args.clusters.now c.args.number c.nodes-members.ensures.members c.requires.counts
+    (rw (take_all c.loop-place.place c.nodes-members.result.now (omega (arith, c.loop-place-test.false)))
+    at c.loop-place.invariant.counted)

@@ -29,7 +29,8 @@ log_run-requires g c =
 
 pub returns-clause-stands : goal.returns-clause-stands
 returns-clause-stands g c = λ history stands.
-    let at : c.args.actor ≡ length (input_at c.args.self.now).homes + (c.args.actor - c.len.result) = omega arith in
+    let at : c.args.actor ≡ length (input_at c.args.self.now).homes + (c.args.actor - c.len.result) =
+    omega (arith, c.requires.high, c.len.ensures, stands.subscribers_count) in
     let may = caller-may (c.args.actor - c.len.result) stands at
     (scripts-low c.args.self.now.input.now.scripts.items c.args.actor c.requires.known)
     (omega (arith, c.len-ticket.ensures)) c.index_mut.ensures.value in

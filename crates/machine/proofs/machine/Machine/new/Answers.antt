@@ -1,4 +1,7 @@
 use Rattle.std.proofs.Common.{arith, sym, ◌∙◌, refl}
+use Rattle.net_reader.specs.Seen.{seen_input}
+use Rattle.scripts.specs.Scripts.{scripts_of}
+use Rattle.machine.specs.Stands.{setting_over}
 use Rattle.machine.proofs.Turning.{scripts-inside}
 use Rattle.machine.proofs.machine.Machine.new.Goals as goal
 use Rattle.directory.specs.HistoryLaws.{none-played}
@@ -12,7 +15,12 @@ returns-clause-stands c = record {
   together = c.requires.together;
   homes = c.in_ok-homes.ensures.homes;
   routes = c.in_ok-homes.ensures.routes;
-  sees = grind (arith, none-played);
+  sees = record {
+    played = none-played (setting_over (seen_input c.args.input.now) c.args.plan.now)
+        (scripts_of (seen_input c.args.input.now));
+    goes = c.in_ok-homes.ensures.goes;
+    hold = c.in_ok-homes.ensures.opening;
+  };
   order = c.in_ok-order.ensures.empty.0;
   room = omega (arith, c.in_ok-order.ensures.visits c.args.input.now.homes.items);
   subscribers_count = sym c.in_ok-subscribers.subscribers.ok.0 ∙ c.in_ok-subscribers.ensures.count;

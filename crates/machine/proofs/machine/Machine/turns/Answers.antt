@@ -1,4 +1,4 @@
-use Rattle.std.proofs.Common.{◌≡◌, ◌+◌, ◌-◌, arith, subst}
+use Rattle.std.proofs.Common.{◌≡◌, ◌+◌, ◌-◌, arith, refl, subst}
 use Rattle.machine.specs.Machines.{HasMade}
 use Rattle.machine.proofs.Finishing.{made-idle, made-joined, made-none, same-through, turned-once}
 use Rattle.machine.proofs.machine.Machine.turns.Goals as goal
@@ -9,10 +9,17 @@ returns-then-count-eq1-clause-stands c = λ history is.
     (turned-once c.stride.result c.stride.ensures.few (c.stride.ensures.stands history is)).stands
 
 pub returns-then-count-eq1-clause-made : goal.returns-then-count-eq1-clause-made
-returns-then-count-eq1-clause-made c = grind (arith, turned-once)
+returns-then-count-eq1-clause-made c = λ history is.
+    rw c.if-count-eq1.true
+    (turned-once c.stride.result c.stride.ensures.few (c.stride.ensures.stands history is)).made
 
 pub turns-init : goal.turns-init
-turns-init c = grind (arith, made-none)
+turns-init c = record {
+  same = (refl, refl, refl);
+  few = omega arith;
+  stands = λ history is.
+      let none : c.args.count - c.args.count ≡ 0 = omega arith in rw none (made-none c.args.actor is);
+}
 
 pub returns-then-made-eq0-clause-stands : goal.returns-then-made-eq0-clause-stands
 returns-then-made-eq0-clause-stands c = λ history is.
@@ -28,7 +35,8 @@ returns-then-made-eq0-clause-made c = λ history is.
 
 pub turns-preserved : goal.turns-preserved
 turns-preserved c = record {
-  same = grind (arith, same-through);
+  same = same-through c.args.self.now c.turns.self c.stride-made.new.self c.turns.invariant.same
+      c.stride-made.ensures.same;
   few = omega (arith, c.turns.invariant.few);
   stands = λ history is.
       let made = c.turns.invariant.stands history is in
@@ -40,4 +48,6 @@ turns-preserved c = record {
 }
 
 pub returns-clause-stands : goal.returns-clause-stands
-returns-clause-stands c = grind arith
+returns-clause-stands c = λ history is.
+    let all : c.args.count - c.turns.left ≡ c.args.count = omega (arith, c.turns-test.false) in
+    rw all at (c.turns.invariant.stands history is).stands

@@ -1,10 +1,14 @@
-use Rattle.std.proofs.Common.{arith}
+use Rattle.std.proofs.Common.{arith, refl, ◌++◌, ◌∙◌}
 use Rattle.machine.proofs.Making.{made-count, made-next, made-none, may-follow, turns-behind}
 use Rattle.machine.proofs.Written.{ended}
 use Rattle.machine.proofs.subscriber.Subscriber.write.Goals as goal
 
 pub writes-init : goal.writes-init
-writes-init g c = grind (arith, made-none)
+writes-init g c = record {
+  few = omega arith;
+  still = λ none. refl;
+  written = λ history sees place its. made-none _ sees its;
+}
 
 pub write_plain-made-requires-clause-stands : goal.write_plain-made-requires-clause-stands
 write_plain-made-requires-clause-stands g c =
@@ -19,6 +23,10 @@ returns-then-made-most-clause-taken g c = λ history sees place its. (
   turns-behind c.writes.invariant.written c.write_plain-made.ensures.made history sees place its,
   λ fewer. absurd (omega (arith, fewer, c.if-made-most.true)),
 )
+
+pub returns-then-made-most-clause-still : goal.returns-then-made-most-clause-still
+returns-then-made-most-clause-still g c = λ none.
+    c.write_plain-made.ensures.still (omega (arith, none)) ∙ c.writes.invariant.still (omega (arith, none))
 
 pub writes-preserved : goal.writes-preserved
 writes-preserved g c = record {
@@ -36,4 +44,13 @@ returns-in-Finished-clause-taken g c = λ history sees place its.
     its) c.in-Finished.ensures
 
 pub returns-in-Finished-clause-still : goal.returns-in-Finished-clause-still
-returns-in-Finished-clause-still g c = grind (arith, turns-behind, made-count)
+returns-in-Finished-clause-still g c = λ none.
+    let stands = c.requires.stands in
+    let made = turns-behind c.writes.invariant.written c.write_plain-made.ensures.made stands.0 stands.1 stands.2
+    stands.3 in
+    (c.in-Finished.ensures (stands.0 ++ made.visits) made.sees (made-count made stands.2) made.its).2
+    ∙ c.write_plain-made.ensures.still (omega (arith, none)) ∙ c.writes.invariant.still (omega (arith, none))
+
+pub returns-clause-taken : goal.returns-clause-taken
+returns-clause-taken g c = λ history sees place its.
+    (c.writes.invariant.written history sees place its, λ fewer. absurd (omega (arith, fewer, c.writes-test.false)))

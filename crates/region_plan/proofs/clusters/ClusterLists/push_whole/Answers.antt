@@ -1,4 +1,4 @@
-use Rattle.std.proofs.Common.{rules, ◌∙◌, ◌∷◌, ◌++◌, ◌≤◌, [], ℕ, List, ap, subst, sym, arith}
+use Rattle.std.proofs.Common.{◌∙◌, ◌∷◌, ◌++◌, ◌≤◌, [], ℕ, List, ap, subst, sym, arith}
 use Rattle.std.specs.Prelude.{All}
 use Rattle.distances.specs.Table.{IsRowOf}
 use Rattle.node_set.specs.Balls.{centres}
@@ -32,5 +32,8 @@ whole c =
     (subst (All (λ x. x ≤ c.greatest_weight.result)) c.deref.ensures.value c.greatest_weight.ensures.bound)
     (rw c.deref.ensures.value at c.greatest_weight.ensures.attained)
 
-pub returns : goal.returns
-returns c = search (rules, whole)
+pub returns-clause-laid : goal.returns-clause-laid
+returns-clause-laid c = (whole c).0
+
+pub returns-clause-whole : goal.returns-clause-whole
+returns-clause-whole c = (whole c).1

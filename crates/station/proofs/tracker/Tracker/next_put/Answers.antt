@@ -21,7 +21,8 @@ returns-clause-legal c = λ view own.
     let key = c.in-Put.key in
     let word = c.in-Put.word in
     let told = ap (λ t. t.setup) c.self.view_is in
-    let homes : HasHomes c.args.plan.now = grind arith in
+    let homes : HasHomes c.args.plan.now = subst HasHomes (sym (c.requires.plan
+    ∙ sym (ap (λ s. s.plan) told))) c.self.invariant.homes in
     let d = due_is c.requires.goes homes (sym c.next.ensures.exact ∙ c.in-Some.is) in
     let act = sym d.act ∙ c.in-Put.is in
     let same : d.key ≡ key = cc in
@@ -31,6 +32,7 @@ returns-clause-legal c = λ view own.
     let next = subst (λ (p : PlanData). StandsForSteps (setting_of p setup.homes) handset own.steps made
     → c.next.result ≡ slice_get (visits (setting_of p setup.homes) handset.sub own.steps) made) c.requires.plan
     (c.next.ensures.stands setup.homes own.steps made) own.stands in
-    let few : nodes_in setup ≤ 2 ^ 16 = grind arith in
+    let few : nodes_in setup ≤ 2 ^ 16 =
+    omega (arith, c.self.invariant.nodes_are, c.self.invariant.few_nodes, ap nodes_in told) in
     due_legal c.script_is_legal.ensures key word few own (sym next ∙ (c.in-Some.is ∙ ap (λ (v : Visit). Some v) whole))
     mine
