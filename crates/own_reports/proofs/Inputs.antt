@@ -13,7 +13,8 @@ use Rattle.scripts.specs.Laws.{ScriptsAreValid}
 use Rattle.scripts.specs.ScriptLaws.{few-nodes}
 use Rattle.scripts.specs.Scripts.{IsSettingOf, scripts_of}
 use Rattle.own_reports.proofs.Cuts.{IsOver}
-use Rattle.report_check.specs.Inputs.{network-valid, network_of, plan_for}
+use Rattle.report_check.specs.InputLaws.{network-valid}
+use Rattle.report_check.specs.Inputs.{network_of, plan_for}
 
 -- the plan of an input
 pub plan-means : PlansMean → (contents : Contents) → IsValid contents

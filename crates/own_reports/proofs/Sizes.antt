@@ -21,7 +21,8 @@ use Rattle.region_plan.specs.Plan.{PlanData, nodes_of, top_of}
 use Rattle.stretch_laws.specs.Plans.{PlansTrack}
 use Rattle.stretch_laws.specs.Tracking.{IsTracking}
 use Rattle.own_reports.proofs.Inputs.{plan-bounds, plan-means, setting_in}
-use Rattle.report_check.specs.Inputs.{network-valid, network_of, plan_for}
+use Rattle.report_check.specs.InputLaws.{network-valid}
+use Rattle.report_check.specs.Inputs.{network_of, plan_for}
 
 -- the numbers of a setting are small
 pub record IsSmall (setting : Setting) : Type 0 where

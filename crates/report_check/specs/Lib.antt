@@ -11,3 +11,4 @@ pub mod Examples
 pub mod Laws
 pub mod Forms
 pub mod Inputs
+pub mod InputLaws

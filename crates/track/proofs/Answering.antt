@@ -17,7 +17,8 @@ use Rattle.region_plan.specs.Regions.{covered_plan, plan_of}
 use Rattle.region_plan.specs.declared.covering.Covering.{Covering}
 use Rattle.track.specs.Results.{IsInputText, IsJudged, IsRefused}
 use Rattle.track.specs.declared.status.Status.{Status}
-use Rattle.report_check.specs.Inputs.{network-valid, network_of, plan_for}
+use Rattle.report_check.specs.InputLaws.{network-valid}
+use Rattle.report_check.specs.Inputs.{network_of, plan_for}
 
 -- ---- the plan of the input's network
 

@@ -4,7 +4,8 @@ use Rattle.net_reader.specs.Seen.{seen_input}
 use Rattle.region_plan.specs.declared.covering.Covering.TheVariants.{Mean}
 use Rattle.report_text.specs.PlanText.{plan_text_of}
 use Rattle.track.proofs.answer.mean_cover.Goals as goal
-use Rattle.report_check.specs.Inputs.{network-valid, network_of}
+use Rattle.report_check.specs.InputLaws.{network-valid}
+use Rattle.report_check.specs.Inputs.{network_of}
 
 pub returns : goal.returns
 returns c =

@@ -10,7 +10,8 @@ use Rattle.move_cost.specs.CostText.{costs_text_of}
 use Rattle.track.specs.Results.{setting_for}
 use Rattle.track.proofs.Answering.{plan-nodes, plan_of_graph}
 use Rattle.track.proofs.cost.cost_text.Goals as goal
-use Rattle.report_check.specs.Inputs.{network-valid, network_of, plan_for}
+use Rattle.report_check.specs.InputLaws.{network-valid}
+use Rattle.report_check.specs.Inputs.{network_of, plan_for}
 
 pub returns : goal.returns
 returns c =
