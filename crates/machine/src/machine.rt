@@ -151,7 +151,7 @@ impl<'a> Machine<'a> {
         }
     }
 
-    /// The visits that are left, actor by actor. It takes no memory.
+    /// The visits that are left, actor by actor. It never fails.
     pub fn finish(&mut self)
         requires stands { (history : History) × HasHistory self.old history }
         ensures stands { (history : History) → HasHistory self.old history → HasHistory self.new
@@ -167,7 +167,7 @@ impl<'a> Machine<'a> {
         }
     }
 
-    /// What became of all calls, once no actor has a visit left. It takes no memory.
+    /// What became of all calls, once no actor has a visit left. It never fails.
     pub fn outcome(self) -> Outcome
         requires stands { (history : History) × HasHistory self history
             × ((actor : ℕ) → IsDone (setting_at self) (scripts_at self) history actor) }
