@@ -1,6 +1,7 @@
 -- That a handset goes on with its pass: once the pass has heard a note, made a visit that is no put
--- (a look, a census), or lost a turn. So between any two puts a pass may do all of these.
--- Key laws: `handset-heard`, `handset-visited`, `handset-held`.
+-- (a look, a census), lost a turn, entered a node, or left it. So between any two puts a pass may do
+-- all of these.
+-- Key laws: `handset-heard`, `handset-visited`, `handset-held`, `handset-inside`, `handset-outside`.
 use Rattle.std.proofs.Common.{◌≡◌, ℕ, suc, false, List, [], ◌∷◌, ◌++◌, cond, length, take, refl, sym, ap, ◌∙◌, subst}
 use Rattle.std.proofs.lemmas.List.{append-nil}
 use Rattle.entry_word.specs.declared.visit.Act.{Act}
@@ -12,11 +13,12 @@ use Rattle.handset.specs.Condition.{HandsetData}
 use Rattle.handset.specs.Stands.{StandsForSteps}
 use Rattle.station.specs.Handsets.{IsHandsetOf}
 use Rattle.station.specs.Passes.{NoteData, PassData}
-use Rattle.station.specs.Plays.{view_held, visit_by}
+use Rattle.station.specs.Plays.{view_held, view_inside, view_outside, visit_by}
 use Rattle.station.specs.PutLaws.{puts-append, puts-seen}
 use Rattle.station.specs.Setup.{Setup, setting_in}
 use Rattle.station.specs.Visits.{HasHeard, HasLost, HasVisited}
 use Rattle.station.specs.declared.turns.Held.{Held}
+use Rattle.station.specs.declared.view.TurnEvent.{TurnEvent}
 use Rattle.station.specs.declared.view.View.{View}
 
 -- where the same puts of the subscriber have been seen
@@ -77,3 +79,16 @@ handset-held old place held new handset lost its =
     subst (λ (v : View). IsHandsetOf old.view.setup v handset) (sym view)
     (handset-stays old.view.setup old.view (view_held old.view place (suc held.by) new.view.turns)
     handset refl refl its)
+
+-- inside a node that was entered
+pub handset-inside : (setup : Setup) (old : View) (node : ℕ) (act : Act) (log : List TurnEvent)
+    (handset : HandsetData) → IsHandsetOf setup old handset
+    → IsHandsetOf setup (view_inside old node act log) handset
+handset-inside setup old node act log handset its =
+    handset-stays setup old (view_inside old node act log) handset refl refl its
+
+-- outside of a node that was left
+pub handset-outside : (setup : Setup) (old : View) (log : List TurnEvent) (handset : HandsetData)
+    → IsHandsetOf setup old handset → IsHandsetOf setup (view_outside old log) handset
+handset-outside setup old log handset its =
+    handset-stays setup old (view_outside old log) handset refl refl its

@@ -10,15 +10,17 @@ ghost use Rattle.entry_word.specs.declared.visit.Visit.{Visit};
 ghost use Rattle.handset.specs.Condition.{HandsetData};
 ghost use Rattle.station.specs.Handsets.{HandsetGoesOn, IsHandsetOf};
 ghost use Rattle.station.specs.Passes.{NoteData, PassData};
+ghost use Rattle.station.specs.Plays.{view_inside, view_outside};
 ghost use Rattle.station.specs.Setup.{Setup};
 ghost use Rattle.station.specs.Visits.{HasHeard, HasLost, HasVisited};
 ghost use Rattle.station.specs.declared.turns.Held.{Held};
+ghost use Rattle.station.specs.declared.view.TurnEvent.{TurnEvent};
 ghost use Rattle.station.specs.declared.view.View.{View};
 ghost use Rattle.tracker_calls.specs.Finds.{HasFound, HasStopped};
 
 /// A put keeps the steps that its handset stood for, and is the last one of its subscriber that the
-/// pass has seen. A note, a look, a census, a lost turn, and a find, answered or held, leave the
-/// handset with its pass.
+/// pass has seen. A note, a look, a census, a lost turn, a node that is entered and left, and a find,
+/// answered or held, leave the handset with its pass.
 pub fn told_handsets()
     ensures steps { (setup : Setup) (old new : View) (moved : HandsetData) (steps : List Step)
         (put : Visit) (on : HandsetGoesOn setup old new moved steps put) → on.own.steps ≡ steps }
@@ -37,6 +39,11 @@ pub fn told_handsets()
     ensures held { (old new : PassData) (place : ℕ) (held : Held) (handset : HandsetData)
         → HasLost old place held new → IsHandsetOf old.view.setup old.view handset
         → IsHandsetOf old.view.setup new.view handset }
+    ensures entered { (setup : Setup) (old : View) (node : ℕ) (log : List TurnEvent)
+        (handset : HandsetData) → IsHandsetOf setup old handset
+        → IsHandsetOf setup (view_inside old node (Census node) log) handset }
+    ensures left { (setup : Setup) (old : View) (log : List TurnEvent) (handset : HandsetData)
+        → IsHandsetOf setup old handset → IsHandsetOf setup (view_outside old log) handset }
     ensures found { (setup : Setup) (old new : PassData) (call : FindCall) (found : Found)
         (handset : HandsetData) → HasFound setup old call found new
         → IsHandsetOf setup old.view handset → IsHandsetOf setup new.view handset }

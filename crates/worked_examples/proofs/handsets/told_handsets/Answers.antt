@@ -3,7 +3,7 @@ use Rattle.directory.specs.Keys.{key_node}
 use Rattle.entry_word.specs.declared.visit.Act.TheVariants.{Census, Look}
 use Rattle.station.specs.Handsets.{IsHandsetOf}
 use Rattle.station.specs.Setup.{Setup, setting_in}
-use Rattle.station.specs.StayLaws.{handset-heard, handset-held, handset-visited}
+use Rattle.station.specs.StayLaws.{handset-heard, handset-held, handset-inside, handset-outside, handset-visited}
 use Rattle.worked_examples.proofs.handsets.told_handsets.Goals as goal
 
 pub returns-clause-steps : goal.returns-clause-steps
@@ -27,6 +27,13 @@ returns-clause-counted c = λ old new node ticket handset visited its.
 pub returns-clause-held : goal.returns-clause-held
 returns-clause-held c = λ old new place held handset lost its.
     handset-held old place held new handset lost its
+
+pub returns-clause-entered : goal.returns-clause-entered
+returns-clause-entered c = λ setup old node log handset its.
+    handset-inside setup old node (Census node) log handset its
+
+pub returns-clause-left : goal.returns-clause-left
+returns-clause-left c = λ setup old log handset its. handset-outside setup old log handset its
 
 pub returns-clause-found : goal.returns-clause-found
 returns-clause-found c = λ setup old new call found handset has its. has.keeps handset its
