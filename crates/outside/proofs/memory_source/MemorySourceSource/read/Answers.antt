@@ -1,7 +1,15 @@
 use Rattle.std.proofs.Common.{◌≡◌, ◌≤◌, drop, length, Some, ap, arith, rules, ◌∙◌, sym}
+use Rattle.outside.specs.Calls.{one_more}
 use Rattle.outside.specs.Memory.{SourceState}
+use Rattle.outside.proofs.Faults.{fault-rises}
 use Rattle.outside.proofs.Pieces.{drop-moved}
 use Rattle.outside.proofs.memory_source.MemorySourceSource.read.Goals as goal
+
+pub returns-then-contains-clause-count : goal.returns-then-contains-clause-count
+returns-then-contains-clause-count c =
+    let faults = ap (λ (s : SourceState). s.faults) c.self.view_is in
+    fault-rises c.args.self.now.faults _ (omega (arith, faults))
+    (c.saturating_add-self-inside-then-contains.ensures ∙ ap one_more faults)
 
 pub returns-clause-bytes : goal.returns-clause-bytes
 returns-clause-bytes c =
