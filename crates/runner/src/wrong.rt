@@ -1,6 +1,8 @@
 //! Workers, plays and runs that aren't any: each is wrong in one part.
 ghost use Rattle.std.specs.Prelude.{◌≡◌, ◌+◌, ◌^◌, ◌<◌, [], ◌∷◌, ℕ, List, None, Some, suc, take};
+ghost use Rattle.directory.specs.Histories.{IsFront};
 ghost use Rattle.directory.specs.Legal.{IsLegal};
+ghost use Rattle.directory.specs.Orders.{history_of};
 ghost use Rattle.directory.specs.Outcomes.{Outcome};
 ghost use Rattle.distances.specs.Table.{DistanceTable};
 ghost use Rattle.entry_word.specs.declared.visit.Visit.{Visit};
@@ -17,7 +19,7 @@ ghost use Rattle.station.specs.declared.view.TurnEvent.TheVariants.{GivenBack, L
 ghost use Rattle.runner.specs.Examples.{HasSeen, count_by, idle_input, line_setup, moving_input, moving_visits, switching_input};
 ghost use Rattle.runner.specs.Playing.{next_of};
 ghost use Rattle.runner.specs.Roles.{IsSetFor};
-ghost use Rattle.runner.specs.Runs.{AreFreshWorkers, AreWorkersOf, HasFinished, IsOutcomeOfRun};
+ghost use Rattle.runner.specs.Runs.{AreFreshWorkers, AreWorkersOf, HasFinished, IsOutcomeOfRun, actors_of};
 ghost use Rattle.runner.specs.Workers.{HasPlayed, HasStayed, IsWorkerOf, KeptNone};
 ghost use Rattle.runner.specs.declared.finder.Finder.{Finder};
 ghost use Rattle.runner.specs.declared.mover.Mover.{Mover};
@@ -150,7 +152,7 @@ pub fn wrong_plays()
 /// A run has a worker for each actor, in their order, on a tracker that was made for its input; and
 /// it opens with workers that have made no visit, lost no turn and begun no call. Once it is
 /// finished, its history has all that a worker has seen, no other visits, and each as its actor's
-/// next one; and its outcome is that of its order.
+/// next one; its outcome is that of its order, and the history of that order begins with its own.
 pub fn wrong_runs()
     ensures few { (tracker : TrackerData) (worker : Worker)
         → AreWorkersOf idle_input tracker (worker ∷ []) → ⊥ }
@@ -198,6 +200,9 @@ pub fn wrong_runs()
     ensures outcome { (workers : List Worker) (outcome : Outcome)
         → (run : HasFinished idle_input line_setup workers outcome)
         → run.history ≡ [] → outcome.order ≡ 1 ∷ [] → ⊥ }
+    ensures begins { (input : Contents) (setup : Setup) (workers : List Worker) (outcome : Outcome)
+        → (run : HasFinished input setup workers outcome) → IsFront run.history
+        (history_of (setting_in setup) (scripts_of input) (actors_of run.history)) }
     ensures unmade { IsOutcomeOfRun (setting_in line_setup) (scripts_of idle_input)
         (record { calls = []; order = 1 ∷ [] }) → ⊥ }
     ensures left_out { IsOutcomeOfRun (setting_in line_setup) (scripts_of switching_input)

@@ -15,6 +15,7 @@ mod grammar;
 mod handsets;
 mod moments;
 mod moves;
+mod nexts;
 mod orders;
 mod others;
 mod passes;
@@ -44,6 +45,7 @@ pub use grammar::{
 pub use handsets::told_handsets;
 pub use moments::told_moments;
 pub use moves::{worked_moves, wrong_moves};
+pub use nexts::{worked_nexts, worked_stops, worked_ways};
 pub use orders::worked_orders;
 pub use others::worked_others;
 pub use passes::{
