@@ -26,8 +26,9 @@ fn tell<R: Print>(rt: &R, node: u32, tally: Tally) -> Result<(), Stop> {
     }
 }
 
-// Tells what a round made.
-fn tell_round<R: Print>(rt: &R, moves: u32, tallies: Tallies) -> Result<(), Stop> {
+// Tells what a round made, where nobody stopped.
+fn tell_round<R: Print>(rt: &R, moves: u32, tallies: Result<Tallies, Stop>) -> Result<(), Stop> {
+    let tallies = tallies?;
     let Ok(()) = println!(rt; "{moves} moves") else {
         return Err(Stop::NotWritten);
     };
@@ -83,7 +84,7 @@ fn round_and_tell<R: Threads + Wait + Sync + Print>(
     requires crew { IsCrewOf tracker.now crew }
     ensures crew { IfOk result (IsCrewOf tracker.now) }
 {
-    let (crew, tallies) = round(rt, tracker, plan, distances, crew)?;
+    let (crew, tallies) = round(rt, tracker, plan, distances, crew);
     tell_round(rt, crew.handset.number(), tallies)?;
     Ok(crew)
 }

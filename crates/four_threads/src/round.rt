@@ -1,5 +1,4 @@
 //! A round: all four at once.
-ghost use Rattle.std.specs.Prelude.{◌≡◌, IfOk};
 ghost use Rattle.std.specs.Thread.{IsSync};
 ghost use Rattle.station.specs.Handsets.{IsHandsetOf};
 ghost use Rattle.station.specs.Passes.{IsFree, IsNoteOf};
@@ -18,7 +17,7 @@ use std::sync::Wait;
 use std::thread::{Threads, join};
 
 /// What the three finders counted.
-#[derive(Clone, Copy, PartialEq, Eq, Debug)]
+#[derive(Clone, Copy)]
 pub struct Tallies {
     pub near: Tally,
     pub middle: Tally,
@@ -122,16 +121,16 @@ fn gather(
     far: (Result<Tally, Stop>, Pass),
     middle: (Result<Tally, Stop>, Pass),
     near: (Result<Tally, Stop>, Pass),
-) -> Result<(Crew, Tallies), Stop>
+) -> (Crew, Result<Tallies, Stop>)
     requires own { IsFree tracker.now 0 moved.1 }
     requires its { IsHandsetOf tracker.now.setup moved.1.view moved.2 }
     requires far { IsFree tracker.now 0 far.1 }
     requires middle { IsFree tracker.now 0 middle.1 }
     requires near { IsFree tracker.now 0 near.1 }
-    ensures crew { IfOk result (λ done. IsCrewOf tracker.now done.0) }
+    ensures crew { IsCrewOf tracker.now result.0 }
 {
     let _ = tracker;
-    let tallies = tallies_of(moved.0, near.0, middle.0, far.0)?;
+    let tallies = tallies_of(moved.0, near.0, middle.0, far.0);
     let crew = Crew {
         own: moved.1,
         handset: moved.2,
@@ -139,7 +138,7 @@ fn gather(
         middle: middle.1,
         far: far.1,
     };
-    Ok((crew, tallies))
+    (crew, tallies)
 }
 
 /// A round: the mover notes what it has seen, and then all four run at once. Each finder hears a
@@ -150,10 +149,10 @@ pub fn round<R: Threads + Wait + Sync>(
     plan: &Plan,
     distances: &Distances,
     crew: Crew,
-) -> Result<(Crew, Tallies), Stop>
+) -> (Crew, Result<Tallies, Stop>)
     requires ready { IsReady tracker.now plan.now distances.now }
     requires crew { IsCrewOf tracker.now crew }
-    ensures crew { IfOk result (λ done. IsCrewOf tracker.now done.0) }
+    ensures crew { IsCrewOf tracker.now result.0 }
 {
     let Crew {
         mut own,

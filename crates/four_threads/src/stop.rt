@@ -5,7 +5,7 @@ use station::CloseCause;
 use tracker_calls::{FindRefusal, MoveToFault};
 
 /// Why the program stops early.
-#[derive(Clone, Copy, PartialEq, Eq, Debug)]
+#[derive(Clone, Copy)]
 pub enum Stop {
     /// Memory is wanting: end something else, and try again.
     OutOfMemory,

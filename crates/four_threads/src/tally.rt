@@ -3,7 +3,7 @@
 use directory::Found;
 
 /// What a finder counts: its answers, how many of them were right, and the last number.
-#[derive(Clone, Copy, PartialEq, Eq, Debug)]
+#[derive(Clone, Copy)]
 pub struct Tally {
     pub answers: u32,
     pub right: u32,

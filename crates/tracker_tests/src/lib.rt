@@ -2,15 +2,17 @@
 #![tactic(auto)]
 
 #[cfg(test)]
-mod between;
-#[cfg(test)]
 mod bound_tests;
 #[cfg(test)]
 mod call_tests;
 #[cfg(test)]
 mod parties;
 #[cfg(test)]
+mod plays;
+#[cfg(test)]
 mod room_tests;
+#[cfg(test)]
+mod rows;
 #[cfg(test)]
 mod sameness;
 #[cfg(test)]

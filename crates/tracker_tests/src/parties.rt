@@ -1,16 +1,18 @@
 //! A tracker with one subscriber and two callers, and what they have at hand.
 
-ghost use Rattle.std.specs.Prelude.{◌≡◌, ◌+◌, ◌<◌, ◌≤◌, ◌^◌, ◌∷◌, [], length, IfOk};
+ghost use Rattle.std.specs.Prelude.{◌≡◌, ◌+◌, ◌<◌, ◌∷◌, [], length, IfOk, OnOk};
 ghost use Rattle.region_plan.specs.Plan.{nodes_of};
 ghost use Rattle.station.specs.Handsets.{IsHandsetOf};
 ghost use Rattle.station.specs.Opening.{setup_of};
-ghost use Rattle.station.specs.Passes.{AreFresh, IsFree, IsPassOf, fresh_view};
-ghost use Rattle.tracker_tests.specs.Ready.{AreReady};
+ghost use Rattle.station.specs.Passes.{AreFresh, IsFreshPass, IsPassOf, fresh_view};
+ghost use Rattle.tracker_tests.specs.Ready.{AreNew, AreReady};
 
+use crate::sameness::same_shown;
 use handset::Handset;
 use region_plan::Plan;
 use station::{CloseCause, CloseFault, Pass, Tracker};
 use std::alloc::Global;
+use std::process::Abort;
 use std::test::Fail;
 
 // The pass of the subscriber with its handset, and the passes of the callers.
@@ -22,91 +24,83 @@ pub struct Parties {
     pub handset: Handset,
 }
 
-// What the subscriber is about to do.
-#[derive(Clone, Copy)]
-pub enum Task {
-    Rest,
-    SwitchOff,
-}
-
-// A tracker of a subscriber that starts at this node, and its parties; each pass has room for so
-// many visits.
+// A tracker of a subscriber that starts at this node, at rest or about to switch off, and its
+// parties.
 pub fn open(
     alloc: Global,
     plan: &Plan,
     home: u32,
-    task: Task,
-    visits: u64,
+    is_switching: bool,
 ) -> Result<(Tracker, Parties), Fail>
     requires inside { home < nodes_of plan.now }
-    requires few { visits ≤ 2 ^ 56 }
     ensures setup { IfOk result (λ pair. pair.0.setup ≡ setup_of plan.now (home ∷ []) 3) }
-    ensures ready { IfOk result (λ pair. AreReady pair.0 pair.1.own pair.1.caller pair.1.other
+    ensures parties { IfOk result (λ pair. AreNew pair.0 pair.1.own pair.1.caller pair.1.other
         pair.1.handset) }
 {
-    let handset = handset_for(alloc, plan, home, task)?;
+    let handset = handset_for(alloc, plan, home, is_switching)?;
     let (tracker, passes) = Tracker::new(alloc, plan, &[home], 2)?;
-    let parties = parties_of(&tracker, passes, handset, visits)?;
+    let parties = parties_of(&tracker, passes, handset);
     Ok((tracker, parties))
 }
 
-// The parties of the fresh passes of a tracker, each with room for so many visits.
-fn parties_of(
-    tracker: &Tracker,
-    mut passes: Vec<Pass>,
-    handset: Handset,
-    visits: u64,
-) -> Result<Parties, Fail>
+// The parties of the fresh passes of a tracker.
+fn parties_of(tracker: &Tracker, mut passes: Vec<Pass>, handset: Handset) -> Parties
     requires fresh { AreFresh tracker.now passes.items }
     requires count { length passes.items ≡ 3 }
     requires handset { IsHandsetOf tracker.now.setup (fresh_view tracker.now.setup 0) handset }
-    requires few { visits ≤ 2 ^ 56 }
-    ensures { IfOk result (λ parties. AreReady tracker.now parties.own parties.caller parties.other
-        parties.handset) }
+    ensures { AreNew tracker.now result.own result.caller result.other result.handset }
 {
-    let other = next_pass(tracker, &mut passes, 2, visits)?;
-    let caller = next_pass(tracker, &mut passes, 1, visits)?;
-    let own = next_pass(tracker, &mut passes, 0, visits)?;
-    Ok(Parties {
+    let other = next_pass(tracker, &mut passes, 2);
+    let caller = next_pass(tracker, &mut passes, 1);
+    let own = next_pass(tracker, &mut passes, 0);
+    Parties {
         own,
         caller,
         other,
         handset,
-    })
+    }
 }
 
-// The last of some fresh passes, with room for so many visits.
-pub fn next_pass(
-    tracker: &Tracker,
-    passes: &mut Vec<Pass>,
-    actor: u32,
-    visits: u64,
-) -> Result<Pass, Fail>
+// Sees to room for so many visits in each pass.
+pub fn reserve_all(tracker: &Tracker, parties: &mut Parties, visits: u32) -> Result<(), Fail>
+    requires { AreNew tracker.now parties.old.own parties.old.caller parties.old.other
+        parties.old.handset }
+    ensures { OnOk result (AreReady tracker.now parties.new.own parties.new.caller
+        parties.new.other parties.new.handset) }
+{
+    let _ = tracker;
+    let visits = u64::from(visits);
+    parties.own.reserve(visits)?;
+    parties.caller.reserve(visits)?;
+    parties.other.reserve(visits)?;
+    Ok(())
+}
+
+// The last of some fresh passes.
+pub fn next_pass(tracker: &Tracker, passes: &mut Vec<Pass>, actor: u32) -> Pass
     requires fresh { AreFresh tracker.now passes.old.items }
     requires count { length passes.old.items ≡ actor + 1 }
-    requires few { visits ≤ 2 ^ 56 }
     ensures fresh { AreFresh tracker.now passes.new.items }
     ensures count { length passes.new.items ≡ actor }
-    ensures free { IfOk result (IsFree tracker.now visits) }
-    ensures own { IfOk result (λ pass. pass.view ≡ fresh_view tracker.now.setup actor) }
+    ensures is_fresh { IsFreshPass tracker.now actor result }
 {
-    let Some(mut pass) = passes.pop() else {
-        return Err("a pass is there".into());
+    let _ = tracker;
+    let Some(pass) = passes.pop() else {
+        unreachable!()
     };
-    pass.reserve(visits)?;
-    Ok(pass)
+    pass
 }
 
 // The handset of the subscriber.
-fn handset_for(alloc: Global, plan: &Plan, home: u32, task: Task) -> Result<Handset, Fail>
+fn handset_for(alloc: Global, plan: &Plan, home: u32, is_switching: bool) -> Result<Handset, Fail>
     requires inside { home < nodes_of plan.now }
     ensures own { IfOk result (IsHandsetOf (setup_of plan.now (home ∷ []) 3)
         (fresh_view (setup_of plan.now (home ∷ []) 3) 0)) }
 {
-    match task {
-        Task::Rest => resting_handset(alloc, plan, home),
-        Task::SwitchOff => switching_handset(alloc, plan, home),
+    if is_switching {
+        return switching_handset(alloc, plan, home);
     }
+    resting_handset(alloc, plan, home)
 }
 
 // The handset at rest.
@@ -132,8 +126,23 @@ fn switching_handset(alloc: Global, plan: &Plan, home: u32) -> Result<Handset, F
     }
 }
 
-// Closes a tracker of three actors, first without the last of these passes.
-pub fn close(
+// The pass that is handed in before the last one, and the last: that of the subscriber or of the
+// first caller.
+fn in_order(tracker: &Tracker, own: Pass, caller: Pass, own_is_last: bool) -> (Pass, Pass)
+    requires own { IsPassOf tracker.now own }
+    requires caller { IsPassOf tracker.now caller }
+    ensures one { IsPassOf tracker.now result.0 }
+    ensures last { IsPassOf tracker.now result.1 }
+{
+    let _ = tracker;
+    if own_is_last {
+        return (caller, own);
+    }
+    (own, caller)
+}
+
+// Closes a tracker, first without its last pass: why that fails, and the actor of each ticket.
+fn close_twice(
     alloc: Global,
     tracker: Tracker,
     one: Pass,
@@ -144,9 +153,9 @@ pub fn close(
     requires two { IsPassOf tracker two }
     requires last { IsPassOf tracker last }
 {
-    let mut passes = Vec::new(alloc);
-    passes.push(one)?;
-    passes.push(two)?;
+    let mut passes = Vec::with_capacity(alloc, 2)?;
+    passes.push_reserved(one);
+    passes.push_reserved(two);
     let Err(fault) = tracker.close(alloc, passes) else {
         return Err("a pass is missing".into());
     };
@@ -160,4 +169,27 @@ pub fn close(
         Ok(order) => Ok((cause, order)),
         Err(_) => Err("all passes are there".into()),
     }
+}
+
+// Closes a tracker, first without the pass of the subscriber or of the first caller. Why that fails
+// and the actor of each ticket are to be shown so.
+pub fn close(
+    rt: &impl Abort,
+    alloc: Global,
+    tracker: Tracker,
+    parties: Parties,
+    own_is_last: bool,
+    wanted: &str,
+) -> Result<(), Fail>
+    requires { AreReady tracker parties.own parties.caller parties.other parties.handset }
+{
+    let Parties {
+        own,
+        caller,
+        other,
+        handset: _,
+    } = parties;
+    let (two, last) = in_order(&tracker, own, caller, own_is_last);
+    let (cause, order) = close_twice(alloc, tracker, other, two, last)?;
+    same_shown(rt, alloc, usize::MAX, &(cause, order), wanted)
 }

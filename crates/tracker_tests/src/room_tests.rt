@@ -3,18 +3,21 @@
 
 ghost use Rattle.std.specs.Prelude.{◌≡◌, ◌<◌, ◌≤◌, ◌^◌, [], IfOk};
 ghost use Rattle.region_plan.specs.Plan.{nodes_of};
-ghost use Rattle.station.specs.Passes.{AreFresh, IsFree, IsPassOf};
+ghost use Rattle.station.specs.Passes.{AreFresh, IsFreshPass, IsPassOf};
 ghost use Rattle.station.specs.Setup.{nodes_in, subs_in};
 
 use crate::parties::next_pass;
-use crate::sameness::same_numbers;
-use entry_word::{Key, PresenceMark, pack_mark};
-use net_graph::MAX_NODES;
+use crate::plays::{Over, Subject, perform};
+use crate::sameness::same_shown;
+use directory::Found;
+use distances::Distances;
+use entry_word::Key;
 use region_plan::Plan;
-use station::{CensusSeen, Pass, Tracker};
+use station::{CensusSeen, Looked, Pass, Tracker};
 use std::alloc::Global;
+use std::process::Abort;
 use std::test::Fail;
-use test_networks::{line_of_four, plan_of_most_nodes};
+use tracker_calls::find_now;
 
 // Whether a pass that has seen nothing has room for so many visits from now on.
 fn has_reserved(pass: &mut Pass, visits: u64) -> bool
@@ -28,11 +31,12 @@ fn has_reserved(pass: &mut Pass, visits: u64) -> bool
     }
 }
 
-// For how many visits there is room after each of some reserves: what is reserved stays, and room
-// that no memory has is refused.
+// For how many visits there is room after each of some reserves, of 9 first: what is reserved
+// stays, and room that no memory has is refused.
 fn rooms(mut pass: Pass) -> [u64; 5]
     requires fresh { pass.view.seen ≡ [] }
 {
+    let _ = has_reserved(&mut pass, 9);
     let first = pass.spare();
     let some = u64::from(has_reserved(&mut pass, 1 << 20));
     let more = pass.spare();
@@ -41,140 +45,183 @@ fn rooms(mut pass: Pass) -> [u64; 5]
     [first, more, pass.spare(), some, most + 2 * few]
 }
 
-// The same of the subscriber's pass of a new tracker, which has room for 9 visits.
-fn rooms_over(alloc: Global, plan: &Plan) -> Result<[u64; 5], Fail>
-    requires nodes { nodes_of plan.now ≡ 4 }
+/// The same of the subscriber's pass of a new tracker without callers.
+pub fn tell_rooms(
+    rt: &impl Abort,
+    alloc: Global,
+    plan: &Plan,
+    home: u32,
+    wanted: &str,
+) -> Result<(), Fail>
+    requires inside { home < nodes_of plan.now }
 {
-    let (tracker, mut passes) = Tracker::new(alloc, plan, &[3], 0)?;
-    let pass = next_pass(&tracker, &mut passes, 0, 9)?;
-    Ok(rooms(pass))
+    let (tracker, mut passes) = Tracker::new(alloc, plan, &[home], 0)?;
+    let pass = next_pass(&tracker, &mut passes, 0);
+    same_shown(rt, alloc, 0, &rooms(pass), wanted)
 }
 
 #[test]
 fn room_for_many_visits(rt: HostRuntime) -> Result<(), Fail> {
-    let (plan, _) = line_of_four(rt.alloc())?;
-    let found = rooms_over(rt.alloc(), &plan)?;
-    same_numbers(&rt, 0, &found, &[9, 1_048_576, 1_048_576, 1, 2]);
-    Ok(())
+    let wanted = "[9, 1048576, 1048576, 1, 2]";
+    perform(&rt, rt.alloc(), Over::Line, Subject::Rooms, wanted)
 }
 
-// A tracker of the most subscribers, all at the last node, and of the most callers; the passes of
-// all but the last two actors, and of these.
-fn open_all(alloc: Global, plan: &Plan) -> Result<(Tracker, Vec<Pass>, Pass, Pass), Fail>
-    requires nodes { nodes_of plan.now ≡ MAX_NODES }
+// The passes of all but the last two actors, and of these.
+#[derive(Drop)]
+struct Crowd {
+    passes: Vec<Pass>,
+    one: Pass,
+    last: Pass,
+}
+
+// A tracker of the most subscribers, all at one node, and of the most callers, with their passes.
+fn open_all(alloc: Global, plan: &Plan, home: u32) -> Result<(Tracker, Crowd), Fail>
+    requires inside { home < nodes_of plan.now }
     ensures plan { IfOk result (λ all. all.0.setup.plan ≡ plan.now) }
     ensures subs { IfOk result (λ all. subs_in all.0.setup ≡ 64) }
-    ensures fresh { IfOk result (λ all. AreFresh all.0 all.1.items) }
-    ensures one { IfOk result (λ all. IsFree all.0 9 all.2) }
-    ensures last { IfOk result (λ all. IsFree all.0 9 all.3) }
+    ensures fresh { IfOk result (λ all. AreFresh all.0 all.1.passes.items) }
+    ensures one { IfOk result (λ all. IsFreshPass all.0 126 all.1.one) }
+    ensures last { IfOk result (λ all. IsFreshPass all.0 127 all.1.last) }
 {
-    let (tracker, mut passes) = Tracker::new(alloc, plan, &[1023; 64], 64)?;
+    let (tracker, mut passes) = Tracker::new(alloc, plan, &[home; 64], 64)?;
     if passes.len() != 128 {
         return Err("there are 128 actors".into());
     }
-    let last = next_pass(&tracker, &mut passes, 127, 9)?;
-    let one = next_pass(&tracker, &mut passes, 126, 9)?;
-    Ok((tracker, passes, one, last))
+    let last = next_pass(&tracker, &mut passes, 127);
+    let one = next_pass(&tracker, &mut passes, 126);
+    Ok((tracker, Crowd { passes, one, last }))
 }
 
-// A census of the last node by one pass, and then a look by the other for the last subscriber.
+// A census of a node by the last pass, and then a look by the one before it for the last
+// subscriber, where either has room for 9 visits.
 fn visits(
     tracker: &Tracker,
     plan: &Plan,
-    last: &mut Pass,
-    one: &mut Pass,
-) -> Option<(CensusSeen, u64, u64)>
+    crowd: &mut Crowd,
+    node: u32,
+) -> Option<(CensusSeen, Looked)>
     requires plan { plan.now ≡ tracker.now.setup.plan }
-    requires nodes { nodes_in tracker.now.setup ≡ MAX_NODES }
+    requires node { node < nodes_in tracker.now.setup }
     requires subs { subs_in tracker.now.setup ≡ 64 }
-    requires last { IsFree tracker.now 1 last.old }
-    requires one { IsFree tracker.now 1 one.old }
-    ensures last { IsPassOf tracker.now last.new }
-    ensures one { IsPassOf tracker.now one.new }
+    requires fresh { AreFresh tracker.now crowd.old.passes.items }
+    requires one { IsFreshPass tracker.now 126 crowd.old.one }
+    requires last { IsFreshPass tracker.now 127 crowd.old.last }
+    ensures fresh { AreFresh tracker.now crowd.new.passes.items }
+    ensures one { IsPassOf tracker.now crowd.new.one }
+    ensures last { IsPassOf tracker.now crowd.new.last }
 {
-    let everybody = tracker.visit_census(last, 1023).ok();
-    let here = Key::Presence {
-        node: 1023,
-        sub: 63,
-    };
-    let looked = tracker.visit_look(one, plan, here).ok();
-    let (everybody, looked) = (everybody?, looked?);
-    Some((everybody, looked.ticket, looked.word))
+    crowd.last.reserve(9).ok()?;
+    crowd.one.reserve(9).ok()?;
+    let everybody = tracker.visit_census(&mut crowd.last, node).ok()?;
+    let here = Key::Presence { node, sub: 63 };
+    let looked = tracker.visit_look(&mut crowd.one, plan, here).ok()?;
+    Some((everybody, looked))
 }
 
 // Closes a tracker with some fresh passes and two more.
-fn close_all(
-    alloc: Global,
-    tracker: Tracker,
-    mut passes: Vec<Pass>,
-    one: Pass,
-    last: Pass,
-) -> Result<Vec<u32>, Fail>
-    requires fresh { AreFresh tracker passes.items }
-    requires one { IsPassOf tracker one }
-    requires last { IsPassOf tracker last }
+fn close_all(alloc: Global, tracker: Tracker, crowd: Crowd) -> Result<Vec<u32>, Fail>
+    requires fresh { AreFresh tracker crowd.passes.items }
+    requires one { IsPassOf tracker crowd.one }
+    requires last { IsPassOf tracker crowd.last }
 {
-    passes.push(one)?;
-    passes.push(last)?;
+    let Crowd {
+        mut passes,
+        one,
+        last,
+    } = crowd;
+    passes.reserve(2)?;
+    passes.push_reserved(one);
+    passes.push_reserved(last);
     match tracker.close(alloc, passes) {
         Ok(order) => Ok(order),
         Err(_) => Err("all passes are there".into()),
     }
 }
 
-// Those visits, and the actors of their tickets at the end.
-fn visits_of_all(
+/// Those visits, and the actors of their tickets at the end.
+pub fn tell_crowd(
+    rt: &impl Abort,
     alloc: Global,
     plan: &Plan,
-) -> Result<(Option<(CensusSeen, u64, u64)>, Vec<u32>), Fail>
-    requires nodes { nodes_of plan.now ≡ MAX_NODES }
+    home: u32,
+    wanted: &str,
+) -> Result<(), Fail>
+    requires inside { home < nodes_of plan.now }
 {
-    let (tracker, passes, mut one, mut last) = open_all(alloc, plan)?;
-    let seen = visits(&tracker, plan, &mut last, &mut one);
-    let order = close_all(alloc, tracker, passes, one, last)?;
-    Ok((seen, order))
+    let (tracker, mut crowd) = open_all(alloc, plan, home)?;
+    let seen = visits(&tracker, plan, &mut crowd, home);
+    let order = close_all(alloc, tracker, crowd)?;
+    same_shown(rt, alloc, 0, &(seen, order), wanted)
+}
+
+// The word of the look is that of a subscriber's presence where it starts.
+#[test]
+fn as_many_actors_as_there_may_be(rt: HostRuntime) -> Result<(), Fail> {
+    let wanted = "(Some((CensusSeen { ticket: 0, who: 18446744073709551615, count: 64 }, \
+        Looked { ticket: 1, word: 281474976710656 })), [127, 126])";
+    perform(&rt, rt.alloc(), Over::MostNodes, Subject::Crowd, wanted)
+}
+
+// What a find of the last of 64 subscribers answers, where its pass has room for 1029 visits, and
+// what the pass then says: its actor, how many visits it knows of, and for how many it has room.
+fn find_of_last(
+    tracker: &Tracker,
+    pass: &mut Pass,
+    plan: &Plan,
+    distances: &Distances,
+) -> (Option<Found>, [u64; 3])
+    requires plan { plan.now ≡ tracker.now.setup.plan }
+    requires belongs { plan.now.distances ≡ distances.now }
+    requires subs { subs_in tracker.now.setup ≡ 64 }
+    requires fresh { IsFreshPass tracker.now 127 pass.old }
+{
+    if pass.reserve(1029).is_err() {
+        return (None, [0; 3]);
+    }
+    let found = find_now(tracker, pass, plan, distances, 64, 0, 63).ok();
+    (found, [u64::from(pass.actor()), pass.seen(), pass.spare()])
+}
+
+/// The same of the last caller.
+pub fn tell_find(
+    rt: &impl Abort,
+    alloc: Global,
+    plan: &Plan,
+    distances: &Distances,
+    home: u32,
+    wanted: &str,
+) -> Result<(), Fail>
+    requires inside { home < nodes_of plan.now }
+    requires belongs { plan.now.distances ≡ distances.now }
+{
+    let (tracker, mut crowd) = open_all(alloc, plan, home)?;
+    let seen = find_of_last(&tracker, &mut crowd.last, plan, distances);
+    same_shown(rt, alloc, 0, &seen, wanted)
 }
 
 #[test]
-fn as_many_actors_as_there_may_be(rt: HostRuntime) -> Result<(), Fail> {
-    let everybody = CensusSeen {
-        ticket: 0,
-        who: u64::MAX,
-        count: 64,
-    };
-    let here = pack_mark(PresenceMark::Here { number: 0 });
-    let (plan, _) = plan_of_most_nodes(rt.alloc())?;
-    let (seen, order) = visits_of_all(rt.alloc(), &plan)?;
-    assert!(rt; seen == Some((everybody, 1, here)) && order.as_slice() == [127, 126].as_slice());
-    Ok(())
+fn a_find_among_all(rt: HostRuntime) -> Result<(), Fail> {
+    let wanted = "(Some(At { node: 1023, number: 0, level: Some(0), weight: 1023 }), \
+        [127, 3, 1026])";
+    perform(&rt, rt.alloc(), Over::MostNodes, Subject::Find, wanted)
 }
 
-// So many censuses of a node by one pass; whether each was made.
-fn count_often(tracker: &Tracker, pass: &mut Pass, node: u32, times: u64) -> bool
+// So many censuses of a node by one fresh pass; whether each was made.
+fn count_often(tracker: &Tracker, pass: &mut Pass, actor: u32, node: u32, times: u32) -> bool
     requires node { node < nodes_in tracker.now.setup }
-    requires free { IsFree tracker.now times pass.old }
+    requires fresh { IsFreshPass tracker.now actor pass.old }
     ensures of { IsPassOf tracker.now pass.new }
 {
+    let _ = actor;
+    if pass.reserve(u64::from(times)).is_err() {
+        return false;
+    }
     for _step in 0..times {
         if tracker.visit_census(pass, node).is_err() {
             return false;
         }
     }
     true
-}
-
-// The actors of the tickets where the caller counts so often, and then the subscriber.
-fn order_of_many(alloc: Global, plan: &Plan, times: u64) -> Result<Vec<u32>, Fail>
-    requires nodes { nodes_of plan.now ≡ 4 }
-    requires few { times ≤ 2 ^ 56 }
-{
-    let (tracker, mut passes) = Tracker::new(alloc, plan, &[3], 1)?;
-    let mut caller = next_pass(&tracker, &mut passes, 1, times)?;
-    let mut own = next_pass(&tracker, &mut passes, 0, times)?;
-    if !count_often(&tracker, &mut caller, 3, times) || !count_often(&tracker, &mut own, 0, times) {
-        return Err("nobody is inside a node".into());
-    }
-    close_all(alloc, tracker, passes, own, caller)
 }
 
 // Whether each of some numbers is this one.
@@ -196,10 +243,40 @@ fn are_in_turn(order: &[u32], times: usize) -> bool {
     rest.len() == times && are_all(first, 1) && are_all(rest, 0)
 }
 
+// The actors of the tickets where the caller counts so often at one node, and then the subscriber
+// at node 0; and whether each count was made.
+fn order_of_many(
+    alloc: Global,
+    plan: &Plan,
+    home: u32,
+    times: u32,
+) -> Result<(bool, Vec<u32>), Fail>
+    requires inside { home < nodes_of plan.now }
+{
+    let (tracker, mut passes) = Tracker::new(alloc, plan, &[home], 1)?;
+    let mut last = next_pass(&tracker, &mut passes, 1);
+    let mut one = next_pass(&tracker, &mut passes, 0);
+    let first = count_often(&tracker, &mut last, 1, home, times);
+    let second = count_often(&tracker, &mut one, 0, 0, times);
+    let order = close_all(alloc, tracker, Crowd { passes, one, last })?;
+    Ok((first && second, order))
+}
+
+/// Whether the counts were made, and such an order is that of 5000 visits each.
+pub fn tell_many(
+    rt: &impl Abort,
+    alloc: Global,
+    plan: &Plan,
+    home: u32,
+    wanted: &str,
+) -> Result<(), Fail>
+    requires inside { home < nodes_of plan.now }
+{
+    let (made, order) = order_of_many(alloc, plan, home, 5_000)?;
+    same_shown(rt, alloc, 0, &(made, are_in_turn(&order, 5_000)), wanted)
+}
+
 #[test]
 fn a_tracker_of_many_visits(rt: HostRuntime) -> Result<(), Fail> {
-    let (plan, _) = line_of_four(rt.alloc())?;
-    let order = order_of_many(rt.alloc(), &plan, 5_000)?;
-    assert!(rt; are_in_turn(&order, 5_000));
-    Ok(())
+    perform(&rt, rt.alloc(), Over::Line, Subject::Many, "(true, true)")
 }

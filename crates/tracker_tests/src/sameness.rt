@@ -1,14 +1,19 @@
-//! Comparisons that tell what was found where it isn't what was wanted. In each `place` tells which
-//! of a test's comparisons it is.
+//! The comparison of what was found with what is wanted, as texts.
+use std::alloc::Global;
 use std::fmt::Debug;
 use std::process::Abort;
+use std::test::Fail;
 
-/// Stops with both values where they differ.
-pub fn same<T: PartialEq + Debug + Drop>(rt: &impl Abort, place: usize, found: T, wanted: T) {
-    assert_eq!(rt; found, wanted, "at {place}");
-}
-
-/// Stops with both lists where they differ.
-pub fn same_numbers(rt: &impl Abort, place: usize, found: &[u64], wanted: &[u64]) {
-    same(rt, place, found, wanted);
+/// Stops where a value isn't shown by `{:?}` as is wanted. `place` tells which of a test's
+/// comparisons it is.
+pub fn same_shown<T: Debug>(
+    rt: &impl Abort,
+    alloc: Global,
+    place: usize,
+    found: &T,
+    wanted: &str,
+) -> Result<(), Fail> {
+    let shown = format!(in alloc; "{found:?}")?;
+    assert_eq!(rt; shown.as_str(), wanted, "at {place}");
+    Ok(())
 }

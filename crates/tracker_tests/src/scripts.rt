@@ -1,178 +1,327 @@
-//! Scripts: tables of steps, each with what is to be seen of it, and how they are played.
+//! Scripts: rows of steps, each with what is to be seen of it, and how they are played. A row
+//! begins with who does it: `own`, the subscriber; `caller`, the first caller; `other`, the second
+//! one, which hears what the first has seen; or `held`, behind which stand a node and a step of one
+//! of the first two, taken while the second caller is inside the node.
 
-ghost use Rattle.std.specs.Prelude.{◌≡◌, ◌<◌, ◌≤◌, ◌^◌};
-ghost use Rattle.region_plan.specs.Plan.{nodes_of};
-ghost use Rattle.tracker_tests.specs.Ready.{AreReady, IsOver};
+ghost use Rattle.std.specs.Prelude.{OnOk};
+ghost use Rattle.station.specs.Handsets.{IsHandsetOf};
+ghost use Rattle.station.specs.Passes.{IsFree};
+ghost use Rattle.tracker_tests.specs.Ready.{AreNew, AreReady, IsOver};
 
-use crate::between::{census_between, find_between, hear_between};
-use crate::parties::{Parties, Task, close, open};
-use crate::sameness::same;
+use crate::parties::{Parties, reserve_all};
+use crate::rows::{first_word, number_of, row_of, rows_in, step_of};
+use crate::sameness::same_shown;
 use crate::steps::{
-    Seen, Step, ask, ask_while_held, begin, hear, make_step, make_step_while_held, put, whole_move,
+    begin, census, find_soon, find_through, first_look, hear, look, make_step, put, whole_move,
 };
 use distances::Distances;
+use handset::Handset;
 use region_plan::Plan;
-use station::{CloseCause, Tracker};
+use station::{Pass, Tracker};
 use std::alloc::Global;
 use std::process::Abort;
 use std::sync::Wait;
 use std::test::Fail;
-use test_networks::{line_of_four, plan_of_most_nodes};
 
-fn state(parties: &Parties) -> Seen {
-    let Parties {
-        own,
-        caller,
-        other,
-        handset,
-    } = parties;
-    Seen::State {
-        seen: [own.seen(), caller.seen(), other.seen()],
-        spare: [own.spare(), caller.spare(), other.spare()],
-        is_off: handset.is_off(),
-    }
-}
-
-fn take<R: Wait>(
-    rt: &R,
-    tracker: &Tracker,
-    plan: &Plan,
-    distances: &Distances,
-    parties: &mut Parties,
-    step: Step,
-) -> Seen
-    requires over { IsOver tracker.now plan.now distances.now }
-    requires ready { AreReady tracker.now parties.old.own parties.old.caller parties.old.other
-        parties.old.handset }
-    ensures { AreReady tracker.now parties.new.own parties.new.caller parties.new.other
-        parties.new.handset }
-{
-    let Parties {
-        own,
-        caller,
-        other,
-        handset,
-    } = parties;
-    match step {
-        Step::Begin(to) => begin(tracker, own, plan, distances, handset, to),
-        Step::Put => put(tracker, own, plan, handset),
-        Step::MoveStep => make_step(tracker, own, plan, handset),
-        Step::HeldStep(node) => make_step_while_held(tracker, other, own, plan, handset, node),
-        Step::MoveTo(to) => whole_move(rt, tracker, own, plan, distances, handset, to),
-        Step::HearBetween => {
-            hear_between(tracker, caller, own, handset);
-            Seen::Done
-        }
-        Step::CensusBetween(node) => census_between(tracker, own, plan, handset, node),
-        Step::FindBetween(from) => find_between(tracker, own, plan, distances, handset, from),
-        Step::HearSubscriber => {
-            hear(tracker, own, caller);
-            Seen::Done
-        }
-        Step::HearCaller => {
-            hear(tracker, caller, other);
-            Seen::Done
-        }
-        Step::Ask(call) => ask(rt, tracker, caller, plan, distances, call),
-        Step::HeldAsk(node, call) => {
-            ask_while_held(rt, tracker, other, caller, plan, distances, node, call)
-        }
-        Step::State => state(parties),
-    }
-}
-
-// Each step of a script is to be seen as the script says.
-fn play<R: Wait + Abort>(
-    rt: &R,
-    tracker: &Tracker,
-    plan: &Plan,
-    distances: &Distances,
-    parties: &mut Parties,
-    script: &[(Step, Seen)],
-)
-    requires over { IsOver tracker.now plan.now distances.now }
-    requires ready { AreReady tracker.now parties.old.own parties.old.caller parties.old.other
-        parties.old.handset }
-    ensures { AreReady tracker.now parties.new.own parties.new.caller parties.new.other
-        parties.new.handset }
-{
-    'steps: for at in 0..script.len() {
-        let (step, wanted) = script[at];
-        let seen = take(rt, tracker, plan, distances, parties, step);
-        same(rt, at, seen, wanted);
-    }
-}
-
-// Plays a script over a plan, and closes the tracker: first without the caller's pass, which is
-// then missed, and then with all, which gives the actor of each ticket.
-fn play_over<R: Wait + Abort>(
+// A step of the subscriber.
+fn take_own<R: Wait + Abort>(
     rt: &R,
     alloc: Global,
+    place: usize,
+    tracker: &Tracker,
     plan: &Plan,
     distances: &Distances,
-    home: u32,
-    task: Task,
-    visits: u64,
-    script: &[(Step, Seen)],
-) -> Result<Vec<u32>, Fail>
-    requires belongs { plan.now.distances ≡ distances.now }
-    requires inside { home < nodes_of plan.now }
-    requires few { visits ≤ 2 ^ 56 }
+    own: &mut Pass,
+    handset: &mut Handset,
+    step: &str,
+    wanted: &str,
+) -> Result<(), Fail>
+    requires over { IsOver tracker.now plan.now distances.now }
+    requires free { IsFree tracker.now 0 own.old }
+    requires own { IsHandsetOf tracker.now.setup own.old.view handset.old }
+    ensures free { IsFree tracker.now 0 own.new }
+    ensures own { IsHandsetOf tracker.now.setup own.new.view handset.new }
 {
-    let (tracker, mut parties) = open(alloc, plan, home, task, visits)?;
-    play(rt, &tracker, plan, distances, &mut parties, script);
+    let (name, one, two) = step_of(step);
+    match name {
+        "begin" => {
+            let begun = begin(tracker, own, plan, distances, handset, one);
+            same_shown(rt, alloc, place, &begun, wanted)
+        }
+        "put" => same_shown(rt, alloc, place, &put(tracker, own, plan, handset), wanted),
+        "step" => {
+            let made = make_step(tracker, own, plan, handset);
+            same_shown(rt, alloc, place, &made, wanted)
+        }
+        "move" => {
+            let moved = whole_move(rt, tracker, own, plan, distances, handset, one);
+            same_shown(rt, alloc, place, &moved, wanted)
+        }
+        "census" => same_shown(rt, alloc, place, &census(tracker, own, plan, one), wanted),
+        "find-now" => {
+            let found = find_soon(tracker, own, plan, distances, one, two);
+            same_shown(rt, alloc, place, &found, wanted)
+        }
+        _ => Err("there is no such step".into()),
+    }
+}
+
+// A step of the first caller.
+fn take_called<R: Wait + Abort>(
+    rt: &R,
+    alloc: Global,
+    place: usize,
+    tracker: &Tracker,
+    plan: &Plan,
+    distances: &Distances,
+    caller: &mut Pass,
+    step: &str,
+    wanted: &str,
+) -> Result<(), Fail>
+    requires over { IsOver tracker.now plan.now distances.now }
+    requires free { IsFree tracker.now 0 caller.old }
+    ensures free { IsFree tracker.now 0 caller.new }
+{
+    let (name, one, two) = step_of(step);
+    match name {
+        "look" => {
+            let looked = look(tracker, caller, plan, distances, one);
+            same_shown(rt, alloc, place, &looked, wanted)
+        }
+        "first-look" => {
+            let looked = first_look(tracker, caller, plan, distances, one);
+            same_shown(rt, alloc, place, &looked, wanted)
+        }
+        "census" => same_shown(
+            rt,
+            alloc,
+            place,
+            &census(tracker, caller, plan, one),
+            wanted,
+        ),
+        "find-now" => {
+            let found = find_soon(tracker, caller, plan, distances, one, two);
+            same_shown(rt, alloc, place, &found, wanted)
+        }
+        "find" => {
+            let found = find_through(rt, tracker, caller, plan, distances, one, two);
+            same_shown(rt, alloc, place, &found, wanted)
+        }
+        _ => Err("there is no such call".into()),
+    }
+}
+
+// A step of one of these two.
+fn take_free<R: Wait + Abort>(
+    rt: &R,
+    alloc: Global,
+    place: usize,
+    tracker: &Tracker,
+    plan: &Plan,
+    distances: &Distances,
+    own: &mut Pass,
+    caller: &mut Pass,
+    handset: &mut Handset,
+    step: &str,
+    wanted: &str,
+) -> Result<(), Fail>
+    requires over { IsOver tracker.now plan.now distances.now }
+    requires free { IsFree tracker.now 0 own.old }
+    requires caller { IsFree tracker.now 0 caller.old }
+    requires own { IsHandsetOf tracker.now.setup own.old.view handset.old }
+    ensures free { IsFree tracker.now 0 own.new }
+    ensures caller { IsFree tracker.now 0 caller.new }
+    ensures own { IsHandsetOf tracker.now.setup own.new.view handset.new }
+{
+    let (who, step) = first_word(step);
+    if who == "own" {
+        return take_own(
+            rt, alloc, place, tracker, plan, distances, own, handset, step, wanted,
+        );
+    }
+    take_called(
+        rt, alloc, place, tracker, plan, distances, caller, step, wanted,
+    )
+}
+
+// A step of one of these two, while the second caller is inside a node.
+fn take_held<R: Wait + Abort>(
+    rt: &R,
+    alloc: Global,
+    place: usize,
+    tracker: &Tracker,
+    plan: &Plan,
+    distances: &Distances,
+    parties: &mut Parties,
+    step: &str,
+    wanted: &str,
+) -> Result<(), Fail>
+    requires over { IsOver tracker.now plan.now distances.now }
+    requires ready { AreReady tracker.now parties.old.own parties.old.caller parties.old.other
+        parties.old.handset }
+    ensures { AreReady tracker.now parties.new.own parties.new.caller parties.new.other
+        parties.new.handset }
+{
+    let Parties {
+        own,
+        caller,
+        other,
+        handset,
+    } = parties;
+    let (node, step) = first_word(step);
+    let node = number_of(node);
+    if node >= plan.nodes() {
+        return Err("there is no such node".into());
+    }
+    let Ok(stay) = tracker.enter(other, node) else {
+        return Err("nobody is inside the node".into());
+    };
+    let taken = take_free(
+        rt, alloc, place, tracker, plan, distances, own, caller, handset, step, wanted,
+    );
+    tracker.leave(other, stay);
+    taken
+}
+
+// One pass hears what another has seen, if they are such.
+fn take_heard(tracker: &Tracker, parties: &mut Parties, step: &str) -> bool
+    requires ready { AreReady tracker.now parties.old.own parties.old.caller parties.old.other
+        parties.old.handset }
+    ensures { AreReady tracker.now parties.new.own parties.new.caller parties.new.other
+        parties.new.handset }
+{
     let Parties {
         own,
         caller,
         other,
         handset: _,
     } = parties;
-    let (cause, order) = close(alloc, tracker, other, own, caller)?;
-    if cause != (CloseCause::Missing { actor: 1 }) {
-        return Err("the caller's pass is missing".into());
+    match step {
+        "own caller" => hear(tracker, caller, own),
+        "caller own" => hear(tracker, own, caller),
+        "other caller" => hear(tracker, caller, other),
+        _ => return false,
     }
-    Ok(order)
+    true
 }
 
-// Plays a script over the line 0 - 1 - 2 - 3 with the subscriber at node 3, where each pass has
-// room for so many visits, and compares the actors of the tickets.
-pub fn play_on_line<R: Wait + Abort>(
+// What each pass has seen and has room for, and whether the subscriber is off.
+fn state(parties: &Parties) -> ([u64; 3], [u64; 3], bool) {
+    let Parties {
+        own,
+        caller,
+        other,
+        handset,
+    } = parties;
+    (
+        [own.seen(), caller.seen(), other.seen()],
+        [own.spare(), caller.spare(), other.spare()],
+        handset.is_off(),
+    )
+}
+
+// Whose the passes are, once the rule has been told of the first.
+fn actors(tracker: &Tracker, parties: &mut Parties) -> [u32; 3]
+    requires ready { AreReady tracker.now parties.old.own parties.old.caller parties.old.other
+        parties.old.handset }
+    ensures { AreReady tracker.now parties.new.own parties.new.caller parties.new.other
+        parties.new.handset }
+{
+    tracker.witness(&mut parties.own);
+    [
+        parties.own.actor(),
+        parties.caller.actor(),
+        parties.other.actor(),
+    ]
+}
+
+fn take<R: Wait + Abort>(
     rt: &R,
     alloc: Global,
-    task: Task,
-    visits: u64,
-    script: &[(Step, Seen)],
-    wanted: &[u32],
+    place: usize,
+    tracker: &Tracker,
+    plan: &Plan,
+    distances: &Distances,
+    parties: &mut Parties,
+    step: &str,
+    wanted: &str,
 ) -> Result<(), Fail>
-    requires few { visits ≤ 2 ^ 56 }
+    requires over { IsOver tracker.now plan.now distances.now }
+    requires ready { AreReady tracker.now parties.old.own parties.old.caller parties.old.other
+        parties.old.handset }
+    ensures { AreReady tracker.now parties.new.own parties.new.caller parties.new.other
+        parties.new.handset }
 {
-    let (plan, distances) = line_of_four(alloc)?;
-    let order = play_over(rt, alloc, &plan, &distances, 3, task, visits, script)?;
-    same(rt, script.len(), order.as_slice(), wanted);
+    let (who, rest) = first_word(step);
+    match who {
+        "state" => same_shown(rt, alloc, place, &state(parties), wanted),
+        "actors" => same_shown(rt, alloc, place, &actors(tracker, parties), wanted),
+        "hear" => same_shown(
+            rt,
+            alloc,
+            place,
+            &take_heard(tracker, parties, rest),
+            wanted,
+        ),
+        "held" => take_held(
+            rt, alloc, place, tracker, plan, distances, parties, rest, wanted,
+        ),
+        _ => {
+            let Parties {
+                own,
+                caller,
+                other: _,
+                handset,
+            } = parties;
+            take_free(
+                rt, alloc, place, tracker, plan, distances, own, caller, handset, step, wanted,
+            )
+        }
+    }
+}
+
+// Each row is to be seen as it says.
+fn play<R: Wait + Abort>(
+    rt: &R,
+    alloc: Global,
+    tracker: &Tracker,
+    plan: &Plan,
+    distances: &Distances,
+    parties: &mut Parties,
+    rows: &str,
+) -> Result<(), Fail>
+    requires over { IsOver tracker.now plan.now distances.now }
+    requires ready { AreReady tracker.now parties.old.own parties.old.caller parties.old.other
+        parties.old.handset }
+    ensures { AreReady tracker.now parties.new.own parties.new.caller parties.new.other
+        parties.new.handset }
+{
+    'steps: for place in 0..rows_in(rows) {
+        let (step, wanted) = row_of(rows, place);
+        take(
+            rt, alloc, place, tracker, plan, distances, parties, step, wanted,
+        )?;
+    }
     Ok(())
 }
 
-// Plays a script over the path of the most nodes with the subscriber at the last node.
-pub fn play_on_most_nodes<R: Wait + Abort>(
+/// The same from the opening on, where each pass has room for so many visits.
+pub fn play_from_opening<R: Wait + Abort>(
     rt: &R,
     alloc: Global,
-    visits: u64,
-    script: &[(Step, Seen)],
-    wanted: &[u32],
+    tracker: &Tracker,
+    plan: &Plan,
+    distances: &Distances,
+    parties: &mut Parties,
+    visits: u32,
+    rows: &str,
 ) -> Result<(), Fail>
-    requires few { visits ≤ 2 ^ 56 }
+    requires over { IsOver tracker.now plan.now distances.now }
+    requires new { AreNew tracker.now parties.old.own parties.old.caller parties.old.other
+        parties.old.handset }
+    ensures { OnOk result (AreReady tracker.now parties.new.own parties.new.caller
+        parties.new.other parties.new.handset) }
 {
-    let (plan, distances) = plan_of_most_nodes(alloc)?;
-    let order = play_over(
-        rt,
-        alloc,
-        &plan,
-        &distances,
-        1023,
-        Task::Rest,
-        visits,
-        script,
-    )?;
-    same(rt, script.len(), order.as_slice(), wanted);
-    Ok(())
+    reserve_all(tracker, parties, visits)?;
+    play(rt, alloc, tracker, plan, distances, parties, rows)
 }

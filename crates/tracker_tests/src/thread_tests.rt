@@ -1,27 +1,28 @@
 //! Two threads over one tracker: looks side by side, and calls that lose a turn and try again.
 
-ghost use Rattle.std.specs.Prelude.{◌≡◌, ◌<◌, ◌≤◌, ◌^◌};
-ghost use Rattle.region_plan.specs.Plan.{nodes_of};
+ghost use Rattle.std.specs.Prelude.{◌<◌};
 ghost use Rattle.std.specs.Thread.{IsSync};
 ghost use Rattle.station.specs.Handsets.{IsHandsetOf};
 ghost use Rattle.station.specs.Passes.{IsFree};
 ghost use Rattle.station.specs.Setup.{nodes_in};
 ghost use Rattle.tracker_tests.specs.Ready.{AreReady, IsOver};
 
-use crate::parties::{Parties, Task, open};
-use crate::steps::{Call, Seen, ask, whole_move};
+use crate::parties::Parties;
+use crate::plays::{End, Over, Script, Subject, perform};
+use crate::sameness::same_shown;
+use crate::steps::{find_through, whole_move};
 use directory::Found;
 use distances::Distances;
 use handset::Handset;
 use region_plan::Plan;
 use station::{Pass, Tracker};
 use std::alloc::Global;
+use std::process::Abort;
 use std::sync::Wait;
 use std::sync::atomic::{AtomicU64, Ordering};
 use std::test::Fail;
 use std::thread::{Threads, join, yield_now};
-use test_networks::line_of_four;
-use tracker_calls::Moved;
+use tracker_calls::{FindRefusal, MoveToFault, Moved};
 
 // How far the two threads are: the one is inside the node, and then the other calls.
 const INSIDE: u64 = 1;
@@ -43,13 +44,18 @@ fn look_at_once<R: Threads + Sync>(
     tracker: &Tracker,
     plan: &Plan,
     distances: &Distances,
-    caller: Pass,
-    other: Pass,
+    parties: Parties,
 ) -> (u64, u64)
     requires over { IsOver tracker.now plan.now distances.now }
-    requires caller { IsFree tracker.now 0 caller }
-    requires other { IsFree tracker.now 0 other }
+    requires caller { IsFree tracker.now 0 parties.caller }
+    requires other { IsFree tracker.now 0 parties.other }
 {
+    let Parties {
+        own: _,
+        caller,
+        other,
+        handset: _,
+    } = parties;
     join(
         rt,
         || -> u64
@@ -100,14 +106,13 @@ fn find_late<R: Wait>(
     distances: &Distances,
     mut pass: Pass,
     reached: &AtomicU64,
-) -> Seen
+) -> Result<Found, FindRefusal>
     requires over { IsOver tracker.now plan.now distances.now }
     requires free { IsFree tracker.now 0 pass }
 {
     wait_for(rt, reached, INSIDE);
     reached.store(CALLING, Ordering::SeqCst);
-    let call = Call::Find { from: 2, sub: 0 };
-    ask(rt, tracker, &mut pass, plan, distances, call)
+    find_through(rt, tracker, &mut pass, plan, distances, 2, 0)
 }
 
 // Moves the subscriber to node 2 once the other thread is inside its node.
@@ -119,7 +124,7 @@ fn move_late<R: Wait>(
     mut pass: Pass,
     mut handset: Handset,
     reached: &AtomicU64,
-) -> Seen
+) -> Result<Moved, MoveToFault>
     requires over { IsOver tracker.now plan.now distances.now }
     requires free { IsFree tracker.now 0 pass }
     requires own { IsHandsetOf tracker.now.setup pass.view handset }
@@ -135,14 +140,19 @@ fn find_beside<R: Threads + Wait + Sync>(
     tracker: &Tracker,
     plan: &Plan,
     distances: &Distances,
-    caller: Pass,
-    other: Pass,
-) -> (bool, Seen)
+    parties: Parties,
+) -> (bool, Result<Found, FindRefusal>)
     requires node { 3 < nodes_in tracker.now.setup }
     requires over { IsOver tracker.now plan.now distances.now }
-    requires caller { IsFree tracker.now 0 caller }
-    requires other { IsFree tracker.now 0 other }
+    requires caller { IsFree tracker.now 0 parties.caller }
+    requires other { IsFree tracker.now 0 parties.other }
 {
+    let Parties {
+        own: _,
+        caller,
+        other,
+        handset: _,
+    } = parties;
     let reached = AtomicU64::new(0);
     let shared = &reached;
     join(
@@ -151,7 +161,7 @@ fn find_beside<R: Threads + Wait + Sync>(
             requires { IsSync R.row × (3 < nodes_in tracker.now.setup)
                 × IsFree tracker.now 0 other }
         { hold(rt, tracker, other, 3, shared) },
-        || -> Seen
+        || -> Result<Found, FindRefusal>
             requires { IsSync R.row × IsOver tracker.now plan.now distances.now
                 × IsFree tracker.now 0 caller }
         { find_late(rt, tracker, plan, distances, caller, shared) },
@@ -164,16 +174,20 @@ fn move_beside<R: Threads + Wait + Sync>(
     tracker: &Tracker,
     plan: &Plan,
     distances: &Distances,
-    own: Pass,
-    handset: Handset,
-    other: Pass,
-) -> (bool, Seen)
+    parties: Parties,
+) -> (bool, Result<Moved, MoveToFault>)
     requires node { 3 < nodes_in tracker.now.setup }
     requires over { IsOver tracker.now plan.now distances.now }
-    requires free { IsFree tracker.now 0 own }
-    requires own { IsHandsetOf tracker.now.setup own.view handset }
-    requires other { IsFree tracker.now 0 other }
+    requires free { IsFree tracker.now 0 parties.own }
+    requires own { IsHandsetOf tracker.now.setup parties.own.view parties.handset }
+    requires other { IsFree tracker.now 0 parties.other }
 {
+    let Parties {
+        own,
+        caller: _,
+        other,
+        handset,
+    } = parties;
     let reached = AtomicU64::new(0);
     let shared = &reached;
     join(
@@ -182,124 +196,86 @@ fn move_beside<R: Threads + Wait + Sync>(
             requires { IsSync R.row × (3 < nodes_in tracker.now.setup)
                 × IsFree tracker.now 0 other }
         { hold(rt, tracker, other, 3, shared) },
-        || -> Seen
+        || -> Result<Moved, MoveToFault>
             requires { IsSync R.row × IsOver tracker.now plan.now distances.now
                 × IsFree tracker.now 0 own × IsHandsetOf tracker.now.setup own.view handset }
         { move_late(rt, tracker, plan, distances, own, handset, shared) },
     )
 }
 
-// What two threads do at once.
+/// What two threads do at once.
 #[derive(Clone, Copy)]
-enum Pair {
+pub enum Pair {
     Looks,
     Find,
     Move,
 }
 
-// What is seen of it: of looks, how many visits each pass has seen; of a call, whether the other
-// thread held its node, and what the call saw.
-#[derive(Clone, Copy, PartialEq, Eq, Debug)]
-enum Both {
-    Looks(u64, u64),
-    Call(bool, Seen),
-}
-
-fn act<R: Threads + Wait + Sync>(
+/// What is to be shown of it: of looks, how many visits each pass has seen, the lesser number
+/// first; of a call, whether the other thread held its node, and what the call answered.
+pub fn act<R: Threads + Wait + Sync + Abort>(
     rt: &R,
+    alloc: Global,
     tracker: &Tracker,
     plan: &Plan,
     distances: &Distances,
     parties: Parties,
     pair: Pair,
-) -> Both
+    wanted: &str,
+) -> Result<(), Fail>
     requires node { 3 < nodes_in tracker.now.setup }
     requires over { IsOver tracker.now plan.now distances.now }
     requires ready { AreReady tracker.now parties.own parties.caller parties.other
         parties.handset }
 {
-    let Parties {
-        own,
-        caller,
-        other,
-        handset,
-    } = parties;
     match pair {
         Pair::Looks => {
-            let (a, b) = look_at_once(rt, tracker, plan, distances, caller, other);
-            Both::Looks(a, b)
+            let (a, b) = look_at_once(rt, tracker, plan, distances, parties);
+            same_shown(rt, alloc, 0, &(a.min(b), a.max(b)), wanted)
         }
         Pair::Find => {
-            let (held, seen) = find_beside(rt, tracker, plan, distances, caller, other);
-            Both::Call(held, seen)
+            let both = find_beside(rt, tracker, plan, distances, parties);
+            same_shown(rt, alloc, 0, &both, wanted)
         }
         Pair::Move => {
-            let (held, seen) = move_beside(rt, tracker, plan, distances, own, handset, other);
-            Both::Call(held, seen)
+            let both = move_beside(rt, tracker, plan, distances, parties);
+            same_shown(rt, alloc, 0, &both, wanted)
         }
     }
 }
 
-// The same over the line, where each pass has room for so many visits.
-fn act_on_line<R: Threads + Wait + Sync>(
+// On the line, where each pass has room for so many visits.
+fn act_on_line<R: Threads + Wait + Sync + Abort>(
     rt: &R,
     alloc: Global,
-    visits: u64,
+    visits: u32,
     pair: Pair,
-) -> Result<Both, Fail>
-    requires { visits ≤ 2 ^ 56 }
-{
-    let (plan, distances) = line_of_four(alloc)?;
-    act_over(rt, alloc, &plan, &distances, visits, pair)
-}
-
-fn act_over<R: Threads + Wait + Sync>(
-    rt: &R,
-    alloc: Global,
-    plan: &Plan,
-    distances: &Distances,
-    visits: u64,
-    pair: Pair,
-) -> Result<Both, Fail>
-    requires few { visits ≤ 2 ^ 56 }
-    requires nodes { nodes_of plan.now ≡ 4 }
-    requires copy { plan.now.distances ≡ distances.now }
-{
-    let (tracker, parties) = open(alloc, plan, 3, Task::Rest, visits)?;
-    Ok(act(rt, &tracker, plan, distances, parties, pair))
+    wanted: &str,
+) -> Result<(), Fail> {
+    let script = Script {
+        is_switching: false,
+        visits,
+        rows: "",
+        end: End::AtOnce(pair),
+    };
+    perform(rt, alloc, Over::Line, Subject::Script(script), wanted)
 }
 
 #[test]
 fn two_looks(rt: HostRuntime) -> Result<(), Fail> {
-    let both = act_on_line(&rt, rt.alloc(), 9, Pair::Looks)?;
-    assert!(rt; both == Both::Looks(1, 2) || both == Both::Looks(2, 1));
-    Ok(())
+    act_on_line(&rt, rt.alloc(), 9, Pair::Looks, "(1, 2)")
 }
 
 // The find has looked at nodes 2 and 0 when it loses its turn at node 3.
 #[test]
 fn a_find_waits(rt: HostRuntime) -> Result<(), Fail> {
-    let found = Found::At {
-        node: 3,
-        number: 0,
-        level: Some(0),
-        weight: 5,
-    };
-    let both = act_on_line(&rt, rt.alloc(), 20, Pair::Find)?;
-    assert!(rt; both == Both::Call(true, Seen::Found(found)));
-    Ok(())
+    let wanted = "(true, Ok(At { node: 3, number: 0, level: Some(0), weight: 5 }))";
+    act_on_line(&rt, rt.alloc(), 20, Pair::Find, wanted)
 }
 
 // The move has made three puts when it loses its turn at node 3.
 #[test]
 fn a_move_waits(rt: HostRuntime) -> Result<(), Fail> {
-    let times = Moved {
-        number: 1,
-        first: 0,
-        commit: 3,
-        last: 5,
-    };
-    let both = act_on_line(&rt, rt.alloc(), 20, Pair::Move)?;
-    assert!(rt; both == Both::Call(true, Seen::Moved(times)));
-    Ok(())
+    let wanted = "(true, Ok(Moved { number: 1, first: 0, commit: 3, last: 5 }))";
+    act_on_line(&rt, rt.alloc(), 20, Pair::Move, wanted)
 }

@@ -1,4 +1,4 @@
-use Rattle.std.proofs.Common.{◌≡◌, ℕ, List, get_or, ap, subst, sym}
+use Rattle.std.proofs.Common.{List, get_or, ap, subst, sym}
 use Rattle.std.specs.Prelude.{All}
 use Rattle.std.proofs.lemmas.List.Elements.{All-from_get_or, All-push}
 use Rattle.std.proofs.lemmas.Option.{slice_get-get_or}
@@ -17,9 +17,11 @@ fresh-of tracker passes fresh =
 pub close-requires : goal.close-requires
 close-requires c =
     let is_pass = IsPassOf c.args.tracker in record {
-      of = subst (All is_pass) (sym c.in_ok-push-2.ensures.items)
-          (All-push is_pass _ c.args.last
-          (subst (All is_pass) (sym c.in_ok-push.ensures.items)
-          (All-push is_pass _ c.args.one (fresh-of c.args.tracker _ c.requires.fresh) c.requires.one))
+      of = subst (All is_pass) (sym c.push_reserved-2.ensures.items)
+          (All-push is_pass _ c.args.crowd.last
+          (subst (All is_pass) (sym c.push_reserved.ensures.items)
+          (All-push is_pass _ c.args.crowd.one
+          (subst (All is_pass) (sym c.in_ok-reserve.ensures.items) (fresh-of c.args.tracker _ c.requires.fresh))
+          c.requires.one))
           c.requires.last);
     }
