@@ -5,9 +5,10 @@ ghost use Rattle.node_set.specs.Ascending.{has};
 ghost use Rattle.node_set.specs.Balls.{sets, AreCentred};
 ghost use Rattle.node_set.specs.Nodes.{Nodes};
 
-use crate::rows::{Asked, ask_rows, check, five_numbers, halves, tell, tell_unknown};
+use crate::rows::{Asked, ask_made, five_numbers, tell, tell_all, tell_unknown, within};
 use crate::sameness::same;
 use crate::set_tests::tell_set;
+use crate::subjects::ask;
 use coarse_cover::{Cover, coarsen};
 use mean_cover::{MeanCover, coarsen_mean};
 use node_set::NodeSet;
@@ -50,9 +51,7 @@ fn balls_of(alloc: Global, n: u32, reach: u32, joined: u32) -> Result<Vec<NodeSe
 // The number of clusters, that of phases, and the home of each ball.
 fn tell_homes(cover: &Cover, told: &mut Vec<u64>) {
     tell_counts(cover, told);
-    for home in &cover.home {
-        tell(told, u64::from(*home));
-    }
+    tell_all(told, &cover.home);
 }
 
 // The number of clusters, and that of phases.
@@ -105,9 +104,7 @@ impl Asked for Cover {
 // The number of clusters, and the home of each ball.
 fn tell_mean_homes(cover: &MeanCover, told: &mut Vec<u64>) {
     tell(told, cover.clusters.len() as u64);
-    for home in &cover.home {
-        tell(told, u64::from(*home));
-    }
+    tell_all(told, &cover.home);
 }
 
 // The leader and the nodes of a cluster.
@@ -152,67 +149,51 @@ impl Asked for MeanCover {
     }
 }
 
-// Asks the cover of balls.
-fn ask_coarse(
-    rt: &impl Abort,
-    alloc: Global,
-    balls: &[NodeSet],
-    k: u32,
-    head: &str,
-    rows: &str,
-) -> Result<(), Fail>
-    requires small { length balls.now ≤ 1024 }
-    requires rooms { All (λ (b : Nodes). b.room ≡ length balls.now) balls.now }
-    requires centred { AreCentred (sets balls.now) }
+// The cover of `n` balls that reach so far, and have node 1 from that of node `joined` on.
+fn cover_of(alloc: Global, k: u32, n: u32, reach: u32, joined: u32) -> Result<Cover, AllocError>
     requires low { 1 ≤ k }
     requires high { k ≤ 8 }
+    requires small { n ≤ 1024 }
 {
-    let cover = coarsen(alloc, balls, k)?;
-    ask_rows(rt, alloc, &cover, head, rows);
-    Ok(())
-}
-
-// Asks the mean cover of balls.
-fn ask_mean(
-    rt: &impl Abort,
-    alloc: Global,
-    balls: &[NodeSet],
-    k: u32,
-    head: &str,
-    rows: &str,
-) -> Result<(), Fail>
-    requires small { length balls.now ≤ 1024 }
-    requires rooms { All (λ (b : Nodes). b.room ≡ length balls.now) balls.now }
-    requires centred { AreCentred (sets balls.now) }
-    requires low { 1 ≤ k }
-    requires high { k ≤ 8 }
-{
-    let cover = coarsen_mean(alloc, balls, k)?;
-    ask_rows(rt, alloc, &cover, head, rows);
-    Ok(())
-}
-
-// Asks a cover. The subject is its kind; the trade-off; and of the balls their number, how far they
-// reach, and the node from which on they have node 1.
-fn ask_cover(rt: &impl Abort, alloc: Global, subject: &str) -> Result<(), Fail> {
-    let (head, rows) = halves(subject, ':');
-    let [k, n, reach, joined, _] = five_numbers(head);
-    if n > 1024 || k < 1 || k > 8 {
-        return Err("a cover is within the limits".into());
-    }
     let balls = balls_of(alloc, n, reach, joined)?;
-    if head.starts_with("mean") {
-        ask_mean(rt, alloc, &balls, k, head, rows)
-    } else {
-        ask_coarse(rt, alloc, &balls, k, head, rows)
-    }
+    coarsen(alloc, &balls, k)
 }
 
-fn ask_covers(rt: &impl Abort, alloc: Global, subjects: &str) -> Result<(), Fail> {
-    for subject in subjects.split_terminator(';') {
-        ask_cover(rt, alloc, subject)?;
-    }
-    Ok(())
+// Their mean cover.
+fn mean_cover_of(
+    alloc: Global,
+    k: u32,
+    n: u32,
+    reach: u32,
+    joined: u32,
+) -> Result<MeanCover, AllocError>
+    requires low { 1 ≤ k }
+    requires high { k ≤ 8 }
+    requires small { n ≤ 1024 }
+{
+    let balls = balls_of(alloc, n, reach, joined)?;
+    coarsen_mean(alloc, &balls, k)
+}
+
+/// Asks a cover. Its numbers are the trade-off; and of the balls their number, how far they reach,
+/// and the node from which on they have node 1.
+pub fn ask_cover(rt: &impl Abort, alloc: Global, head: &str, rows: &str) -> Result<(), Fail> {
+    let [k, n, reach, joined, _] = five_numbers(head);
+    let (k, n) = (within(rt, k, 1, 8), within(rt, n, 0, 1024));
+    ask_made(rt, alloc, cover_of(alloc, k, n, reach, joined), head, rows)
+}
+
+/// Asks a mean cover, of the same numbers.
+pub fn ask_mean_cover(rt: &impl Abort, alloc: Global, head: &str, rows: &str) -> Result<(), Fail> {
+    let [k, n, reach, joined, _] = five_numbers(head);
+    let (k, n) = (within(rt, k, 1, 8), within(rt, n, 0, 1024));
+    ask_made(
+        rt,
+        alloc,
+        mean_cover_of(alloc, k, n, reach, joined),
+        head,
+        rows,
+    )
 }
 
 #[test]
@@ -230,18 +211,18 @@ fn covers_of_a_line(rt: HostRuntime) -> Result<(), Fail> {
         cover 8 4 1 4:\
         homes = 1 1 0 0 0 0|\
         cluster 0 = 0 0 4 4 0 0 1 1 2 2 3 3|;\
-        mean 1 4 1 4:\
+        meancover 1 4 1 4:\
         homes = 2 0 0 0 1|\
         cluster 0 = 0 4 4 0 0 1 1 2 2 3 3|\
         cluster 1 = 3 4 2 2 2 3 3|;\
-        mean 2 4 1 4:\
+        meancover 2 4 1 4:\
         homes = 2 0 0 0 1|\
         cluster 0 = 0 4 4 0 0 1 1 2 2 3 3|\
         cluster 1 = 3 4 2 2 2 3 3|;\
-        mean 8 4 1 4:\
+        meancover 8 4 1 4:\
         homes = 1 0 0 0 0|\
         cluster 0 = 0 4 4 0 0 1 1 2 2 3 3|;";
-    ask_covers(&rt, rt.alloc(), subjects)
+    ask(&rt, rt.alloc(), subjects)
 }
 
 // Each node reaches itself and node 1 alone, so the row of node 1 has all centres. In the mean
@@ -257,11 +238,11 @@ fn covers_of_lopsided_balls(rt: HostRuntime) -> Result<(), Fail> {
         cover 2 4 0 0:\
         homes = 1 1 0 0 0 0|\
         cluster 0 = 0 0 4 4 0 0 1 1 2 2 3 3|;\
-        mean 2 4 0 1:\
+        meancover 2 4 0 1:\
         homes = 2 0 1 1 1|\
         cluster 0 = 0 4 1 0 0|\
         cluster 1 = 1 4 3 1 1 2 2 3 3|;";
-    ask_covers(&rt, rt.alloc(), subjects)
+    ask(&rt, rt.alloc(), subjects)
 }
 
 #[test]
@@ -270,23 +251,23 @@ fn covers_past_a_word_and_at_the_limits(rt: HostRuntime) -> Result<(), Fail> {
         counts = 98 2|\
         ball 1023 97 = 97 1019 1 1014 10|\
         ball 0 0 = 0 0 0 0 16|;\
-        mean 1 130 2 130:\
+        meancover 1 130 2 130:\
         counts = 26 230|ball 4 0 = 0 0 0 7|ball 5 1 = 1 5 3 9|ball 129 25 = 25 125 123 7|;\
-        mean 2 130 2 130:\
+        meancover 2 130 2 130:\
         counts = 26 230|ball 4 0 = 0 0 0 7|ball 5 1 = 1 5 3 9|ball 129 25 = 25 125 123 7|;\
-        mean 3 130 2 130:\
+        meancover 3 130 2 130:\
         counts = 26 230|ball 4 0 = 0 0 0 7|ball 5 1 = 1 5 3 9|ball 129 25 = 25 125 123 7|;\
-        mean 4 130 2 130:\
+        meancover 4 130 2 130:\
         counts = 26 230|ball 4 0 = 0 0 0 7|ball 5 1 = 1 5 3 9|ball 129 25 = 25 125 123 7|;\
-        mean 5 130 2 130:\
+        meancover 5 130 2 130:\
         counts = 26 230|ball 4 0 = 0 0 0 7|ball 5 1 = 1 5 3 9|ball 129 25 = 25 125 123 7|;\
-        mean 8 130 2 130:\
+        meancover 8 130 2 130:\
         counts = 26 229|ball 5 0 = 0 0 0 11|ball 129 25 = 25 129 127 3|;\
-        mean 1 1024 5 1024:\
+        meancover 1 1024 5 1024:\
         counts = 94 1950|ball 10 0 = 0 0 0 16|ball 1023 93 = 93 1023 1018 6|;\
-        mean 8 1024 5 1024:\
+        meancover 8 1024 5 1024:\
         counts = 93 1941|ball 20 0 = 0 0 0 26|ball 1023 92 = 92 1022 1017 7|;";
-    ask_covers(&rt, rt.alloc(), subjects)
+    ask(&rt, rt.alloc(), subjects)
 }
 
 // The cluster that is the home of ball `v` of a path of 130 nodes by balls that reach two: its
@@ -332,29 +313,26 @@ fn has_balls(rt: &impl Abort, alloc: Global, cover: &Cover, k: u32) {
     let (mut told, mut wanted) = (Vec::new(alloc), Vec::new(alloc));
     tell_balls(cover, k, &mut told, &mut wanted);
     same(rt, "all balls", "of a path", &told, &wanted);
-    let mut counts = Vec::new(alloc);
-    tell_counts(cover, &mut counts);
-    check(
-        rt,
-        alloc,
-        "counts",
-        if k < 4 { "= 130 5" } else { "= 29 2" },
-        &counts,
-    );
 }
 
-fn cover_of(alloc: Global, k: u32) -> Result<Cover, AllocError>
-    requires low { 1 ≤ k }
-    requires high { k ≤ 8 }
-{
-    let balls = balls_of(alloc, 130, 2, 130)?;
-    coarsen(alloc, &balls, k)
+// How many there are of clusters, and of phases.
+fn has_counts(rt: &impl Abort, alloc: Global, cover: &Cover, k: u32) {
+    let mut counts = Vec::new(alloc);
+    tell_counts(cover, &mut counts);
+    let wanted = if k < 4 { [130, 5] } else { [29, 2] };
+    same(rt, "counts", "of a path", &counts, &wanted);
+}
+
+// What is wanted of the cover of the path.
+fn is_wanted(rt: &impl Abort, alloc: Global, cover: &Cover, k: u32) {
+    has_balls(rt, alloc, cover, k);
+    has_counts(rt, alloc, cover, k);
 }
 
 #[test]
 fn all_balls_past_a_word(rt: HostRuntime) -> Result<(), Fail> {
     for k in 1..9 {
-        has_balls(&rt, rt.alloc(), &cover_of(rt.alloc(), k)?, k);
+        is_wanted(&rt, rt.alloc(), &cover_of(rt.alloc(), k, 130, 2, 130)?, k);
     }
     Ok(())
 }

@@ -1,10 +1,9 @@
 //! Distances on paths, and where all nodes are neighbours.
-ghost use Rattle.std.specs.Prelude.{◌≤◌};
-
-use crate::rows::{Asked, ask_rows, five_numbers, halves, tell, tell_unknown};
+use crate::rows::{Asked, ask_made, ask_rows, five_numbers, tell, tell_all, tell_unknown, within};
 use crate::set_tests::tell_set;
+use crate::subjects::ask;
 use distances::Distances;
-use net_graph::{MAX_NODES, MAX_WEIGHT};
+use net_graph::MAX_NODES;
 use std::alloc::Global;
 use std::process::Abort;
 use std::test::Fail;
@@ -20,9 +19,7 @@ fn tell_between(distances: &Distances, u: u32, v: u32, told: &mut Vec<u64>) {
 
 fn tell_row(distances: &Distances, u: u32, told: &mut Vec<u64>) {
     if u < distances.nodes() {
-        for distance in distances.row(u) {
-            tell(told, u64::from(*distance));
-        }
+        tell_all(told, distances.row(u));
     }
 }
 
@@ -49,60 +46,32 @@ impl Asked for Distances {
     }
 }
 
-// Asks the distances where all nodes are neighbours.
-fn ask_complete(rt: &impl Abort, alloc: Global, n: u32, head: &str, rows: &str) -> Result<(), Fail>
-    requires some { 1 ≤ n }
-    requires few { n ≤ MAX_NODES }
-{
-    let graph = complete(alloc, n)?;
-    ask_rows(rt, alloc, &Distances::new(alloc, &graph)?, head, rows);
-    Ok(())
-}
-
-// Asks a copy.
-fn ask_copy(
+// Asks distances, and a copy of them.
+fn ask_twice(
     rt: &impl Abort,
     alloc: Global,
     distances: &Distances,
     head: &str,
     rows: &str,
 ) -> Result<(), Fail> {
-    ask_rows(rt, alloc, &distances.copy()?, head, rows);
-    Ok(())
+    ask_rows(rt, alloc, distances, head, rows);
+    ask_made(rt, alloc, distances.copy(), head, rows)
 }
 
-// Asks the distances of a path, and a copy of them.
-fn ask_path(
-    rt: &impl Abort,
-    alloc: Global,
-    n: u32,
-    weight: u64,
-    head: &str,
-    rows: &str,
-) -> Result<(), Fail>
-    requires some { 1 ≤ n }
-    requires few { n ≤ MAX_NODES }
-    requires positive { 1 ≤ weight }
-    requires light { weight ≤ MAX_WEIGHT }
-{
-    let (_, distances) = path(alloc, n, weight)?;
-    ask_rows(rt, alloc, &distances, head, rows);
-    ask_copy(rt, alloc, &distances, head, rows)
-}
-
-// Asks the distances of a network: of a path the subject is its nodes and the weight of its edges,
-// and where all are neighbours it's their number.
-fn ask_distances(rt: &impl Abort, alloc: Global, subject: &str) -> Result<(), Fail> {
-    let (head, rows) = halves(subject, ':');
+/// Asks the distances of a path, and a copy of them: its numbers are its nodes and the weight of
+/// its edges.
+pub fn ask_path(rt: &impl Abort, alloc: Global, head: &str, rows: &str) -> Result<(), Fail> {
     let [n, weight, ..] = five_numbers(head);
-    let weight = u64::from(weight);
-    if n < 1 || n > MAX_NODES {
-        return Err("a network is within the limits".into());
-    }
-    if weight < 1 || weight > MAX_WEIGHT {
-        return ask_complete(rt, alloc, n, head, rows);
-    }
-    ask_path(rt, alloc, n, weight, head, rows)
+    let weight = u64::from(within(rt, weight, 1, 1_048_576));
+    let (_, distances) = path(alloc, within(rt, n, 1, MAX_NODES), weight)?;
+    ask_twice(rt, alloc, &distances, head, rows)
+}
+
+/// Asks the distances where so many nodes are all neighbours.
+pub fn ask_complete(rt: &impl Abort, alloc: Global, head: &str, rows: &str) -> Result<(), Fail> {
+    let n = within(rt, five_numbers(head)[0], 1, MAX_NODES);
+    let graph = complete(alloc, n)?;
+    ask_made(rt, alloc, Distances::new(alloc, &graph), head, rows)
 }
 
 // Where all are neighbours whole rows are lowered, sixteen weights at once and one by one.
@@ -128,8 +97,5 @@ fn distances_of_networks(rt: HostRuntime) -> Result<(), Fail> {
         between 1023 1 = 1071644672 1071644672|;\
         path 130 5:\
         ball 128 10 = 130 4 126 126 127 127 128 128 129 129|;";
-    for subject in subjects.split_terminator(';') {
-        ask_distances(&rt, rt.alloc(), subject)?;
-    }
-    Ok(())
+    ask(&rt, rt.alloc(), subjects)
 }

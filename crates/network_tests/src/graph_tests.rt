@@ -3,10 +3,14 @@
 ghost use Rattle.std.specs.Prelude.{◌≡◌, ◌<◌, ◌≤◌, All, IfOk, length};
 ghost use Rattle.net_graph.specs.Network.{IsEdge};
 
-use crate::rows::{Asked, WORD, ask_rows, five_numbers, halves, tell, tell_node, tell_unknown};
+use crate::rows::{
+    Asked, WORD, ask_made, ask_rows, five_numbers, halves, tell, tell_node, tell_unknown, within,
+};
 use crate::sameness::same;
+use crate::subjects::ask;
+use crate::tree_tests::tell_in_cluster;
 use net_graph::{Edge, Graph, GraphFault, MAX_NODES, MAX_WEIGHT, Tree, greatest_weight};
-use std::alloc::{AllocError, Global};
+use std::alloc::Global;
 use std::process::Abort;
 use std::test::Fail;
 use test_networks::{edge, path, path_edges};
@@ -27,31 +31,37 @@ fn tell_tree(told: &mut Vec<u64>, tree: &Tree) {
 }
 
 // The nodes where walks may lead: all but these, and the root.
-fn allowed_but(alloc: Global, n: u32, cut: &[u32], root: u32) -> Result<Vec<bool>, AllocError>
-    ensures { IfOk result (λ allowed. length allowed.items ≡ n) }
-{
-    let mut allowed = Vec::with_capacity(alloc, n as usize)?;
-    for v in 0..n {
-        allowed.push(v == root || !cut.contains(&v))?;
+fn allowed_but(cut: [u32; 5], root: u32) -> [bool; 1024] {
+    let mut allowed = [true; 1024];
+    for v in cut {
+        if v < 1024 && v != root {
+            allowed[v as usize] = false;
+        }
     }
-    Ok(allowed)
+    allowed
 }
 
-// The least walks from a root, by a tree and without one. They lead past the nodes of the other
-// numbers.
-fn tell_walks(
-    alloc: Global,
-    graph: &Graph,
-    numbers: [u32; 5],
-    told: &mut Vec<u64>,
-) -> Result<(), AllocError> {
-    let root = numbers[0];
-    let allowed = allowed_but(alloc, graph.nodes(), &numbers, root)?;
+// The least walks from a root, by a tree and without one.
+fn tell_least(alloc: Global, graph: &Graph, allowed: &[bool], root: u32, told: &mut Vec<u64>)
+    requires { length allowed.now ≡ graph.now.nodes }
+{
     if (root as usize) < allowed.len() && allowed[root as usize] {
-        tell_tree(told, &graph.tree_from(alloc, &allowed, root)?);
-        tell_weights(told, &graph.weights_from(alloc, &allowed, root)?);
+        if let Ok(tree) = graph.tree_from(alloc, allowed, root) {
+            tell_tree(told, &tree);
+        }
+        if let Ok(weights) = graph.weights_from(alloc, allowed, root) {
+            tell_weights(told, &weights);
+        }
     }
-    Ok(())
+}
+
+// The same where they lead past the nodes of the other numbers.
+fn tell_walks(alloc: Global, graph: &Graph, numbers: [u32; 5], told: &mut Vec<u64>) {
+    let allowed = allowed_but(numbers, numbers[0]);
+    let n = graph.nodes() as usize;
+    if n <= allowed.len() {
+        tell_least(alloc, graph, &allowed[..n], numbers[0], told);
+    }
 }
 
 // How many arcs a node has.
@@ -59,74 +69,6 @@ fn tell_arcs(graph: &Graph, node: u32, told: &mut Vec<u64>) {
     if node < graph.nodes() {
         tell(told, graph.arcs_of(node).len() as u64);
     }
-}
-
-impl Asked for Graph {
-    fn answer(&self, alloc: Global, name: &str, numbers: [u32; 5], told: &mut Vec<u64>) {
-        match name {
-            "nodes" => tell(told, u64::from(self.nodes())),
-            "arcs" => tell_arcs(self, numbers[0], told),
-            "walks" => {
-                let _ = tell_walks(alloc, self, numbers, told);
-            }
-            _ => tell_unknown(told),
-        }
-    }
-}
-
-// The edges of a text: of each its ends and its weight, with a comma between two.
-fn edges_of(alloc: Global, n: u32, text: &str) -> Result<Vec<Edge>, AllocError>
-    ensures { IfOk result (λ edges. All (IsEdge n) edges.items) }
-{
-    let mut edges = Vec::new(alloc);
-    'edges: for part in text.split(',') {
-        let [a, b, weight, ..] = five_numbers(part);
-        let weight = u64::from(weight);
-        if a < n && b < n && weight >= 1 && weight <= MAX_WEIGHT {
-            edges.push(edge(a, b, weight))?;
-        }
-    }
-    Ok(edges)
-}
-
-fn network_of(alloc: Global, n: u32, edges: &str) -> Result<Graph, Fail> {
-    if n < 1 || n > MAX_NODES {
-        return Err("a network is within the limits".into());
-    }
-    let edges = edges_of(alloc, n, edges)?;
-    Ok(Graph::new(alloc, n, &edges)?)
-}
-
-// Asks a network. The subject is its nodes and its edges.
-fn ask_network(rt: &impl Abort, alloc: Global, subject: &str) -> Result<(), Fail> {
-    let (head, rows) = halves(subject, ':');
-    let (nodes, edges) = halves(head, ',');
-    let graph = network_of(alloc, five_numbers(nodes)[0], edges)?;
-    ask_rows(rt, alloc, &graph, head, rows);
-    Ok(())
-}
-
-// An answer about walks is the weights, the nodes from which they come, and the weights again.
-//
-// In the second network, an allowed set cuts. In the third, node 3 is reached through nodes 1 and 2
-// alike, and its edge to node 0 is too heavy. In the fourth, the lightest edge counts.
-#[test]
-fn least_walks(rt: HostRuntime) -> Result<(), Fail> {
-    let subjects = "4, 0 1 1, 1 2 1, 2 3 1:\
-        walks 0 = 0 1 2 3 none 0 1 2 0 1 2 3|\
-        nodes = 4|\
-        arcs 0 = 1|\
-        arcs 1 = 2|;\
-        4, 0 1 1, 1 2 1, 2 3 1, 0 3 9:\
-        walks 0 1 = 0 none 10 9 none none 3 0 0 none 10 9|;\
-        4, 0 2 1, 0 1 1, 2 3 1, 1 3 1, 0 3 5:\
-        walks 0 = 0 1 1 2 none 0 0 1 0 1 1 2|;\
-        2, 0 1 5, 1 0 2, 0 0 9:\
-        walks 1 = 2 0 1 none 2 0|;";
-    for subject in subjects.split_terminator(';') {
-        ask_network(&rt, rt.alloc(), subject)?;
-    }
-    Ok(())
 }
 
 // The weight of the first node, and the parent of the last but one.
@@ -138,24 +80,87 @@ fn ends_of(tree: &Tree) -> [u64; 2] {
 }
 
 // The first node is so far from the last, and a walk comes to the last but one from the last.
-fn have_ends(rt: &impl Abort, alloc: Global, graph: &Graph) -> Result<(), Fail>
-    requires { graph.now.nodes ≡ 1024 }
+fn tell_ends(alloc: Global, graph: &Graph, told: &mut Vec<u64>) {
+    if graph.nodes() == 1024 {
+        if let Ok(tree) = graph.tree_from(alloc, &[true; 1024], 1023) {
+            let [weight, parent] = ends_of(&tree);
+            tell(told, weight);
+            tell(told, parent);
+        }
+    }
+}
+
+impl Asked for Graph {
+    fn answer(&self, alloc: Global, name: &str, numbers: [u32; 5], told: &mut Vec<u64>) {
+        match name {
+            "nodes" => tell(told, u64::from(self.nodes())),
+            "arcs" => tell_arcs(self, numbers[0], told),
+            "walks" => tell_walks(alloc, self, numbers, told),
+            "ends" => tell_ends(alloc, self, told),
+            _ => tell_in_cluster(alloc, self, name, numbers, told),
+        }
+    }
+}
+
+// The edges of a text: of each its ends and its weight, with a comma between two.
+fn edges_of(alloc: Global, n: u32, text: &str) -> Vec<Edge>
+    ensures { All (IsEdge n) result.items }
 {
-    let tree = graph.tree_from(alloc, &[true; 1024], 1023)?;
-    same(
-        rt,
-        "the heaviest line",
-        "its ends",
-        &ends_of(&tree),
-        &[1_072_693_248, 1023],
-    );
+    let mut edges = Vec::new(alloc);
+    'edges: for part in text.split(',') {
+        let [a, b, weight, ..] = five_numbers(part);
+        let weight = u64::from(weight);
+        if a < n && b < n && weight >= 1 && weight <= MAX_WEIGHT {
+            let _ = edges.push(edge(a, b, weight));
+        }
+    }
+    edges
+}
+
+/// Asks a network: its nodes and its edges.
+pub fn ask_network(rt: &impl Abort, alloc: Global, head: &str, rows: &str) -> Result<(), Fail> {
+    let (nodes, edges) = halves(head, ',');
+    let n = within(rt, five_numbers(nodes)[0], 1, MAX_NODES);
+    let edges = edges_of(alloc, n, edges);
+    ask_made(rt, alloc, Graph::new(alloc, n, &edges), head, rows)
+}
+
+/// Asks the network of a path: its nodes, and the weight of its edges.
+pub fn ask_line(rt: &impl Abort, alloc: Global, head: &str, rows: &str) -> Result<(), Fail> {
+    let [n, weight, ..] = five_numbers(head);
+    let weight = u64::from(within(rt, weight, 1, 1_048_576));
+    let (graph, _) = path(alloc, within(rt, n, 1, MAX_NODES), weight)?;
+    ask_rows(rt, alloc, &graph, head, rows);
     Ok(())
+}
+
+// An answer about walks is the weights, the nodes from which they come, and the weights again.
+//
+// In the second network, an allowed set cuts. In the third, node 3 is reached through nodes 1 and 2
+// alike, and its edge to node 0 is too heavy. In the fourth, the lightest edge counts.
+#[test]
+fn least_walks(rt: HostRuntime) -> Result<(), Fail> {
+    let subjects = "network 4, 0 1 1, 1 2 1, 2 3 1:\
+        walks 0 = 0 1 2 3 none 0 1 2 0 1 2 3|\
+        nodes = 4|\
+        arcs 0 = 1|\
+        arcs 1 = 2|;\
+        network 4, 0 1 1, 1 2 1, 2 3 1, 0 3 9:\
+        walks 0 1 = 0 none 10 9 none none 3 0 0 none 10 9|;\
+        network 4, 0 2 1, 0 1 1, 2 3 1, 1 3 1, 0 3 5:\
+        walks 0 = 0 1 1 2 none 0 0 1 0 1 1 2|;\
+        network 2, 0 1 5, 1 0 2, 0 0 9:\
+        walks 1 = 2 0 1 none 2 0|;";
+    ask(&rt, rt.alloc(), subjects)
 }
 
 #[test]
 fn the_heaviest_line_of_the_most_nodes(rt: HostRuntime) -> Result<(), Fail> {
-    let (graph, _) = path(rt.alloc(), MAX_NODES, MAX_WEIGHT)?;
-    have_ends(&rt, rt.alloc(), &graph)
+    ask(
+        &rt,
+        rt.alloc(),
+        "line 1024 1048576:ends = 1072693248 1023|;",
+    )
 }
 
 // Nodes 130 and 131 are apart from the path of the others, and the least of them is told.
@@ -223,34 +228,45 @@ fn relax(weights: &mut [u64], edges: &[Edge])
 }
 
 // The least weights of walks from node 0, by relaxing every edge as often as there are nodes.
-fn plain_weights(alloc: Global, n: u32, edges: &[Edge]) -> Result<Vec<u64>, Fail>
-    requires some { 1 ≤ n }
-    requires few { n ≤ MAX_NODES }
-    requires edges { All (IsEdge n) edges.now }
+fn plain_weights(edges: &[Edge]) -> [u64; 256]
+    requires { All (IsEdge 256) edges.now }
 {
-    let mut weights = vec![in alloc; u64::MAX; n as usize]?;
+    let mut weights = [u64::MAX; 256];
     weights[0] = 0;
-    for _ in 0..n {
+    for _ in 0..256 {
         relax(&mut weights, edges);
     }
-    Ok(weights)
+    weights
 }
 
 // The least weights of walks from node 0, by a search.
-fn searched_weights(alloc: Global, edges: &[Edge]) -> Result<Vec<u64>, Fail>
+fn tell_searched(alloc: Global, graph: &Graph, told: &mut Vec<u64>)
+    requires { graph.now.nodes ≡ 256 }
+{
+    if let Ok(tree) = graph.tree_from(alloc, &[true; 256], 0) {
+        tell_weights(told, &tree.weight);
+    }
+}
+
+// The search finds what relaxing finds.
+fn has_least(rt: &impl Abort, alloc: Global, edges: &[Edge]) -> Result<(), Fail>
     requires { All (IsEdge 256) edges.now }
 {
     let graph = Graph::new(alloc, 256, edges)?;
     let mut told = Vec::new(alloc);
-    tell_weights(&mut told, &graph.tree_from(alloc, &[true; 256], 0)?.weight);
-    Ok(told)
+    tell_searched(alloc, &graph, &mut told);
+    same(
+        rt,
+        "a network",
+        "least weights",
+        &told,
+        &plain_weights(edges),
+    );
+    Ok(())
 }
 
 #[test]
 fn a_search_and_a_plain_relaxation(rt: HostRuntime) -> Result<(), Fail> {
     let edges = made_edges(rt.alloc(), 256)?;
-    let weights = plain_weights(rt.alloc(), 256, &edges)?;
-    let found = searched_weights(rt.alloc(), &edges)?;
-    same(&rt, "a network", "least weights", &found, &weights);
-    Ok(())
+    has_least(&rt, rt.alloc(), &edges)
 }

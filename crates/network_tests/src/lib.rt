@@ -19,4 +19,6 @@ mod sameness;
 #[cfg(test)]
 mod set_tests;
 #[cfg(test)]
+mod subjects;
+#[cfg(test)]
 mod tree_tests;

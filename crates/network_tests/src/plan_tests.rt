@@ -1,13 +1,15 @@
 //! Plans of paths: of the line 0 - 1 - 2 - 3 of unit weights, of one and two nodes, and past a word
 //! and up to the most nodes.
+ghost use Rattle.std.specs.Prelude.{◌≤◌};
 ghost use Rattle.distances.specs.Table.{AreDistancesOf};
 
-use crate::rows::{Asked, WORD, ask_rows, five_numbers, halves, tell, tell_unknown};
+use crate::rows::{Asked, WORD, ask_made, five_numbers, tell, tell_all, tell_unknown, within};
 use crate::sameness::same;
+use crate::subjects::ask;
 use distances::Distances;
 use net_graph::{Graph, MAX_NODES, MAX_WEIGHT};
 use region_plan::Plan;
-use std::alloc::Global;
+use std::alloc::{AllocError, Global};
 use std::process::Abort;
 use std::test::Fail;
 use test_networks::path;
@@ -66,9 +68,7 @@ fn tell_cluster(plan: &Plan, i: u32, c: u32, told: &mut Vec<u64>) {
 // The members of a cluster.
 fn tell_members(plan: &Plan, i: u32, c: u32, told: &mut Vec<u64>) {
     if i < plan.levels() && c < plan.clusters(i) {
-        for node in plan.members(i, c) {
-            tell(told, u64::from(*node));
-        }
+        tell_all(told, plan.members(i, c));
     }
 }
 
@@ -86,9 +86,7 @@ fn tell_weights(plan: &Plan, i: u32, c: u32, told: &mut Vec<u64>) {
 // The readers of a node at a level, and then the weights inside these.
 fn tell_readers(plan: &Plan, i: u32, v: u32, told: &mut Vec<u64>) {
     if i < plan.levels() && v < plan.nodes() {
-        for c in plan.readers(i, v) {
-            tell(told, u64::from(*c));
-        }
+        tell_all(told, plan.readers(i, v));
         for place in 0..plan.nodes() {
             if (place as usize) < plan.readers(i, v).len() {
                 tell(told, plan.reader_weight(i, v, place));
@@ -104,6 +102,18 @@ fn tell_looks(plan: &Plan, v: u32, told: &mut Vec<u64>) {
     }
 }
 
+// What is asked of a cluster, or of a node.
+fn tell_part(plan: &Plan, name: &str, first: u32, second: u32, told: &mut Vec<u64>) {
+    match name {
+        "cluster" => tell_cluster(plan, first, second, told),
+        "members" => tell_members(plan, first, second, told),
+        "weights" => tell_weights(plan, first, second, told),
+        "readers" => tell_readers(plan, first, second, told),
+        "looks" => tell_looks(plan, first, told),
+        _ => tell_unknown(told),
+    }
+}
+
 impl Asked for Plan {
     fn answer(&self, _alloc: Global, name: &str, numbers: [u32; 5], told: &mut Vec<u64>) {
         let [first, second, ..] = numbers;
@@ -113,12 +123,7 @@ impl Asked for Plan {
             "level" => tell_level(self, first, told),
             "homes" => tell_homes(self, first, told),
             "home" => tell_home(self, first, second, told),
-            "cluster" => tell_cluster(self, first, second, told),
-            "members" => tell_members(self, first, second, told),
-            "weights" => tell_weights(self, first, second, told),
-            "readers" => tell_readers(self, first, second, told),
-            "looks" => tell_looks(self, first, told),
-            _ => tell_unknown(told),
+            _ => tell_part(self, name, first, second, told),
         }
     }
 }
@@ -130,47 +135,44 @@ fn plan_over(
     distances: &Distances,
     made: &str,
     k: u32,
-) -> Result<Plan, Fail>
+) -> Result<Plan, AllocError>
     requires belongs { AreDistancesOf graph.now distances.now }
+    requires low { 1 ≤ k }
+    requires high { k ≤ 8 }
 {
-    if k < 1 || k > 8 {
-        return Err("the trade-off is from 1 to 8".into());
+    match made {
+        "with" => Plan::build(alloc, graph, distances, k),
+        "mean" => Plan::build_mean(alloc, graph, distances, k),
+        _ => Plan::flat(alloc, graph, distances),
     }
-    let plan = if made.starts_with("with") {
-        Plan::build(alloc, graph, distances, k)
-    } else if made.starts_with("mean") {
-        Plan::build_mean(alloc, graph, distances, k)
-    } else {
-        Plan::flat(alloc, graph, distances)
-    };
-    Ok(plan?)
 }
 
 // The plan of a path with this number of nodes, weight of each edge, and trade-off.
-fn plan_of(alloc: Global, made: &str, numbers: [u32; 5]) -> Result<Plan, Fail> {
-    let [n, weight, k, ..] = numbers;
-    let weight = u64::from(weight);
-    if n < 1 || n > MAX_NODES || weight < 1 || weight > MAX_WEIGHT {
-        return Err("a path is within the limits".into());
-    }
-    let (graph, distances) = path(alloc, n, weight)?;
-    plan_over(alloc, &graph, &distances, made, k)
+fn plan_of(alloc: Global, made: &str, n: u32, weight: u32, k: u32) -> Result<Plan, Fail>
+    requires some { 1 ≤ n }
+    requires few { n ≤ MAX_NODES }
+    requires positive { 1 ≤ weight }
+    requires light { weight ≤ MAX_WEIGHT }
+    requires low { 1 ≤ k }
+    requires high { k ≤ 8 }
+{
+    let (graph, distances) = path(alloc, n, u64::from(weight))?;
+    Ok(plan_over(alloc, &graph, &distances, made, k)?)
 }
 
-// Asks the plan of a path: the subject is how it is made, its nodes, the weight of its edges, and
-// the trade-off.
-fn ask_plan(rt: &impl Abort, alloc: Global, subject: &str) -> Result<(), Fail> {
-    let (head, rows) = halves(subject, ':');
-    let plan = plan_of(alloc, head, five_numbers(head))?;
-    ask_rows(rt, alloc, &plan, head, rows);
-    Ok(())
-}
-
-fn ask_plans(rt: &impl Abort, alloc: Global, subjects: &str) -> Result<(), Fail> {
-    for subject in subjects.split_terminator(';') {
-        ask_plan(rt, alloc, subject)?;
-    }
-    Ok(())
+/// Asks the plan of a path: how it is made, its nodes, the weight of its edges, and the trade-off.
+pub fn ask_plan(
+    rt: &impl Abort,
+    alloc: Global,
+    made: &str,
+    head: &str,
+    rows: &str,
+) -> Result<(), Fail> {
+    let [n, weight, k, ..] = five_numbers(head);
+    let n = within(rt, n, 1, MAX_NODES);
+    let weight = within(rt, weight, 1, 1_048_576);
+    let k = within(rt, k, 1, 8);
+    ask_made(rt, alloc, plan_of(alloc, made, n, weight, k), head, rows)
 }
 
 #[test]
@@ -223,7 +225,7 @@ fn plans_of_a_line(rt: HostRuntime) -> Result<(), Fail> {
         level 2 = 2 2 1 1|\
         homes 2 = 0 0 0 0|\
         repeats = 0 0 0|;";
-    ask_plans(&rt, rt.alloc(), subjects)
+    ask(&rt, rt.alloc(), subjects)
 }
 
 // A level repeats the one below it where no distance lies between their radii: so do those below
@@ -259,7 +261,7 @@ fn plans_of_one_node_and_of_two(rt: HostRuntime) -> Result<(), Fail> {
         repeats = 0 1 1 1 1 1 1 1 1 1 1 1 1 1 1 1 1 1 1 1 0|;\
         mean 2 1048576 8:\
         repeats = 0 1 1 1 1 1 1 1 1 1 1 1 1 1 1 1 1 1 1 1 0|;";
-    ask_plans(&rt, rt.alloc(), subjects)
+    ask(&rt, rt.alloc(), subjects)
 }
 
 #[test]
@@ -280,7 +282,7 @@ fn all_trade_offs_past_two_words(rt: HostRuntime) -> Result<(), Fail> {
         mean 130 1 6:whole = 130 6 9 2 584 151|level 2 = 2 2 1 14|;\
         mean 130 1 7:whole = 130 7 9 2 672 151|level 2 = 2 2 1 14|;\
         mean 130 1 8:whole = 130 8 9 2 760 151|level 2 = 2 2 1 9|;";
-    ask_plans(&rt, rt.alloc(), subjects)
+    ask(&rt, rt.alloc(), subjects)
 }
 
 #[test]
@@ -308,7 +310,7 @@ fn the_heaviest_edges_and_the_most_nodes(rt: HostRuntime) -> Result<(), Fail> {
         flat 1024 1 1:\
         level 0 = 10 1 1 1|\
         cluster 0 0 = 0 0 1023|;";
-    ask_plans(&rt, rt.alloc(), subjects)
+    ask(&rt, rt.alloc(), subjects)
 }
 
 fn shares<T: Sync>() {}
@@ -319,15 +321,25 @@ fn threads_may_share_them(_rt: HostRuntime) {
     shares::<Distances>();
 }
 
-// The plan of two nodes has a level for each power of two below its diameter, and one whose radius
-// reaches it: at each diameter from the first to the last.
-fn have_levels(rt: &impl Abort, alloc: Global, first: u32, last: u32) -> Result<(), Fail> {
-    for diameter in first..=last {
-        let plan = plan_of(alloc, "with", [2, diameter, 2, 0, 0])?;
+// How many levels the plan of two nodes at this distance has.
+fn levels_at(alloc: Global, diameter: u32) -> Result<u32, Fail>
+    requires positive { 1 ≤ diameter }
+    requires light { diameter ≤ MAX_WEIGHT }
+{
+    let plan = plan_of(alloc, "with", 2, diameter, 2)?;
+    Ok(plan.levels())
+}
+
+/// The plan of two nodes has a level for each power of two below its diameter, and one whose radius
+/// reaches it: at each diameter from the first number to the second.
+pub fn ask_levels(rt: &impl Abort, alloc: Global, head: &str) -> Result<(), Fail> {
+    let [first, last, ..] = five_numbers(head);
+    for diameter in within(rt, first, 1, 1_048_576)..=within(rt, last, 1, 1_048_576) {
+        let found = levels_at(alloc, diameter)?;
         let below = u32::BITS - diameter.saturating_sub(1).leading_zeros();
+        let found = [u64::from(diameter), u64::from(found)];
         let wanted = [u64::from(diameter), u64::from(below) + 1];
-        let found = [u64::from(diameter), u64::from(plan.levels())];
-        same(rt, "levels", "at each diameter", &found, &wanted);
+        same(rt, head, "at each diameter", &found, &wanted);
     }
     Ok(())
 }
@@ -336,16 +348,9 @@ fn have_levels(rt: &impl Abort, alloc: Global, first: u32, last: u32) -> Result<
 // of each power of two between them, where a level more is wanted.
 #[test]
 fn a_plan_at_each_diameter(rt: HostRuntime) -> Result<(), Fail> {
-    have_levels(&rt, rt.alloc(), 1, 1_100)?;
-    let powers = [
-        2_048u32, 4_096, 8_192, 16_384, 32_768, 65_536, 131_072, 262_144, 524_288,
-    ];
-    for place in 0..powers.len() {
-        let (first, last) = (
-            powers[place].saturating_sub(16),
-            powers[place].saturating_add(16),
-        );
-        have_levels(&rt, rt.alloc(), first, last)?;
-    }
-    have_levels(&rt, rt.alloc(), 1_048_500, 1_048_576)
+    let subjects = "levels 1 1100;\
+        levels 2032 2064;levels 4080 4112;levels 8176 8208;levels 16368 16400;\
+        levels 32752 32784;levels 65520 65552;levels 131056 131088;levels 262128 262160;\
+        levels 524272 524304;levels 1048500 1048576;";
+    ask(&rt, rt.alloc(), subjects)
 }

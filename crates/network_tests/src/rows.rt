@@ -1,10 +1,13 @@
 //! Tables that are one text: the prover takes a table of tuples apart, value by value, and a text
-//! at once. `SUBJECT: ROWS;` says what is asked, and each row `QUESTION = NUMBERS|` what answers
-//! it. Where a number is wanted a word is a number too, always the same: `none` stands for what
-//! isn't there, and `outside` for a fault.
+//! at once. `KIND NUMBERS: ROWS;` says what is asked, and each row `QUESTION = NUMBERS|` what
+//! answers it. Where a number is wanted a word is a number too, always the same: `none` stands for
+//! what isn't there, and `outside` for a fault.
+ghost use Rattle.std.specs.Prelude.{◌≡◌, ◌≤◌};
+
 use crate::sameness::same;
 use std::alloc::Global;
 use std::process::Abort;
+use std::test::Fail;
 
 /// The number of a word that is no number.
 pub const WORD: u64 = u64::MAX;
@@ -20,6 +23,13 @@ pub trait Asked {
 /// Tells a number. One for which there is no memory is left out, and then missed.
 pub fn tell(told: &mut Vec<u64>, number: u64) {
     let _ = told.push(number);
+}
+
+/// Tells these numbers.
+pub fn tell_all(told: &mut Vec<u64>, numbers: &[u32]) {
+    for number in numbers {
+        tell(told, u64::from(*number));
+    }
 }
 
 /// Tells a node that may not be there.
@@ -48,6 +58,16 @@ pub fn five_numbers(text: &str) -> [u32; 5] {
         }
     }
     numbers
+}
+
+/// A number of a subject, which is to be within these limits.
+pub fn within(rt: &impl Abort, number: u32, low: u32, high: u32) -> u32
+    ensures same { result ≡ number }
+    ensures low { low ≤ result }
+    ensures high { result ≤ high }
+{
+    assert!(rt; low <= number && number <= high);
+    number
 }
 
 /// What stands before a mark, and what stands behind it.
@@ -79,4 +99,20 @@ pub fn ask_rows<A: Asked>(rt: &impl Abort, alloc: Global, subject: &A, head: &st
         subject.answer(alloc, name, five_numbers(numbers), &mut told);
         check(rt, alloc, head, row, &told);
     }
+}
+
+/// Asks what was made each row.
+pub fn ask_made<A: Asked + Drop, E>(
+    rt: &impl Abort,
+    alloc: Global,
+    made: Result<A, E>,
+    head: &str,
+    rows: &str,
+) -> Result<(), Fail>
+where
+    Fail: From<E>,
+{
+    let subject = made?;
+    ask_rows(rt, alloc, &subject, head, rows);
+    Ok(())
 }

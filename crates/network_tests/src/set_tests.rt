@@ -1,15 +1,16 @@
 //! Sets on both sides of a word of 64 numbers, and at the most room.
 ghost use Rattle.std.specs.Prelude.{◌≡◌, ◌≤◌, IfOk, length};
 
-use crate::rows::{check, five_numbers, halves, tell, tell_node};
+use crate::rows::{check, five_numbers, halves, tell, tell_node, within};
 use crate::sameness::same;
+use crate::subjects::ask;
 use node_set::{NodeSet, lanes_absorb, lanes_meet};
-use std::alloc::Global;
+use std::alloc::{AllocError, Global};
 use std::process::Abort;
 use std::test::Fail;
 
 /// The set of these numbers.
-pub fn set_of(alloc: Global, room: u32, numbers: &[u32]) -> Result<NodeSet, Fail>
+pub fn set_of(alloc: Global, room: u32, numbers: &[u32]) -> Result<NodeSet, AllocError>
     requires { room ≤ 1024 }
     ensures { IfOk result (λ set. set.room ≡ room) }
 {
@@ -75,43 +76,42 @@ fn tell_change(told: &mut Vec<u64>, set: &mut NodeSet, other: &NodeSet, name: &s
     tell_meet(told, set, other);
 }
 
-// Plays a row: a change by the set of these numbers and what is told of it, or the next number from
-// this one on.
-fn play_row(
+// Tells the next number from this one on, or a change by the set of these numbers.
+fn tell_row(
     rt: &impl Abort,
     alloc: Global,
     set: &mut NodeSet,
-    head: &str,
-    row: &str,
-) -> Result<(), Fail> {
-    let (change, _) = halves(row, '=');
-    let (name, numbers) = halves(change, ' ');
-    let room = set.room();
-    if room > 1024 {
-        return Err("a set has room for 1024".into());
-    }
-    let other = set_of(alloc, room, &five_numbers(numbers))?;
-    let mut told = Vec::new(alloc);
+    name: &str,
+    numbers: [u32; 5],
+    told: &mut Vec<u64>,
+) {
+    let room = within(rt, set.room(), 0, 1024);
     if name == "next" {
-        tell_node(&mut told, set.next_from(five_numbers(numbers)[0]));
-    } else {
-        tell_change(&mut told, set, &other, name);
+        tell_node(told, set.next_from(numbers[0]));
+    } else if let Ok(other) = set_of(alloc, room, &numbers) {
+        tell_change(told, set, &other, name);
     }
-    check(rt, alloc, head, row, &told);
-    Ok(())
 }
 
-// Plays the changes of a set: its room, and the numbers that it has before them.
-fn play_set(rt: &impl Abort, alloc: Global, subject: &str) -> Result<(), Fail> {
-    let (head, rows) = halves(subject, ':');
-    let numbers = five_numbers(head);
-    if numbers[0] > 1024 {
-        return Err("a set has room for 1024".into());
-    }
-    let mut set = set_of(alloc, numbers[0], &numbers)?;
+fn play_row(rt: &impl Abort, alloc: Global, set: &mut NodeSet, head: &str, row: &str) {
+    let (change, _) = halves(row, '=');
+    let (name, numbers) = halves(change, ' ');
+    let mut told = Vec::new(alloc);
+    tell_row(rt, alloc, set, name, five_numbers(numbers), &mut told);
+    check(rt, alloc, head, row, &told);
+}
+
+fn play_rows(rt: &impl Abort, alloc: Global, set: &mut NodeSet, head: &str, rows: &str) {
     for row in rows.split_terminator('|') {
-        play_row(rt, alloc, &mut set, head, row)?;
+        play_row(rt, alloc, set, head, row);
     }
+}
+
+/// Plays the changes of a set: its room, and the numbers that it has before them.
+pub fn play_set(rt: &impl Abort, alloc: Global, head: &str, rows: &str) -> Result<(), Fail> {
+    let numbers = five_numbers(head);
+    let mut set = set_of(alloc, within(rt, numbers[0], 0, 1024), &numbers)?;
+    play_rows(rt, alloc, &mut set, head, rows);
     Ok(())
 }
 
@@ -119,24 +119,21 @@ fn play_set(rt: &impl Abort, alloc: Global, subject: &str) -> Result<(), Fail> {
 // either, which come twice, and whether the sets meet then. A look changes nothing.
 #[test]
 fn sets_on_both_sides_of_a_word(rt: HostRuntime) -> Result<(), Fail> {
-    let subjects = "130:look = 0 0  130 0  130 0  0 0|;\
-        130 63 64 129 64:look = 0 0  130 3 63 63 64 64 129 129  130 0  0 0|;\
-        1024 0:absorb 1023 = 0 0  1024 2 0 0 1023 1023  1024 1 1023 1023  1 1|;\
-        0:absorb = 0 0  0 0  0 0  0 0|;\
-        130 2:\
+    let subjects = "set 130:look = 0 0  130 0  130 0  0 0|;\
+        set 130 63 64 129 64:look = 0 0  130 3 63 63 64 64 129 129  130 0  0 0|;\
+        set 1024 0:absorb 1023 = 0 0  1024 2 0 0 1023 1023  1024 1 1023 1023  1 1|;\
+        set 0:absorb = 0 0  0 0  0 0  0 0|;\
+        set 130 2:\
         assign 0 63 64 129 = 0 0  130 4 0 0 63 63 64 64 129 129 \
         130 4 0 0 63 63 64 64 129 129  1 1|\
         keep 1 63 129 = 1 1  130 2 63 63 129 129  130 3 1 1 63 63 129 129  1 1|;\
-        130 0 63 64 129:\
+        set 130 0 63 64 129:\
         remove 1 63 129 = 1 1  130 2 0 0 64 64  130 3 1 1 63 63 129 129  0 0|\
         clear 0 = 1 1  130 0  130 1 0 0  0 0|;\
-        300 0 63 64 290:\
+        set 300 0 63 64 290:\
         next 0 = 0|next 1 = 63|next 64 = 64|next 65 = 290|next 290 = 290|next 291 = none|\
         next 4294967295 = none|;";
-    for subject in subjects.split_terminator(';') {
-        play_set(&rt, rt.alloc(), subject)?;
-    }
-    Ok(())
+    ask(&rt, rt.alloc(), subjects)
 }
 
 // Words of which the last one below a count is another than those before it, and those behind it

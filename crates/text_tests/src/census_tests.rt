@@ -3,6 +3,7 @@ ghost use Rattle.std.specs.Prelude.{◌≡◌, ◌<◌, ◌≤◌, ◌^◌, All,
 ghost use Rattle.region_plan.specs.Plan.{nodes_of};
 ghost use Rattle.visit_log.specs.Cells.{GoWith};
 
+use crate::rows::{numbers_of, row_of, rows_in};
 use crate::sameness::same_text;
 use census_text::{census, census_of_places};
 use entry_word::{Key, PresenceMark, pack_mark};
@@ -12,10 +13,6 @@ use std::process::Abort;
 use std::test::Fail;
 use test_networks::line_of_four;
 use visit_log::{PlainCells, cell_numbers};
-
-// At each step a mark is put into the presence cell of a subscriber at a node, and the text of the
-// census is this.
-type Step<'a> = (u32, u32, PresenceMark, &'a str);
 
 fn put_mark(plan: &Plan, cells: &mut PlainCells, node: u32, sub: u32, mark: PresenceMark)
     requires goes { GoWith plan.now cells.old }
@@ -44,60 +41,66 @@ fn census_is(
     Ok(())
 }
 
+// The mark of a step: the first word says which.
+fn mark_of(step: &str, number: u32, other: u16) -> PresenceMark {
+    match step.get(..4) {
+        Some("here") => PresenceMark::Here { number },
+        Some("gone") => PresenceMark::Gone { number, to: other },
+        Some("off ") => PresenceMark::Off { number },
+        _ => PresenceMark::Empty,
+    }
+}
+
+// A mark is put into the presence cell of a subscriber at a node: its numbers are the node, the
+// subscriber and what the mark has.
+fn put_step(plan: &Plan, cells: &mut PlainCells, step: &str)
+    requires goes { GoWith plan.now cells.old }
+    requires subs { cells.old.subs ≡ 2 }
+    ensures goes { GoWith plan.now cells.new }
+    ensures subs { cells.new.subs ≡ 2 }
+{
+    let [node, sub, number, other] = numbers_of(step);
+    let other = u16::try_from(other).unwrap_or(u16::MAX);
+    if node < plan.nodes() && sub < 2 {
+        put_mark(plan, cells, node, sub, mark_of(step, number, other));
+    }
+}
+
+// Each row is a step, and the text of the census behind it.
 fn play(
     rt: &impl Abort,
     alloc: Global,
     plan: &Plan,
-    cells: PlainCells,
-    steps: &[Step<'_>],
+    cells: &mut PlainCells,
+    rows: &str,
 ) -> Result<(), Fail>
-    requires goes { GoWith plan.now cells }
-    requires subs { cells.subs ≡ 2 }
+    requires goes { GoWith plan.now cells.old }
+    requires subs { cells.old.subs ≡ 2 }
 {
-    let mut cells = cells;
-    'steps: for place in 0..steps.len() {
-        let (node, sub, mark, text) = steps[place];
-        if node < plan.nodes() && sub < 2 {
-            put_mark(plan, &mut cells, node, sub, mark);
-        }
-        census_is(rt, alloc, place, plan, &cells, text)?;
+    'steps: for place in 0..rows_in(rows) {
+        let (step, text) = row_of(rows, place);
+        put_step(plan, cells, step);
+        census_is(rt, alloc, place, plan, cells, text)?;
     }
     Ok(())
 }
 
-// Both subscribers start at node 3.
-// Plays steps over the line, with two subscribers that start at node 3.
-fn play_on_line(rt: &impl Abort, alloc: Global, steps: &[Step<'_>]) -> Result<(), Fail> {
-    let (plan, _) = line_of_four(alloc)?;
-    let cells = PlainCells::new(alloc, &plan, &[3, 3])?;
-    play(rt, alloc, &plan, cells, steps)
+// Plays steps over a plan of four nodes, with two subscribers that start at node 3.
+fn play_over(rt: &impl Abort, alloc: Global, plan: &Plan, rows: &str) -> Result<(), Fail>
+    requires { nodes_of plan.now ≡ 4 }
+{
+    let mut cells = PlainCells::new(alloc, plan, &[3, 3])?;
+    play(rt, alloc, plan, &mut cells, rows)
 }
 
 #[test]
 fn who_is_where(rt: HostRuntime) -> Result<(), Fail> {
-    let here = PresenceMark::Here { number: 0 };
-    let steps: [Step<'_>; 4] = [
-        (3, 0, here, "node 3 count 2 subs 0 1\nend 2\n"),
-        (
-            3,
-            0,
-            PresenceMark::Gone { number: 1, to: 2 },
-            "node 3 count 1 subs 1\nend 1\n",
-        ),
-        (
-            2,
-            0,
-            PresenceMark::Here { number: 1 },
-            "node 2 count 1 subs 0\nnode 3 count 1 subs 1\nend 2\n",
-        ),
-        (
-            3,
-            1,
-            PresenceMark::Off { number: 0 },
-            "node 2 count 1 subs 0\nend 1\n",
-        ),
-    ];
-    play_on_line(&rt, rt.alloc(), &steps)
+    let rows = "here 3 0 0>node 3 count 2 subs 0 1\nend 2\n|\
+        gone 3 0 1 2>node 3 count 1 subs 1\nend 1\n|\
+        here 2 0 1>node 2 count 1 subs 0\nnode 3 count 1 subs 1\nend 2\n|\
+        off 3 1 0>node 2 count 1 subs 0\nend 1\n|";
+    let (plan, _) = line_of_four(rt.alloc())?;
+    play_over(&rt, rt.alloc(), &plan, rows)
 }
 
 // The text of a long census begins and ends so.
@@ -113,17 +116,20 @@ fn census_of_crowd(alloc: Global, plan: &Plan) -> Result<Vec<u8>, Fail>
     Ok(census(alloc, plan, &cells, 64)?)
 }
 
+// The census of the crowd begins and ends so.
+fn is_crowd(rt: &impl Abort, alloc: Global, plan: &Plan) -> Result<(), Fail>
+    requires nodes { nodes_of plan.now ≡ 4 }
+{
+    let text = census_of_crowd(alloc, plan)?;
+    let (first, last) = ("node 1 count 64 subs 0 1 2 3 ", " 61 62 63\nend 64\n");
+    is_long(rt, &text, first.as_bytes(), last.as_bytes());
+    Ok(())
+}
+
 #[test]
 fn as_many_subscribers_as_there_may_be(rt: HostRuntime) -> Result<(), Fail> {
     let (plan, _) = line_of_four(rt.alloc())?;
-    let text = census_of_crowd(rt.alloc(), &plan)?;
-    is_long(
-        &rt,
-        &text,
-        b"node 1 count 64 subs 0 1 2 3 ",
-        b" 61 62 63\nend 64\n",
-    );
-    Ok(())
+    is_crowd(&rt, rt.alloc(), &plan)
 }
 
 // The census of places is this text; or begins and ends so, where an end is given.

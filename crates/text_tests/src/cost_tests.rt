@@ -6,7 +6,7 @@ ghost use Rattle.move_cost.specs.Plans.{GoTogether};
 ghost use Rattle.net_reader.specs.Seen.{seen_input};
 ghost use Rattle.net_reader.specs.Valid.{IsValid};
 
-use crate::rows::{row_of, rows_in};
+use crate::playing::play;
 use crate::sameness::same_text;
 use distances::Distances;
 use move_cost::{costs, costs_text};
@@ -64,6 +64,17 @@ fn tell_costs(
     Ok(())
 }
 
+/// The same on the line.
+pub fn costs_on_line(
+    rt: &impl Abort,
+    alloc: Global,
+    place: usize,
+    calls: &str,
+    wanted: &str,
+) -> Result<(), Fail> {
+    tell_costs(rt, alloc, place, LINE, calls, wanted)
+}
+
 // Each row is a format and actors with their calls, and the costs.
 #[test]
 fn moves_on_the_line_of_four(rt: HostRuntime) -> Result<(), Fail> {
@@ -77,11 +88,7 @@ fn moves_on_the_line_of_four(rt: HostRuntime) -> Result<(), Fail> {
         cost 1 moves 2 moved 6 written 36 purged 2\nend\n|\
         1 sub 3\ncallers 0\n>\
         cost 0 moves 0 moved 0 written 0 purged 0\nend\n|";
-    for place in 0..rows_in(rows) {
-        let (calls, wanted) = row_of(rows, place);
-        tell_costs(&rt, rt.alloc(), place, LINE, calls, wanted)?;
-    }
-    Ok(())
+    play(&rt, rt.alloc(), "costs", rows)
 }
 
 // The edges of the path 0 - 1 - .. - 69, of weights 1, 2 and 3 in turn.

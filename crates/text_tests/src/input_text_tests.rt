@@ -4,7 +4,7 @@ ghost use Rattle.make_load.specs.Load.{IsLoad};
 ghost use Rattle.net_reader.specs.Reading.{most_bytes};
 
 use crate::loads::load_of;
-use crate::rows::{row_of, rows_in};
+use crate::playing::play;
 use crate::sameness::same_text;
 use input_text::{InputLines, Listing, input_text};
 use make_load::{Workload, load_text, make_input};
@@ -25,8 +25,8 @@ fn text_of(alloc: Global, input: &Input) -> Result<Vec<u8>, Fail> {
     Ok(input_text(alloc, input)?)
 }
 
-// What is read of a text is to be written as this.
-fn is_written(
+/// What is read of a text is to be written as this.
+pub fn is_written(
     rt: &impl Abort,
     alloc: Global,
     place: usize,
@@ -48,15 +48,16 @@ fn texts_of_inputs(rt: HostRuntime) -> Result<(), Fail> {
         track 2\nnodes 1\nk 8\nedge 0 0 1048576\nsub 0\nsub 0\ncallers 0\noff 1\noff 0\non 1>\
         track 2\nnodes 1\nk 8\nedge 0 0 1048576\nsub 0\nsub 0\ncallers 0\noff 0\noff 1\n\
         on 1\n|";
-    for place in 0..rows_in(rows) {
-        let (text, wanted) = row_of(rows, place);
-        is_written(&rt, rt.alloc(), place, text.as_bytes(), wanted.as_bytes())?;
-    }
-    Ok(())
+    play(&rt, rt.alloc(), "texts", rows)
 }
 
-// The text of a load is to be read as the input that it makes.
-fn is_read_again(rt: &impl Abort, alloc: Global, place: usize, words: &str) -> Result<(), Fail> {
+/// The text of a load is to be read as the input that it makes.
+pub fn is_read_again(
+    rt: &impl Abort,
+    alloc: Global,
+    place: usize,
+    words: &str,
+) -> Result<(), Fail> {
     let load = load_of(alloc, words)?;
     let made = made_text(alloc, load)?;
     is_written(rt, alloc, place, &load_text(alloc, load)?, &made)
@@ -74,20 +75,21 @@ fn made_text(alloc: Global, load: Load) -> Result<Vec<u8>, Fail>
 fn loads_are_read(rt: HostRuntime) -> Result<(), Fail> {
     let rows = "make 42 2 2 1 0 1|make 0 1 1 1 0 0|make 3 4 3 2 2 9|make 7 1024 3 64 64 16384|\
         make 5 257 2 1 0 1|make 6 256 1 1 64 8192|";
-    for place in 0..rows_in(rows) {
-        let (words, _) = row_of(rows, place);
-        is_read_again(&rt, rt.alloc(), place, words)?;
+    play(&rt, rt.alloc(), "loads", rows)
+}
+
+// Appends the lines that come. One for which there is no room is left out, and then missed.
+fn append_lines(lines: &mut InputLines<'_>, text: &mut Vec<u8>) {
+    'lines: while let Some(line) = lines.next_line() {
+        let _ = text.extend_from_slice(line);
     }
-    Ok(())
 }
 
 // The lines of a listing, one behind another.
 fn joined(alloc: Global, listing: Listing<'_>) -> Result<Vec<u8>, Fail> {
     let mut lines = InputLines::new(alloc, listing)?;
     let mut text = Vec::new(alloc);
-    'lines: while let Some(line) = lines.next_line() {
-        text.extend_from_slice(line)?;
-    }
+    append_lines(&mut lines, &mut text);
     Ok(text)
 }
 

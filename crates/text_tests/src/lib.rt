@@ -21,6 +21,8 @@ mod outside_tests;
 #[cfg(test)]
 mod plan_text_tests;
 #[cfg(test)]
+mod playing;
+#[cfg(test)]
 mod report_tests;
 #[cfg(test)]
 mod rows;

@@ -1,6 +1,6 @@
 //! The texts of small loads whole, and of large ones by their length and their sum.
 use crate::loads::load_of;
-use crate::rows::{row_of, rows_in};
+use crate::playing::play;
 use crate::sameness::{same_numbers, same_text};
 use make_load::load_text;
 use std::alloc::Global;
@@ -10,6 +10,18 @@ use std::test::Fail;
 fn text_of(alloc: Global, words: &str) -> Result<Vec<u8>, Fail> {
     let load = load_of(alloc, words)?;
     Ok(load_text(alloc, load)?)
+}
+
+/// A load is to make this text.
+pub fn makes(
+    rt: &impl Abort,
+    alloc: Global,
+    place: usize,
+    words: &str,
+    wanted: &str,
+) -> Result<(), Fail> {
+    same_text(rt, place, &text_of(alloc, words)?, wanted.as_bytes());
+    Ok(())
 }
 
 // Each row is a load, and the text that it is to make.
@@ -33,11 +45,7 @@ fn small_loads(rt: HostRuntime) -> Result<(), Fail> {
         move 0 2\nfind 2 2 0\nmove 0 0\nfind 3 0 0\nmove 1 0\n\
         order 2 2 2 1 3 3 3 3 1 1 2 0 2 2 0 2 1 3 1 2 2 3 2 0 3 2 0 2 1 3 2 0 3 0 2 3 2 2 0 3 \
         1 1 1 3 3 1 0 1 2 0 1 1 1 2 0 2 1 1 2 1 1 3 0 1\norder 1 2 1 0 2 2 1 0\n|";
-    for place in 0..rows_in(rows) {
-        let (words, wanted) = row_of(rows, place);
-        same_text(&rt, place, &text_of(rt.alloc(), words)?, wanted.as_bytes());
-    }
-    Ok(())
+    play(&rt, rt.alloc(), "made", rows)
 }
 
 // The 64-bit sum of Fowler, Noll and Vo over bytes, each put in before the multiplication.

@@ -89,6 +89,21 @@ fn tell_plan(rt: &impl Abort, alloc: Global, plan: &Plan, told: Told<'_>) -> Res
     }
 }
 
+// What is to be told of the plan of a network with this trade-off.
+fn tell_over(
+    rt: &impl Abort,
+    alloc: Global,
+    graph: &Graph,
+    distances: &Distances,
+    k: u32,
+    told: Told<'_>,
+) -> Result<(), Fail>
+    requires belongs { AreDistancesOf graph.now distances.now }
+{
+    let plan = plan_over(alloc, graph, distances, k)?;
+    tell_plan(rt, alloc, &plan, told)
+}
+
 // The plan of a path of `n` nodes, whose edges have this weight, with this trade-off, or the flat
 // plan where that is 0.
 fn tell(
@@ -105,8 +120,7 @@ fn tell(
     requires light { weight ≤ MAX_WEIGHT }
 {
     let (graph, distances) = path(alloc, n, weight)?;
-    let plan = plan_over(alloc, &graph, &distances, k)?;
-    tell_plan(rt, alloc, &plan, told)
+    tell_over(rt, alloc, &graph, &distances, k, told)
 }
 
 #[test]

@@ -70,18 +70,23 @@ fn lengths(lines: &mut Lines<'_>) -> [u64; 9] {
     lengths
 }
 
+// The lines of a report are so long.
+fn have_lengths(
+    rt: &impl Abort,
+    alloc: Global,
+    outcome: &Outcome,
+    wanted: [u64; 9],
+) -> Result<(), Fail> {
+    let mut lines = Lines::new(alloc, outcome)?;
+    same_numbers(rt, 0, &lengths(&mut lines), &wanted);
+    Ok(())
+}
+
 // 130 visits take two whole lines of 64 and one of 2.
 #[test]
 fn lines_of_many_visits(rt: HostRuntime) -> Result<(), Fail> {
-    let outcome = outcome(rt.alloc(), 130)?;
-    let mut lines = Lines::new(rt.alloc(), &outcome)?;
-    same_numbers(
-        &rt,
-        0,
-        &lengths(&mut lines),
-        &[58, 61, 64, 198, 198, 12, 8, 0, 0],
-    );
-    Ok(())
+    let wanted = [58, 61, 64, 198, 198, 12, 8, 0, 0];
+    have_lengths(&rt, rt.alloc(), &outcome(rt.alloc(), 130)?, wanted)
 }
 
 // An input is refused at line 68 by a line with these words.

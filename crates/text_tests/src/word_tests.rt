@@ -1,14 +1,14 @@
 //! Words that are read, on both sides of each limit.
 use crate::loads::words_of;
-use crate::rows::{row_of, rows_in};
+use crate::playing::play;
 use crate::sameness::same_shown;
 use std::alloc::Global;
 use std::process::Abort;
 use std::test::Fail;
 use word_line::read_words;
 
-// The words of a line are to be read so.
-fn reads(
+/// The words of a line are to be read so.
+pub fn reads(
     rt: &impl Abort,
     alloc: Global,
     place: usize,
@@ -50,9 +50,5 @@ fn lines_of_words(rt: HostRuntime) -> Result<(), Fail> {
         make  1 1 1 1 1>Err(Refused)|\
         trial 1 1 1 1 1>Err(Refused)|\
         trial 1 1 1 1 1 1 1>Err(Refused)|";
-    for place in 0..rows_in(rows) {
-        let (line, wanted) = row_of(rows, place);
-        reads(&rt, rt.alloc(), place, line, wanted)?;
-    }
-    Ok(())
+    play(&rt, rt.alloc(), "words", rows)
 }

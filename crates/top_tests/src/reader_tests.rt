@@ -14,18 +14,6 @@ use std::test::Fail;
 const SWITCHING: &str =
     "track 2\nnodes 4\nk 2\nedge 0 1 1\nedge 1 2 1\nedge 2 3 1\nsub 3\ncallers 1\n";
 
-// How a text is refused, where it is.
-fn fault_of(alloc: Global, text: &[u8]) -> Result<Option<InputFault>, Fail> {
-    if text.len() > MAX_BYTES {
-        return Ok(None);
-    }
-    match read_input(alloc, text) {
-        Ok(_) => Ok(None),
-        Err(ReadRefusal::Fault(fault)) => Ok(Some(fault)),
-        Err(ReadRefusal::OutOfMemory) => Err(AllocError.into()),
-    }
-}
-
 // The input of a text that is read in pieces of one length.
 fn read_in_pieces(alloc: Global, text: &[u8], most: usize) -> Result<Input, Fail>
     requires { length text.now ≤ most_bytes }
@@ -142,6 +130,16 @@ fn cause_of(name: &str) -> Option<InputCause> {
     }
 }
 
+// A text is refused at this line by a cause of this name, or isn't.
+fn is_refused(rt: &impl Abort, alloc: Global, place: usize, text: &[u8], line: u32, name: &str) {
+    assert!(rt; text.len() <= MAX_BYTES);
+    let wanted = match cause_of(name) {
+        Some(cause) => Some(ReadRefusal::Fault(InputFault { line, cause })),
+        None => None,
+    };
+    same(rt, place, read_input(alloc, text).err(), wanted);
+}
+
 // Each row is the end of a text behind `before`, and the line and the cause of its fault, or
 // `none`.
 fn play_texts(rt: &impl Abort, alloc: Global, before: &str, rows: &str) -> Result<(), Fail> {
@@ -150,18 +148,9 @@ fn play_texts(rt: &impl Abort, alloc: Global, before: &str, rows: &str) -> Resul
             return Err("a row is a text, a line and a cause".into());
         };
         let text = text_of(alloc, before, end)?;
-        is_faulty(rt, place, fault_of(alloc, &text)?, line, name);
+        is_refused(rt, alloc, place, &text, line, name);
     }
     Ok(())
-}
-
-// The fault is of this line, and has a cause of this name.
-fn is_faulty(rt: &impl Abort, place: usize, fault: Option<InputFault>, line: u32, name: &str) {
-    let wanted = match cause_of(name) {
-        Some(cause) => Some(InputFault { line, cause }),
-        None => None,
-    };
-    same(rt, place, fault, wanted);
 }
 
 #[test]

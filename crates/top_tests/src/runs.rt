@@ -69,14 +69,31 @@ fn sink_of(alloc: Global, run: &Run<'_>) -> Result<MemorySink, Fail> {
     Ok(MemorySink::new(written, run.room, run.most.max(1), failing))
 }
 
-pub(crate) fn perform(alloc: Global, run: &Run<'_>) -> Result<Ran, Fail> {
+// What a run is over.
+#[derive(Drop)]
+struct Devices {
+    words: Vec<String>,
+    source: MemorySource,
+    sink: MemorySink,
+}
+
+fn devices_of(alloc: Global, run: &Run<'_>) -> Result<Devices, Fail> {
     let words = words_of(alloc, run.words)?;
-    let mut source = source_of(alloc, run)?;
-    let mut sink = sink_of(alloc, run)?;
-    let status = command(alloc, &words, &mut source, &mut sink);
+    let source = source_of(alloc, run)?;
+    let sink = sink_of(alloc, run)?;
+    Ok(Devices {
+        words,
+        source,
+        sink,
+    })
+}
+
+pub(crate) fn perform(alloc: Global, run: &Run<'_>) -> Result<Ran, Fail> {
+    let mut over = devices_of(alloc, run)?;
+    let status = command(alloc, &over.words, &mut over.source, &mut over.sink);
     Ok(Ran {
         status,
-        written: sink.into_bytes(),
+        written: over.sink.into_bytes(),
     })
 }
 
@@ -88,13 +105,12 @@ pub(crate) fn perform_by_threads<R: Threads + Sync, G: Gate>(
     gate: &G,
     tries: u64,
 ) -> Result<Ran, Fail> {
-    let words = words_of(alloc, run.words)?;
-    let mut source = source_of(alloc, run)?;
-    let mut sink = sink_of(alloc, run)?;
-    let status = command_with_threads(rt, alloc, &words, &mut source, &mut sink, gate, tries);
+    let mut over = devices_of(alloc, run)?;
+    let (source, sink) = (&mut over.source, &mut over.sink);
+    let status = command_with_threads(rt, alloc, &over.words, source, sink, gate, tries);
     Ok(Ran {
         status,
-        written: sink.into_bytes(),
+        written: over.sink.into_bytes(),
     })
 }
 

@@ -120,35 +120,14 @@ fn longest_part(rt: HostRuntime) -> Result<(), Fail> {
     play_rows(&rt, rt.alloc(), &["check"], &[100_000], "", rows)
 }
 
-// An empty input part, and a report that fills a text up to this length.
-fn long_text(alloc: Global, length: usize) -> Result<Vec<u8>, Fail> {
-    let mut text = Vec::with_capacity(alloc, length)?;
-    text.extend_from_slice(b"report\n")?;
-    let piece = [b'x'; 65_536];
-    for _ in 0..1_025 {
-        let count = length.saturating_sub(text.len()).min(piece.len());
-        text.extend_from_slice(&piece[..count])?;
-    }
-    Ok(text)
-}
-
-fn long_ends<R: Threads + Sync + Abort>(
-    rt: &R,
-    alloc: Global,
-    length: usize,
-    status: u8,
-    text: &str,
-) -> Result<(), Fail> {
-    let input = long_text(alloc, length)?;
-    let most = [1_000_000];
-    play_words(rt, alloc, length, &["check"], &most, &input, status, text)
-}
-
-// All of it may have 67,108,864 bytes and no more.
+// All of it may have 67,108,864 bytes and no more: an empty input part, and a line of so many.
 #[test]
 fn longest_text(rt: HostRuntime) -> Result<(), Fail> {
-    long_ends(&rt, rt.alloc(), 67_108_864, 1, "refused 0 unfinished\n")?;
-    long_ends(&rt, rt.alloc(), 67_108_865, 6, "")
+    let rows = "^xxxxxxxxxxxxxxxxxxxxxxxxxxxxxxxxxxxxxxxxxxxxxxxxxxxxxxxxxxxxxxxx*1048575^\
+        xxxxxxxxxxxxxxxxxxxxxxxxxxxxxxxxxxxxxxxxxxxxxxxxxxxxxxxxx>1 refused 0 unfinished\n|\
+        ^xxxxxxxxxxxxxxxxxxxxxxxxxxxxxxxxxxxxxxxxxxxxxxxxxxxxxxxxxxxxxxxx*1048575^\
+        xxxxxxxxxxxxxxxxxxxxxxxxxxxxxxxxxxxxxxxxxxxxxxxxxxxxxxxxxx>6 |";
+    play_rows(&rt, rt.alloc(), &["check"], &[1_000_000], "report\n", rows)
 }
 
 // How a run over the worked report ends, some of whose calls fail.
