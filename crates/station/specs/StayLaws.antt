@@ -1,7 +1,8 @@
 -- That a handset goes on with its pass: once the pass has heard a note, made a visit that is no put
--- (a look, a census), lost a turn, entered a node, or left it. So between any two puts a pass may do
--- all of these.
--- Key laws: `handset-heard`, `handset-visited`, `handset-held`, `handset-inside`, `handset-outside`.
+-- (a look, a census), lost a turn, entered a node, or left it. So between any two puts a pass may
+-- do all of these.
+-- Key laws: `handset-heard`, `handset-visited`, `handset-held`, `handset-inside`,
+-- `handset-outside`.
 use Rattle.std.proofs.Common.{◌≡◌, ℕ, suc, false, List, [], ◌∷◌, ◌++◌, cond, length, take, refl, sym, ap, ◌∙◌, subst}
 use Rattle.std.proofs.lemmas.List.{append-nil}
 use Rattle.entry_word.specs.declared.visit.Act.{Act}

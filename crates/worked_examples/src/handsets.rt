@@ -19,8 +19,8 @@ ghost use Rattle.station.specs.declared.view.View.{View};
 ghost use Rattle.tracker_calls.specs.Finds.{HasFound, HasStopped};
 
 /// A put keeps the steps that its handset stood for, and is the last one of its subscriber that the
-/// pass has seen. A note, a look, a census, a lost turn, a node that is entered and left, and a find,
-/// answered or held, leave the handset with its pass.
+/// pass has seen. A note, a look, a census, a lost turn, a node that is entered and left, and a
+/// find, answered or held, leave the handset with its pass.
 pub fn told_handsets()
     ensures steps { (setup : Setup) (old new : View) (moved : HandsetData) (steps : List Step)
         (put : Visit) (on : HandsetGoesOn setup old new moved steps put) → on.own.steps ≡ steps }
