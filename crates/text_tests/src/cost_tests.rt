@@ -6,7 +6,7 @@ ghost use Rattle.move_cost.specs.Plans.{GoTogether};
 ghost use Rattle.net_reader.specs.Seen.{seen_input};
 ghost use Rattle.net_reader.specs.Valid.{IsValid};
 
-use crate::playing::play;
+use crate::playing::{Table, play};
 use crate::sameness::same_text;
 use distances::Distances;
 use move_cost::{costs, costs_text};
@@ -88,7 +88,7 @@ fn moves_on_the_line_of_four(rt: HostRuntime) -> Result<(), Fail> {
         cost 1 moves 2 moved 6 written 36 purged 2\nend\n|\
         1 sub 3\ncallers 0\n>\
         cost 0 moves 0 moved 0 written 0 purged 0\nend\n|";
-    play(&rt, rt.alloc(), "costs", rows)
+    play(&rt, rt.alloc(), Table::Costs, rows)
 }
 
 // The edges of the path 0 - 1 - .. - 69, of weights 1, 2 and 3 in turn.

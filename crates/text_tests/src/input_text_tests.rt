@@ -4,7 +4,7 @@ ghost use Rattle.make_load.specs.Load.{IsLoad};
 ghost use Rattle.net_reader.specs.Reading.{most_bytes};
 
 use crate::loads::load_of;
-use crate::playing::play;
+use crate::playing::{Table, play};
 use crate::sameness::same_text;
 use input_text::{InputLines, Listing, input_text};
 use make_load::{Workload, load_text, make_input};
@@ -48,7 +48,7 @@ fn texts_of_inputs(rt: HostRuntime) -> Result<(), Fail> {
         track 2\nnodes 1\nk 8\nedge 0 0 1048576\nsub 0\nsub 0\ncallers 0\noff 1\noff 0\non 1>\
         track 2\nnodes 1\nk 8\nedge 0 0 1048576\nsub 0\nsub 0\ncallers 0\noff 0\noff 1\n\
         on 1\n|";
-    play(&rt, rt.alloc(), "texts", rows)
+    play(&rt, rt.alloc(), Table::Written, rows)
 }
 
 /// The text of a load is to be read as the input that it makes.
@@ -75,7 +75,7 @@ fn made_text(alloc: Global, load: Load) -> Result<Vec<u8>, Fail>
 fn loads_are_read(rt: HostRuntime) -> Result<(), Fail> {
     let rows = "make 42 2 2 1 0 1|make 0 1 1 1 0 0|make 3 4 3 2 2 9|make 7 1024 3 64 64 16384|\
         make 5 257 2 1 0 1|make 6 256 1 1 64 8192|";
-    play(&rt, rt.alloc(), "loads", rows)
+    play(&rt, rt.alloc(), Table::ReadAgain, rows)
 }
 
 // Appends the lines that come. One for which there is no room is left out, and then missed.

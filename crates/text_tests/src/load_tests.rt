@@ -1,6 +1,6 @@
 //! The texts of small loads whole, and of large ones by their length and their sum.
 use crate::loads::load_of;
-use crate::playing::play;
+use crate::playing::{Table, play};
 use crate::sameness::{same_numbers, same_text};
 use make_load::load_text;
 use std::alloc::Global;
@@ -45,7 +45,7 @@ fn small_loads(rt: HostRuntime) -> Result<(), Fail> {
         move 0 2\nfind 2 2 0\nmove 0 0\nfind 3 0 0\nmove 1 0\n\
         order 2 2 2 1 3 3 3 3 1 1 2 0 2 2 0 2 1 3 1 2 2 3 2 0 3 2 0 2 1 3 2 0 3 0 2 3 2 2 0 3 \
         1 1 1 3 3 1 0 1 2 0 1 1 1 2 0 2 1 1 2 1 1 3 0 1\norder 1 2 1 0 2 2 1 0\n|";
-    play(&rt, rt.alloc(), "made", rows)
+    play(&rt, rt.alloc(), Table::Made, rows)
 }
 
 // The 64-bit sum of Fowler, Noll and Vo over bytes, each put in before the multiplication.

@@ -8,29 +8,43 @@ use std::alloc::Global;
 use std::process::Abort;
 use std::test::Fail;
 
+/// What the rows of a table ask.
+#[derive(Clone, Copy)]
+pub enum Table {
+    /// How the input of a text is written.
+    Written,
+    /// Whether the text of a load is read as the input that it makes.
+    ReadAgain,
+    /// The text of a load.
+    Made,
+    /// What the words of a line say.
+    Words,
+    /// What calls cost on the line of four.
+    Costs,
+}
+
 fn play_row(
     rt: &impl Abort,
     alloc: Global,
-    kind: &str,
+    table: Table,
     place: usize,
     asked: &str,
     wanted: &str,
 ) -> Result<(), Fail> {
-    match kind {
-        "texts" => is_written(rt, alloc, place, asked.as_bytes(), wanted.as_bytes()),
-        "loads" => is_read_again(rt, alloc, place, asked),
-        "made" => makes(rt, alloc, place, asked, wanted),
-        "words" => reads(rt, alloc, place, asked, wanted),
-        "costs" => costs_on_line(rt, alloc, place, asked, wanted),
-        _ => Err("a table is of a kind".into()),
+    match table {
+        Table::Written => is_written(rt, alloc, place, asked.as_bytes(), wanted.as_bytes()),
+        Table::ReadAgain => is_read_again(rt, alloc, place, asked),
+        Table::Made => makes(rt, alloc, place, asked, wanted),
+        Table::Words => reads(rt, alloc, place, asked, wanted),
+        Table::Costs => costs_on_line(rt, alloc, place, asked, wanted),
     }
 }
 
-/// Plays the rows of a table of this kind.
-pub fn play(rt: &impl Abort, alloc: Global, kind: &str, rows: &str) -> Result<(), Fail> {
+/// Plays the rows of a table.
+pub fn play(rt: &impl Abort, alloc: Global, table: Table, rows: &str) -> Result<(), Fail> {
     for place in 0..rows_in(rows) {
         let (asked, wanted) = row_of(rows, place);
-        play_row(rt, alloc, kind, place, asked, wanted)?;
+        play_row(rt, alloc, table, place, asked, wanted)?;
     }
     Ok(())
 }

@@ -1,6 +1,6 @@
 //! Words that are read, on both sides of each limit.
 use crate::loads::words_of;
-use crate::playing::play;
+use crate::playing::{Table, play};
 use crate::sameness::same_shown;
 use std::alloc::Global;
 use std::process::Abort;
@@ -50,5 +50,5 @@ fn lines_of_words(rt: HostRuntime) -> Result<(), Fail> {
         make  1 1 1 1 1>Err(Refused)|\
         trial 1 1 1 1 1>Err(Refused)|\
         trial 1 1 1 1 1 1 1>Err(Refused)|";
-    play(&rt, rt.alloc(), "words", rows)
+    play(&rt, rt.alloc(), Table::Words, rows)
 }
