@@ -1,3 +1,4 @@
+use Rattle.std.proofs.lemmas.Grind.{common_steps}
 use Rattle.std.proofs.Common.{◌∙◌, ◌≡◌, length, List, ℕ, ap, arith}
 use Rattle.node_set.specs.SetLaws.{below-has}
 use Rattle.cluster_tree.proofs.Growing.{err_passed, is_fault, is_tree, members_are}
@@ -24,3 +25,12 @@ returns-clause-found c =
           c.requires.leader c.in_ok-flags.ensures.flags (rw c.deref.ensures.value at c.in_ok-found.ensures.weights)
           are_weighed);
     }
+
+pub returns-in_err-extend_from_slice : goal.returns-in_err-extend_from_slice
+returns-in_err-extend_from_slice c = grind (arith, common_steps)
+
+pub returns-in_err-weighed-clause-found : goal.returns-in_err-weighed-clause-found
+returns-in_err-weighed-clause-found c = grind (arith, common_steps)
+
+pub returns-in_err-weighed-clause-kept : goal.returns-in_err-weighed-clause-kept
+returns-in_err-weighed-clause-kept c = grind (arith, common_steps)

@@ -1,4 +1,5 @@
-use Rattle.std.proofs.Common.{◌∙◌, sym}
+use Rattle.std.proofs.lemmas.Grind.{common_steps}
+use Rattle.std.proofs.Common.{arith, ◌∙◌, sym}
 use Rattle.cluster_tree.proofs.Gathering.{member_taken, other_skipped}
 use Rattle.cluster_tree.proofs.weighing.weigh.Goals as goal
 use Rattle.cluster_tree.proofs.weighing.weigh.Goals.{then-has+in-Some+in_ok-push_member, else-has}
@@ -17,3 +18,18 @@ loop-v-preserved c = elim c.if-has.branch [
       (other_skipped c.loop-v.v c.args.members.now.members c.args.weights.now c.loop-v.weighed
       (sym c.has.ensures ∙ w.if-has.false) c.loop-v.invariant)
 ]
+
+pub has-requires : goal.has-requires
+has-requires c = grind (arith, common_steps)
+
+pub loop-v-init : goal.loop-v-init
+loop-v-init c = grind (arith, common_steps)
+
+pub loop-v-smaller : goal.loop-v-smaller
+loop-v-smaller c = grind (arith, common_steps)
+
+pub returns-in_default : goal.returns-in_default
+returns-in_default c = grind (arith, common_steps)
+
+pub returns-in_err-push_member : goal.returns-in_err-push_member
+returns-in_err-push_member c = grind (arith, common_steps)

@@ -1,3 +1,4 @@
+use Rattle.std.proofs.lemmas.Grind.{common_steps}
 use Rattle.std.proofs.Common.{◌≡◌, ◌-◌, ℕ, length, ap, arith, sym, ◌∙◌, subst}
 use Rattle.coarse_cover.specs.Coarsening.{coarsening}
 use Rattle.coarse_cover.specs.Covers.{IsCover}
@@ -71,3 +72,9 @@ pub returns-in_err-make_phase-clause-spare_left : goal.returns-in_err-make_phase
 returns-in_err-make_phase-clause-spare_left c =
     left_on (length c.phase.cover.clusters.items) c.args.work.now.growth.spare.items c.phase.work.growth.spare.items
     c.make_phase.new.work.growth.spare.items c.phase.invariant.spare c.make_phase.ensures.spare_left
+
+pub make_phase-requires : goal.make_phase-requires
+make_phase-requires c = grind (arith, common_steps)
+
+pub returns-in_err-vec : goal.returns-in_err-vec
+returns-in_err-vec c = grind (arith, common_steps)

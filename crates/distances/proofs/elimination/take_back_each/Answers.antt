@@ -1,3 +1,5 @@
+use Rattle.std.proofs.lemmas.Grind.{common_steps}
+use Rattle.std.proofs.Common.{arith}
 use Rattle.distances.proofs.TakingBack.{fill_begins, fill_next, left_out_within}
 use Rattle.distances.proofs.elimination.take_back_each.Goals as goal
 
@@ -17,3 +19,6 @@ loop-last-preserved c =
     (fill_next c.args.n c.args.width c.args.left_out.items c.loop-last.left_out.items c.pop.new.self.items
     c.in-Some.last c.in-Some.ensures.items c.loop-last.back.items c.loop-last.table c.loop-last.invariant
     c.take_back.new.mine c.take_back.new.table (rw c.deref.ensures.value at c.take_back.ensures))
+
+pub returns-in_err-push : goal.returns-in_err-push
+returns-in_err-push c = grind (arith, common_steps)

@@ -1,4 +1,5 @@
-use Rattle.std.proofs.Common.{◌++◌, ◌∷◌, [], ℕ, List, inr, refl, append_assoc, sym, ap, ◌∙◌}
+use Rattle.std.proofs.lemmas.Grind.{common_steps}
+use Rattle.std.proofs.Common.{arith, ◌++◌, ◌∷◌, [], ℕ, List, inr, refl, append_assoc, sym, ap, ◌∙◌}
 use Rattle.std.specs.List.{concat}
 use Rattle.serde_json.specs.View.{view}
 use Rattle.json_form.specs.Left.{line_in}
@@ -27,3 +28,6 @@ loop-item-preserved c =
           ∙ ap (λ (l : List ℕ). c.args.text.now.items ++ l) (sym (concat-more pieces piece)),
       c.in_ok-push_line.ensures.clear,
     )
+
+pub returns : goal.returns
+returns c = grind (arith, common_steps)

@@ -1,3 +1,4 @@
+use Rattle.std.proofs.lemmas.Grind.{common_steps}
 use Rattle.std.proofs.Common.{◌≡◌, arith, refl, subst, sym}
 use Rattle.machine.specs.Owed.{HasNone, Owes}
 use Rattle.machine.proofs.Owing.{ahead-joined, ahead-more, ahead-none}
@@ -25,3 +26,6 @@ returns-in_default-clause-rests c = λ none.
     subst (Owes plan subs old c.writes.handset) none
     (c.writes.invariant.ahead.owes old (subst (Owes plan subs old old) (sym c.requires.none) refl)) in
     subst (HasNone plan) same c.in_default.ensures.rests
+
+pub writes-smaller : goal.writes-smaller
+writes-smaller c = grind (arith, common_steps)

@@ -1,4 +1,5 @@
-use Rattle.std.proofs.Common.{◌≡◌, ℕ, ◌-◌, ◌<◌, ◌≤◌, List, length, take, ap, sym, ◌∙◌, arith}
+use Rattle.std.proofs.lemmas.Grind.{common_steps}
+use Rattle.std.proofs.Common.{rules, ◌≡◌, ℕ, ◌-◌, ◌<◌, ◌≤◌, List, length, take, ap, sym, ◌∙◌, arith}
 use Rattle.std.specs.Prelude.{slice_index, slice_index_or}
 use Rattle.std.proofs.Math.Nat.{min-le_left}
 use Rattle.std.proofs.lemmas.List.{get_or-take, get_or_default, length-take-le}
@@ -35,3 +36,9 @@ returns-clause-empty g c = λ i low.
     (omega (arith, low, c.count_empty.ensures.within)) in
     ap (word_beside c.args.cells.now c.args.sub) (sym (one.1 ∙ c.ahead-ahead.ensures.places plan at i one.0))
     ∙ c.count_empty.ensures.empty i low
+
+pub returns-clause-rungs : goal.returns-clause-rungs
+returns-clause-rungs c = search rules
+
+pub count_empty-requires-clause-known : goal.count_empty-requires-clause-known
+count_empty-requires-clause-known c = grind (arith, common_steps)

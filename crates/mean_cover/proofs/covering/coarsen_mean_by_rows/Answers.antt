@@ -1,3 +1,4 @@
+use Rattle.std.proofs.lemmas.Grind.{common_steps}
 use Rattle.std.proofs.Common.{◌≡◌, inl, inr, ◌<◌, ◌≤◌, ℕ, List, [], ◌∷◌, false, length, length-append, ap, arith, sym, ◌∙◌, subst}
 use Rattle.std.proofs.lemmas.Bool.{cases_lt}
 use Rattle.node_set.specs.Ascending.{has}
@@ -115,3 +116,6 @@ returns-in_err-add_cluster-clause-spare_left c =
     left_on (length c.first.cover.clusters.items) c.args.work.now.growth.spare.items
     c.first.work.growth.spare.items c.add_cluster.new.work.growth.spare.items c.first.invariant.spare
     (1, c.add_cluster.ensures.spare)
+
+pub returns-in_err-vec : goal.returns-in_err-vec
+returns-in_err-vec c = grind (arith, common_steps)

@@ -1,4 +1,4 @@
-use Rattle.std.proofs.Common.{◌∙◌, List, ap, arith, refl, subst, sym}
+use Rattle.std.proofs.Common.{rules, ◌∙◌, List, ap, arith, refl, subst, sym}
 use Rattle.net_reader.specs.Seen.{seen_input}
 use Rattle.region_plan.specs.Settings.{setting_of}
 use Rattle.scripts.specs.Scripts.{scripts_of}
@@ -27,3 +27,6 @@ returns-clause-bounded c = λ bounds. subst (λ (ls : List CostLine). AreWithinR
     (c.scripts_are_valid.ensures (seen_input c.args.input.now)
     (setting_of c.args.plan.now c.args.input.now.homes.items) c.requires.together.valid
     (record { nodes = c.requires.together.nodes; starts = refl })))
+
+pub loop-sub-init : goal.loop-sub-init
+loop-sub-init c = search rules

@@ -1,3 +1,4 @@
+use Rattle.std.proofs.lemmas.Grind.{common_steps}
 use Rattle.std.proofs.Common.{◌<◌, arith, subst, sym}
 use Rattle.region_plan.specs.Plan.{nodes_of}
 use Rattle.move_cost.proofs.Stepping.{counted-more, left-of-step, ready-here, room-for-step}
@@ -43,3 +44,9 @@ returns c =
     c.finish.ensures.rests (c.finish.ensures.stands c.args.input.now.homes.items _ _ _ left)
     (c.finish.ensures.line c.args.input.now.homes.items _ _ _ left)
     (c.finish.ensures.small c.args.input.now.homes.items _ _ _ left)
+
+pub index-call-requires : goal.index-call-requires
+index-call-requires c = grind (arith, common_steps)
+
+pub index-requires : goal.index-requires
+index-requires c = grind (arith, common_steps)

@@ -1,3 +1,4 @@
+use Rattle.std.proofs.lemmas.Grind.{common_steps}
 use Rattle.std.proofs.Common.{◌≡◌, Bool, true, false, cond, ap, refl, ◌∙◌, arith, sym}
 use Rattle.move_cost.proofs.Following.{IsCost, Makes, finished, follows-on, left-falls, next-fits, room-on}
 use Rattle.move_cost.proofs.counting.finish.Goals as goal
@@ -63,3 +64,9 @@ pub returns-clause-small : goal.returns-clause-small
 returns-clause-small c = λ starts steps made later its.
     (finished c.writes.invariant.follows its (λ now stands. sym c.in_default.is
     ∙ c.next.ensures.stands starts steps now stands)).few
+
+pub overflow_add-line : goal.overflow_add-line
+overflow_add-line c = grind (arith, common_steps)
+
+pub overflow_add-line-in-Some : goal.overflow_add-line-in-Some
+overflow_add-line-in-Some c = grind (arith, common_steps)

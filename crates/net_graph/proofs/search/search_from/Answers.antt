@@ -1,3 +1,4 @@
+use Rattle.std.proofs.lemmas.Grind.{common_steps}
 use Rattle.std.proofs.lemmas.Bool.Decides.{nat_tests}
 use Rattle.std.proofs.Common.{◌≡◌, ◌∙◌, ℕ, List, None, ◌∷◌, ap, subst, arith, rules, length, drop, replicate}
 use Rattle.std.specs.Prelude.{IsPermutation}
@@ -38,3 +39,9 @@ pub returns : goal.returns
 returns c =
     search_ends c.loop-lightest.invariant.found c.loop-lightest.invariant.queue
     (rw c.deref.ensures.value at c.in_default.ensures.none)
+
+pub index_mut-requires : goal.index_mut-requires
+index_mut-requires c = grind (arith, common_steps)
+
+pub loop-lightest-smaller : goal.loop-lightest-smaller
+loop-lightest-smaller c = grind (arith, common_steps)

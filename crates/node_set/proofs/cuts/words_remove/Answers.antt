@@ -1,4 +1,4 @@
-use Rattle.std.proofs.Common.{arith}
+use Rattle.std.proofs.Common.{rules, arith}
 use Rattle.node_set.proofs.Remains.{word_without}
 use Rattle.node_set.proofs.cuts.words_remove.Goals as goal
 
@@ -8,3 +8,6 @@ returns c = record {
   left = λ k i short below.
       grind (arith, word_without);
 }
+
+pub loop-i-preserved : goal.loop-i-preserved
+loop-i-preserved c = search rules

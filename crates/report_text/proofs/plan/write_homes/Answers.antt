@@ -1,3 +1,4 @@
+use Rattle.std.proofs.lemmas.Grind.{common_steps}
 use Rattle.std.proofs.Common.{◌+◌, arith}
 use Rattle.region_plan.specs.Plan.{level_at, no_level}
 use Rattle.report_text.proofs.Parts.{homes-cut, homes-some}
@@ -15,3 +16,6 @@ returns-then-to-nodes c =
       some = grind (arith, homes-some);
       sound = (c.requires.level, omega (arith, c.if-to-nodes.true, c.requires.nodes));
     }
+
+pub returns : goal.returns
+returns c = grind (arith, common_steps)

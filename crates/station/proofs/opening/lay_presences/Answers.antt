@@ -1,3 +1,4 @@
+use Rattle.std.proofs.lemmas.Grind.{common_steps}
 use Rattle.std.proofs.Common.{[], rules, arith}
 use Rattle.entry_word.specs.declared.visit.Key.TheVariants.{Presence}
 use Rattle.station.specs.Opening.{setup_of}
@@ -15,3 +16,9 @@ loop-sub-preserved c =
     let laid = laid_cell c.cell_numbers.ensures.apart is_cell (omega (arith, was.1))
     (c.look-word.ensures.history c.args.homes.now [] c.requires.hold) c.in_ok-push.ensures.items was.0 in
     (laid.0, omega (arith, laid.1, was.1))
+
+pub loop-node-preserved : goal.loop-node-preserved
+loop-node-preserved c = grind (arith, common_steps)
+
+pub returns-in_err-push : goal.returns-in_err-push
+returns-in_err-push c = grind (arith, common_steps)

@@ -1,3 +1,4 @@
+use Rattle.std.proofs.lemmas.Grind.{common_steps}
 use Rattle.std.proofs.Common.{◌++◌, take, sym, ap, ◌∙◌, arith, length-append, length-take}
 use Rattle.outside.specs.Bytes.{prepend_known, prepend_known-append}
 use Rattle.track.proofs.transfer.read_all.Goals as goal
@@ -31,3 +32,18 @@ pieces-preserved g c =
           ∙ sym (prepend_known-append bytes piece (g.S.Source.left c.fill.new.self));
       no_fault = c.in-Got.ensures.count ∙ c.pieces.invariant.no_fault;
     }
+
+pub overflow_add-count : goal.overflow_add-count
+overflow_add-count c = grind (arith, common_steps)
+
+pub pieces-smaller : goal.pieces-smaller
+pieces-smaller c = grind (arith, common_steps)
+
+pub returns-in-End : goal.returns-in-End
+returns-in-End c = grind (arith, common_steps)
+
+pub returns-in_err-feed-in-Got-clause-all : goal.returns-in_err-feed-in-Got-clause-all
+returns-in_err-feed-in-Got-clause-all c = grind (arith, common_steps)
+
+pub returns-in_err-feed-in-Got-clause-stops : goal.returns-in_err-feed-in-Got-clause-stops
+returns-in_err-feed-in-Got-clause-stops c = grind (arith, common_steps)

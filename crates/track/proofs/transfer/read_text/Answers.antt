@@ -1,4 +1,5 @@
-use Rattle.std.proofs.Common.{◌≡◌, ◌++◌, List, ℕ, take, sym, ap, ◌∙◌, rules}
+use Rattle.std.proofs.lemmas.Grind.{common_steps}
+use Rattle.std.proofs.Common.{arith, ◌≡◌, ◌++◌, List, ℕ, take, sym, ap, ◌∙◌, rules}
 use Rattle.outside.specs.Bytes.{prepend_known, prepend_known-append}
 use Rattle.track.proofs.transfer.read_text.Goals as goal
 
@@ -24,3 +25,15 @@ pieces-preserved g c =
           ∙ ap (λ (t : List ℕ). prepend_known t left) (sym grown);
       no_fault = c.in-Got.ensures.count ∙ c.pieces.invariant.no_fault;
     }
+
+pub pieces-smaller : goal.pieces-smaller
+pieces-smaller c = grind (arith, common_steps)
+
+pub returns : goal.returns
+returns c = grind (arith, common_steps)
+
+pub returns-in_err-extend_from_slice-in-Got-clause-all : goal.returns-in_err-extend_from_slice-in-Got-clause-all
+returns-in_err-extend_from_slice-in-Got-clause-all c = grind (arith, common_steps)
+
+pub returns-in_err-extend_from_slice-in-Got-clause-stops : goal.returns-in_err-extend_from_slice-in-Got-clause-stops
+returns-in_err-extend_from_slice-in-Got-clause-stops c = grind (arith, common_steps)

@@ -1,4 +1,4 @@
-use Rattle.std.proofs.Common.{arith, refl}
+use Rattle.std.proofs.Common.{rules, arith, refl}
 use Rattle.tracker_calls.proofs.Adding.{tried-none}
 use Rattle.tracker_calls.proofs.Stepping.{next-visit, stepped-tried}
 use Rattle.tracker_calls.proofs.moves.move_step.Goals as goal
@@ -26,3 +26,6 @@ returns-in-Ok c =
           (next.0, next.1, tried-none _ c.args.pass.now) (omega (arith, c.spare.ensures, c.if-spare-eq0.false)) made.0
           made.1 made.2 c.in-Ok.ensures.goes_on).0;
     }
+
+pub returns-in-Err : goal.returns-in-Err
+returns-in-Err c = search rules

@@ -1,3 +1,4 @@
+use Rattle.std.proofs.lemmas.Grind.{common_steps}
 use Rattle.std.proofs.Common.{ap, refl, ◌∙◌, arith}
 use Rattle.directory.specs.Keys.{key_node}
 use Rattle.station.specs.Setup.{setting_in}
@@ -27,3 +28,6 @@ pub returns-in-Ok : goal.returns-in-Ok
 returns-in-Ok g c =
     let looked = rw c.tries.invariant.walk at c.in-Ok.ensures.looked in
     record { looked = (c.tries.pass, c.in-Ok._ticket, looked, c.tries.invariant.tried looked.key looked.wanted) }
+
+pub tries-smaller : goal.tries-smaller
+tries-smaller c = grind (arith, common_steps)

@@ -1,3 +1,4 @@
+use Rattle.std.proofs.lemmas.Grind.{common_steps}
 use Rattle.std.proofs.Common.{subst, sym, ◌∙◌, arith}
 use Rattle.region_plan.specs.Matched.{IsMatched}
 use Rattle.walk.specs.Walks.{pursuit_of}
@@ -28,3 +29,6 @@ returns g c =
           (answer-ends (pursuit_of setup.plan c.looks.walk) c.in-Some.found
           (sym (c.answer-2.ensures setup.plan at.goes) ∙ c.in-Some.is));
     }
+
+pub looks-smaller : goal.looks-smaller
+looks-smaller c = grind (arith, common_steps)

@@ -1,3 +1,4 @@
+use Rattle.std.proofs.lemmas.Grind.{common_steps}
 use Rattle.std.proofs.Common.{ℕ, arith, subst}
 use Rattle.tracker_calls.proofs.Adding.{added-none}
 use Rattle.tracker_calls.proofs.Moving.{put-begun}
@@ -48,3 +49,18 @@ pub returns : goal.returns
 returns g c = record {
   moved = grind (arith, moving-out, none-due);
 }
+
+pub overflow_add-moved : goal.overflow_add-moved
+overflow_add-moved c = grind (arith, common_steps)
+
+pub put_when_free-requires : goal.put_when_free-requires
+put_when_free-requires c = grind (arith, common_steps)
+
+pub puts-smaller : goal.puts-smaller
+puts-smaller c = grind (arith, common_steps)
+
+pub puts-smaller-then-commits : goal.puts-smaller-then-commits
+puts-smaller-then-commits c = grind (arith, common_steps)
+
+pub unreachable-requires : goal.unreachable-requires
+unreachable-requires c = grind (arith, common_steps)

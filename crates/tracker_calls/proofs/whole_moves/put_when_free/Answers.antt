@@ -1,3 +1,4 @@
+use Rattle.std.proofs.lemmas.Grind.{common_steps}
 use Rattle.std.proofs.Common.{refl, ap, ◌∙◌, ◌≤◌, arith}
 use Rattle.directory.specs.Keys.{act_node}
 use Rattle.handset.specs.StepWrites.{due}
@@ -39,3 +40,6 @@ returns-in-Ok g c =
     let both = rw c.tries.invariant.handset at (stepped-tried c.visit_put.new.pass handset c.in-Ok.ticket
     c.requires.plan next room made.0 made.1 made.2 c.in-Ok.ensures.goes_on) in
     record { put = (c.tries.pass, both.0, both.1) }
+
+pub tries-smaller : goal.tries-smaller
+tries-smaller c = grind (arith, common_steps)

@@ -1,4 +1,4 @@
-use Rattle.std.proofs.Common.{◌^◌, ◌≤◌, arith}
+use Rattle.std.proofs.Common.{rules, ◌^◌, ◌≤◌, arith}
 use Rattle.std.proofs.Math.Nat.{mul-le-mul_right}
 use Rattle.whole_powers.specs.PowerLaws.{small_power}
 use Rattle.whole_powers.proofs.powers.at_most.Goals as goal
@@ -15,3 +15,6 @@ overflow_mul-result c =
     (small_power c.args.y c.args.k c.requires.y_small c.requires.few) in
     let r : c.from-2.result ≤ 1024 = omega (arith, c.from-2.ensures) in
     omega (arith, mul-le-mul_right c.pow-2.result r)
+
+pub returns : goal.returns
+returns c = search rules

@@ -1,4 +1,4 @@
-use Rattle.std.proofs.Common.{◌≡◌, arith, ◌∙◌, ap, subst, sym}
+use Rattle.std.proofs.Common.{rules, ◌≡◌, arith, ◌∙◌, ap, subst, sym}
 use Rattle.region_plan.specs.Settings.{setting_of}
 use Rattle.handset.proofs.Begun.{begin-stands}
 use Rattle.handset.specs.Condition.{GoesWith, HandsetData}
@@ -25,3 +25,6 @@ returns-clause-stands c = λ starts steps made stands.
     (ap (λ (h : HandsetData). h.stage) (sym c.self.view_is) ∙ rest-means c.self.inside.stage
     (sym c.is_rest.ensures ∙ c.if-not-is_rest.false)) (ap (λ (h : HandsetData). h.is_off) (sym c.self.view_is)
     ∙ c.if-self.false) stands)
+
+pub returns-then-self-clause-faults : goal.returns-then-self-clause-faults
+returns-then-self-clause-faults c = search rules

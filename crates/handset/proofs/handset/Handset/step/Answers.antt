@@ -1,4 +1,5 @@
-use Rattle.std.proofs.Common.{◌∙◌, ap, refl, sym}
+use Rattle.std.proofs.lemmas.Grind.{common_steps}
+use Rattle.std.proofs.Common.{arith, rules, ◌∙◌, ap, refl, sym}
 use Rattle.handset.specs.Condition.{HandsetData}
 use Rattle.handset.proofs.Going.{goes-next, erasing-is-late, purging-by-count}
 use Rattle.handset.proofs.handset.Handset.step.Goals as goal
@@ -22,3 +23,12 @@ returns-in-Purging-clause-goes c =
     (ap (λ (h : HandsetData). h.stage) (sym c.self.view_is) ∙ c.in-Purging.is) refl
     (rw c.purging_from-next.ensures (purging-by-count c.args.plan.now c.args.self.now _ c.requires.goes.trail))
     c.go_on-in-Purging.ensures
+
+pub returns-in-Coming-clause-after : goal.returns-in-Coming-clause-after
+returns-in-Coming-clause-after c = search rules
+
+pub returns-in-Erasing-clause-exact : goal.returns-in-Erasing-clause-exact
+returns-in-Erasing-clause-exact c = grind (arith, common_steps)
+
+pub returns-in-Renewing : goal.returns-in-Renewing
+returns-in-Renewing c = grind (arith, common_steps)

@@ -1,3 +1,4 @@
+use Rattle.std.proofs.lemmas.Grind.{common_steps}
 use Rattle.std.proofs.Common.{arith}
 use Rattle.machine.proofs.Passing.{looked-through, looks-ended, passed-none}
 use Rattle.machine.proofs.Making.{turns-behind, may-follow}
@@ -32,3 +33,9 @@ pub returns-in-Finished-clause-taken : goal.returns-in-Finished-clause-taken
 returns-in-Finished-clause-taken g c = λ history sees place its.
     looks-ended c.args.most place (turns-behind c.looks.invariant.passed c.pass-made.ensures.passed history sees place
     its) c.in-Finished.ensures
+
+pub look_one-requires-clause-low : goal.look_one-requires-clause-low
+look_one-requires-clause-low c = grind (arith, common_steps)
+
+pub pass-made-requires-clause-low : goal.pass-made-requires-clause-low
+pass-made-requires-clause-low c = grind (arith, common_steps)

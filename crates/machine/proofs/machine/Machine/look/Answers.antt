@@ -1,3 +1,4 @@
+use Rattle.std.proofs.lemmas.Grind.{common_steps}
 use Rattle.std.proofs.Common.{◌≡◌, ◌+◌, ◌-◌, arith, length, refl}
 use Rattle.machine.specs.Machines.{input_at}
 use Rattle.machine.proofs.Looked.{scripts-low}
@@ -40,3 +41,12 @@ returns-clause-stands g c = λ history stands.
     (c.args.actor - c.len.result) _ _ at taken.0.its refl c.log_run.ensures.items c.log_run.ensures.capacity)
     (λ empty. omega (arith, c.room_for-reach.ensures.full empty c.requires.some, may.2, c.len-ticket.ensures)) taken.1
     (λ none. (refl, c.log_run.ensures.still none))
+
+pub index_mut-requires : goal.index_mut-requires
+index_mut-requires c = grind (arith, common_steps)
+
+pub look-count-requires-clause-fits : goal.look-count-requires-clause-fits
+look-count-requires-clause-fits c = grind (arith, common_steps)
+
+pub look-count-requires-clause-low : goal.look-count-requires-clause-low
+look-count-requires-clause-low c = grind (arith, common_steps)

@@ -1,3 +1,4 @@
+use Rattle.std.proofs.lemmas.Grind.{common_steps}
 use Rattle.std.proofs.Common.{arith, refl}
 use Rattle.machine.proofs.Turning.{rooms-left, stridden, sub-may, sub-turned}
 use Rattle.machine.proofs.machine.Machine.write.Goals as goal
@@ -31,3 +32,12 @@ returns-clause-stands g c = λ history stands.
     c.requires.known taken.0.its refl c.log_run.ensures.items c.log_run.ensures.capacity)
     (λ empty. omega (arith, c.room_for-reach.ensures.full empty c.requires.some, may.2, c.len-ticket.ensures)) taken.1
     (λ none. (c.write-count.ensures.still none, c.log_run.ensures.still none))
+
+pub index_mut-requires : goal.index_mut-requires
+index_mut-requires c = grind (arith, common_steps)
+
+pub write-count-requires-clause-fits : goal.write-count-requires-clause-fits
+write-count-requires-clause-fits c = grind (arith, common_steps)
+
+pub write-count-requires-clause-low : goal.write-count-requires-clause-low
+write-count-requires-clause-low c = grind (arith, common_steps)

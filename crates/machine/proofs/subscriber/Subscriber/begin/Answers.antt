@@ -1,3 +1,4 @@
+use Rattle.std.proofs.lemmas.Grind.{common_steps}
 use Rattle.std.proofs.Common.{◌≡◌, ◌++◌, ◌∷◌, [], sym, ap, ◌∙◌, refl, arith, length, subst}
 use Rattle.net_reader.specs.declared.said.Call.TheVariants as calls
 use Rattle.machine.specs.Owed.{Owes}
@@ -90,3 +91,6 @@ returns c = λ history sees place its.
     (omega (arith, c.push.ensures.capacity)) c.begin_step-line.ensures.line at.left
     (λ key cell. c.put_at.ensures.history c.args.plan.now key sees.goes cell)
     (c.put_at.ensures.goes c.args.plan.now sees.goes)
+
+pub index-requires : goal.index-requires
+index-requires c = grind (arith, common_steps)

@@ -1,3 +1,4 @@
+use Rattle.std.proofs.lemmas.Grind.{common_steps}
 use Rattle.std.proofs.Common.{arith, refl, ◌++◌, ◌∙◌}
 use Rattle.machine.proofs.Making.{made-count, made-next, made-none, may-follow, turns-behind}
 use Rattle.machine.proofs.Written.{ended}
@@ -54,3 +55,15 @@ returns-in-Finished-clause-still g c = λ none.
 pub returns-clause-taken : goal.returns-clause-taken
 returns-clause-taken g c = λ history sees place its.
     (c.writes.invariant.written history sees place its, λ fewer. absurd (omega (arith, fewer, c.writes-test.false)))
+
+pub write_one-requires-clause-low : goal.write_one-requires-clause-low
+write_one-requires-clause-low c = grind (arith, common_steps)
+
+pub write_plain-made-requires-clause-fits : goal.write_plain-made-requires-clause-fits
+write_plain-made-requires-clause-fits c = grind (arith, common_steps)
+
+pub write_plain-made-requires-clause-low : goal.write_plain-made-requires-clause-low
+write_plain-made-requires-clause-low c = grind (arith, common_steps)
+
+pub writes-smaller : goal.writes-smaller
+writes-smaller c = grind (arith, common_steps)

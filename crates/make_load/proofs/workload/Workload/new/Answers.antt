@@ -1,3 +1,4 @@
+use Rattle.std.proofs.lemmas.Grind.{common_steps}
 use Rattle.std.proofs.Common.{ℕ, ap, length, arith}
 use Rattle.make_load.specs.Draws.{draw}
 use Rattle.make_load.proofs.Lists.{count-drawn}
@@ -12,3 +13,6 @@ draw_calls-requires-clause-subs c = omega (
   ap length c.in_ok-homes.ensures.value,
   count-drawn (λ (i : ℕ). draw c.args.load.nodes) 0 c.args.load.subs c.push_others.new.generator,
 )
+
+pub returns : goal.returns
+returns c = grind (arith, common_steps)

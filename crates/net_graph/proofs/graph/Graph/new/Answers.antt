@@ -1,3 +1,4 @@
+use Rattle.std.proofs.lemmas.Grind.{common_steps}
 use Rattle.std.proofs.Common.{◌≡◌, true, replicate, arith, rules}
 use Rattle.net_graph.proofs.Connecting.{connected, made, first_is_apart}
 use Rattle.net_graph.proofs.graph.Graph.new.Goals as goal
@@ -22,3 +23,6 @@ returns-in-Some-clause-fault c =
 
 pub returns-in-None-clause-graph : goal.returns-in-None-clause-graph
 returns-in-None-clause-graph c = grind (arith, made)
+
+pub search_from-requires : goal.search_from-requires
+search_from-requires c = grind (arith, common_steps)

@@ -1,4 +1,5 @@
-use Rattle.std.proofs.Common.{subst}
+use Rattle.std.proofs.lemmas.Grind.{common_steps}
+use Rattle.std.proofs.Common.{arith, subst}
 use Rattle.net_graph.specs.Walks.{among}
 use Rattle.net_graph.specs.Network.{Network}
 use Rattle.net_graph.specs.Trees.{AreParents}
@@ -12,3 +13,6 @@ returns-clause-parents c =
     (are_parents c.self.inside.neighbours c.self.invariant.limits (among c.args.allowed.now) c.args.root
     c.in_ok-weight.weight.items c.in_ok-parent.parent.items c.in_ok-weight.ensures
     (rw c.deref.ensures.value at c.in_ok-parent.ensures))
+
+pub returns-clause-weights : goal.returns-clause-weights
+returns-clause-weights c = grind (arith, common_steps)

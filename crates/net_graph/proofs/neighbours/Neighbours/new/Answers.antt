@@ -1,3 +1,4 @@
+use Rattle.std.proofs.lemmas.Grind.{common_steps}
 use Rattle.std.proofs.Common.{rules, ◌++◌, length, take, drop, arith, ap, sym, ◌∙◌}
 use Rattle.net_graph.specs.declared.neighbours.Arc.{Arc}
 use Rattle.net_graph.specs.Notes.{AreRows, JoinsOther}
@@ -26,3 +27,15 @@ invariant_of-result c =
 
 pub returns : goal.returns
 returns c = search (rules, rows_same_joins, made, rows_same_walks, laid_out_limits, all_rows)
+
+pub count_arcs-requires : goal.count_arcs-requires
+count_arcs-requires c = grind (arith, common_steps)
+
+pub fill_arcs-requires-clause-arcs : goal.fill_arcs-requires-clause-arcs
+fill_arcs-requires-clause-arcs c = grind (arith, common_steps)
+
+pub fill_arcs-requires-clause-limits : goal.fill_arcs-requires-clause-limits
+fill_arcs-requires-clause-limits c = grind (arith, common_steps)
+
+pub fill_arcs-requires-clause-none : goal.fill_arcs-requires-clause-none
+fill_arcs-requires-clause-none c = grind (arith, common_steps)

@@ -1,3 +1,4 @@
+use Rattle.std.proofs.lemmas.Grind.{common_steps}
 use Rattle.std.proofs.Common.{◌≡◌, ◌≤◌, drop, length, Some, ap, arith, rules, ◌∙◌, sym}
 use Rattle.outside.specs.Calls.{one_more}
 use Rattle.outside.specs.Memory.{SourceState}
@@ -18,3 +19,9 @@ returns-clause-bytes c =
     let within : c.min-count.result ≤ length c.split_at.result.1.now = omega arith in
     ap Some (sym left ∙ rest ∙ rw c.copy_front.ensures (drop-moved c.self.inside.bytes.items c.split_at.result.1.now
     (drop c.min-count.result c.args.into.now) c.self.inside.at c.min-count.result rest within))
+
+pub returns-clause-rest : goal.returns-clause-rest
+returns-clause-rest c = grind (arith, common_steps)
+
+pub returns-then-count-eq0 : goal.returns-then-count-eq0
+returns-then-count-eq0 c = grind (arith, common_steps)

@@ -1,3 +1,4 @@
+use Rattle.std.proofs.lemmas.Grind.{common_steps}
 use Rattle.std.proofs.Common.{arith}
 use Rattle.region_plan.specs.declared.clusters.ClusterLists.{ClusterLists}
 use Rattle.region_plan.proofs.Laying.{made_laid, made_pushed}
@@ -23,3 +24,12 @@ returns-clause-pushed c =
     made_pushed c.args.cluster.now (new c) c.requires.laid c.in_ok-push_members.ensures.pushed
     c.in_ok-push.ensures.items (omega (arith, c.len-start.ensures, c.args.self.now.nodes.ok.0))
     (omega (arith, c.len.ensures, c.push_members.new.list.ok.0)) c.in_ok-depth.ensures
+
+pub offset_bounds-deref-start : goal.offset_bounds-deref-start
+offset_bounds-deref-start c = grind (arith, common_steps)
+
+pub slice_bounds-nodes-count : goal.slice_bounds-nodes-count
+slice_bounds-nodes-count c = grind (arith, common_steps)
+
+pub slice_bounds-nodes-start : goal.slice_bounds-nodes-start
+slice_bounds-nodes-start c = grind (arith, common_steps)

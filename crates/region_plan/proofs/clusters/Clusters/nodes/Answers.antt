@@ -1,3 +1,4 @@
+use Rattle.std.proofs.lemmas.Grind.{common_steps}
 use Rattle.std.proofs.Common.{rules, arith}
 use Rattle.region_plan.proofs.Laying.{head_laid, head_read, head_short}
 use Rattle.region_plan.proofs.clusters.Clusters.nodes.Goals as goal
@@ -11,3 +12,9 @@ slice_bounds-result-count c =
 
 pub returns : goal.returns
 returns c = search (rules, head_read, head_laid)
+
+pub offset_bounds-deref-head : goal.offset_bounds-deref-head
+offset_bounds-deref-head c = grind (arith, common_steps)
+
+pub slice_bounds-result-end : goal.slice_bounds-result-end
+slice_bounds-result-end c = grind (arith, common_steps)

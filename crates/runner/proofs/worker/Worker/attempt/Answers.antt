@@ -1,4 +1,4 @@
-use Rattle.std.proofs.Common.{refl, sym, ◌∙◌, arith}
+use Rattle.std.proofs.Common.{rules, refl, sym, ◌∙◌, arith}
 use Rattle.runner.proofs.Working.{gone-held, gone-made, tries-lost, tries-made}
 use Rattle.runner.proofs.worker.Worker.attempt.Goals as goal
 
@@ -16,3 +16,9 @@ returns-clause-tried g c = λ input may.
     let tried = c.visit.ensures.tries input may.may.set its.role may.prepared may.left in
     gone-made c.lines_grow.ensures.kept _ its (tries-made input c.args.tracker.now.setup c.args.self.now.pass
     c.visit.new.pass c.visit.result (sym c.is_err.ensures.value ∙ c.if-is_err.false) tried.0) tried.1 (omega arith)
+
+pub returns-then-is_err-clause-shut : goal.returns-then-is_err-clause-shut
+returns-then-is_err-clause-shut c = search rules
+
+pub returns-clause-shut : goal.returns-clause-shut
+returns-clause-shut c = search rules

@@ -1,3 +1,4 @@
+use Rattle.std.proofs.lemmas.Grind.{common_steps}
 use Rattle.std.proofs.Common.{arith, ◌≡◌, ℕ, List}
 use Rattle.std.proofs.lemmas.List.{take_at}
 use Rattle.station.specs.Passes.{PassData}
@@ -23,3 +24,6 @@ returns-clause-order c = grind (arith, take_at)
 
 pub returns-clause-present : goal.returns-clause-present
 returns-clause-present c = grind (arith, present)
+
+pub returns-in-Some : goal.returns-in-Some
+returns-in-Some c = grind (arith, common_steps)

@@ -1,3 +1,4 @@
+use Rattle.std.proofs.lemmas.Grind.{common_steps}
 use Rattle.std.proofs.Common.{subst, sym, ap, arith}
 use Rattle.station.specs.Setup.{Setup}
 use Rattle.station.specs.Handsets.{Moves}
@@ -29,3 +30,9 @@ returns-clause-made c =
       left = grind (arith, left_by);
       given_back = rw put at c.give_back.ensures.logs;
     }
+
+pub put_there-requires-clause-turn : goal.put_there-requires-clause-turn
+put_there-requires-clause-turn c = grind (arith, common_steps)
+
+pub put_there-requires-clause-word : goal.put_there-requires-clause-word
+put_there-requires-clause-word c = grind (arith, common_steps)

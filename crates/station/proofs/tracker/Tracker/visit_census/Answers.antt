@@ -1,3 +1,4 @@
+use Rattle.std.proofs.lemmas.Grind.{common_steps}
 use Rattle.std.proofs.Common.{arith, ap, ◌∙◌, refl}
 use Rattle.entry_word.specs.declared.visit.Act.TheVariants.{Census}
 use Rattle.directory.specs.Census.{census}
@@ -41,3 +42,9 @@ returns c =
 pub invariant_of-pass : goal.invariant_of-pass
 invariant_of-pass c =
     lost_pass _ _ c.pass.invariant c.in_err-ticket.ensures.drawn.2
+
+pub count_here-count-requires : goal.count_here-count-requires
+count_here-count-requires c = grind (arith, common_steps)
+
+pub list_here-who-requires : goal.list_here-who-requires
+list_here-who-requires c = grind (arith, common_steps)

@@ -1,3 +1,4 @@
+use Rattle.std.proofs.lemmas.Grind.{common_steps}
 use Rattle.std.proofs.Common.{arith, refl, sym, ap, ◌∙◌}
 use Rattle.station.proofs.Growing.{cell-push}
 use Rattle.entry_word.specs.declared.visit.Act.TheVariants.{Look}
@@ -39,3 +40,6 @@ returns c =
 pub invariant_of-pass : goal.invariant_of-pass
 invariant_of-pass c =
     lost_pass _ _ c.pass.invariant c.in_err-ticket.ensures.drawn.2
+
+pub read_cell-word-requires : goal.read_cell-word-requires
+read_cell-word-requires c = grind (arith, common_steps)

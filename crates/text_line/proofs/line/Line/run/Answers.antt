@@ -1,3 +1,4 @@
+use Rattle.std.proofs.lemmas.Grind.{common_steps}
 use Rattle.std.proofs.Common.{◌≡◌, ◌≤◌, ◌-◌, ◌++◌, ℕ, List, ◌∙◌, ap, drop, length, take, arith}
 use Rattle.std.proofs.lemmas.List.{length-append, length-take}
 use Rattle.outside.specs.Texts.{fields}
@@ -24,3 +25,15 @@ keep-requires-clause-text c =
     ap (λ (bs : List ℕ). take (now.end - before.end) (drop before.end bs)) c.deref.ensures.value
     ∙ behind_line c.args.self.now text now.bytes.items before.end now.end long within grown
     ∙ ap fields c.requires.alone
+
+pub invariant_of-self : goal.invariant_of-self
+invariant_of-self c = grind (arith, common_steps)
+
+pub returns-then-is_of : goal.returns-then-is_of
+returns-then-is_of c = grind (arith, common_steps)
+
+pub slice_bounds-keep-count : goal.slice_bounds-keep-count
+slice_bounds-keep-count c = grind (arith, common_steps)
+
+pub slice_bounds-keep-start : goal.slice_bounds-keep-start
+slice_bounds-keep-start c = grind (arith, common_steps)

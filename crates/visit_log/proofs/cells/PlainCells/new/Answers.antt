@@ -1,3 +1,4 @@
+use Rattle.std.proofs.lemmas.Grind.{common_steps}
 use Rattle.std.proofs.Common.{◌≡◌, ◌*◌, ℕ, zero, suc, arith, ◌∙◌, refl, length, zero-le}
 use Rattle.std.specs.Prelude.{replicate, slice_index}
 use Rattle.std.proofs.lemmas.Bool.{le-ltb, lt-ltb}
@@ -38,3 +39,6 @@ returns-clause-opening c = record {
       c.loop-sub.invariant.words key its
       ∙ rw (lt-ltb (key_sub key) c.loop-sub.sub (omega (arith, its.known, c.loop-sub-test.false)));
 }
+
+pub open-requires : goal.open-requires
+open-requires c = grind (arith, common_steps)

@@ -1,3 +1,4 @@
+use Rattle.std.proofs.lemmas.Grind.{common_steps}
 use Rattle.std.proofs.Common.{◌≡◌, ℕ, ◌^◌, ◌<◌, ◌≤◌, length, get_or, ap, arith}
 use Rattle.entry_word.specs.declared.visit.Key.TheVariants.{Entry}
 use Rattle.region_plan.specs.Plan.{readers}
@@ -59,3 +60,6 @@ returns c =
     grind (arith, c.in_ok-resize.ensures.by_index) in
     adding-done c.requires.level c.requires.parts c.loop-index.invariant.adding all (omega (arith, some, all))
     (omega (arith, few, all)) (rw size at c.in_ok-push.ensures.items) told (grind (arith, parts-few))
+
+pub loop-index-init : goal.loop-index-init
+loop-index-init c = grind (arith, common_steps)
