@@ -2,6 +2,7 @@
 //! four nodes. A definition that says something else is refused here.
 #![tactic(auto)]
 
+mod bounds;
 mod calls;
 mod cells;
 mod censuses;
@@ -30,6 +31,7 @@ mod valid;
 mod words;
 mod wrong;
 
+pub use bounds::{worked_bounds, worked_callers, worked_rooms};
 pub use calls::{wrong_additions, wrong_answers, wrong_finds, wrong_steps, wrong_stops};
 pub use cells::{worked_cells, worked_rungs, worked_words};
 pub use censuses::worked_censuses;
