@@ -40,6 +40,7 @@ LAST = re.compile(r"^only=\d+ proved=\d+$", re.M)
 TESTED = re.compile(r"^test result: (ok|FAILED)", re.M)
 FAILED = re.compile(r"^test .* FAILED$", re.M)
 FAULT = re.compile(r"^(?:note: )?\S+?:\d+:\d+: .*$", re.M)
+UNREAD = re.compile(r"is not in scope")
 HOW = {"stdout": subprocess.PIPE, "stderr": subprocess.STDOUT, "text": True, "errors": "replace"}
 
 
@@ -107,7 +108,10 @@ def judged(ran):
     """Whether all is proved or passes, or what is refused first."""
     said, tested = ran.stdout, TESTED.search(ran.stdout)
     if LAST.search(said) and ran.returncode in (0, 1):
-        return ("refused", FAULT.findall(said)[:1]) if ran.returncode else ("STAYS", [])
+        faults = FAULT.findall(said)[:1]
+        # (a name that its file doesn't have is refused whatever it means)
+        refusal = "CAN'T BE READ" if any(map(UNREAD.search, faults)) else "refused"
+        return (refusal, faults) if ran.returncode else ("STAYS", [])
     if tested:
         return ("STAYS", []) if tested[1] == "ok" else ("refused", FAILED.findall(said)[:1])
     return "CAN'T BE READ", said.strip().splitlines()[-1:]
