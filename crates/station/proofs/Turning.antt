@@ -162,6 +162,7 @@ turns law setup n id x m act known alone idle s o wide me small =
           other,
           few,
           rw (← a) (logs o id m.0 (Lost m.0.low x word) me alone refl may),
+          λ real. omega (arith, below, ap (λ s. s.actors) (was.setup_is real)),
         ),
       ),
     ))

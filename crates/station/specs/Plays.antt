@@ -37,8 +37,8 @@ abbrev pub view_held : View → ℕ → ℕ → List TurnEvent → View
 view_held view node word log =
     record view { lost = view.lost ++ turn_at node word ∷ []; turns = log }
 
--- the turn is won where the lock word was 0; where it wasn't, it names another actor, and the turn
--- is lost; and it is logged so
+-- the turn is won where the lock word was 0; where it wasn't, it names another actor of the
+-- tracker, and the turn is lost; and it is logged so
 abbrev pub Turns : Play
 Turns step before found after =
     (node : ℕ) (act : Act) → step.word ≡ lock_word node → step.said ≡ some act
@@ -46,7 +46,8 @@ Turns step before found after =
     × Logs before.0.turns (Won before.0.low node) after.0.turns)
     × (found ≢ 0 → (after ≡ (view_held before.0 node found after.0.turns, before.1))
     × (found ≢ suc before.0.low) × (found ≤ 128)
-    × Logs before.0.turns (Lost before.0.low node found) after.0.turns)
+    × Logs before.0.turns (Lost before.0.low node found) after.0.turns
+    × (before.0.is_spent ≡ false → found ≤ before.0.setup.actors))
 
 -- the view of the first seat stands for all actors
 abbrev pub first_view : Setup → View

@@ -31,11 +31,13 @@ pub record MayDraw (view : View) (node : ℕ) (act : Act) : Type 0 where
   pub cell : (key : Key) → key_put act ≡ Some key → IsCellOf view.setup key
   pub may : MayDo view act
 
--- a seat has lost a turn at a node to another actor, and nothing else of it has changed
+-- a seat has lost a turn at a node to another actor of the tracker, and nothing else of it has
+-- changed
 abbrev pub LosesTurn : Me Act View → ℕ → ℕ → Held → Me Act View → Type 0
 LosesTurn old actor node held new =
     (held.node ≡ node) × (held.by ≢ actor)
     × (new ≡ (view_held old.0 node (suc held.by) new.0.turns, old.1))
+    × (held.by < old.0.setup.actors)
 
 -- a view has drawn its ticket at a node, and has seen nothing since
 pub record HasTurn (view : View) (node : ℕ) : Type 0 where
@@ -90,11 +92,12 @@ pub record HasVisited (old : PassData) (act : Act) (ticket : ℕ) (new : PassDat
   pub spare : new.spare + 1 ≡ old.spare
   pub same : IsSamePass old new
 
--- a pass has lost a turn at a node to another actor, and nothing else has changed; the turn was
--- that actor's at this very step, by the log of all turns
+-- a pass has lost a turn at a node to another actor of the tracker, and nothing else has changed;
+-- the turn was that actor's at this very step, by the log of all turns
 pub record HasLost (old : PassData) (place : ℕ) (held : Held) (new : PassData) : Type 0 where
   pub node : held.node ≡ place
   pub other : held.by ≢ actor_of old
+  pub known : held.by < old.view.setup.actors
   pub turn : new ≡ record old { view = view_held old.view place (suc held.by) new.view.turns }
   pub logs : Logs old.view.turns (Lost (actor_of old) place (suc held.by)) new.view.turns
 

@@ -19,7 +19,7 @@ use directory::same_key_means;
 use entry_word::Act;
 use visit_log::cell_numbers;
 
-/// Another pass was inside the node: that of the actor `by`. Nothing else has happened, so that the
+/// Another pass was inside the node: that of the actor `by` of the tracker. Nothing else has happened, so that the
 /// same call may be made again at once.
 #[derive(Clone, Copy, PartialEq, Eq, Debug)]
 pub struct Held {
@@ -80,6 +80,7 @@ impl Tracker {
         requires high { seat.old.me.0.high ≡ suc actor }
         requires outside { seat.old.me.0.inside ≡ None }
         requires unwritten { seat.old.me.0.unwritten ≡ None }
+        requires real { seat.old.me.0.is_spent ≡ false }
         ensures table { seat.new.table_id ≡ seat.old.table_id }
         ensures id { seat.new.id ≡ seat.old.id }
         ensures turn { MatchResult result
@@ -121,6 +122,7 @@ impl Tracker {
         requires high { seat.old.me.0.high ≡ suc actor }
         requires outside { seat.old.me.0.inside ≡ None }
         requires unwritten { seat.old.me.0.unwritten ≡ None }
+        requires real { seat.old.me.0.is_spent ≡ false }
         requires may { (log : List TurnEvent)
             → MayDraw (view_inside seat.old.me.0 node act.now log) node act.now }
         ensures table { seat.new.table_id ≡ seat.old.table_id }

@@ -1,5 +1,5 @@
 //! Visits: a ticket is drawn inside a node, and what the act says is done there.
-ghost use Rattle.std.specs.Prelude.{◌≡◌, ◌≤◌, [], ◌<◌, ◌++◌, ◌∷◌, List, None, Some, IfSome, IsSome, MatchResult, OnOk, length, slice_get, suc};
+ghost use Rattle.std.specs.Prelude.{false, ◌≡◌, ◌≤◌, [], ◌<◌, ◌++◌, ◌∷◌, List, None, Some, IfSome, IsSome, MatchResult, OnOk, length, slice_get, suc};
 ghost use Rattle.entry_word.specs.declared.visit.Act.TheVariants.{Census, Look, Put};
 ghost use Rattle.directory.specs.Census.{census};
 ghost use Rattle.directory.specs.Histories.{before, cell, puts_to};
@@ -176,6 +176,7 @@ impl Tracker {
         requires high { seat.old.me.0.high ≡ suc actor }
         requires outside { seat.old.me.0.inside ≡ None }
         requires unwritten { seat.old.me.0.unwritten ≡ None }
+        requires real { seat.old.me.0.is_spent ≡ false }
         requires may { (log : List TurnEvent) → MayDraw
             (view_inside seat.old.me.0 node (Put key word) log) node (Put key word) }
         ensures table { seat.new.table_id ≡ seat.old.table_id }

@@ -30,14 +30,16 @@ pub fn wrong_passes()
         → AreFresh tracker (one ∷ other ∷ []) → actor_of other ≡ 0 → ⊥ }
 {}
 
-/// A turn that is lost is one at the node that was asked for, to another actor whose turn it is by
-/// the log, and the pass has it as its last lost turn; nothing else changes. A visit that is made
+/// A turn that is lost is one at the node that was asked for, to another actor of the tracker whose
+/// turn it is by the log, and the pass has it as its last lost turn; nothing else changes. A visit that is made
 /// has had a turn. Nothing else of the pass's own is logged.
 pub fn wrong_turns()
     ensures elsewhere { (old new : PassData)
         → HasLost old 2 (record { node = 1; by = 5 }) new → ⊥ }
     ensures own { (old new : PassData) → HasPass old 5 []
         → HasLost old 2 (record { node = 2; by = 5 }) new → ⊥ }
+    ensures stranger { (old new : PassData) → HasLost old 2 (record { node = 2; by = 5 }) new
+        → old.view.setup.actors ≡ 5 → ⊥ }
     ensures untold { (old : PassData) → HasLost old 2 (record { node = 2; by = 5 }) old → ⊥ }
     ensures told { (old new : PassData) → HasLost old 2 (record { node = 2; by = 5 }) new
         → new.view.lost ≡ old.view.lost ++ turn_at 2 6 ∷ [] }

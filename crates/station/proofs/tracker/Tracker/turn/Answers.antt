@@ -41,6 +41,7 @@ pub returns-clause-turn : goal.returns-clause-turn
 returns-clause-turn c = grind (
   arith,
   c.compare_exchange_with-found.ensures.2 c.args.node c.args.act.now c.lock_place-place.ensures.place refl,
+  c.requires.real,
   up,
 )
 
