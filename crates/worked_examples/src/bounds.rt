@@ -47,7 +47,8 @@ pub fn worked_callers()
         1).first ≤ 4 }
 {}
 
-/// A machine for 25 visits, four calls, one subscriber and two callers has room for just these.
+/// A machine has room for just what its input may need: where that is 25 visits, for an order of 25;
+/// where its scripts have four calls, for four; and for its one subscriber, or its two callers.
 pub fn worked_rooms()
     ensures order { (machine : Machine) → HasJustRoom machine
         → most_visits (setting_at machine) (input_at machine).scripts ≡ 25
