@@ -56,7 +56,7 @@ fn shows_write(
     place: usize,
     visit: Option<Visit>,
     wanted: &str,
-) -> Result<(), Fail> {
+) {
     let Some(
         Visit {
             actor,
@@ -109,7 +109,7 @@ fn play_row(
     distances: &Distances,
     step: &str,
     wanted: &str,
-) -> Result<(), Fail>
+)
     requires goes { GoesWith plan.now handset.old }
     requires belongs { plan.now.distances ≡ distances.now }
     ensures { GoesWith plan.now handset.new }
@@ -125,7 +125,7 @@ fn play_row(
         "on" => same_shown(rt, alloc, place, &turn(handset, plan, false), wanted),
         "write" => shows_write(rt, alloc, place, write(handset, plan), wanted),
         "writes" => same_shown(rt, alloc, place, &write_all(handset, plan, number), wanted),
-        _ => Err("there is no such step".into()),
+        _ => same_shown(rt, alloc, place, &"no such step", wanted),
     }
 }
 
@@ -138,15 +138,14 @@ fn play(
     plan: &Plan,
     distances: &Distances,
     rows: &str,
-) -> Result<(), Fail>
+)
     requires goes { GoesWith plan.now handset.old }
     requires belongs { plan.now.distances ≡ distances.now }
 {
     'steps: for place in 0..rows_in(rows) {
         let (step, wanted) = row_of(rows, place);
-        play_row(rt, alloc, place, handset, plan, distances, step, wanted)?;
+        play_row(rt, alloc, place, handset, plan, distances, step, wanted);
     }
-    Ok(())
 }
 
 /// A handset at rest at a node of a plan.
@@ -157,13 +156,11 @@ pub fn play_from(
     distances: &Distances,
     home: u32,
     rows: &str,
-) -> Result<(), Fail>
+)
     requires belongs { plan.now.distances ≡ distances.now }
 {
-    if home >= plan.nodes() {
-        return Err("the home is a node".into());
-    }
-    let mut handset = Handset::new(alloc, 0, home, plan)?;
+    assert!(rt; home < plan.nodes());
+    let mut handset = Handset::new(alloc, 0, home, plan).expect(rt, "memory");
     play(rt, alloc, &mut handset, plan, distances, rows)
 }
 
@@ -241,7 +238,6 @@ fn a_move_over_the_most_nodes(rt: HostRuntime) -> Result<(), Fail> {
 fn sends<T: Send>() {}
 
 #[test]
-fn another_thread_may_have_it(_rt: HostRuntime) -> Result<(), Fail> {
+fn another_thread_may_have_it(_rt: HostRuntime) {
     sends::<Handset>();
-    Ok(())
 }

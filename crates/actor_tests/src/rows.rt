@@ -10,7 +10,12 @@ pub fn rows_in(table: &str) -> usize {
 /// The step of a row of a table, and what is to be seen of it.
 pub fn row_of(table: &str, place: usize) -> (&str, &str) {
     let row = table.split_terminator('|').nth(place).unwrap_or("");
-    row.split_once('>').unwrap_or((row, ""))
+    halves(row, '>')
+}
+
+/// What stands before a mark and what behind it; all and nothing, where there is no such mark.
+pub fn halves(text: &str, mark: char) -> (&str, &str) {
+    text.split_once(mark).unwrap_or((text, ""))
 }
 
 /// The number of a word; one that no test names, where the word is none.
