@@ -7,7 +7,7 @@ ghost use Rattle.region_plan.specs.Plan.{nodes_of};
 ghost use Rattle.visit_log.specs.Cells.{GoWith};
 
 use crate::plays::{self, Over, Subject};
-use crate::rows::{halves, row_of, rows_in, step_of};
+use crate::rows::{halves, row_of, rows_in, step_of, within};
 use crate::sameness::same_shown;
 use entry_word::Key;
 use region_plan::Plan;
@@ -125,14 +125,7 @@ fn take(cells: &mut PlainCells, plan: &Plan, subs: u32, step: &str) -> Option<u6
 
 // Each row is a step over the cells of so many subscribers. The word 2^48 is that of a subscriber's
 // presence at its start node, and 2^48 and a node's number more that of an entry that leads there.
-fn play(
-    rt: &impl Abort,
-    alloc: Global,
-    cells: &mut PlainCells,
-    plan: &Plan,
-    subs: u32,
-    rows: &str,
-)
+fn play(rt: &impl Abort, alloc: Global, cells: &mut PlainCells, plan: &Plan, subs: u32, rows: &str)
     requires goes { GoWith plan.now cells.old }
     requires subs { cells.old.subs ≡ subs }
     requires some { 1 ≤ subs }
@@ -157,15 +150,8 @@ fn cells_of(alloc: Global, plan: &Plan, home: u32, subs: u32) -> Result<PlainCel
 }
 
 /// Plays rows over the cells of so many subscribers, from 1 to 64, which all start at one node.
-pub fn play_from(
-    rt: &impl Abort,
-    alloc: Global,
-    plan: &Plan,
-    home: u32,
-    subs: u32,
-    rows: &str,
-) {
-    assert!(rt; home < plan.nodes() && 1 <= subs && subs <= 64);
+pub fn play_from(rt: &impl Abort, alloc: Global, plan: &Plan, home: u32, subs: u32, rows: &str) {
+    let (home, subs) = (within(rt, home, 0, plan.nodes()), within(rt, subs, 1, 65));
     let mut cells = cells_of(alloc, plan, home, subs).expect(rt, "memory");
     play(rt, alloc, &mut cells, plan, subs, rows);
 }

@@ -3,7 +3,7 @@ ghost use Rattle.std.specs.Prelude.{◌≡◌};
 ghost use Rattle.handset.specs.Condition.{GoesWith};
 
 use crate::plays::{self, Over, Subject};
-use crate::rows::{row_of, rows_in, step_of};
+use crate::rows::{row_of, rows_in, step_of, within};
 use crate::sameness::same_shown;
 use distances::Distances;
 use entry_word::{Act, Key, Visit, unpack_address, unpack_mark};
@@ -50,13 +50,7 @@ fn turn(handset: &mut Handset, plan: &Plan, off: bool) -> Result<(), SwitchFault
 }
 
 // A write is shown by its actor, its key's numbers and what its word says.
-fn shows_write(
-    rt: &impl Abort,
-    alloc: Global,
-    place: usize,
-    visit: Option<Visit>,
-    wanted: &str,
-) {
+fn shows_write(rt: &impl Abort, alloc: Global, place: usize, visit: Option<Visit>, wanted: &str) {
     let Some(
         Visit {
             actor,
@@ -100,6 +94,28 @@ fn state(handset: &Handset) -> (u32, u32, u32, u64, bool) {
     )
 }
 
+// A write of a handset, as many as are left up to a limit, or a look at it.
+fn play_write(
+    rt: &impl Abort,
+    alloc: Global,
+    place: usize,
+    handset: &mut Handset,
+    plan: &Plan,
+    step: &str,
+    wanted: &str,
+)
+    requires { GoesWith plan.now handset.old }
+    ensures { GoesWith plan.now handset.new }
+{
+    let (name, [limit, ..]) = step_of(step);
+    match name {
+        "write" => shows_write(rt, alloc, place, write(handset, plan), wanted),
+        "writes" => same_shown(rt, alloc, place, &write_all(handset, plan, limit), wanted),
+        _ => same_shown(rt, alloc, place, &state(handset), wanted),
+    }
+}
+
+// What begins: a move or a switch; or else a write or a look.
 fn play_row(
     rt: &impl Abort,
     alloc: Global,
@@ -116,16 +132,13 @@ fn play_row(
 {
     let (name, [number, ..]) = step_of(step);
     match name {
-        "look" => same_shown(rt, alloc, place, &state(handset), wanted),
         "move" => {
             let begun = handset.begin(plan, distances, number);
             same_shown(rt, alloc, place, &begun, wanted)
         }
         "off" => same_shown(rt, alloc, place, &turn(handset, plan, true), wanted),
         "on" => same_shown(rt, alloc, place, &turn(handset, plan, false), wanted),
-        "write" => shows_write(rt, alloc, place, write(handset, plan), wanted),
-        "writes" => same_shown(rt, alloc, place, &write_all(handset, plan, number), wanted),
-        _ => same_shown(rt, alloc, place, &"no such step", wanted),
+        _ => play_write(rt, alloc, place, handset, plan, step, wanted),
     }
 }
 
@@ -159,7 +172,7 @@ pub fn play_from(
 )
     requires belongs { plan.now.distances ≡ distances.now }
 {
-    assert!(rt; home < plan.nodes());
+    let home = within(rt, home, 0, plan.nodes());
     let mut handset = Handset::new(alloc, 0, home, plan).expect(rt, "memory");
     play(rt, alloc, &mut handset, plan, distances, rows)
 }

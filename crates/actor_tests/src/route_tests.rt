@@ -52,6 +52,7 @@ fn homes_of<'a>(homes: &'a Homes, plan: &Plan, node: u32) -> Option<&'a [u32]>
     None
 }
 
+// A climb, the most looks from a node, or else its homes.
 fn play_row(
     rt: &impl Abort,
     alloc: Global,
@@ -75,8 +76,7 @@ fn play_row(
             &most_looks(routes, plan, numbers[0]),
             wanted,
         ),
-        "homes" => same_shown(rt, alloc, place, &homes_of(homes, plan, numbers[0]), wanted),
-        _ => same_shown(rt, alloc, place, &"no such step", wanted),
+        _ => same_shown(rt, alloc, place, &homes_of(homes, plan, numbers[0]), wanted),
     }
 }
 

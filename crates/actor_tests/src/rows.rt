@@ -1,6 +1,9 @@
 //! Tables that are one text each, since the prover takes a text at once, and a table of tuples
 //! value by value. Behind each row stands `|`, and a row is `STEP>SEEN`: a name with its numbers,
 //! and how what is seen is shown.
+ghost use Rattle.std.specs.Prelude.{◌≡◌, ◌<◌, ◌≤◌};
+
+use std::process::Abort;
 
 /// How many rows a table has.
 pub fn rows_in(table: &str) -> usize {
@@ -37,4 +40,14 @@ pub fn step_of(step: &str) -> (&str, [u32; 4]) {
         number_of(words.next()),
     ];
     (name, numbers)
+}
+
+/// A number of a subject, which is to be at least the one and less than the other.
+pub fn within(rt: &impl Abort, number: u32, least: u32, beyond: u32) -> u32
+    ensures same { result ≡ number }
+    ensures least { least ≤ result }
+    ensures beyond { result < beyond }
+{
+    assert!(rt; least <= number && number < beyond);
+    number
 }

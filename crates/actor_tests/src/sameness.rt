@@ -5,13 +5,10 @@ use std::process::Abort;
 
 /// Stops where a value isn't shown by `{:?}` as is wanted. `place` tells which of a test's
 /// comparisons it is.
-pub fn same_shown<T: Debug>(
-    rt: &impl Abort,
-    alloc: Global,
-    place: usize,
-    found: &T,
-    wanted: &str,
-) {
+pub fn same_shown<T: Debug>(rt: &impl Abort, alloc: Global, place: usize, found: &T, wanted: &str) {
     let shown = format!(in alloc; "{found:?}").expect(rt, "memory");
-    assert!(rt; shown.as_str() == wanted, "at {place}: {shown}, not {wanted}");
+    assert!(rt;
+        shown.as_str() == wanted,
+        "at {place}: {shown}, not {wanted}"
+    );
 }

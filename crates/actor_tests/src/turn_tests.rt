@@ -55,7 +55,13 @@ fn take(
     if name == "turn" {
         same_shown(rt, alloc, place, &machine.turn(actor), wanted);
     } else {
-        same_shown(rt, alloc, place, &machine.turns(actor, count as usize), wanted);
+        same_shown(
+            rt,
+            alloc,
+            place,
+            &machine.turns(actor, count as usize),
+            wanted,
+        );
     }
 }
 
