@@ -190,7 +190,8 @@ fn next(state: u64) -> u64 {
         .wrapping_add(1_442_695_040_888_963_407)
 }
 
-// Each node but the first is joined to two earlier ones.
+// Each node but the first is joined to two earlier ones. An edge for which there is no memory is
+// left out, and then missed in their number.
 fn made_edges(alloc: Global, n: u32) -> Vec<Edge>
     ensures { All (IsEdge n) result.items }
 {
@@ -268,5 +269,7 @@ fn has_least(rt: &impl Abort, alloc: Global, edges: &[Edge])
 
 #[test]
 fn a_search_and_a_plain_relaxation(rt: HostRuntime) {
-    has_least(&rt, rt.alloc(), &made_edges(rt.alloc(), 256));
+    let edges = made_edges(rt.alloc(), 256);
+    assert!(rt; edges.len() == 510);
+    has_least(&rt, rt.alloc(), &edges);
 }
