@@ -1,20 +1,34 @@
 //! Cells and their numbers, of the line 0 - 1 - 2 - 3 of unit weights, whose level 0 has two
 //! clusters, and of paths.
 
-ghost use Rattle.std.specs.Prelude.{◌≡◌, ◌<◌, ◌≤◌, IfSome};
+ghost use Rattle.std.specs.Prelude.{◌≡◌, ◌<◌, ◌≤◌, IfOk, IfSome};
 ghost use Rattle.region_plan.specs.Cells.{IsCell};
 ghost use Rattle.region_plan.specs.Plan.{nodes_of};
 ghost use Rattle.visit_log.specs.Cells.{GoWith};
 
 use crate::plays::{self, Over, Subject};
-use crate::rows::{number_of, row_of, rows_in, step_of};
+use crate::rows::{halves, row_of, rows_in, step_of, within};
 use crate::sameness::same_shown;
 use entry_word::Key;
 use region_plan::Plan;
-use std::alloc::Global;
+use std::alloc::{AllocError, Global};
 use std::process::Abort;
 use std::test::Fail;
 use visit_log::{PlainCells, cell_count, cell_number, key_node};
+
+// The key of an entry of so many subscribers, if there is such a cell.
+fn entry_of(plan: &Plan, subs: u32, level: u32, cluster: u32, sub: u32) -> Option<Key>
+    ensures { IfSome result (IsCell plan.now subs) }
+{
+    if level >= plan.levels() || cluster >= plan.clusters(level) || sub >= subs {
+        return None;
+    }
+    Some(Key::Entry {
+        level,
+        cluster,
+        sub,
+    })
+}
 
 // The key `presence NODE SUB` or `entry LEVEL CLUSTER SUB` of a cell of so many subscribers, if
 // there is such a cell.
@@ -22,77 +36,76 @@ fn cell_of(plan: &Plan, subs: u32, words: &str) -> Option<Key>
     ensures { IfSome result (IsCell plan.now subs) }
 {
     let (kind, [first, second, third, _]) = step_of(words);
-    if kind == "presence" && first < plan.nodes() && second < subs {
-        return Some(Key::Presence {
+    match kind {
+        "presence" if first < plan.nodes() && second < subs => Some(Key::Presence {
             node: first,
             sub: second,
-        });
+        }),
+        "entry" => entry_of(plan, subs, first, second, third),
+        _ => None,
     }
-    if kind != "entry" || first >= plan.levels() {
-        return None;
-    }
-    if second >= plan.clusters(first) || third >= subs {
-        return None;
-    }
-    Some(Key::Entry {
-        level: first,
-        cluster: second,
-        sub: third,
-    })
 }
 
-// What a cell holds, after a word is put there if one is given.
-fn word_in(
-    cells: &mut PlainCells,
-    plan: &Plan,
-    subs: u32,
-    cell: &str,
-    word: Option<u64>,
-) -> Option<u64>
+// Puts a word, if there is such a cell, and tells what the cell then holds.
+fn put(cells: &mut PlainCells, plan: &Plan, subs: u32, words: &str) -> Option<u64>
     requires goes { GoWith plan.now cells.old }
     requires subs { cells.old.subs ≡ subs }
     ensures goes { GoWith plan.now cells.new }
     ensures subs { cells.new.subs ≡ subs }
 {
-    let Some(key) = cell_of(plan, subs, cell) else {
-        return None;
-    };
-    if let Some(word) = word {
-        cells.put(plan, key, word);
-    }
+    let (word, cell) = halves(words, ' ');
+    let key = cell_of(plan, subs, cell)?;
+    cells.put(plan, key, word.parse::<u64>().ok()?);
     Some(cells.look(plan, key))
 }
 
 // How many presences of subscriber 0 at two nodes hold nothing.
-fn empty_presences(cells: &PlainCells, plan: &Plan, nodes: &str) -> Option<u64>
+fn empty_presences(cells: &PlainCells, plan: &Plan, one: u32, two: u32) -> Option<u64>
     requires goes { GoWith plan.now cells.now }
     requires some { 1 ≤ cells.now.subs }
 {
-    let (one, two) = nodes.split_once(' ').unwrap_or((nodes, ""));
-    let (one, two) = (number_of(Some(one)), number_of(Some(two)));
     if one >= plan.nodes() || two >= plan.nodes() {
         return None;
     }
     Some(cells.count_empty(0, &[one, two]) as u64)
 }
 
-// What cells tell that no step changes: the number or the node of one, how many there are, how many
-// levels, and clusters of a level, and how many of two presences hold nothing.
-fn told_of(cells: &PlainCells, plan: &Plan, subs: u32, name: &str, words: &str) -> Option<u64>
+// How many clusters a level has, if there is such a level.
+fn clusters_of(plan: &Plan, level: u32) -> Option<u64> {
+    if level < plan.levels() {
+        return Some(u64::from(plan.clusters(level)));
+    }
+    None
+}
+
+// What a cell holds, its number, or its node.
+fn told_of_cell(cells: &PlainCells, plan: &Plan, subs: u32, name: &str, cell: &str) -> Option<u64>
     requires goes { GoWith plan.now cells.now }
-    requires some { 1 ≤ cells.now.subs }
+    requires subs { cells.now.subs ≡ subs }
 {
+    let key = cell_of(plan, subs, cell)?;
     match name {
-        "empty" => empty_presences(cells, plan, words),
-        "number" => Some(cell_number(plan, subs, cell_of(plan, subs, words)?)),
-        "node" => Some(u64::from(key_node(plan, cell_of(plan, subs, words)?))),
+        "look" => Some(cells.look(plan, key)),
+        "number" => Some(cell_number(plan, subs, key)),
+        "node" => Some(u64::from(key_node(plan, key))),
+        _ => None,
+    }
+}
+
+// What cells tell without a change: how many of two presences hold nothing, how many cells, levels,
+// and clusters of a level there are, or what one cell tells.
+fn told_of(cells: &PlainCells, plan: &Plan, subs: u32, step: &str) -> Option<u64>
+    requires goes { GoWith plan.now cells.now }
+    requires subs { cells.now.subs ≡ subs }
+    requires some { 1 ≤ subs }
+{
+    let (name, [first, second, ..]) = step_of(step);
+    match name {
+        "empty" => empty_presences(cells, plan, first, second),
         "count" => Some(cell_count(plan, subs)),
         "levels" => Some(u64::from(plan.levels())),
-        "clusters" => match words.parse::<u32>() {
-            Ok(level) if level < plan.levels() => Some(u64::from(plan.clusters(level))),
-            _ => None,
-        },
-        _ => None,
+        "clusters" => clusters_of(plan, first),
+        _ => told_of_cell(cells, plan, subs, name, halves(step, ' ').1),
     }
 }
 
@@ -104,27 +117,15 @@ fn take(cells: &mut PlainCells, plan: &Plan, subs: u32, step: &str) -> Option<u6
     ensures goes { GoWith plan.now cells.new }
     ensures subs { cells.new.subs ≡ subs }
 {
-    let (name, words) = step.split_once(' ').unwrap_or((step, ""));
-    match name {
-        "look" => word_in(cells, plan, subs, words, None),
-        "put" => {
-            let (word, cell) = words.split_once(' ').unwrap_or((words, ""));
-            word_in(cells, plan, subs, cell, word.parse::<u64>().ok())
-        }
-        _ => told_of(cells, plan, subs, name, words),
+    match step.strip_prefix("put ") {
+        Some(words) => put(cells, plan, subs, words),
+        None => told_of(cells, plan, subs, step),
     }
 }
 
 // Each row is a step over the cells of so many subscribers. The word 2^48 is that of a subscriber's
 // presence at its start node, and 2^48 and a node's number more that of an entry that leads there.
-fn play(
-    rt: &impl Abort,
-    alloc: Global,
-    cells: &mut PlainCells,
-    plan: &Plan,
-    subs: u32,
-    rows: &str,
-) -> Result<(), Fail>
+fn play(rt: &impl Abort, alloc: Global, cells: &mut PlainCells, plan: &Plan, subs: u32, rows: &str)
     requires goes { GoWith plan.now cells.old }
     requires subs { cells.old.subs ≡ subs }
     requires some { 1 ≤ subs }
@@ -132,42 +133,27 @@ fn play(
     'steps: for place in 0..rows_in(rows) {
         let (step, wanted) = row_of(rows, place);
         let seen = take(cells, plan, subs, step);
-        same_shown(rt, alloc, place, &seen, wanted)?;
+        same_shown(rt, alloc, place, &seen, wanted);
     }
-    Ok(())
 }
 
-// Plays rows over the cells of so many subscribers, which all start at one node.
-fn play_over(
-    rt: &impl Abort,
-    alloc: Global,
-    plan: &Plan,
-    home: u32,
-    subs: u32,
-    rows: &str,
-) -> Result<(), Fail>
+// The cells of so many subscribers, which all start at one node.
+fn cells_of(alloc: Global, plan: &Plan, home: u32, subs: u32) -> Result<PlainCells, AllocError>
     requires inside { home < nodes_of plan.now }
     requires some { 1 ≤ subs }
     requires few { subs ≤ 64 }
+    ensures goes { IfOk result (GoWith plan.now) }
+    ensures subs { IfOk result (λ cells. cells.subs ≡ subs) }
 {
     let homes = vec![in alloc; home; subs as usize]?;
-    let mut cells = PlainCells::new(alloc, plan, &homes)?;
-    play(rt, alloc, &mut cells, plan, subs, rows)
+    PlainCells::new(alloc, plan, &homes)
 }
 
-/// The same, where there are such cells.
-pub fn play_from(
-    rt: &impl Abort,
-    alloc: Global,
-    plan: &Plan,
-    home: u32,
-    subs: u32,
-    rows: &str,
-) -> Result<(), Fail> {
-    if home >= plan.nodes() || subs < 1 || subs > 64 {
-        return Err("there are no such subscribers".into());
-    }
-    play_over(rt, alloc, plan, home, subs, rows)
+/// Plays rows over the cells of so many subscribers, from 1 to 64, which all start at one node.
+pub fn play_from(rt: &impl Abort, alloc: Global, plan: &Plan, home: u32, subs: u32, rows: &str) {
+    let (home, subs) = (within(rt, home, 0, plan.nodes()), within(rt, subs, 1, 65));
+    let mut cells = cells_of(alloc, plan, home, subs).expect(rt, "memory");
+    play(rt, alloc, &mut cells, plan, subs, rows);
 }
 
 #[test]
@@ -245,12 +231,11 @@ fn at_the_most_nodes(rt: HostRuntime) -> Result<(), Fail> {
 
 // A word of the narrow cells, and then a wide one beside it.
 fn play_word(rt: &impl Abort, alloc: Global, word: u64) -> Result<(), Fail> {
-    let small = (63u64 << 48) + (0xffff << 16) + 0x3ff;
     let rows = format!(in alloc;
-        "put {small} presence 0 0>Some({small})|\
+        "put 17732927827674111 presence 0 0>Some(17732927827674111)|\
         look presence 3 0>Some(281474976710656)|\
         put {word} presence 1 0>Some({word})|\
-        look presence 0 0>Some({small})|\
+        look presence 0 0>Some(17732927827674111)|\
         look presence 3 0>Some(281474976710656)|\
         look entry 0 1 0>Some(281474976710659)|\
         empty 2 1>Some(1)|\
@@ -258,7 +243,8 @@ fn play_word(rt: &impl Abort, alloc: Global, word: u64) -> Result<(), Fail> {
         put 0 presence 1 0>Some(0)|\
         empty 1 2>Some(2)|\
         empty 1 0>Some(1)|"
-    )?;
+    )
+    .expect(rt, "memory");
     let subject = Subject::Cells { home: 3, subs: 1 };
     plays::play(rt, alloc, Over::Line, subject, &[rows.as_str()])
 }

@@ -3,7 +3,7 @@ ghost use Rattle.std.specs.Prelude.{◌≡◌};
 ghost use Rattle.handset.specs.Condition.{GoesWith};
 
 use crate::plays::{self, Over, Subject};
-use crate::rows::{row_of, rows_in, step_of};
+use crate::rows::{row_of, rows_in, step_of, within};
 use crate::sameness::same_shown;
 use distances::Distances;
 use entry_word::{Act, Key, Visit, unpack_address, unpack_mark};
@@ -50,13 +50,7 @@ fn turn(handset: &mut Handset, plan: &Plan, off: bool) -> Result<(), SwitchFault
 }
 
 // A write is shown by its actor, its key's numbers and what its word says.
-fn shows_write(
-    rt: &impl Abort,
-    alloc: Global,
-    place: usize,
-    visit: Option<Visit>,
-    wanted: &str,
-) -> Result<(), Fail> {
+fn shows_write(rt: &impl Abort, alloc: Global, place: usize, visit: Option<Visit>, wanted: &str) {
     let Some(
         Visit {
             actor,
@@ -100,6 +94,28 @@ fn state(handset: &Handset) -> (u32, u32, u32, u64, bool) {
     )
 }
 
+// A write of a handset, as many as are left up to a limit, or a look at it.
+fn play_write(
+    rt: &impl Abort,
+    alloc: Global,
+    place: usize,
+    handset: &mut Handset,
+    plan: &Plan,
+    step: &str,
+    wanted: &str,
+)
+    requires { GoesWith plan.now handset.old }
+    ensures { GoesWith plan.now handset.new }
+{
+    let (name, [limit, ..]) = step_of(step);
+    match name {
+        "write" => shows_write(rt, alloc, place, write(handset, plan), wanted),
+        "writes" => same_shown(rt, alloc, place, &write_all(handset, plan, limit), wanted),
+        _ => same_shown(rt, alloc, place, &state(handset), wanted),
+    }
+}
+
+// What begins: a move or a switch; or else a write or a look.
 fn play_row(
     rt: &impl Abort,
     alloc: Global,
@@ -109,23 +125,20 @@ fn play_row(
     distances: &Distances,
     step: &str,
     wanted: &str,
-) -> Result<(), Fail>
+)
     requires goes { GoesWith plan.now handset.old }
     requires belongs { plan.now.distances ≡ distances.now }
     ensures { GoesWith plan.now handset.new }
 {
     let (name, [number, ..]) = step_of(step);
     match name {
-        "look" => same_shown(rt, alloc, place, &state(handset), wanted),
         "move" => {
             let begun = handset.begin(plan, distances, number);
             same_shown(rt, alloc, place, &begun, wanted)
         }
         "off" => same_shown(rt, alloc, place, &turn(handset, plan, true), wanted),
         "on" => same_shown(rt, alloc, place, &turn(handset, plan, false), wanted),
-        "write" => shows_write(rt, alloc, place, write(handset, plan), wanted),
-        "writes" => same_shown(rt, alloc, place, &write_all(handset, plan, number), wanted),
-        _ => Err("there is no such step".into()),
+        _ => play_write(rt, alloc, place, handset, plan, step, wanted),
     }
 }
 
@@ -138,15 +151,14 @@ fn play(
     plan: &Plan,
     distances: &Distances,
     rows: &str,
-) -> Result<(), Fail>
+)
     requires goes { GoesWith plan.now handset.old }
     requires belongs { plan.now.distances ≡ distances.now }
 {
     'steps: for place in 0..rows_in(rows) {
         let (step, wanted) = row_of(rows, place);
-        play_row(rt, alloc, place, handset, plan, distances, step, wanted)?;
+        play_row(rt, alloc, place, handset, plan, distances, step, wanted);
     }
-    Ok(())
 }
 
 /// A handset at rest at a node of a plan.
@@ -157,13 +169,11 @@ pub fn play_from(
     distances: &Distances,
     home: u32,
     rows: &str,
-) -> Result<(), Fail>
+)
     requires belongs { plan.now.distances ≡ distances.now }
 {
-    if home >= plan.nodes() {
-        return Err("the home is a node".into());
-    }
-    let mut handset = Handset::new(alloc, 0, home, plan)?;
+    let home = within(rt, home, 0, plan.nodes());
+    let mut handset = Handset::new(alloc, 0, home, plan).expect(rt, "memory");
     play(rt, alloc, &mut handset, plan, distances, rows)
 }
 
@@ -241,7 +251,6 @@ fn a_move_over_the_most_nodes(rt: HostRuntime) -> Result<(), Fail> {
 fn sends<T: Send>() {}
 
 #[test]
-fn another_thread_may_have_it(_rt: HostRuntime) -> Result<(), Fail> {
+fn another_thread_may_have_it(_rt: HostRuntime) {
     sends::<Handset>();
-    Ok(())
 }

@@ -64,13 +64,13 @@ fn play_calls(
     order: &[u32],
     skipped: usize,
     wanted: &str,
-) -> Result<(), Fail>
+)
     requires { HasHistory machine [] }
 {
     play(&mut machine, order);
     let outcome = machine.outcome();
     let seen = (outcome.calls.get(skipped..), outcome.order.as_slice());
-    same_shown(rt, alloc, 0, &seen, wanted)
+    same_shown(rt, alloc, 0, &seen, wanted);
 }
 
 fn play_on(
@@ -80,10 +80,10 @@ fn play_on(
     plan: &Plan,
     distances: &Distances,
     task: Task<'_>,
-) -> Result<(), Fail>
+)
     requires { BelongTogether (seen_input input.now) plan.now distances.now }
 {
-    let machine = Machine::new(alloc, input, plan, distances)?;
+    let machine = Machine::new(alloc, input, plan, distances).expect(rt, "memory");
     match task {
         Task::Calls(skipped, wanted) => {
             play_calls(rt, alloc, machine, &input.order, skipped, wanted)
@@ -98,7 +98,8 @@ fn play_over(rt: &impl Abort, alloc: Global, input: &Input, task: Task<'_>) -> R
     requires { IsValid (seen_input input.now) }
 {
     let (plan, distances) = plan_of(alloc, input)?;
-    play_on(rt, alloc, input, &plan, &distances, task)
+    play_on(rt, alloc, input, &plan, &distances, task);
+    Ok(())
 }
 
 /// A task over the input of a text: its format, a network with its actors, and calls.
@@ -110,7 +111,7 @@ pub(crate) fn perform(
     calls: &str,
     task: Task<'_>,
 ) -> Result<(), Fail> {
-    let text = format!(in alloc; "{format}{network}{calls}")?;
+    let text = format!(in alloc; "{format}{network}{calls}").expect(rt, "memory");
     let input = input_of(alloc, text.as_bytes())?;
     play_over(rt, alloc, &input, task)
 }

@@ -1,6 +1,9 @@
 //! Tables that are one text each, since the prover takes a text at once, and a table of tuples
 //! value by value. Behind each row stands `|`, and a row is `STEP>SEEN`: a name with its numbers,
 //! and how what is seen is shown.
+ghost use Rattle.std.specs.Prelude.{◌≡◌, ◌<◌, ◌≤◌};
+
+use std::process::Abort;
 
 /// How many rows a table has.
 pub fn rows_in(table: &str) -> usize {
@@ -10,7 +13,12 @@ pub fn rows_in(table: &str) -> usize {
 /// The step of a row of a table, and what is to be seen of it.
 pub fn row_of(table: &str, place: usize) -> (&str, &str) {
     let row = table.split_terminator('|').nth(place).unwrap_or("");
-    row.split_once('>').unwrap_or((row, ""))
+    halves(row, '>')
+}
+
+/// What stands before a mark and what behind it; all and nothing, where there is no such mark.
+pub fn halves(text: &str, mark: char) -> (&str, &str) {
+    text.split_once(mark).unwrap_or((text, ""))
 }
 
 /// The number of a word; one that no test names, where the word is none.
@@ -32,4 +40,14 @@ pub fn step_of(step: &str) -> (&str, [u32; 4]) {
         number_of(words.next()),
     ];
     (name, numbers)
+}
+
+/// A number of a subject, which is to be at least the one and less than the other.
+pub fn within(rt: &impl Abort, number: u32, least: u32, beyond: u32) -> u32
+    ensures same { result ≡ number }
+    ensures least { least ≤ result }
+    ensures beyond { result < beyond }
+{
+    assert!(rt; least <= number && number < beyond);
+    number
 }

@@ -46,30 +46,34 @@ fn take(
     machine: &mut Machine<'_>,
     step: &str,
     wanted: &str,
-) -> Result<(), Fail>
+)
     requires stands { (history : History) × HasHistory machine.old history }
     ensures stands { (history : History) × HasHistory machine.new history }
     ensures same { IsSame machine.old machine.new }
 {
     let (name, [actor, count, ..]) = step_of(step);
     if name == "turn" {
-        let turn = machine.turn(actor);
-        return same_shown(rt, alloc, place, &turn, wanted);
+        same_shown(rt, alloc, place, &machine.turn(actor), wanted);
+    } else {
+        same_shown(
+            rt,
+            alloc,
+            place,
+            &machine.turns(actor, count as usize),
+            wanted,
+        );
     }
-    let made = machine.turns(actor, count as usize);
-    same_shown(rt, alloc, place, &made, wanted)
 }
 
-fn play(rt: &impl Abort, alloc: Global, machine: &mut Machine<'_>, rows: &str) -> Result<(), Fail>
+fn play(rt: &impl Abort, alloc: Global, machine: &mut Machine<'_>, rows: &str)
     requires stands { (history : History) × HasHistory machine.old history }
     ensures stands { (history : History) × HasHistory machine.new history }
     ensures same { IsSame machine.old machine.new }
 {
     'steps: for place in 0..rows_in(rows) {
         let (step, wanted) = row_of(rows, place);
-        take(rt, alloc, place, machine, step, wanted)?;
+        take(rt, alloc, place, machine, step, wanted);
     }
-    Ok(())
 }
 
 fn play_and_look(
@@ -80,14 +84,14 @@ fn play_and_look(
     plan: &Plan,
     rows: &str,
     word: &str,
-) -> Result<(), Fail>
+)
     requires stands { (history : History) × HasHistory machine.old history }
     requires input { machine.old.input.now ≡ input.now }
     requires plan { machine.old.plan.now ≡ plan.now }
 {
-    play(rt, alloc, machine, rows)?;
+    play(rt, alloc, machine, rows);
     let seen = word_at_second(machine, input, plan);
-    same_shown(rt, alloc, rows_in(rows), &seen, word)
+    same_shown(rt, alloc, rows_in(rows), &seen, word);
 }
 
 /// Plays turns of a machine, and what its second node then says of the first subscriber is to be
@@ -100,13 +104,13 @@ pub fn play_turns(
     plan: &Plan,
     rows: &str,
     word: &str,
-) -> Result<(), Fail>
+)
     requires stands { (history : History) × HasHistory machine history }
     requires input { machine.input.now ≡ input.now }
     requires plan { machine.plan.now ≡ plan.now }
 {
     let mut machine = machine;
-    play_and_look(rt, alloc, &mut machine, input, plan, rows, word)
+    play_and_look(rt, alloc, &mut machine, input, plan, rows, word);
 }
 
 // An actor without calls, and one that isn't there. The word is that of a subscriber at the node

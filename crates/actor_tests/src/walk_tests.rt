@@ -83,20 +83,19 @@ fn play_row(
     distances: &Distances,
     step: &str,
     wanted: &str,
-) -> Result<(), Fail>
+)
     requires goes { IsWalkOver plan.now walk.old }
     requires belongs { plan.now.distances ≡ distances.now }
     ensures { IsWalkOver plan.now walk.new }
 {
     match step {
-        "next" => return same_shown(rt, alloc, place, &walk.next(plan), wanted),
-        "answer" => return same_shown(rt, alloc, place, &walk.answer(), wanted),
-        "climb" => return same_shown(rt, alloc, place, &climb_of(walk), wanted),
+        "next" => same_shown(rt, alloc, place, &walk.next(plan), wanted),
+        "answer" => same_shown(rt, alloc, place, &walk.answer(), wanted),
+        "climb" => same_shown(rt, alloc, place, &climb_of(walk), wanted),
         "resume" => resume(walk, plan),
         "to-and-fro" => go_to_and_fro(walk, plan, distances, 513),
         _ => read(walk, plan, distances, step),
     }
-    Ok(())
 }
 
 // Each row is a step of a walk: what comes next, its answer, or where it climbs, and how it is
@@ -109,15 +108,14 @@ fn play(
     plan: &Plan,
     distances: &Distances,
     rows: &str,
-) -> Result<(), Fail>
+)
     requires goes { IsWalkOver plan.now walk.old }
     requires belongs { plan.now.distances ≡ distances.now }
 {
     'steps: for place in 0..rows_in(rows) {
         let (step, wanted) = row_of(rows, place);
-        play_row(rt, alloc, place, walk, plan, distances, step, wanted)?;
+        play_row(rt, alloc, place, walk, plan, distances, step, wanted);
     }
-    Ok(())
 }
 
 /// A find of the last of so many subscribers from a node; rows of one that can't begin are its
@@ -130,7 +128,7 @@ pub fn play_from(
     from: u32,
     subs: u32,
     rows: &str,
-) -> Result<(), Fail>
+)
     requires belongs { plan.now.distances ≡ distances.now }
 {
     match Walk::new(from, subs.saturating_sub(1), subs, plan) {
@@ -223,7 +221,6 @@ fn over_the_most_nodes(rt: HostRuntime) -> Result<(), Fail> {
 fn sends<T: Send>() {}
 
 #[test]
-fn another_thread_may_have_it(_rt: HostRuntime) -> Result<(), Fail> {
+fn another_thread_may_have_it(_rt: HostRuntime) {
     sends::<Walk>();
-    Ok(())
 }

@@ -7,7 +7,7 @@ use net_graph::MAX_NODES;
 use std::alloc::Global;
 use std::process::Abort;
 use std::test::Fail;
-use test_networks::{complete, path};
+use test_networks::complete;
 
 // The distance between two nodes, both ways.
 fn tell_between(distances: &Distances, u: u32, v: u32, told: &mut Vec<u64>) {
@@ -46,32 +46,18 @@ impl Asked for Distances {
     }
 }
 
-// Asks distances, and a copy of them.
-fn ask_twice(
-    rt: &impl Abort,
-    alloc: Global,
-    distances: &Distances,
-    head: &str,
-    rows: &str,
-) -> Result<(), Fail> {
+/// Asks distances, and a copy of them.
+pub fn ask_twice(rt: &impl Abort, alloc: Global, distances: &Distances, head: &str, rows: &str) {
     ask_rows(rt, alloc, distances, head, rows);
-    ask_made(rt, alloc, distances.copy(), head, rows)
-}
-
-/// Asks the distances of a path, and a copy of them: its numbers are its nodes and the weight of
-/// its edges.
-pub fn ask_path(rt: &impl Abort, alloc: Global, head: &str, rows: &str) -> Result<(), Fail> {
-    let [n, weight, ..] = five_numbers(head);
-    let weight = u64::from(within(rt, weight, 1, 1_048_576));
-    let (_, distances) = path(alloc, within(rt, n, 1, MAX_NODES), weight)?;
-    ask_twice(rt, alloc, &distances, head, rows)
+    ask_made(rt, alloc, distances.copy(), head, rows);
 }
 
 /// Asks the distances where so many nodes are all neighbours.
 pub fn ask_complete(rt: &impl Abort, alloc: Global, head: &str, rows: &str) -> Result<(), Fail> {
     let n = within(rt, five_numbers(head)[0], 1, MAX_NODES);
     let graph = complete(alloc, n)?;
-    ask_made(rt, alloc, Distances::new(alloc, &graph), head, rows)
+    ask_made(rt, alloc, Distances::new(alloc, &graph), head, rows);
+    Ok(())
 }
 
 // Where all are neighbours whole rows are lowered, sixteen weights at once and one by one.

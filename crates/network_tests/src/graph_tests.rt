@@ -1,11 +1,9 @@
 //! Networks and least walks: on lines, inside sets of nodes, at the limits, and compared with a
 //! plain relaxation.
-ghost use Rattle.std.specs.Prelude.{◌≡◌, ◌<◌, ◌≤◌, All, IfOk, length};
+ghost use Rattle.std.specs.Prelude.{◌≡◌, ◌<◌, All, IfSome, length};
 ghost use Rattle.net_graph.specs.Network.{IsEdge};
 
-use crate::rows::{
-    Asked, WORD, ask_made, ask_rows, five_numbers, halves, tell, tell_node, tell_unknown, within,
-};
+use crate::rows::{Asked, WORD, ask_made, five_numbers, halves, tell, tell_node, within};
 use crate::sameness::same;
 use crate::subjects::ask;
 use crate::tree_tests::tell_in_cluster;
@@ -13,7 +11,7 @@ use net_graph::{Edge, Graph, GraphFault, MAX_NODES, MAX_WEIGHT, Tree, greatest_w
 use std::alloc::Global;
 use std::process::Abort;
 use std::test::Fail;
-use test_networks::{edge, path, path_edges};
+use test_networks::{edge, path_edges};
 
 // For each node the weight of the least walk to it.
 fn tell_weights(told: &mut Vec<u64>, weights: &[Option<u64>]) {
@@ -102,36 +100,37 @@ impl Asked for Graph {
     }
 }
 
-// The edges of a text: of each its ends and its weight, with a comma between two.
+// The edge of a text: its ends and its weight, if it may be one.
+fn edge_in(n: u32, text: &str) -> Option<Edge>
+    ensures { IfSome result (IsEdge n) }
+{
+    let [a, b, weight, ..] = five_numbers(text);
+    let weight = u64::from(weight);
+    if a >= n || b >= n || weight < 1 || weight > MAX_WEIGHT {
+        return None;
+    }
+    Some(edge(a, b, weight))
+}
+
+// The edges of a text, with a comma between two.
 fn edges_of(alloc: Global, n: u32, text: &str) -> Vec<Edge>
     ensures { All (IsEdge n) result.items }
 {
     let mut edges = Vec::new(alloc);
     'edges: for part in text.split(',') {
-        let [a, b, weight, ..] = five_numbers(part);
-        let weight = u64::from(weight);
-        if a < n && b < n && weight >= 1 && weight <= MAX_WEIGHT {
-            let _ = edges.push(edge(a, b, weight));
+        if let Some(edge) = edge_in(n, part) {
+            let _ = edges.push(edge);
         }
     }
     edges
 }
 
 /// Asks a network: its nodes and its edges.
-pub fn ask_network(rt: &impl Abort, alloc: Global, head: &str, rows: &str) -> Result<(), Fail> {
+pub fn ask_network(rt: &impl Abort, alloc: Global, head: &str, rows: &str) {
     let (nodes, edges) = halves(head, ',');
     let n = within(rt, five_numbers(nodes)[0], 1, MAX_NODES);
     let edges = edges_of(alloc, n, edges);
-    ask_made(rt, alloc, Graph::new(alloc, n, &edges), head, rows)
-}
-
-/// Asks the network of a path: its nodes, and the weight of its edges.
-pub fn ask_line(rt: &impl Abort, alloc: Global, head: &str, rows: &str) -> Result<(), Fail> {
-    let [n, weight, ..] = five_numbers(head);
-    let weight = u64::from(within(rt, weight, 1, 1_048_576));
-    let (graph, _) = path(alloc, within(rt, n, 1, MAX_NODES), weight)?;
-    ask_rows(rt, alloc, &graph, head, rows);
-    Ok(())
+    ask_made(rt, alloc, Graph::new(alloc, n, &edges), head, rows);
 }
 
 // An answer about walks is the weights, the nodes from which they come, and the weights again.
@@ -163,12 +162,18 @@ fn the_heaviest_line_of_the_most_nodes(rt: HostRuntime) -> Result<(), Fail> {
     )
 }
 
-// Nodes 130 and 131 are apart from the path of the others, and the least of them is told.
+// Nodes 130 and 131 are apart from these edges, and the least of them is told.
+fn finds_apart(rt: &impl Abort, alloc: Global, edges: &[Edge])
+    requires { All (IsEdge 132) edges.now }
+{
+    let fault = Graph::new(alloc, 132, edges).err();
+    assert!(rt; matches!(fault, Some(GraphFault::Apart { node: 130 })));
+}
+
 #[test]
 fn nodes_apart_past_the_first_word(rt: HostRuntime) -> Result<(), Fail> {
     let edges = path_edges(rt.alloc(), 130, 1)?;
-    let fault = Graph::new(rt.alloc(), 132, &edges).err();
-    assert!(rt; matches!(fault, Some(GraphFault::Apart { node: 130 })));
+    finds_apart(&rt, rt.alloc(), &edges);
     Ok(())
 }
 
@@ -185,23 +190,21 @@ fn next(state: u64) -> u64 {
         .wrapping_add(1_442_695_040_888_963_407)
 }
 
-// Each node but the first is joined to two earlier ones.
-fn made_edges(alloc: Global, n: u32) -> Result<Vec<Edge>, Fail>
-    ensures { IfOk result (λ edges. All (IsEdge n) edges.items) }
+// Each node but the first is joined to two earlier ones. An edge for which there is no memory is
+// left out, and then missed in their number.
+fn made_edges(alloc: Global, n: u32) -> Vec<Edge>
+    ensures { All (IsEdge n) result.items }
 {
     let mut edges = Vec::new(alloc);
     let mut state = 42;
     for b in 1..n {
         for _ in 0..2 {
             state = next(state);
-            edges.push(Edge {
-                a: ((state >> 33) % u64::from(b)) as u32,
-                b,
-                weight: (state >> 20) % 1000 + 1,
-            })?;
+            let a = ((state >> 33) % u64::from(b)) as u32;
+            let _ = edges.push(edge(a, b, (state >> 20) % 1000 + 1));
         }
     }
-    Ok(edges)
+    edges
 }
 
 // Lowers a weight to that through an edge.
@@ -249,10 +252,10 @@ fn tell_searched(alloc: Global, graph: &Graph, told: &mut Vec<u64>)
 }
 
 // The search finds what relaxing finds.
-fn has_least(rt: &impl Abort, alloc: Global, edges: &[Edge]) -> Result<(), Fail>
+fn has_least(rt: &impl Abort, alloc: Global, edges: &[Edge])
     requires { All (IsEdge 256) edges.now }
 {
-    let graph = Graph::new(alloc, 256, edges)?;
+    let graph = Graph::new(alloc, 256, edges).expect(rt, "memory");
     let mut told = Vec::new(alloc);
     tell_searched(alloc, &graph, &mut told);
     same(
@@ -262,11 +265,11 @@ fn has_least(rt: &impl Abort, alloc: Global, edges: &[Edge]) -> Result<(), Fail>
         &told,
         &plain_weights(edges),
     );
-    Ok(())
 }
 
 #[test]
-fn a_search_and_a_plain_relaxation(rt: HostRuntime) -> Result<(), Fail> {
-    let edges = made_edges(rt.alloc(), 256)?;
-    has_least(&rt, rt.alloc(), &edges)
+fn a_search_and_a_plain_relaxation(rt: HostRuntime) {
+    let edges = made_edges(rt.alloc(), 256);
+    assert!(rt; edges.len() == 510);
+    has_least(&rt, rt.alloc(), &edges);
 }

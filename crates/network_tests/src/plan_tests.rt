@@ -4,15 +4,13 @@ ghost use Rattle.std.specs.Prelude.{◌≤◌};
 ghost use Rattle.distances.specs.Table.{AreDistancesOf};
 
 use crate::rows::{Asked, WORD, ask_made, five_numbers, tell, tell_all, tell_unknown, within};
-use crate::sameness::same;
-use crate::subjects::ask;
+use crate::subjects::{ask, ask_path};
 use distances::Distances;
-use net_graph::{Graph, MAX_NODES, MAX_WEIGHT};
+use net_graph::Graph;
 use region_plan::Plan;
 use std::alloc::{AllocError, Global};
 use std::process::Abort;
 use std::test::Fail;
-use test_networks::path;
 
 // Nodes, k, levels, degree, stretch and the most writes.
 fn tell_whole(plan: &Plan, told: &mut Vec<u64>) {
@@ -147,32 +145,41 @@ fn plan_over(
     }
 }
 
-// The plan of a path with this number of nodes, weight of each edge, and trade-off.
-fn plan_of(alloc: Global, made: &str, n: u32, weight: u32, k: u32) -> Result<Plan, Fail>
-    requires some { 1 ≤ n }
-    requires few { n ≤ MAX_NODES }
-    requires positive { 1 ≤ weight }
-    requires light { weight ≤ MAX_WEIGHT }
-    requires low { 1 ≤ k }
-    requires high { k ≤ 8 }
-{
-    let (graph, distances) = path(alloc, n, u64::from(weight))?;
-    Ok(plan_over(alloc, &graph, &distances, made, k)?)
-}
-
-/// Asks the plan of a path: how it is made, its nodes, the weight of its edges, and the trade-off.
+/// Asks a plan of a network: how it is made, and its trade-off.
 pub fn ask_plan(
     rt: &impl Abort,
     alloc: Global,
+    graph: &Graph,
+    distances: &Distances,
     made: &str,
+    k: u32,
     head: &str,
     rows: &str,
-) -> Result<(), Fail> {
-    let [n, weight, k, ..] = five_numbers(head);
-    let n = within(rt, n, 1, MAX_NODES);
-    let weight = within(rt, weight, 1, 1_048_576);
+)
+    requires { AreDistancesOf graph.now distances.now }
+{
     let k = within(rt, k, 1, 8);
-    ask_made(rt, alloc, plan_of(alloc, made, n, weight, k), head, rows)
+    ask_made(
+        rt,
+        alloc,
+        plan_over(alloc, graph, distances, made, k),
+        head,
+        rows,
+    );
+}
+
+/// The plan of two nodes has a level for each power of two below the distance between them, and one
+/// whose radius reaches it.
+pub fn has_levels(rt: &impl Abort, alloc: Global, graph: &Graph, distances: &Distances, apart: u32)
+    requires { AreDistancesOf graph.now distances.now }
+{
+    let plan = Plan::build(alloc, graph, distances, 2).expect(rt, "memory");
+    let below = u32::BITS - apart.saturating_sub(1).leading_zeros();
+    assert!(rt;
+        plan.levels() == below + 1,
+        "{apart} apart: {} levels",
+        plan.levels()
+    );
 }
 
 #[test]
@@ -321,25 +328,12 @@ fn threads_may_share_them(_rt: HostRuntime) {
     shares::<Distances>();
 }
 
-// How many levels the plan of two nodes at this distance has.
-fn levels_at(alloc: Global, diameter: u32) -> Result<u32, Fail>
-    requires positive { 1 ≤ diameter }
-    requires light { diameter ≤ MAX_WEIGHT }
-{
-    let plan = plan_of(alloc, "with", 2, diameter, 2)?;
-    Ok(plan.levels())
-}
-
-/// The plan of two nodes has a level for each power of two below its diameter, and one whose radius
-/// reaches it: at each diameter from the first number to the second.
+/// Asks how many levels the plan of two nodes has, at each distance between them from the first
+/// number to the second.
 pub fn ask_levels(rt: &impl Abort, alloc: Global, head: &str) -> Result<(), Fail> {
     let [first, last, ..] = five_numbers(head);
-    for diameter in within(rt, first, 1, 1_048_576)..=within(rt, last, 1, 1_048_576) {
-        let found = levels_at(alloc, diameter)?;
-        let below = u32::BITS - diameter.saturating_sub(1).leading_zeros();
-        let found = [u64::from(diameter), u64::from(found)];
-        let wanted = [u64::from(diameter), u64::from(below) + 1];
-        same(rt, head, "at each diameter", &found, &wanted);
+    for apart in first..=last {
+        ask_path(rt, alloc, "levels", [2, apart, 2, 0, 0], head, "")?;
     }
     Ok(())
 }

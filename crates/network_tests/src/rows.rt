@@ -6,8 +6,8 @@ ghost use Rattle.std.specs.Prelude.{◌≡◌, ◌≤◌};
 
 use crate::sameness::same;
 use std::alloc::Global;
+use std::fmt::Debug;
 use std::process::Abort;
-use std::test::Fail;
 
 /// The number of a word that is no number.
 pub const WORD: u64 = u64::MAX;
@@ -75,6 +75,13 @@ pub fn halves(text: &str, mark: char) -> (&str, &str) {
     text.split_once(mark).unwrap_or((text, ""))
 }
 
+/// What a row asks: a name, and the numbers behind it.
+pub fn question_of(row: &str) -> (&str, [u32; 5]) {
+    let (question, _) = halves(row, '=');
+    let (name, numbers) = halves(question, ' ');
+    (name, five_numbers(numbers))
+}
+
 // The numbers that a text wants.
 fn wanted_in(alloc: Global, text: &str) -> Vec<u64> {
     let mut wanted = Vec::new(alloc);
@@ -93,26 +100,20 @@ pub fn check(rt: &impl Abort, alloc: Global, head: &str, row: &str, told: &[u64]
 /// Asks each row.
 pub fn ask_rows<A: Asked>(rt: &impl Abort, alloc: Global, subject: &A, head: &str, rows: &str) {
     for row in rows.split_terminator('|') {
-        let (question, _) = halves(row, '=');
-        let (name, numbers) = halves(question, ' ');
+        let (name, numbers) = question_of(row);
         let mut told = Vec::new(alloc);
-        subject.answer(alloc, name, five_numbers(numbers), &mut told);
+        subject.answer(alloc, name, numbers, &mut told);
         check(rt, alloc, head, row, &told);
     }
 }
 
 /// Asks what was made each row.
-pub fn ask_made<A: Asked + Drop, E>(
+pub fn ask_made<A: Asked + Drop, E: Debug>(
     rt: &impl Abort,
     alloc: Global,
     made: Result<A, E>,
     head: &str,
     rows: &str,
-) -> Result<(), Fail>
-where
-    Fail: From<E>,
-{
-    let subject = made?;
-    ask_rows(rt, alloc, &subject, head, rows);
-    Ok(())
+) {
+    ask_rows(rt, alloc, &made.expect(rt, head), head, rows);
 }

@@ -1,7 +1,7 @@
 //! Sets on both sides of a word of 64 numbers, and at the most room.
 ghost use Rattle.std.specs.Prelude.{◌≡◌, ◌≤◌, IfOk, length};
 
-use crate::rows::{check, five_numbers, halves, tell, tell_node, within};
+use crate::rows::{check, five_numbers, question_of, tell, tell_node, within};
 use crate::sameness::same;
 use crate::subjects::ask;
 use node_set::{NodeSet, lanes_absorb, lanes_meet};
@@ -85,19 +85,19 @@ fn tell_row(
     numbers: [u32; 5],
     told: &mut Vec<u64>,
 ) {
-    let room = within(rt, set.room(), 0, 1024);
     if name == "next" {
-        tell_node(told, set.next_from(numbers[0]));
-    } else if let Ok(other) = set_of(alloc, room, &numbers) {
+        return tell_node(told, set.next_from(numbers[0]));
+    }
+    let room = within(rt, set.room(), 0, 1024);
+    if let Ok(other) = set_of(alloc, room, &numbers) {
         tell_change(told, set, &other, name);
     }
 }
 
 fn play_row(rt: &impl Abort, alloc: Global, set: &mut NodeSet, head: &str, row: &str) {
-    let (change, _) = halves(row, '=');
-    let (name, numbers) = halves(change, ' ');
+    let (name, numbers) = question_of(row);
     let mut told = Vec::new(alloc);
-    tell_row(rt, alloc, set, name, five_numbers(numbers), &mut told);
+    tell_row(rt, alloc, set, name, numbers, &mut told);
     check(rt, alloc, head, row, &told);
 }
 
@@ -108,11 +108,11 @@ fn play_rows(rt: &impl Abort, alloc: Global, set: &mut NodeSet, head: &str, rows
 }
 
 /// Plays the changes of a set: its room, and the numbers that it has before them.
-pub fn play_set(rt: &impl Abort, alloc: Global, head: &str, rows: &str) -> Result<(), Fail> {
+pub fn play_set(rt: &impl Abort, alloc: Global, head: &str, rows: &str) {
     let numbers = five_numbers(head);
-    let mut set = set_of(alloc, within(rt, numbers[0], 0, 1024), &numbers)?;
+    let room = within(rt, numbers[0], 0, 1024);
+    let mut set = set_of(alloc, room, &numbers).expect(rt, "memory");
     play_rows(rt, alloc, &mut set, head, rows);
-    Ok(())
 }
 
 // Each row is a change, whether the two sets met before, the room, the count and the numbers of
@@ -212,34 +212,32 @@ fn tell_low(told: &mut Vec<u64>, length: u64) {
     }
 }
 
-fn are_low(rt: &impl Abort, alloc: Global, numbers: &[u32]) -> Result<(), Fail>
+fn are_low(rt: &impl Abort, alloc: Global, numbers: &[u32])
     requires { length numbers.now ≤ 1024 }
 {
-    let set = NodeSet::within(alloc, numbers, 2)?;
+    let set = NodeSet::within(alloc, numbers, 2).expect(rt, "memory");
     let mut told = Vec::new(alloc);
     tell_set(&mut told, &set);
     let mut wanted = Vec::new(alloc);
     tell_low(&mut wanted, numbers.len() as u64);
     same(rt, "places", "within a limit", &told, &wanted);
-    Ok(())
 }
 
 #[test]
-fn places_within_a_limit(rt: HostRuntime) -> Result<(), Fail> {
+fn places_within_a_limit(rt: HostRuntime) {
     for length in [0, 1, 63, 64, 65, 130, 1024] {
-        are_low(&rt, rt.alloc(), &sevens()[..length])?;
+        are_low(&rt, rt.alloc(), &sevens()[..length]);
     }
-    Ok(())
 }
 
 // Bytes past two words of which the first, one and the last are low.
 #[test]
-fn bytes_within_a_limit_past_two_words(rt: HostRuntime) -> Result<(), Fail> {
+fn bytes_within_a_limit_past_two_words(rt: HostRuntime) {
     let mut bytes = [9; 130];
     bytes[0] = 3;
     bytes[64] = 4;
     bytes[129] = 0;
-    let mut set = set_of(rt.alloc(), 130, &[1])?;
+    let mut set = set_of(rt.alloc(), 130, &[1]).expect(&rt, "memory");
     set.fill_within(&bytes, 3);
     let mut told = Vec::new(rt.alloc());
     tell_set(&mut told, &set);
@@ -250,5 +248,4 @@ fn bytes_within_a_limit_past_two_words(rt: HostRuntime) -> Result<(), Fail> {
         "within 3 = 130 2 0 0 129 129",
         &told,
     );
-    Ok(())
 }
