@@ -160,28 +160,6 @@ fn sink_over_a_writer(rt: HostRuntime) {
     same_text(&rt, 2, &bytes, b"abc");
 }
 
-// A device whose every call fails in one way.
-#[derive(Drop)]
-struct Broken {
-    kind: ErrorKind,
-}
-
-impl Read for Broken {
-    fn read(&mut self, _: &mut [u8]) -> std::io::Result<usize> {
-        Err(Error::from(self.kind))
-    }
-}
-
-impl Write for Broken {
-    fn write(&mut self, _: &[u8]) -> std::io::Result<usize> {
-        Err(Error::from(self.kind))
-    }
-
-    fn flush(&mut self) -> std::io::Result<()> {
-        Ok(())
-    }
-}
-
 // A device that takes one byte a call, and shows what it took where it is flushed.
 #[derive(Drop)]
 struct Slow {
@@ -231,17 +209,19 @@ impl Write for Full {
     }
 }
 
-// A device that fails at its first call. From then on a read gives one byte, and a write takes all.
+// A device whose first calls fail in one way. From then on a read gives one byte, and a write takes
+// all.
 #[derive(Drop)]
-struct Late {
-    has_failed: bool,
+struct Faulty {
+    kind: ErrorKind,
+    faults: u32,
 }
 
-impl Read for Late {
+impl Read for Faulty {
     fn read(&mut self, into: &mut [u8]) -> std::io::Result<usize> {
-        if !self.has_failed {
-            self.has_failed = true;
-            return Err(Error::from(ErrorKind::Other));
+        if self.faults > 0 {
+            self.faults -= 1;
+            return Err(Error::from(self.kind));
         }
         if let [first, ..] = into {
             *first = b'a';
@@ -251,13 +231,13 @@ impl Read for Late {
     }
 }
 
-impl Write for Late {
+impl Write for Faulty {
     fn write(&mut self, bytes: &[u8]) -> std::io::Result<usize> {
-        if self.has_failed {
-            return Ok(bytes.len());
+        if self.faults > 0 {
+            self.faults -= 1;
+            return Err(Error::from(self.kind));
         }
-        self.has_failed = true;
-        Err(Error::from(ErrorKind::StorageFull))
+        Ok(bytes.len())
     }
 
     fn flush(&mut self) -> std::io::Result<()> {
@@ -265,13 +245,24 @@ impl Write for Late {
     }
 }
 
+// A device whose every call fails in one way.
+fn broken(kind: ErrorKind) -> Faulty {
+    let faults = u32::MAX;
+    Faulty { kind, faults }
+}
+
+// A device that fails at its first call.
+fn late(kind: ErrorKind) -> Faulty {
+    Faulty { kind, faults: 1 }
+}
+
 // A call that fails in some way is a fault.
 fn fails(rt: &impl Abort, alloc: Global, kind: ErrorKind) {
-    let mut source = StdSource::new(Broken { kind });
+    let mut source = StdSource::new(broken(kind));
     let rows = "Failed>--|";
     takes(rt, alloc, &mut source, &mut [b'-'; 2], Way::Read, rows);
     takes(rt, alloc, &mut source, &mut [0; 2], Way::Fill, "Failed>*|");
-    writes(rt, alloc, &mut StdSink::new(Broken { kind }), "a>Failed|");
+    writes(rt, alloc, &mut StdSink::new(broken(kind)), "a>Failed|");
 }
 
 // Also one that a stream interrupts or would let wait, and one that fails where it is flushed.
@@ -285,14 +276,14 @@ fn devices_that_fail(rt: HostRuntime) {
 
 // Calls of a device that fails once are to answer these rows.
 fn late_takes(rt: &impl Abort, alloc: Global, way: Way, rows: &str) {
-    let mut source = StdSource::new(Late { has_failed: false });
+    let mut source = StdSource::new(late(ErrorKind::Other));
     takes(rt, alloc, &mut source, &mut [b'-'; 2], way, rows);
 }
 
 // A write that failed isn't tried again, nor is a read.
 #[test]
 fn devices_that_fail_once(rt: HostRuntime) {
-    let mut sink = StdSink::new(Late { has_failed: false });
+    let mut sink = StdSink::new(late(ErrorKind::StorageFull));
     writes(&rt, rt.alloc(), &mut sink, "ab>Failed|ab>Wrote(2)|");
     late_takes(&rt, rt.alloc(), Way::Read, "Failed>--|Got(1)>a-|");
     late_takes(&rt, rt.alloc(), Way::Fill, "Failed>*|Got(1)>a*|");
