@@ -3,7 +3,7 @@ ghost use Rattle.std.specs.Prelude.{◌≤◌};
 ghost use Rattle.distances.specs.Table.{AreDistancesOf};
 
 use crate::rows::{row_of, rows_in};
-use crate::sameness::is_like;
+use crate::sameness::{is_like, same};
 use distances::Distances;
 use net_graph::{Graph, MAX_NODES, MAX_WEIGHT};
 use region_plan::Plan;
@@ -23,16 +23,11 @@ fn plan_over(rt: &impl Abort, alloc: Global, graph: &Graph, distances: &Distance
     Plan::build(alloc, graph, distances, k).expect(rt, "memory")
 }
 
-// The text of a plan is this.
-fn is_text(rt: &impl Abort, alloc: Global, plan: &Plan, wanted: &str) {
+// The text of a plan is this, or begins and ends so where a `*` stands between, and is so long.
+fn is_text(rt: &impl Abort, alloc: Global, plan: &Plan, wanted: &str, long: usize) {
     let text = plan_text(alloc, plan).expect(rt, "memory");
     is_like(rt, 0, &text, wanted);
-}
-
-// The text of a plan begins so, and is so long.
-fn is_long(rt: &impl Abort, alloc: Global, plan: &Plan, head: &str, long: usize) {
-    let text = plan_text(alloc, plan).expect(rt, "memory");
-    assert!(rt; text.starts_with(head.as_bytes()) && text.len() == long);
+    same(rt, 1, text.len(), long);
 }
 
 // The next part of a text is this one.
@@ -63,15 +58,15 @@ enum Told<'a> {
     Text(&'a str),
     /// The parts of its text, in rows.
     Parts(&'a str),
-    /// How its text begins, and how long it is.
+    /// How its text begins, with a `*` behind, and how long it is.
     Long(&'a str, usize),
 }
 
 fn tell_plan(rt: &impl Abort, alloc: Global, plan: &Plan, told: Told<'_>) {
     match told {
-        Told::Text(text) => is_text(rt, alloc, plan, text),
+        Told::Text(text) => is_text(rt, alloc, plan, text, text.len()),
         Told::Parts(rows) => play(rt, alloc, plan, rows),
-        Told::Long(head, long) => is_long(rt, alloc, plan, head, long),
+        Told::Long(wanted, long) => is_text(rt, alloc, plan, wanted, long),
     }
 }
 
@@ -168,10 +163,11 @@ fn parts_past_a_word(rt: HostRuntime) -> Result<(), Fail> {
     tell(&rt, rt.alloc(), 130, 1, 0, Told::Parts(rows))
 }
 
-// Digits and blanks of the members 0 to 1023 are 4,010, and of the homes 2,048.
+// Digits and blanks of the members 0 to 1023 are 4,010, and of the homes 2,048;
+// the `*` is one.
 #[test]
 fn text_at_the_most_nodes(rt: HostRuntime) -> Result<(), Fail> {
-    let head = "plan nodes 1024 k 1 levels 1 degree 1 stretch 40\nlevel 0 radius 1024 clusters 1 ";
-    let long = head.len() + 9 + 45 + 4010 + 1 + 5 + 2048 + 1 + 4;
+    let head = "plan nodes 1024 k 1 levels 1 degree 1 stretch 40\nlevel 0 radius 1024 clusters 1 *";
+    let long = head.len() - 1 + 9 + 45 + 4010 + 1 + 5 + 2048 + 1 + 4;
     tell(&rt, rt.alloc(), MAX_NODES, 1, 0, Told::Long(head, long))
 }
