@@ -4,73 +4,42 @@ ghost use Rattle.net_reader.specs.Seen.{seen_input};
 ghost use Rattle.net_reader.specs.Valid.{IsValid};
 ghost use Rattle.report_check.specs.Verdicts.{most_bytes};
 
-use crate::rows::{row_of, rows_in};
-use crate::sameness::{same_shown, same_text};
+use crate::playing::{Table, play};
+use crate::sameness::{same_text, shown};
 use distances::Distances;
 use net_reader::Input;
 use region_plan::Plan;
-use report_check::{Flaw, Verdict, check};
-use std::alloc::{AllocError, Global};
+use report_check::{Flaw, check};
+use std::alloc::Global;
 use std::process::Abort;
 use std::test::Fail;
-use test_networks::{input_of, line_of_four};
 
 const MOST_BYTES: usize = 67_108_864;
 
-// One subscriber at 3 and one caller, actor 1; the subscriber moves, and then it is looked for.
-const MOVED: &str = "track 1\nnodes 4\nk 2\nedge 0 1 1\nedge 1 2 1\nedge 2 3 1\nsub 3\ncallers 1\n\
+/// One subscriber at 3 and one caller, actor 1; the subscriber moves, and then it is looked for.
+pub const MOVED: &str =
+    "track 1\nnodes 4\nk 2\nedge 0 1 1\nedge 1 2 1\nedge 2 3 1\nsub 3\ncallers 1\n\
 move 0 2\nfind 1 3 0\n";
 
-// The same subscriber switches off and on, and is looked for.
-const SWITCHED: &str = "track 2\nnodes 4\nk 2\nedge 0 1 1\nedge 1 2 1\nedge 2 3 1\nsub 3\n\
+/// The same subscriber switches off and on, and is looked for.
+pub const SWITCHED: &str = "track 2\nnodes 4\nk 2\nedge 0 1 1\nedge 1 2 1\nedge 2 3 1\nsub 3\n\
 callers 1\noff 0\non 0\nfind 1 3 0\n";
 
-fn verdict_on(
-    alloc: Global,
-    input: &Input,
-    plan: &Plan,
-    distances: &Distances,
-    report: &str,
-) -> Result<Verdict, Fail>
-    requires valid { IsValid (seen_input input.now) }
-    requires distances { distances.now ≡ plan.now.distances }
-{
-    if report.len() > MOST_BYTES {
-        return Err(AllocError.into());
-    }
-    Ok(check(alloc, input, plan, distances, report.as_bytes())?)
-}
-
-fn play_over(
+/// The verdict on a report on an input over its plan, as `{:?}` shows it.
+pub fn verdict_by(
     rt: &impl Abort,
     alloc: Global,
     input: &Input,
     plan: &Plan,
     distances: &Distances,
-    rows: &str,
-) -> Result<(), Fail>
+    report: &str,
+) -> Vec<u8>
     requires valid { IsValid (seen_input input.now) }
     requires distances { distances.now ≡ plan.now.distances }
 {
-    for place in 0..rows_in(rows) {
-        let (report, wanted) = row_of(rows, place);
-        let verdict = verdict_on(alloc, input, plan, distances, report)?;
-        same_shown(rt, alloc, place, &verdict, wanted)?;
-    }
-    Ok(())
-}
-
-fn play_on_line(rt: &impl Abort, alloc: Global, input: &Input, rows: &str) -> Result<(), Fail>
-    requires valid { IsValid (seen_input input.now) }
-{
-    let (plan, distances) = line_of_four(alloc)?;
-    play_over(rt, alloc, input, &plan, &distances, rows)
-}
-
-// Each row is a report on a text's input, over the line, and the verdict that it is to have.
-fn play(rt: &impl Abort, alloc: Global, text: &str, rows: &str) -> Result<(), Fail> {
-    let input = input_of(alloc, text.as_bytes())?;
-    play_on_line(rt, alloc, &input, rows)
+    assert!(rt; report.len() <= MOST_BYTES);
+    let verdict = check(alloc, input, plan, distances, report.as_bytes()).expect(rt, "memory");
+    shown(rt, alloc, &verdict).into_bytes()
 }
 
 #[test]
@@ -91,7 +60,7 @@ move 0 1 3 2 weight 1 first 0 commit 3 last 5\n\
 again 1 3 0 none weight 5 first 6 last 8\norder 0 0 0 0 0 0 1 1 1\nend 9\n>\
 Unsound { line: 2, cause: Again }|\
 >Unsound { line: 1, cause: Form }|";
-    play(&rt, rt.alloc(), MOVED, rows)
+    play(&rt, rt.alloc(), Table::Moved, rows)
 }
 
 #[test]
@@ -102,7 +71,7 @@ Sound|\
 switch 0 off 3 number 0 ticket 0\nswitch 0 on 3 number 0 ticket 2\n\
 find 1 3 0 at 3 number 0 level - weight 0 first 1 last 1\norder 0 1 0\nend 3\n>\
 Unsound { line: 3, cause: Place }|";
-    play(&rt, rt.alloc(), SWITCHED, rows)?;
+    play(&rt, rt.alloc(), Table::Switched, rows)?;
     same_text(&rt, 2, Flaw::Tickets.name().as_bytes(), b"tickets");
     Ok(())
 }

@@ -1,28 +1,23 @@
 //! Texts of inputs that were read, and of inputs that loads make.
 ghost use Rattle.std.specs.Prelude.{◌≤◌, length};
-ghost use Rattle.make_load.specs.Load.{IsLoad};
-ghost use Rattle.net_reader.specs.Reading.{most_bytes};
 
-use crate::loads::load_of;
+use crate::loads::{load_of, load_text_of};
 use crate::playing::{Table, play};
 use crate::sameness::same_text;
 use input_text::{InputLines, Listing, input_text};
-use make_load::{Workload, load_text, make_input};
+use make_load::{Workload, make_input};
 use net_reader::Input;
-use std::alloc::{AllocError, Global};
+use std::alloc::Global;
 use std::process::Abort;
 use std::test::Fail;
 use test_networks::input_of;
-use word_line::Load;
 
 const MOST_SCRIPTS: usize = 128;
 
 // The text of an input, which has few scripts.
-fn text_of(alloc: Global, input: &Input) -> Result<Vec<u8>, Fail> {
-    if input.scripts.len() > MOST_SCRIPTS {
-        return Err(AllocError.into());
-    }
-    Ok(input_text(alloc, input)?)
+fn text_of(rt: &impl Abort, alloc: Global, input: &Input) -> Vec<u8> {
+    assert!(rt; input.scripts.len() <= MOST_SCRIPTS);
+    input_text(alloc, input).expect(rt, "memory")
 }
 
 /// What is read of a text is to be written as this.
@@ -34,7 +29,7 @@ pub fn is_written(
     wanted: &[u8],
 ) -> Result<(), Fail> {
     let input = input_of(alloc, text)?;
-    same_text(rt, place, &text_of(alloc, &input)?, wanted);
+    same_text(rt, place, &text_of(rt, alloc, &input), wanted);
     Ok(())
 }
 
@@ -51,6 +46,12 @@ fn texts_of_inputs(rt: HostRuntime) -> Result<(), Fail> {
     play(&rt, rt.alloc(), Table::Written, rows)
 }
 
+// The text of the input that a load makes.
+fn made_text(rt: &impl Abort, alloc: Global, words: &str) -> Vec<u8> {
+    let made = make_input(alloc, load_of(rt, alloc, words)).expect(rt, "memory");
+    text_of(rt, alloc, &made)
+}
+
 /// The text of a load is to be read as the input that it makes.
 pub fn is_read_again(
     rt: &impl Abort,
@@ -58,17 +59,8 @@ pub fn is_read_again(
     place: usize,
     words: &str,
 ) -> Result<(), Fail> {
-    let load = load_of(alloc, words)?;
-    let made = made_text(alloc, load)?;
-    is_written(rt, alloc, place, &load_text(alloc, load)?, &made)
-}
-
-// The text of the input that a load makes.
-fn made_text(alloc: Global, load: Load) -> Result<Vec<u8>, Fail>
-    requires { IsLoad load }
-{
-    let made = make_input(alloc, load)?;
-    text_of(alloc, &made)
+    let made = made_text(rt, alloc, words);
+    is_written(rt, alloc, place, &load_text_of(rt, alloc, words), &made)
 }
 
 #[test]
@@ -86,25 +78,22 @@ fn append_lines(lines: &mut InputLines<'_>, text: &mut Vec<u8>) {
 }
 
 // The lines of a listing, one behind another.
-fn joined(alloc: Global, listing: Listing<'_>) -> Result<Vec<u8>, Fail> {
-    let mut lines = InputLines::new(alloc, listing)?;
+fn joined(rt: &impl Abort, alloc: Global, listing: Listing<'_>) -> Vec<u8> {
+    let mut lines = InputLines::new(alloc, listing).expect(rt, "memory");
     let mut text = Vec::new(alloc);
     append_lines(&mut lines, &mut text);
-    Ok(text)
+    text
 }
 
 // The lines of a load's listing.
-fn lines_of(alloc: Global, load: Load) -> Result<Vec<u8>, Fail>
-    requires { IsLoad load }
-{
-    let workload = Workload::new(alloc, load)?;
-    joined(alloc, workload.listing())
+fn lines_of(rt: &impl Abort, alloc: Global, words: &str) -> Vec<u8> {
+    let workload = Workload::new(alloc, load_of(rt, alloc, words)).expect(rt, "memory");
+    joined(rt, alloc, workload.listing())
 }
 
 #[test]
-fn lines_of_a_load(rt: HostRuntime) -> Result<(), Fail> {
-    let load = load_of(rt.alloc(), "make 3 4 3 2 2 9")?;
-    let text = lines_of(rt.alloc(), load)?;
-    same_text(&rt, 0, &text, &load_text(rt.alloc(), load)?);
-    Ok(())
+fn lines_of_a_load(rt: HostRuntime) {
+    let words = "make 3 4 3 2 2 9";
+    let text = lines_of(&rt, rt.alloc(), words);
+    same_text(&rt, 0, &text, &load_text_of(&rt, rt.alloc(), words));
 }

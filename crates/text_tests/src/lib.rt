@@ -13,9 +13,13 @@ mod entry_tests;
 #[cfg(test)]
 mod input_text_tests;
 #[cfg(test)]
+mod inputs;
+#[cfg(test)]
 mod load_tests;
 #[cfg(test)]
 mod loads;
+#[cfg(test)]
+mod outcomes;
 #[cfg(test)]
 mod outside_tests;
 #[cfg(test)]

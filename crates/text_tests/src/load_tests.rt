@@ -1,27 +1,14 @@
 //! The texts of small loads whole, and of large ones by their length and their sum.
-use crate::loads::load_of;
+use crate::loads::load_text_of;
 use crate::playing::{Table, play};
-use crate::sameness::{same_numbers, same_text};
-use make_load::load_text;
+use crate::sameness::{is_like, same_numbers};
 use std::alloc::Global;
 use std::process::Abort;
 use std::test::Fail;
 
-fn text_of(alloc: Global, words: &str) -> Result<Vec<u8>, Fail> {
-    let load = load_of(alloc, words)?;
-    Ok(load_text(alloc, load)?)
-}
-
 /// A load is to make this text.
-pub fn makes(
-    rt: &impl Abort,
-    alloc: Global,
-    place: usize,
-    words: &str,
-    wanted: &str,
-) -> Result<(), Fail> {
-    same_text(rt, place, &text_of(alloc, words)?, wanted.as_bytes());
-    Ok(())
+pub fn makes(rt: &impl Abort, alloc: Global, place: usize, words: &str, wanted: &str) {
+    is_like(rt, place, &load_text_of(rt, alloc, words), wanted);
 }
 
 // Each row is a load, and the text that it is to make.
@@ -58,15 +45,14 @@ fn sum_of(bytes: &[u8]) -> u64 {
 }
 
 // The text of a load has this length and this sum.
-fn is_large(rt: &impl Abort, alloc: Global, words: &str, long: u64, sum: u64) -> Result<(), Fail> {
-    let text = text_of(alloc, words)?;
+fn is_large(rt: &impl Abort, alloc: Global, words: &str, long: u64, sum: u64) {
+    let text = load_text_of(rt, alloc, words);
     same_numbers(rt, 0, &[text.len() as u64, sum_of(&text)], &[long, sum]);
-    Ok(())
 }
 
 // Lengths and sums are those of scripts/made.py.
 #[test]
-fn large_loads(rt: HostRuntime) -> Result<(), Fail> {
+fn large_loads(rt: HostRuntime) {
     let alloc = rt.alloc();
     is_large(
         &rt,
@@ -74,28 +60,28 @@ fn large_loads(rt: HostRuntime) -> Result<(), Fail> {
         "make 42 256 4 64 64 8192",
         325_492,
         0xd3c9_0ee3_0ddb_809a,
-    )?;
+    );
     is_large(
         &rt,
         alloc,
         "make 7 1024 3 64 64 16384",
         668_496,
         0x8a4f_01eb_7d25_ab8c,
-    )?;
+    );
     let heavy = "make 999999999999999999 256 8 64 64 8193";
-    is_large(&rt, alloc, heavy, 325_689, 0x1324_b5dd_9ea5_16b0)?;
+    is_large(&rt, alloc, heavy, 325_689, 0x1324_b5dd_9ea5_16b0);
     is_large(
         &rt,
         alloc,
         "make 5 257 2 1 0 1",
         5_528,
         0x981d_8404_9308_4dfd,
-    )?;
+    );
     is_large(
         &rt,
         alloc,
         "make 6 256 1 1 64 8192",
         296_328,
         0x0dc9_ad78_bffc_aa93,
-    )
+    );
 }

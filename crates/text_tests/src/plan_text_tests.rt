@@ -3,7 +3,7 @@ ghost use Rattle.std.specs.Prelude.{◌≤◌};
 ghost use Rattle.distances.specs.Table.{AreDistancesOf};
 
 use crate::rows::{row_of, rows_in};
-use crate::sameness::same_text;
+use crate::sameness::{is_like, same};
 use distances::Distances;
 use net_graph::{Graph, MAX_NODES, MAX_WEIGHT};
 use region_plan::Plan;
@@ -14,44 +14,26 @@ use std::test::Fail;
 use test_networks::path;
 
 // The plan of a network with this trade-off, or its flat plan where that is 0.
-fn plan_over(alloc: Global, graph: &Graph, distances: &Distances, k: u32) -> Result<Plan, Fail>
+fn plan_over(rt: &impl Abort, alloc: Global, graph: &Graph, distances: &Distances, k: u32) -> Plan
     requires belongs { AreDistancesOf graph.now distances.now }
 {
     if k == 0 || k > 8 {
-        return Ok(Plan::flat(alloc, graph, distances)?);
+        return Plan::flat(alloc, graph, distances).expect(rt, "memory");
     }
-    Ok(Plan::build(alloc, graph, distances, k)?)
+    Plan::build(alloc, graph, distances, k).expect(rt, "memory")
 }
 
-// The text of a plan is this.
-fn is_text(rt: &impl Abort, alloc: Global, plan: &Plan, text: &str) -> Result<(), Fail> {
-    same_text(rt, 0, &plan_text(alloc, plan)?, text.as_bytes());
-    Ok(())
+// The text of a plan is this, or begins and ends so where a `*` stands between, and is so long.
+fn is_text(rt: &impl Abort, alloc: Global, plan: &Plan, wanted: &str, long: usize) {
+    let text = plan_text(alloc, plan).expect(rt, "memory");
+    is_like(rt, 0, &text, wanted);
+    same(rt, 1, text.len(), long);
 }
 
-// The text of a plan begins so, and is so long.
-fn is_long(
-    rt: &impl Abort,
-    alloc: Global,
-    plan: &Plan,
-    head: &str,
-    long: usize,
-) -> Result<(), Fail> {
-    let text = plan_text(alloc, plan)?;
-    assert!(rt; text.starts_with(head.as_bytes()) && text.len() == long);
-    Ok(())
-}
-
-// The next part of a text is this one; or begins and ends so, where a `*` stands between.
+// The next part of a text is this one.
 fn goes_on(rt: &impl Abort, parts: &mut PlanParts<'_>, place: usize, wanted: &str) {
     assert!(rt; parts.advance());
-    let part = parts.part();
-    match wanted.split_once('*') {
-        Some((first, last)) => {
-            assert!(rt; part.starts_with(first.as_bytes()) && part.ends_with(last.as_bytes()));
-        }
-        None => same_text(rt, place, part, wanted.as_bytes()),
-    }
+    is_like(rt, place, parts.part(), wanted);
 }
 
 // A text has no part more.
@@ -60,14 +42,13 @@ fn has_ended(rt: &impl Abort, parts: &mut PlanParts<'_>) {
 }
 
 // Each row is a part of a plan's text.
-fn play(rt: &impl Abort, alloc: Global, plan: &Plan, rows: &str) -> Result<(), Fail> {
-    let mut parts = PlanParts::new(alloc, plan)?;
+fn play(rt: &impl Abort, alloc: Global, plan: &Plan, rows: &str) {
+    let mut parts = PlanParts::new(alloc, plan).expect(rt, "memory");
     for place in 0..rows_in(rows) {
         let (part, _) = row_of(rows, place);
         goes_on(rt, &mut parts, place, part);
     }
     has_ended(rt, &mut parts);
-    Ok(())
 }
 
 // What is to be told of a plan.
@@ -77,15 +58,15 @@ enum Told<'a> {
     Text(&'a str),
     /// The parts of its text, in rows.
     Parts(&'a str),
-    /// How its text begins, and how long it is.
+    /// How its text begins, with a `*` behind, and how long it is.
     Long(&'a str, usize),
 }
 
-fn tell_plan(rt: &impl Abort, alloc: Global, plan: &Plan, told: Told<'_>) -> Result<(), Fail> {
+fn tell_plan(rt: &impl Abort, alloc: Global, plan: &Plan, told: Told<'_>) {
     match told {
-        Told::Text(text) => is_text(rt, alloc, plan, text),
+        Told::Text(text) => is_text(rt, alloc, plan, text, text.len()),
         Told::Parts(rows) => play(rt, alloc, plan, rows),
-        Told::Long(head, long) => is_long(rt, alloc, plan, head, long),
+        Told::Long(wanted, long) => is_text(rt, alloc, plan, wanted, long),
     }
 }
 
@@ -97,11 +78,11 @@ fn tell_over(
     distances: &Distances,
     k: u32,
     told: Told<'_>,
-) -> Result<(), Fail>
+)
     requires belongs { AreDistancesOf graph.now distances.now }
 {
-    let plan = plan_over(alloc, graph, distances, k)?;
-    tell_plan(rt, alloc, &plan, told)
+    let plan = plan_over(rt, alloc, graph, distances, k);
+    tell_plan(rt, alloc, &plan, told);
 }
 
 // The plan of a path of `n` nodes, whose edges have this weight, with this trade-off, or the flat
@@ -120,7 +101,8 @@ fn tell(
     requires light { weight ≤ MAX_WEIGHT }
 {
     let (graph, distances) = path(alloc, n, weight)?;
-    tell_over(rt, alloc, &graph, &distances, k, told)
+    tell_over(rt, alloc, &graph, &distances, k, told);
+    Ok(())
 }
 
 #[test]
@@ -181,10 +163,11 @@ fn parts_past_a_word(rt: HostRuntime) -> Result<(), Fail> {
     tell(&rt, rt.alloc(), 130, 1, 0, Told::Parts(rows))
 }
 
-// Digits and blanks of the members 0 to 1023 are 4,010, and of the homes 2,048.
+// Digits and blanks of the members 0 to 1023 are 4,010, and of the homes 2,048;
+// the `*` is one.
 #[test]
 fn text_at_the_most_nodes(rt: HostRuntime) -> Result<(), Fail> {
-    let head = "plan nodes 1024 k 1 levels 1 degree 1 stretch 40\nlevel 0 radius 1024 clusters 1 ";
-    let long = head.len() + 9 + 45 + 4010 + 1 + 5 + 2048 + 1 + 4;
+    let head = "plan nodes 1024 k 1 levels 1 degree 1 stretch 40\nlevel 0 radius 1024 clusters 1 *";
+    let long = head.len() - 1 + 9 + 45 + 4010 + 1 + 5 + 2048 + 1 + 4;
     tell(&rt, rt.alloc(), MAX_NODES, 1, 0, Told::Long(head, long))
 }

@@ -1,6 +1,7 @@
 //! Tables whose rows are played one by one, whatever they ask.
-use crate::cost_tests::costs_on_line;
+use crate::checker_tests::{MOVED, SWITCHED};
 use crate::input_text_tests::{is_read_again, is_written};
+use crate::inputs::{Asked, tells};
 use crate::load_tests::makes;
 use crate::rows::{row_of, rows_in};
 use crate::word_tests::reads;
@@ -19,8 +20,12 @@ pub enum Table {
     Made,
     /// What the words of a line say.
     Words,
-    /// What calls cost on the line of four.
+    /// What the moves of a text's input cost.
     Costs,
+    /// The verdict on a report of a move and a find.
+    Moved,
+    /// The verdict on a report of a switch off and on and a find.
+    Switched,
 }
 
 fn play_row(
@@ -32,12 +37,19 @@ fn play_row(
     wanted: &str,
 ) -> Result<(), Fail> {
     match table {
-        Table::Written => is_written(rt, alloc, place, asked.as_bytes(), wanted.as_bytes()),
-        Table::ReadAgain => is_read_again(rt, alloc, place, asked),
+        Table::Written => return is_written(rt, alloc, place, asked.as_bytes(), wanted.as_bytes()),
+        Table::ReadAgain => return is_read_again(rt, alloc, place, asked),
         Table::Made => makes(rt, alloc, place, asked, wanted),
         Table::Words => reads(rt, alloc, place, asked, wanted),
-        Table::Costs => costs_on_line(rt, alloc, place, asked, wanted),
+        Table::Costs => return tells(rt, alloc, place, asked, Asked::Costs, wanted),
+        Table::Moved => {
+            return tells(rt, alloc, place, MOVED, Asked::Verdict(asked), wanted);
+        }
+        Table::Switched => {
+            return tells(rt, alloc, place, SWITCHED, Asked::Verdict(asked), wanted);
+        }
     }
+    Ok(())
 }
 
 /// Plays the rows of a table.

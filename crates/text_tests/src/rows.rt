@@ -11,18 +11,3 @@ pub fn row_of(table: &str, place: usize) -> (&str, &str) {
     let row = table.split_terminator('|').nth(place).unwrap_or("");
     row.split_once('>').unwrap_or((row, ""))
 }
-
-/// The first numbers of a text, and nought past them.
-pub fn numbers_of(text: &str) -> [u32; 4] {
-    let mut numbers = [0; 4];
-    let mut place = 0;
-    for word in text.split_ascii_whitespace() {
-        if let Ok(number) = word.parse::<u32>() {
-            if place < 4 {
-                numbers[place] = number;
-                place += 1;
-            }
-        }
-    }
-    numbers
-}

@@ -1,11 +1,11 @@
 //! Summaries and the JSON of no call, and of calls of each kind.
-use crate::sameness::same_text;
-use directory::{Done, Outcome, Why};
+use crate::outcomes::outcome_of;
+use crate::sameness::is_like;
+use directory::{Done, Why};
 use json_form::report_json;
 use report_text::summary;
 use std::alloc::Global;
 use std::process::Abort;
-use std::test::Fail;
 
 const HEAVY: u64 = 18_446_744_073_709_551_615;
 
@@ -64,34 +64,21 @@ const AGAIN: Done = Done::Again {
     last: 16,
 };
 
-// These calls and so many visits.
-fn outcome_of(alloc: Global, calls: &[Done], visits: usize) -> Result<Outcome, Fail> {
-    let calls = Vec::from_slice(alloc, calls)?;
-    let order = vec![in alloc; 1; visits]?;
-    Ok(Outcome { calls, order })
-}
-
 // The summary of these calls and so many visits is to be this line.
-fn sums_up(
-    rt: &impl Abort,
-    alloc: Global,
-    calls: &[Done],
-    visits: usize,
-    wanted: &str,
-) -> Result<(), Fail> {
-    let outcome = outcome_of(alloc, calls, visits)?;
-    same_text(rt, visits, &summary(alloc, &outcome)?, wanted.as_bytes());
-    Ok(())
+fn sums_up(rt: &impl Abort, alloc: Global, calls: &[Done], visits: usize, wanted: &str) {
+    let outcome = outcome_of(rt, alloc, calls, 1, visits);
+    let line = summary(alloc, &outcome).expect(rt, "memory");
+    is_like(rt, visits, &line, wanted);
 }
 
 #[test]
-fn no_calls(rt: HostRuntime) -> Result<(), Fail> {
+fn no_calls(rt: HostRuntime) {
     let wanted = "summary moves 0 moved 0 finds 0 again 0 travelled 0 visits 0\n";
-    sums_up(&rt, rt.alloc(), &[], 0, wanted)
+    sums_up(&rt, rt.alloc(), &[], 0, wanted);
 }
 
 #[test]
-fn calls_of_each_kind(rt: HostRuntime) -> Result<(), Fail> {
+fn calls_of_each_kind(rt: HostRuntime) {
     let calls = [
         moved(HEAVY),
         FOUND,
@@ -103,7 +90,7 @@ fn calls_of_each_kind(rt: HostRuntime) -> Result<(), Fail> {
     ];
     let wanted = "summary moves 2 moved 18446744073709551616 finds 2 again 1 \
             travelled 18446744073709551920 visits 130\n";
-    sums_up(&rt, rt.alloc(), &calls, 130, wanted)
+    sums_up(&rt, rt.alloc(), &calls, 130, wanted);
 }
 
 const WHOLE: &str = "{\"calls\":[\
@@ -118,9 +105,9 @@ const WHOLE: &str = "{\"calls\":[\
         \"sub\":0,\"weight\":300,\"why\":\"chased\"}],\"order\":[1],\"visits\":1}\n";
 
 #[test]
-fn report_as_json(rt: HostRuntime) -> Result<(), Fail> {
-    let outcome = outcome_of(rt.alloc(), &[moved(1), SWITCHED, FOUND, OFF, AGAIN], 1)?;
-    let text = report_json(rt.alloc(), &outcome)?;
-    same_text(&rt, 0, &text, WHOLE.as_bytes());
-    Ok(())
+fn report_as_json(rt: HostRuntime) {
+    let calls = [moved(1), SWITCHED, FOUND, OFF, AGAIN];
+    let outcome = outcome_of(&rt, rt.alloc(), &calls, 1, 1);
+    let text = report_json(rt.alloc(), &outcome).expect(&rt, "memory");
+    is_like(&rt, 0, &text, WHOLE);
 }

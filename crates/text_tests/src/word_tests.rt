@@ -8,15 +8,9 @@ use std::test::Fail;
 use word_line::read_words;
 
 /// The words of a line are to be read so.
-pub fn reads(
-    rt: &impl Abort,
-    alloc: Global,
-    place: usize,
-    line: &str,
-    wanted: &str,
-) -> Result<(), Fail> {
-    let words = words_of(alloc, line)?;
-    same_shown(rt, alloc, place, &read_words(&words), wanted)
+pub fn reads(rt: &impl Abort, alloc: Global, place: usize, line: &str, wanted: &str) {
+    let words = words_of(rt, alloc, line);
+    same_shown(rt, alloc, place, &read_words(&words), wanted);
 }
 
 #[test]

@@ -6,7 +6,7 @@ use Rattle.word_line.specs.declared.command.WordsFault.{WordsFault}
 use Rattle.word_line.specs.declared.command.WordsFault.TheVariants.{Refused}
 use Rattle.word_line.specs.declared.load.Load.{Load}
 use Rattle.word_line.specs.Forms.{bytes_of, command_of}
-use Rattle.text_tests.proofs.loads.load_of.Goals as goal
+use Rattle.text_tests.proofs.loads.load_in.Goals as goal
 
 -- a command that was read is the command of the words
 some-of : (read : Option Command) (load : Load) → Ok (Make load) ≡ ok_or read Refused → read ≡ Some (Make load)
@@ -15,7 +15,7 @@ some-of (Some command) load e = cc
 
 pub returns-in-Ok-Make : goal.returns-in-Ok-Make
 returns-in-Ok-Make c =
-    let words = c.deref.result.now in
+    let words = c.args.words.now in
     let load = c.in-Ok-Make.load in
     let read : Result Command WordsFault = Ok (Make load) in
     let found : read ≡ ok_or (command_of (bytes_of words)) Refused =
