@@ -9,14 +9,14 @@ use std::test::Fail;
 use stretch_laws::bound;
 
 /// The bounds of some distances and passages are to be shown so.
-pub fn tell(rt: &impl Abort, alloc: Global, plan: &Plan, wanted: &str) -> Result<(), Fail> {
+pub fn tell(rt: &impl Abort, alloc: Global, plan: &Plan, wanted: &str) {
     let bounds = [
         bound(plan, 1, 0),
         bound(plan, 0, 1),
         bound(plan, 0, 0),
         bound(plan, 1 << 30, 1 << 30),
     ];
-    same_shown(rt, alloc, 0, &bounds, wanted)
+    same_shown(rt, alloc, 0, &bounds, wanted);
 }
 
 // The last is 146 times 2^30.

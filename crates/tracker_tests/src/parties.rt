@@ -1,6 +1,6 @@
 //! A tracker with one subscriber and two callers, and what they have at hand.
 
-ghost use Rattle.std.specs.Prelude.{◌≡◌, ◌+◌, ◌<◌, ◌∷◌, [], length, IfOk, OnOk};
+ghost use Rattle.std.specs.Prelude.{◌≡◌, ◌+◌, ◌<◌, ◌∷◌, [], All, IfOk, length};
 ghost use Rattle.region_plan.specs.Plan.{nodes_of};
 ghost use Rattle.station.specs.Handsets.{IsHandsetOf};
 ghost use Rattle.station.specs.Opening.{setup_of};
@@ -11,9 +11,8 @@ use crate::sameness::same_shown;
 use handset::Handset;
 use region_plan::Plan;
 use station::{CloseCause, CloseFault, Pass, Tracker};
-use std::alloc::Global;
+use std::alloc::{AllocError, Global};
 use std::process::Abort;
-use std::test::Fail;
 
 // The pass of the subscriber with its handset, and the passes of the callers.
 #[derive(Drop)]
@@ -27,20 +26,21 @@ pub struct Parties {
 // A tracker of a subscriber that starts at this node, at rest or about to switch off, and its
 // parties.
 pub fn open(
+    rt: &impl Abort,
     alloc: Global,
     plan: &Plan,
     home: u32,
     is_switching: bool,
-) -> Result<(Tracker, Parties), Fail>
+) -> (Tracker, Parties)
     requires inside { home < nodes_of plan.now }
-    ensures setup { IfOk result (λ pair. pair.0.setup ≡ setup_of plan.now (home ∷ []) 3) }
-    ensures parties { IfOk result (λ pair. AreNew pair.0 pair.1.own pair.1.caller pair.1.other
-        pair.1.handset) }
+    ensures setup { result.0.setup ≡ setup_of plan.now (home ∷ []) 3 }
+    ensures parties { AreNew result.0 result.1.own result.1.caller result.1.other
+        result.1.handset }
 {
-    let handset = handset_for(alloc, plan, home, is_switching)?;
-    let (tracker, passes) = Tracker::new(alloc, plan, &[home], 2)?;
+    let handset = handset_for(rt, alloc, plan, home, is_switching);
+    let (tracker, passes) = Tracker::new(alloc, plan, &[home], 2).expect(rt, "memory");
     let parties = parties_of(&tracker, passes, handset);
-    Ok((tracker, parties))
+    (tracker, parties)
 }
 
 // The parties of the fresh passes of a tracker.
@@ -62,18 +62,17 @@ fn parties_of(tracker: &Tracker, mut passes: Vec<Pass>, handset: Handset) -> Par
 }
 
 // Sees to room for so many visits in each pass.
-pub fn reserve_all(tracker: &Tracker, parties: &mut Parties, visits: u32) -> Result<(), Fail>
+pub fn reserve_all(rt: &impl Abort, tracker: &Tracker, parties: &mut Parties, visits: u32)
     requires { AreNew tracker.now parties.old.own parties.old.caller parties.old.other
         parties.old.handset }
-    ensures { OnOk result (AreReady tracker.now parties.new.own parties.new.caller
-        parties.new.other parties.new.handset) }
+    ensures { AreReady tracker.now parties.new.own parties.new.caller parties.new.other
+        parties.new.handset }
 {
     let _ = tracker;
     let visits = u64::from(visits);
-    parties.own.reserve(visits)?;
-    parties.caller.reserve(visits)?;
-    parties.other.reserve(visits)?;
-    Ok(())
+    parties.own.reserve(visits).expect(rt, "memory");
+    parties.caller.reserve(visits).expect(rt, "memory");
+    parties.other.reserve(visits).expect(rt, "memory");
 }
 
 // The last of some fresh passes.
@@ -92,19 +91,27 @@ pub fn next_pass(tracker: &Tracker, passes: &mut Vec<Pass>, actor: u32) -> Pass
 }
 
 // The handset of the subscriber.
-fn handset_for(alloc: Global, plan: &Plan, home: u32, is_switching: bool) -> Result<Handset, Fail>
+fn handset_for(
+    rt: &impl Abort,
+    alloc: Global,
+    plan: &Plan,
+    home: u32,
+    is_switching: bool,
+) -> Handset
     requires inside { home < nodes_of plan.now }
-    ensures own { IfOk result (IsHandsetOf (setup_of plan.now (home ∷ []) 3)
-        (fresh_view (setup_of plan.now (home ∷ []) 3) 0)) }
+    ensures own { IsHandsetOf (setup_of plan.now (home ∷ []) 3)
+        (fresh_view (setup_of plan.now (home ∷ []) 3) 0) result }
 {
-    if is_switching {
-        return switching_handset(alloc, plan, home);
-    }
-    resting_handset(alloc, plan, home)
+    let made = if is_switching {
+        switching_handset(rt, alloc, plan, home)
+    } else {
+        resting_handset(alloc, plan, home)
+    };
+    made.expect(rt, "memory")
 }
 
 // The handset at rest.
-fn resting_handset(alloc: Global, plan: &Plan, home: u32) -> Result<Handset, Fail>
+fn resting_handset(alloc: Global, plan: &Plan, home: u32) -> Result<Handset, AllocError>
     requires inside { home < nodes_of plan.now }
     ensures own { IfOk result (IsHandsetOf (setup_of plan.now (home ∷ []) 3)
         (fresh_view (setup_of plan.now (home ∷ []) 3) 0)) }
@@ -114,7 +121,12 @@ fn resting_handset(alloc: Global, plan: &Plan, home: u32) -> Result<Handset, Fai
 }
 
 // The handset, which has begun to switch off.
-fn switching_handset(alloc: Global, plan: &Plan, home: u32) -> Result<Handset, Fail>
+fn switching_handset(
+    rt: &impl Abort,
+    alloc: Global,
+    plan: &Plan,
+    home: u32,
+) -> Result<Handset, AllocError>
     requires inside { home < nodes_of plan.now }
     ensures own { IfOk result (IsHandsetOf (setup_of plan.now (home ∷ []) 3)
         (fresh_view (setup_of plan.now (home ∷ []) 3) 0)) }
@@ -122,7 +134,7 @@ fn switching_handset(alloc: Global, plan: &Plan, home: u32) -> Result<Handset, F
     let mut handset = Handset::new(alloc, 0, home, plan)?;
     match handset.switch(true) {
         Ok(()) => Ok(handset),
-        Err(_) => Err("the switch begins".into()),
+        Err(_) => panic!(rt; "the switch begins"),
     }
 }
 
@@ -143,32 +155,37 @@ fn in_order(tracker: &Tracker, own: Pass, caller: Pass, own_is_last: bool) -> (P
 
 // Closes a tracker, first without its last pass: why that fails, and the actor of each ticket.
 fn close_twice(
+    rt: &impl Abort,
     alloc: Global,
     tracker: Tracker,
     one: Pass,
     two: Pass,
     last: Pass,
-) -> Result<(CloseCause, Vec<u32>), Fail>
+) -> (CloseCause, Vec<u32>)
     requires one { IsPassOf tracker one }
     requires two { IsPassOf tracker two }
     requires last { IsPassOf tracker last }
 {
-    let mut passes = Vec::with_capacity(alloc, 2)?;
+    let mut passes = Vec::with_capacity(alloc, 2).expect(rt, "memory");
     passes.push_reserved(one);
     passes.push_reserved(two);
-    let Err(fault) = tracker.close(alloc, passes) else {
-        return Err("a pass is missing".into());
-    };
     let CloseFault {
         cause,
         tracker,
         mut passes,
-    } = fault;
-    passes.push(last)?;
-    match tracker.close(alloc, passes) {
-        Ok(order) => Ok((cause, order)),
-        Err(_) => Err("all passes are there".into()),
-    }
+    } = tracker
+        .close(alloc, passes)
+        .expect_err(rt, "a pass is missing");
+    passes.push(last).expect(rt, "memory");
+    (cause, order_of(rt, alloc, tracker, passes))
+}
+
+/// The actor of each ticket of a tracker whose passes are all handed in.
+pub fn order_of(rt: &impl Abort, alloc: Global, tracker: Tracker, passes: Vec<Pass>) -> Vec<u32>
+    requires { All (IsPassOf tracker) passes.items }
+{
+    let closed = tracker.close(alloc, passes);
+    closed.ok().expect(rt, "all passes are there")
 }
 
 // Closes a tracker, first without the pass of the subscriber or of the first caller. Why that fails
@@ -180,7 +197,7 @@ pub fn close(
     parties: Parties,
     own_is_last: bool,
     wanted: &str,
-) -> Result<(), Fail>
+)
     requires { AreReady tracker parties.own parties.caller parties.other parties.handset }
 {
     let Parties {
@@ -190,6 +207,6 @@ pub fn close(
         handset: _,
     } = parties;
     let (two, last) = in_order(&tracker, own, caller, own_is_last);
-    let (cause, order) = close_twice(alloc, tracker, other, two, last)?;
-    same_shown(rt, alloc, usize::MAX, &(cause, order), wanted)
+    let ended = close_twice(rt, alloc, tracker, other, two, last);
+    same_shown(rt, alloc, usize::MAX, &ended, wanted);
 }

@@ -85,7 +85,7 @@ fn finish<R: Threads + Wait + Sync + Abort>(
     parties: Parties,
     end: End,
     wanted: &str,
-) -> Result<(), Fail>
+)
     requires node { 3 < nodes_in tracker.setup }
     requires over { IsOver tracker plan.now distances.now }
     requires ready { AreReady tracker parties.own parties.caller parties.other parties.handset }
@@ -106,7 +106,7 @@ fn play_script<R: Threads + Wait + Sync + Abort>(
     home: u32,
     script: Script<'_>,
     wanted: &str,
-) -> Result<(), Fail>
+)
     requires belongs { plan.now.distances ≡ distances.now }
     requires inside { home < nodes_of plan.now }
     requires nodes { 4 ≤ nodes_of plan.now }
@@ -117,7 +117,7 @@ fn play_script<R: Threads + Wait + Sync + Abort>(
         rows,
         end,
     } = script;
-    let (tracker, mut parties) = open(alloc, plan, home, is_switching)?;
+    let (tracker, mut parties) = open(rt, alloc, plan, home, is_switching);
     play_from_opening(
         rt,
         alloc,
@@ -127,8 +127,8 @@ fn play_script<R: Threads + Wait + Sync + Abort>(
         &mut parties,
         visits,
         rows,
-    )?;
-    finish(rt, alloc, tracker, plan, distances, parties, end, wanted)
+    );
+    finish(rt, alloc, tracker, plan, distances, parties, end, wanted);
 }
 
 fn play_over<R: Threads + Wait + Sync + Abort>(
@@ -138,12 +138,10 @@ fn play_over<R: Threads + Wait + Sync + Abort>(
     distances: &Distances,
     subject: Subject<'_>,
     wanted: &str,
-) -> Result<(), Fail>
+)
     requires belongs { plan.now.distances ≡ distances.now }
 {
-    if plan.nodes() < 4 {
-        return Err("there are four nodes or more".into());
-    }
+    assert!(rt; plan.nodes() >= 4, "there are four nodes or more");
     let home = plan.nodes() - 1;
     match subject {
         Subject::Script(script) => play_script(rt, alloc, plan, distances, home, script, wanted),
@@ -164,5 +162,6 @@ pub fn perform<R: Threads + Wait + Sync + Abort>(
     wanted: &str,
 ) -> Result<(), Fail> {
     let (plan, distances) = plan_of(alloc, over)?;
-    play_over(rt, alloc, &plan, &distances, subject, wanted)
+    play_over(rt, alloc, &plan, &distances, subject, wanted);
+    Ok(())
 }

@@ -1,12 +1,12 @@
 //! Passes with much room, a tracker with as many actors and nodes as there may be, and one of some
 //! thousand visits.
 
-ghost use Rattle.std.specs.Prelude.{◌≡◌, ◌<◌, ◌≤◌, ◌^◌, [], IfOk};
+ghost use Rattle.std.specs.Prelude.{◌≡◌, ◌<◌, ◌≤◌, ◌^◌, []};
 ghost use Rattle.region_plan.specs.Plan.{nodes_of};
 ghost use Rattle.station.specs.Passes.{AreFresh, IsFreshPass, IsPassOf};
 ghost use Rattle.station.specs.Setup.{nodes_in, subs_in};
 
-use crate::parties::next_pass;
+use crate::parties::{next_pass, order_of};
 use crate::plays::{Over, Subject, perform};
 use crate::sameness::same_shown;
 use directory::Found;
@@ -46,18 +46,12 @@ fn rooms(mut pass: Pass) -> [u64; 5]
 }
 
 /// The same of the subscriber's pass of a new tracker without callers.
-pub fn tell_rooms(
-    rt: &impl Abort,
-    alloc: Global,
-    plan: &Plan,
-    home: u32,
-    wanted: &str,
-) -> Result<(), Fail>
+pub fn tell_rooms(rt: &impl Abort, alloc: Global, plan: &Plan, home: u32, wanted: &str)
     requires inside { home < nodes_of plan.now }
 {
-    let (tracker, mut passes) = Tracker::new(alloc, plan, &[home], 0)?;
+    let (tracker, mut passes) = Tracker::new(alloc, plan, &[home], 0).expect(rt, "memory");
     let pass = next_pass(&tracker, &mut passes, 0);
-    same_shown(rt, alloc, 0, &rooms(pass), wanted)
+    same_shown(rt, alloc, 0, &rooms(pass), wanted);
 }
 
 #[test]
@@ -75,21 +69,19 @@ struct Crowd {
 }
 
 // A tracker of the most subscribers, all at one node, and of the most callers, with their passes.
-fn open_all(alloc: Global, plan: &Plan, home: u32) -> Result<(Tracker, Crowd), Fail>
+fn open_all(rt: &impl Abort, alloc: Global, plan: &Plan, home: u32) -> (Tracker, Crowd)
     requires inside { home < nodes_of plan.now }
-    ensures plan { IfOk result (λ all. all.0.setup.plan ≡ plan.now) }
-    ensures subs { IfOk result (λ all. subs_in all.0.setup ≡ 64) }
-    ensures fresh { IfOk result (λ all. AreFresh all.0 all.1.passes.items) }
-    ensures one { IfOk result (λ all. IsFreshPass all.0 126 all.1.one) }
-    ensures last { IfOk result (λ all. IsFreshPass all.0 127 all.1.last) }
+    ensures plan { result.0.setup.plan ≡ plan.now }
+    ensures subs { subs_in result.0.setup ≡ 64 }
+    ensures fresh { AreFresh result.0 result.1.passes.items }
+    ensures one { IsFreshPass result.0 126 result.1.one }
+    ensures last { IsFreshPass result.0 127 result.1.last }
 {
-    let (tracker, mut passes) = Tracker::new(alloc, plan, &[home; 64], 64)?;
-    if passes.len() != 128 {
-        return Err("there are 128 actors".into());
-    }
+    let (tracker, mut passes) = Tracker::new(alloc, plan, &[home; 64], 64).expect(rt, "memory");
+    assert!(rt; passes.len() == 128, "there are 128 actors");
     let last = next_pass(&tracker, &mut passes, 127);
     let one = next_pass(&tracker, &mut passes, 126);
-    Ok((tracker, Crowd { passes, one, last }))
+    (tracker, Crowd { passes, one, last })
 }
 
 // A census of a node by the last pass, and then a look by the one before it for the last
@@ -119,7 +111,7 @@ fn visits(
 }
 
 // Closes a tracker with some fresh passes and two more.
-fn close_all(alloc: Global, tracker: Tracker, crowd: Crowd) -> Result<Vec<u32>, Fail>
+fn close_all(rt: &impl Abort, alloc: Global, tracker: Tracker, crowd: Crowd) -> Vec<u32>
     requires fresh { AreFresh tracker crowd.passes.items }
     requires one { IsPassOf tracker crowd.one }
     requires last { IsPassOf tracker crowd.last }
@@ -129,29 +121,20 @@ fn close_all(alloc: Global, tracker: Tracker, crowd: Crowd) -> Result<Vec<u32>, 
         one,
         last,
     } = crowd;
-    passes.reserve(2)?;
+    passes.reserve(2).expect(rt, "memory");
     passes.push_reserved(one);
     passes.push_reserved(last);
-    match tracker.close(alloc, passes) {
-        Ok(order) => Ok(order),
-        Err(_) => Err("all passes are there".into()),
-    }
+    order_of(rt, alloc, tracker, passes)
 }
 
 /// Those visits, and the actors of their tickets at the end.
-pub fn tell_crowd(
-    rt: &impl Abort,
-    alloc: Global,
-    plan: &Plan,
-    home: u32,
-    wanted: &str,
-) -> Result<(), Fail>
+pub fn tell_crowd(rt: &impl Abort, alloc: Global, plan: &Plan, home: u32, wanted: &str)
     requires inside { home < nodes_of plan.now }
 {
-    let (tracker, mut crowd) = open_all(alloc, plan, home)?;
+    let (tracker, mut crowd) = open_all(rt, alloc, plan, home);
     let seen = visits(&tracker, plan, &mut crowd, home);
-    let order = close_all(alloc, tracker, crowd)?;
-    same_shown(rt, alloc, 0, &(seen, order), wanted)
+    let order = close_all(rt, alloc, tracker, crowd);
+    same_shown(rt, alloc, 0, &(seen, order), wanted);
 }
 
 // The word of the look is that of a subscriber's presence where it starts.
@@ -190,13 +173,13 @@ pub fn tell_find(
     distances: &Distances,
     home: u32,
     wanted: &str,
-) -> Result<(), Fail>
+)
     requires inside { home < nodes_of plan.now }
     requires belongs { plan.now.distances ≡ distances.now }
 {
-    let (tracker, mut crowd) = open_all(alloc, plan, home)?;
+    let (tracker, mut crowd) = open_all(rt, alloc, plan, home);
     let seen = find_of_last(&tracker, &mut crowd.last, plan, distances);
-    same_shown(rt, alloc, 0, &seen, wanted)
+    same_shown(rt, alloc, 0, &seen, wanted);
 }
 
 #[test]
@@ -246,34 +229,29 @@ fn are_in_turn(order: &[u32], times: usize) -> bool {
 // The actors of the tickets where the caller counts so often at one node, and then the subscriber
 // at node 0; and whether each count was made.
 fn order_of_many(
-    alloc: Global,
-    plan: &Plan,
-    home: u32,
-    times: u32,
-) -> Result<(bool, Vec<u32>), Fail>
-    requires inside { home < nodes_of plan.now }
-{
-    let (tracker, mut passes) = Tracker::new(alloc, plan, &[home], 1)?;
-    let mut last = next_pass(&tracker, &mut passes, 1);
-    let mut one = next_pass(&tracker, &mut passes, 0);
-    let first = count_often(&tracker, &mut last, 1, home, times);
-    let second = count_often(&tracker, &mut one, 0, 0, times);
-    let order = close_all(alloc, tracker, Crowd { passes, one, last })?;
-    Ok((first && second, order))
-}
-
-/// Whether the counts were made, and such an order is that of 5000 visits each.
-pub fn tell_many(
     rt: &impl Abort,
     alloc: Global,
     plan: &Plan,
     home: u32,
-    wanted: &str,
-) -> Result<(), Fail>
+    times: u32,
+) -> (bool, Vec<u32>)
     requires inside { home < nodes_of plan.now }
 {
-    let (made, order) = order_of_many(alloc, plan, home, 5_000)?;
-    same_shown(rt, alloc, 0, &(made, are_in_turn(&order, 5_000)), wanted)
+    let (tracker, mut passes) = Tracker::new(alloc, plan, &[home], 1).expect(rt, "memory");
+    let mut last = next_pass(&tracker, &mut passes, 1);
+    let mut one = next_pass(&tracker, &mut passes, 0);
+    let first = count_often(&tracker, &mut last, 1, home, times);
+    let second = count_often(&tracker, &mut one, 0, 0, times);
+    let order = close_all(rt, alloc, tracker, Crowd { passes, one, last });
+    (first && second, order)
+}
+
+/// Whether the counts were made, and such an order is that of 5000 visits each.
+pub fn tell_many(rt: &impl Abort, alloc: Global, plan: &Plan, home: u32, wanted: &str)
+    requires inside { home < nodes_of plan.now }
+{
+    let (made, order) = order_of_many(rt, alloc, plan, home, 5_000);
+    same_shown(rt, alloc, 0, &(made, are_in_turn(&order, 5_000)), wanted);
 }
 
 #[test]

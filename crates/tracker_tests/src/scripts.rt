@@ -3,7 +3,6 @@
 //! one, which hears what the first has seen; or `held`, behind which stand a node and a step of one
 //! of the first two, taken while the second caller is inside the node.
 
-ghost use Rattle.std.specs.Prelude.{OnOk};
 ghost use Rattle.station.specs.Handsets.{IsHandsetOf};
 ghost use Rattle.station.specs.Passes.{IsFree};
 ghost use Rattle.tracker_tests.specs.Ready.{AreNew, AreReady, IsOver};
@@ -21,7 +20,6 @@ use station::{Pass, Tracker};
 use std::alloc::Global;
 use std::process::Abort;
 use std::sync::Wait;
-use std::test::Fail;
 
 // A step of the subscriber.
 fn take_own<R: Wait + Abort>(
@@ -35,7 +33,7 @@ fn take_own<R: Wait + Abort>(
     handset: &mut Handset,
     step: &str,
     wanted: &str,
-) -> Result<(), Fail>
+)
     requires over { IsOver tracker.now plan.now distances.now }
     requires free { IsFree tracker.now 0 own.old }
     requires own { IsHandsetOf tracker.now.setup own.old.view handset.old }
@@ -62,7 +60,7 @@ fn take_own<R: Wait + Abort>(
             let found = find_soon(tracker, own, plan, distances, one, two);
             same_shown(rt, alloc, place, &found, wanted)
         }
-        _ => Err("there is no such step".into()),
+        _ => panic!(rt; "there is no such step"),
     }
 }
 
@@ -77,7 +75,7 @@ fn take_called<R: Wait + Abort>(
     caller: &mut Pass,
     step: &str,
     wanted: &str,
-) -> Result<(), Fail>
+)
     requires over { IsOver tracker.now plan.now distances.now }
     requires free { IsFree tracker.now 0 caller.old }
     ensures free { IsFree tracker.now 0 caller.new }
@@ -107,7 +105,7 @@ fn take_called<R: Wait + Abort>(
             let found = find_through(rt, tracker, caller, plan, distances, one, two);
             same_shown(rt, alloc, place, &found, wanted)
         }
-        _ => Err("there is no such call".into()),
+        _ => panic!(rt; "there is no such call"),
     }
 }
 
@@ -124,7 +122,7 @@ fn take_free<R: Wait + Abort>(
     handset: &mut Handset,
     step: &str,
     wanted: &str,
-) -> Result<(), Fail>
+)
     requires over { IsOver tracker.now plan.now distances.now }
     requires free { IsFree tracker.now 0 own.old }
     requires caller { IsFree tracker.now 0 caller.old }
@@ -135,13 +133,14 @@ fn take_free<R: Wait + Abort>(
 {
     let (who, step) = first_word(step);
     if who == "own" {
-        return take_own(
+        take_own(
             rt, alloc, place, tracker, plan, distances, own, handset, step, wanted,
         );
+    } else {
+        take_called(
+            rt, alloc, place, tracker, plan, distances, caller, step, wanted,
+        );
     }
-    take_called(
-        rt, alloc, place, tracker, plan, distances, caller, step, wanted,
-    )
 }
 
 // A step of one of these two, while the second caller is inside a node.
@@ -155,7 +154,7 @@ fn take_held<R: Wait + Abort>(
     parties: &mut Parties,
     step: &str,
     wanted: &str,
-) -> Result<(), Fail>
+)
     requires over { IsOver tracker.now plan.now distances.now }
     requires ready { AreReady tracker.now parties.old.own parties.old.caller parties.old.other
         parties.old.handset }
@@ -170,17 +169,14 @@ fn take_held<R: Wait + Abort>(
     } = parties;
     let (node, step) = first_word(step);
     let node = number_of(node);
-    if node >= plan.nodes() {
-        return Err("there is no such node".into());
-    }
+    assert!(rt; node < plan.nodes(), "there is such a node");
     let Ok(stay) = tracker.enter(other, node) else {
-        return Err("nobody is inside the node".into());
+        panic!(rt; "nobody is inside the node");
     };
-    let taken = take_free(
+    take_free(
         rt, alloc, place, tracker, plan, distances, own, caller, handset, step, wanted,
     );
     tracker.leave(other, stay);
-    taken
 }
 
 // One pass hears what another has seen, if they are such.
@@ -245,7 +241,7 @@ fn take<R: Wait + Abort>(
     parties: &mut Parties,
     step: &str,
     wanted: &str,
-) -> Result<(), Fail>
+)
     requires over { IsOver tracker.now plan.now distances.now }
     requires ready { AreReady tracker.now parties.old.own parties.old.caller parties.old.other
         parties.old.handset }
@@ -289,7 +285,7 @@ fn play<R: Wait + Abort>(
     distances: &Distances,
     parties: &mut Parties,
     rows: &str,
-) -> Result<(), Fail>
+)
     requires over { IsOver tracker.now plan.now distances.now }
     requires ready { AreReady tracker.now parties.old.own parties.old.caller parties.old.other
         parties.old.handset }
@@ -300,9 +296,8 @@ fn play<R: Wait + Abort>(
         let (step, wanted) = row_of(rows, place);
         take(
             rt, alloc, place, tracker, plan, distances, parties, step, wanted,
-        )?;
+        );
     }
-    Ok(())
 }
 
 /// The same from the opening on, where each pass has room for so many visits.
@@ -315,13 +310,13 @@ pub fn play_from_opening<R: Wait + Abort>(
     parties: &mut Parties,
     visits: u32,
     rows: &str,
-) -> Result<(), Fail>
+)
     requires over { IsOver tracker.now plan.now distances.now }
     requires new { AreNew tracker.now parties.old.own parties.old.caller parties.old.other
         parties.old.handset }
-    ensures { OnOk result (AreReady tracker.now parties.new.own parties.new.caller
-        parties.new.other parties.new.handset) }
+    ensures { AreReady tracker.now parties.new.own parties.new.caller parties.new.other
+        parties.new.handset }
 {
-    reserve_all(tracker, parties, visits)?;
-    play(rt, alloc, tracker, plan, distances, parties, rows)
+    reserve_all(rt, tracker, parties, visits);
+    play(rt, alloc, tracker, plan, distances, parties, rows);
 }

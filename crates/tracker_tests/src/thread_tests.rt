@@ -222,7 +222,7 @@ pub fn act<R: Threads + Wait + Sync + Abort>(
     parties: Parties,
     pair: Pair,
     wanted: &str,
-) -> Result<(), Fail>
+)
     requires node { 3 < nodes_in tracker.now.setup }
     requires over { IsOver tracker.now plan.now distances.now }
     requires ready { AreReady tracker.now parties.own parties.caller parties.other
@@ -231,15 +231,15 @@ pub fn act<R: Threads + Wait + Sync + Abort>(
     match pair {
         Pair::Looks => {
             let (a, b) = look_at_once(rt, tracker, plan, distances, parties);
-            same_shown(rt, alloc, 0, &(a.min(b), a.max(b)), wanted)
+            same_shown(rt, alloc, 0, &(a.min(b), a.max(b)), wanted);
         }
         Pair::Find => {
             let both = find_beside(rt, tracker, plan, distances, parties);
-            same_shown(rt, alloc, 0, &both, wanted)
+            same_shown(rt, alloc, 0, &both, wanted);
         }
         Pair::Move => {
             let both = move_beside(rt, tracker, plan, distances, parties);
-            same_shown(rt, alloc, 0, &both, wanted)
+            same_shown(rt, alloc, 0, &both, wanted);
         }
     }
 }

@@ -4,9 +4,9 @@ use Rattle.station.specs.Opening.{setup_of}
 use Rattle.station.specs.Setup.{setting_in}
 use Rattle.tracker_tests.proofs.parties.switching_handset.Goals as goal
 
-pub returns-in-Ok : goal.returns-in-Ok
+pub returns : goal.returns
 unfolding MaySteps
-returns-in-Ok c =
+returns g c =
     let setup = setup_of c.args.plan.now (c.args.home ∷ []) 3 in record {
       own = record {
         goes = c.switch.ensures.goes c.args.plan.now c.in_ok-handset.ensures.goes;

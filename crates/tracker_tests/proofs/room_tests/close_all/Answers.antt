@@ -14,14 +14,13 @@ fresh-of tracker passes fresh =
     let pass = fresh i (get_or passes i none) (slice_get-get_or passes i none below) in
     record { table = pass.table; setup = ap (λ (v : View). v.setup) pass.view })
 
-pub close-requires : goal.close-requires
-close-requires c =
-    let is_pass = IsPassOf c.args.tracker in record {
-      of = subst (All is_pass) (sym c.push_reserved-2.ensures.items)
-          (All-push is_pass _ c.args.crowd.last
-          (subst (All is_pass) (sym c.push_reserved.ensures.items)
-          (All-push is_pass _ c.args.crowd.one
-          (subst (All is_pass) (sym c.in_ok-reserve.ensures.items) (fresh-of c.args.tracker _ c.requires.fresh))
-          c.requires.one))
-          c.requires.last);
-    }
+pub order_of-requires : goal.order_of-requires
+order_of-requires g c =
+    let is_pass = IsPassOf c.args.tracker in
+    subst (All is_pass) (sym c.push_reserved-2.ensures.items)
+    (All-push is_pass _ c.args.crowd.last
+    (subst (All is_pass) (sym c.push_reserved.ensures.items)
+    (All-push is_pass _ c.args.crowd.one
+    (subst (All is_pass) (sym c.reserve.ensures.items) (fresh-of c.args.tracker _ c.requires.fresh))
+    c.requires.one))
+    c.requires.last)
