@@ -2,7 +2,6 @@
 //! numbers, keys and texts.
 use crate::rows::play_rows;
 use crate::runs::play_words;
-use std::test::Fail;
 
 const TEXT: &str = "track 1\nnodes 2\nk 2\nedge 0 1 1\nsub 1\ncallers 1\nfind 1 0 0\n";
 
@@ -14,7 +13,7 @@ const REPORT: &str = "{\"calls\":[{\"actor\":1,\"first\":0,\"from\":0,\"kind\":\
         \"level\":0,\"node\":1,\"number\":0,\"sub\":0,\"weight\":1}],\"order\":[1,1,1],\
         \"visits\":3}\n";
 
-const MOSTS: [usize; 2] = [7, 4096];
+const PIECES: &str = "7 4096";
 
 // All keys but `k`, whose value comes behind.
 const BEFORE_K: &str =
@@ -22,35 +21,26 @@ const BEFORE_K: &str =
         \"track\":1,\"k\":";
 
 #[test]
-fn written_as_json(rt: HostRuntime) -> Result<(), Fail> {
+fn written_as_json(rt: HostRuntime) {
     let input = TEXT.as_bytes();
-    play_words(&rt, rt.alloc(), 0, &["tojson"], &MOSTS, input, 0, JSON)?;
-    play_words(
-        &rt,
-        rt.alloc(),
-        1,
-        &["replayjson"],
-        &MOSTS,
-        input,
-        0,
-        REPORT,
-    )
+    play_words(&rt, rt.alloc(), 0, "tojson", PIECES, input, 0, JSON);
+    play_words(&rt, rt.alloc(), 1, "replayjson", PIECES, input, 0, REPORT);
 }
 
 #[test]
-fn read_from_json(rt: HostRuntime) -> Result<(), Fail> {
+fn read_from_json(rt: HostRuntime) {
     let input = JSON.as_bytes();
-    play_words(&rt, rt.alloc(), 0, &["fromjson"], &MOSTS, input, 0, TEXT)?;
+    play_words(&rt, rt.alloc(), 0, "fromjson", PIECES, input, 0, TEXT);
     let rows = "\u{feff}{\"callers\":1,\"calls\":[[\"find\",1,0,0]],\"edges\":[[0,1,1]],\"k\":2,\
         \"nodes\":2,\"order\":[],\"subs\":[1],\"track\":1}\n>1 refused 0 json\n|\
         [>1 refused 0 json\n|\
         {}>1 refused 0 shape\n|\
         ^[*127>1 refused 0 json\n|";
-    play_rows(&rt, rt.alloc(), &["fromjson"], &MOSTS, "", rows)
+    play_rows(&rt, rt.alloc(), "fromjson", PIECES, "", rows);
 }
 
 #[test]
-fn numbers_from_json(rt: HostRuntime) -> Result<(), Fail> {
+fn numbers_from_json(rt: HostRuntime) {
     let rows = "2}>0 track 1\nnodes 2\nk 2\nedge 0 1 1\nsub 1\ncallers 1\nfind 1 0 0\n|\
         2,\"order\":[1]}>0 track 1\nnodes 2\nk 2\nedge 0 1 1\nsub 1\ncallers 1\nfind 1 0 0\n\
         order 1\n|\
@@ -63,29 +53,28 @@ fn numbers_from_json(rt: HostRuntime) -> Result<(), Fail> {
         18446744073709551616}>1 refused 0 shape\n|\
         1e400}>1 refused 0 json\n|\
         3,\"k\":2}>0 track 1\nnodes 2\nk 2\nedge 0 1 1\nsub 1\ncallers 1\nfind 1 0 0\n|";
-    play_rows(&rt, rt.alloc(), &["fromjson"], &MOSTS, BEFORE_K, rows)
+    play_rows(&rt, rt.alloc(), "fromjson", PIECES, BEFORE_K, rows);
 }
 
 #[test]
-fn other_texts(rt: HostRuntime) -> Result<(), Fail> {
-    let answer = "refused 0 json\n";
+fn other_texts(rt: HostRuntime) {
     play_words(
         &rt,
         rt.alloc(),
         0,
-        &["fromjson"],
-        &MOSTS,
+        "fromjson",
+        PIECES,
         b"\xff",
         1,
-        answer,
-    )?;
+        "refused 0 json\n",
+    );
     let rows = "\"\\ud800\"}>1 refused 0 json\n|\
         \"\\ud83d\\ude00\"}>1 refused 0 shape\n|\
         2} }>1 refused 0 json\n|\
         [2]}>1 refused 0 shape\n|";
-    play_rows(&rt, rt.alloc(), &["fromjson"], &MOSTS, BEFORE_K, rows)?;
+    play_rows(&rt, rt.alloc(), "fromjson", PIECES, BEFORE_K, rows);
     let rows = "[[[[[[[]]]]]]] >1 refused 0 shape\n|\
         {\"callers\":1,\"calls\":[],\"edges\":[],\"k\":2,\"nodes\":0,\"subs\":[1],\
         \"track\":1}>1 refused 2 form\n|";
-    play_rows(&rt, rt.alloc(), &["fromjson"], &MOSTS, "", rows)
+    play_rows(&rt, rt.alloc(), "fromjson", PIECES, "", rows);
 }

@@ -5,6 +5,8 @@
 #[cfg(test)]
 mod device_tests;
 #[cfg(test)]
+mod faults;
+#[cfg(test)]
 mod foreign_reports;
 #[cfg(test)]
 mod grammar_tests;

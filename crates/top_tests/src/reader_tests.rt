@@ -2,20 +2,20 @@
 ghost use Rattle.std.specs.Prelude.{◌≤◌, length};
 ghost use Rattle.net_reader.specs.Reading.{most_bytes};
 
-use crate::rows::parts_of;
-use crate::runs::{FOUR, text_of};
-use crate::sameness::same;
+use crate::rows::{Row, row_of, rows_in};
+use crate::runs::{FOUR, append, text_of};
+use crate::sameness::{same_number, same_text};
 use net_graph::{Arc, Graph};
-use net_reader::{Call, Input, InputCause, InputFault, MAX_BYTES, ReadRefusal, Reader, read_input};
-use std::alloc::{AllocError, Global};
+use net_reader::{Call, Input, InputCause, MAX_BYTES, ReadRefusal, Reader, read_input};
+use std::alloc::Global;
+use std::io::Write;
 use std::process::Abort;
-use std::test::Fail;
 
 const SWITCHING: &str =
     "track 2\nnodes 4\nk 2\nedge 0 1 1\nedge 1 2 1\nedge 2 3 1\nsub 3\ncallers 1\n";
 
 // The input of a text that is read in pieces of one length.
-fn read_in_pieces(alloc: Global, text: &[u8], most: usize) -> Result<Input, Fail>
+fn read_in_pieces(alloc: Global, text: &[u8], most: usize) -> Result<Input, ReadRefusal>
     requires { length text.now ≤ most_bytes }
 {
     let mut reader = Reader::new(alloc)?;
@@ -25,10 +25,7 @@ fn read_in_pieces(alloc: Global, text: &[u8], most: usize) -> Result<Input, Fail
         reader.feed(piece)?;
         rest = after;
     }
-    match reader.end(alloc) {
-        Ok(input) => Ok(input),
-        Err(_) => Err(AllocError.into()),
-    }
+    reader.end(alloc)
 }
 
 const SCRIPTS: &[u8] =
@@ -50,52 +47,45 @@ fn have_scripts(rt: &impl Abort, subscriber: &[Call], caller: &[Call]) {
 }
 
 #[test]
-fn two_scripts(rt: HostRuntime) -> Result<(), Fail> {
-    if SCRIPTS.len() > MAX_BYTES {
-        return Err("the text is short".into());
-    }
+fn two_scripts(rt: HostRuntime) {
+    assert!(rt; SCRIPTS.len() <= MAX_BYTES);
     for most in [1, 7, 64, 1_000] {
-        is_read(&rt, &read_in_pieces(rt.alloc(), SCRIPTS, most)?);
+        let input = read_in_pieces(rt.alloc(), SCRIPTS, most);
+        is_read(&rt, &input.expect(&rt, "an input"));
     }
-    Ok(())
 }
 
 // The graph of a text's network.
-fn graph_of(alloc: Global, text: &[u8]) -> Result<Graph, Fail> {
-    if text.len() > MAX_BYTES {
-        return Err("the text is short".into());
-    }
-    let mut reader = Reader::new(alloc)?;
-    reader.feed(text)?;
-    match reader.end_with_graph(alloc) {
-        Ok((_, graph)) => Ok(graph),
-        Err(_) => Err("the text is an input".into()),
-    }
+fn graph_of(rt: &impl Abort, alloc: Global, text: &[u8]) -> Graph {
+    assert!(rt; text.len() <= MAX_BYTES);
+    let mut reader = Reader::new(alloc).expect(rt, "memory");
+    reader.feed(text).expect(rt, "memory");
+    let (_, graph) = reader.end_with_graph(alloc).expect(rt, "an input");
+    graph
 }
 
 // A network of three nodes whose weights from node 2 are these.
-fn has_weights(rt: &impl Abort, alloc: Global, graph: &Graph) -> Result<(), Fail> {
+fn has_weights(rt: &impl Abort, alloc: Global, graph: &Graph) {
     assert!(rt; graph.nodes() == 3);
-    let weights = graph.weights_from(alloc, &[true, true, true], 2)?;
+    let known = [true, true, true];
+    let weights = graph.weights_from(alloc, &known, 2).expect(rt, "memory");
     assert!(rt; weights.as_slice() == [Some(11), Some(7), Some(0)].as_slice());
-    Ok(())
 }
 
 #[test]
-fn graph_of_the_network(rt: HostRuntime) -> Result<(), Fail> {
+fn graph_of_the_network(rt: HostRuntime) {
     let text = b"track 1\nnodes 3\nk 1\nedge 2 1 7\nedge 0 1 5\nedge 0 1 4\nsub 0\ncallers 0\n";
-    let graph = graph_of(rt.alloc(), text)?;
-    has_weights(&rt, rt.alloc(), &graph)
+    has_weights(&rt, rt.alloc(), &graph_of(&rt, rt.alloc(), text));
 }
 
 // Node 0 has an edge to each other node, of that one's number as its weight.
-fn star(alloc: Global) -> Result<String, Fail> {
-    let mut text = String::from_str(alloc, "track 2\nnodes 1024\nk 2\n")?;
+fn star(rt: &impl Abort, alloc: Global) -> Vec<u8> {
+    let mut text = text_of(rt, alloc, "track 2\nnodes 1024\nk 2\n", "");
     for b in 1..1024 {
-        write!(text, "edge 0 {b} {b}\n")?;
+        write!(text, "edge 0 {b} {b}\n").expect(rt, "memory");
     }
-    text.push_str("sub 0\ncallers 0\n")?;
-    Ok(text)
+    append(rt, &mut text, "sub 0\ncallers 0\n");
+    text
 }
 
 // The network of the star.
@@ -109,52 +99,54 @@ fn is_star(rt: &impl Abort, graph: &Graph) {
 }
 
 #[test]
-fn graph_of_the_most_nodes(rt: HostRuntime) -> Result<(), Fail> {
-    let text = star(rt.alloc())?;
-    is_star(&rt, &graph_of(rt.alloc(), text.as_bytes())?);
-    Ok(())
+fn graph_of_the_most_nodes(rt: HostRuntime) {
+    is_star(&rt, &graph_of(&rt, rt.alloc(), &star(&rt, rt.alloc())));
 }
 
-// The cause of this name. The test of a torn network has node 2 apart.
-fn cause_of(name: &str) -> Option<InputCause> {
-    match name {
-        "form" => Some(InputCause::Form),
-        "too-large" => Some(InputCause::TooLarge),
-        "unknown" => Some(InputCause::Unknown),
-        "nowhere" => Some(InputCause::Nowhere),
-        "switched" => Some(InputCause::Switched),
-        "unfinished" => Some(InputCause::Unfinished),
-        "too-many" => Some(InputCause::TooMany),
-        "apart" => Some(InputCause::Apart { node: 2 }),
-        _ => None,
+// The name of a cause. The test of a torn network has node 2 apart.
+fn name_of(cause: InputCause) -> &'static str {
+    match cause {
+        InputCause::Form => "form",
+        InputCause::TooLarge => "too-large",
+        InputCause::TooMany => "too-many",
+        InputCause::Unknown => "unknown",
+        InputCause::Switched => "switched",
+        InputCause::Nowhere => "nowhere",
+        InputCause::Unfinished => "unfinished",
+        InputCause::Apart { node: 2 } => "apart",
+        InputCause::Apart { .. } => "apart elsewhere",
     }
 }
 
-// A text is refused at this line by a cause of this name, or isn't.
-fn is_refused(rt: &impl Abort, alloc: Global, place: usize, text: &[u8], line: u32, name: &str) {
+// The line and the cause of a text's fault, or `none`.
+fn fault_of(rt: &impl Abort, alloc: Global, text: &[u8]) -> (u32, &'static str) {
     assert!(rt; text.len() <= MAX_BYTES);
-    let wanted = match cause_of(name) {
-        Some(cause) => Some(ReadRefusal::Fault(InputFault { line, cause })),
-        None => None,
-    };
-    same(rt, place, read_input(alloc, text).err(), wanted);
+    match read_input(alloc, text) {
+        Ok(_) => (0, "none"),
+        Err(ReadRefusal::Fault(fault)) => (fault.line, name_of(fault.cause)),
+        Err(ReadRefusal::OutOfMemory) => (0, "out of memory"),
+    }
+}
+
+// A text is refused as a row says, or isn't.
+fn is_refused(rt: &impl Abort, alloc: Global, place: usize, text: &[u8], row: &Row<'_>) {
+    let (line, name) = fault_of(rt, alloc, text);
+    same_number(rt, place, u64::from(line), u64::from(row.number));
+    same_text(rt, place, name.as_bytes(), row.text.as_bytes());
 }
 
 // Each row is the end of a text behind `before`, and the line and the cause of its fault, or
 // `none`.
-fn play_texts(rt: &impl Abort, alloc: Global, before: &str, rows: &str) -> Result<(), Fail> {
-    for (place, row) in rows.split_terminator('|').enumerate() {
-        let Some((end, line, name)) = parts_of(row) else {
-            return Err("a row is a text, a line and a cause".into());
-        };
-        let text = text_of(alloc, before, end)?;
-        is_refused(rt, alloc, place, &text, line, name);
+fn play_texts(rt: &impl Abort, alloc: Global, before: &str, rows: &str) {
+    for place in 0..rows_in(rows) {
+        let row = row_of(rt, rows, place);
+        let text = text_of(rt, alloc, before, row.input);
+        is_refused(rt, alloc, place, &text, &row);
     }
-    Ok(())
 }
 
 #[test]
-fn refused_texts(rt: HostRuntime) -> Result<(), Fail> {
+fn refused_texts(rt: HostRuntime) {
     let rows = ">0 unfinished|\
         track 1\n\r>2 unfinished|\
         track 3>1 form|\
@@ -169,21 +161,21 @@ fn refused_texts(rt: HostRuntime) -> Result<(), Fail> {
         track 2\nnodes 256\nk 1\n>3 unfinished|\
         track 2\nnodes 257\nk 1\n>3 too-large|\
         track 1\nnodes 2\nk 9\n>3 too-large|";
-    play_texts(&rt, rt.alloc(), "", rows)
+    play_texts(&rt, rt.alloc(), "", rows);
 }
 
 #[test]
-fn refused_edges_and_callers(rt: HostRuntime) -> Result<(), Fail> {
+fn refused_edges_and_callers(rt: HostRuntime) {
     let rows = "track 1\nnodes 2\nk 2\nedge 0 1 000000000001048576\n>4 unfinished|\
         track 1\nnodes 2\nk 2\nedge 0 1 1048577\n>4 too-large|\
         track 1\nnodes 2\nk 2\nedge 0 1 0000000000000000001\n>4 form|\
         track 1\nnodes 1\nk 1\nsub 0\ncallers 65\n>5 too-large|\
         track 1\nnodes 3\nk 2\nedge 0 1 1\nsub 0\ncallers 64\n# the end>7 apart|";
-    play_texts(&rt, rt.alloc(), "", rows)
+    play_texts(&rt, rt.alloc(), "", rows);
 }
 
 #[test]
-fn refused_calls(rt: HostRuntime) -> Result<(), Fail> {
+fn refused_calls(rt: HostRuntime) {
     let rows = "off 0\n>9 form|\
         edge 9 9 1048577\n>9 form|\
         move 1 2\n>9 unknown|\
@@ -192,21 +184,21 @@ fn refused_calls(rt: HostRuntime) -> Result<(), Fail> {
         order 2\n>9 unknown|\
         move 0 3\n>9 nowhere|\
         move 0 2\nmove 0 2\n>10 nowhere|";
-    play_texts(&rt, rt.alloc(), FOUR, rows)
+    play_texts(&rt, rt.alloc(), FOUR, rows);
 }
 
 #[test]
-fn refused_switches(rt: HostRuntime) -> Result<(), Fail> {
+fn refused_switches(rt: HostRuntime) {
     let rows = "off 0\nmove 0 2\n>10 switched|\
         on 0\n>9 switched|\
         off 1\n>9 unknown|\
         off 0\nmove 0 4\n>10 unknown|";
-    play_texts(&rt, rt.alloc(), SWITCHING, rows)
+    play_texts(&rt, rt.alloc(), SWITCHING, rows);
 }
 
 // What stands on one side of a limit is an input, and one line more is refused.
 #[test]
-fn limits_of_lines(rt: HostRuntime) -> Result<(), Fail> {
+fn limits_of_lines(rt: HostRuntime) {
     let rows = "track 1\nnodes 1\nk 1\n^sub 0\n*64^callers 64\n>0 none|\
         track 1\nnodes 1\nk 1\n^sub 0\n*65^callers 64\n>68 too-many|\
         track 1\nnodes 1\nk 1\n^edge 0 0 1\n*32768^sub 0\ncallers 0\n>0 none|\
@@ -215,15 +207,15 @@ fn limits_of_lines(rt: HostRuntime) -> Result<(), Fail> {
         track 1\nnodes 1\nk 1\nsub 0\ncallers 1\n^find 1 0 0\n*8193>8198 too-many|\
         track 2\nnodes 1\nk 1\nsub 0\ncallers 1\n^find 1 0 0\n*16384>0 none|\
         track 2\nnodes 1\nk 1\nsub 0\ncallers 1\n^find 1 0 0\n*16385>16390 too-many|";
-    play_texts(&rt, rt.alloc(), "", rows)
+    play_texts(&rt, rt.alloc(), "", rows);
 }
 
 #[test]
-fn lines_of_any_length(rt: HostRuntime) -> Result<(), Fail> {
+fn lines_of_any_length(rt: HostRuntime) {
     let rows = "#^ word*200000>1 unfinished|\
         t^rack*200000>1 form|\
         track 1\nnodes 1\nk 1\nsub 0\ncallers 0\norder^ 0*64>0 none|\
         track 1\nnodes 1\nk 1\nsub 0\ncallers 0\norder^ 0*65>6 too-many|";
-    play_texts(&rt, rt.alloc(), "", rows)?;
-    play_texts(&rt, rt.alloc(), FOUR, "^# word\n*100000>0 none|")
+    play_texts(&rt, rt.alloc(), "", rows);
+    play_texts(&rt, rt.alloc(), FOUR, "^# word\n*100000>0 none|");
 }

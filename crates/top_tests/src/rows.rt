@@ -3,16 +3,31 @@
 use crate::runs::{play_words, text_of};
 use std::alloc::Global;
 use std::process::Abort;
-use std::test::Fail;
 use std::thread::Threads;
 
-/// The parts of a row `INPUT>NUMBER TEXT`. Behind each row of a table stands `|`.
-pub(crate) fn parts_of(row: &str) -> Option<(&str, u32, &str)> {
-    let (input, told) = row.split_once('>')?;
-    let (number, text) = told.split_once(' ')?;
-    match number.parse::<u32>() {
-        Ok(number) => Some((input, number, text)),
-        Err(_) => None,
+/// The parts of a row `INPUT>NUMBER TEXT`.
+#[derive(Clone, Copy)]
+pub(crate) struct Row<'a> {
+    pub(crate) input: &'a str,
+    pub(crate) number: u32,
+    pub(crate) text: &'a str,
+}
+
+/// How many rows a table has. Behind each row stands `|`.
+pub(crate) fn rows_in(table: &str) -> usize {
+    table.split_terminator('|').count()
+}
+
+/// The row of a table that stands at this place.
+pub(crate) fn row_of<'a>(rt: &impl Abort, table: &'a str, place: usize) -> Row<'a> {
+    let row = table.split_terminator('|').nth(place).unwrap_or("");
+    let (input, told) = row.split_once('>').expect(rt, "a row has an input");
+    let (number, text) = told.split_once(' ').expect(rt, "a row has a number");
+    let number = number.parse::<u32>().expect(rt, "a number");
+    Row {
+        input,
+        number,
+        text,
     }
 }
 
@@ -21,18 +36,16 @@ pub(crate) fn parts_of(row: &str) -> Option<(&str, u32, &str)> {
 pub(crate) fn play_rows<R: Threads + Sync + Abort>(
     rt: &R,
     alloc: Global,
-    words: &[&str],
-    mosts: &[usize],
+    words: &str,
+    pieces: &str,
     before: &str,
     rows: &str,
-) -> Result<(), Fail> {
-    for (place, row) in rows.split_terminator('|').enumerate() {
-        let Some((end, status, text)) = parts_of(row) else {
-            return Err("a row is an input, a status and a text".into());
-        };
-        let input = text_of(alloc, before, end)?;
-        let status = u8::try_from(status).unwrap_or(u8::MAX);
-        play_words(rt, alloc, place, words, mosts, &input, status, text)?;
+) {
+    for place in 0..rows_in(rows) {
+        let row = row_of(rt, rows, place);
+        let input = text_of(rt, alloc, before, row.input);
+        play_words(
+            rt, alloc, place, words, pieces, &input, row.number, row.text,
+        );
     }
-    Ok(())
 }

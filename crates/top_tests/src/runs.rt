@@ -1,12 +1,11 @@
 //! How tests run the program: words and an input, over a source and a sink in memory.
 ghost use Rattle.std.specs.Prelude.{◌≤◌};
 
-use crate::sameness::{same_numbers, same_text};
+use crate::sameness::{same_number, same_text};
 use outside::{MemorySink, MemorySource};
 use runner::{Gate, OpenGate, RUN_TRIES};
 use std::alloc::Global;
 use std::process::Abort;
-use std::test::Fail;
 use std::thread::Threads;
 use track::{command, command_with_threads};
 
@@ -15,20 +14,17 @@ pub(crate) const FOUR: &str =
     "track 1\nnodes 4\nk 2\nedge 0 1 1\nedge 1 2 1\nedge 2 3 1\nsub 3\ncallers 1\n";
 
 /// The words that read an input.
-pub(crate) const READING: [&str; 9] = [
-    "cover",
-    "replay",
-    "census",
-    "costs",
-    "run",
-    "meancover",
-    "meanreplay",
-    "tojson",
-    "replayjson",
-];
+pub(crate) const READING: &str =
+    "cover replay census costs run meancover meanreplay tojson replayjson";
+
+/// How many bytes come in a call: one, a few, and more than most lines have.
+pub(crate) const PIECES: &str = "1 7 64";
 
 /// The room of a sink that is large enough.
 pub(crate) const ROOM: usize = 4096;
+
+/// A call that no run makes, so that none of its calls fails.
+pub(crate) const NEVER: u64 = u64::MAX;
 
 /// What a run ended with, and what it wrote.
 #[derive(Drop)]
@@ -37,104 +33,104 @@ pub(crate) struct Ran {
     pub(crate) written: Vec<u8>,
 }
 
-/// How a run is made: its words, its input, how many bytes move in a call, the room of its sink,
-/// and which calls fail.
+/// How a run is made: its words, which stand in one text, its input, how many bytes move in a call,
+/// the room of its sink, and which read and which write fail.
 #[derive(Clone, Copy)]
 pub(crate) struct Run<'a> {
-    pub(crate) words: &'a [&'a str],
+    pub(crate) words: &'a str,
     pub(crate) input: &'a [u8],
     pub(crate) most: usize,
     pub(crate) room: usize,
-    pub(crate) failing_reads: &'a [u64],
-    pub(crate) failing_writes: &'a [u64],
+    pub(crate) failing_read: u64,
+    pub(crate) failing_write: u64,
 }
 
-fn words_of(alloc: Global, words: &[&str]) -> Result<Vec<String>, Fail> {
-    let mut list = Vec::new(alloc);
-    for word in words {
-        list.push(String::from_str(alloc, word)?)?;
-    }
-    Ok(list)
-}
-
-fn source_of(alloc: Global, run: &Run<'_>) -> Result<MemorySource, Fail> {
-    let input = Vec::from_slice(alloc, run.input)?;
-    let failing = Vec::from_slice(alloc, run.failing_reads)?;
-    Ok(MemorySource::new(input, run.most.max(1), failing))
-}
-
-fn sink_of(alloc: Global, run: &Run<'_>) -> Result<MemorySink, Fail> {
-    let failing = Vec::from_slice(alloc, run.failing_writes)?;
-    let written = Vec::with_capacity(alloc, run.room)?;
-    Ok(MemorySink::new(written, run.room, run.most.max(1), failing))
-}
-
-// What a run is over.
-#[derive(Drop)]
-struct Devices {
-    words: Vec<String>,
-    source: MemorySource,
-    sink: MemorySink,
-}
-
-fn devices_of(alloc: Global, run: &Run<'_>) -> Result<Devices, Fail> {
-    let words = words_of(alloc, run.words)?;
-    let source = source_of(alloc, run)?;
-    let sink = sink_of(alloc, run)?;
-    Ok(Devices {
+/// A run none of whose calls fails, into a sink that is large enough.
+pub(crate) fn run_of<'a>(words: &'a str, input: &'a [u8], most: usize) -> Run<'a> {
+    Run {
         words,
-        source,
-        sink,
-    })
+        input,
+        most,
+        room: ROOM,
+        failing_read: NEVER,
+        failing_write: NEVER,
+    }
 }
 
-pub(crate) fn perform(alloc: Global, run: &Run<'_>) -> Result<Ran, Fail> {
-    let mut over = devices_of(alloc, run)?;
-    let status = command(alloc, &over.words, &mut over.source, &mut over.sink);
-    Ok(Ran {
+fn words_of(rt: &impl Abort, alloc: Global, words: &str) -> Vec<String> {
+    let mut list = Vec::new(alloc);
+    for word in words.split_ascii_whitespace() {
+        let word = String::from_str(alloc, word).expect(rt, "memory");
+        list.push(word).expect(rt, "memory");
+    }
+    list
+}
+
+fn source_of(rt: &impl Abort, alloc: Global, run: &Run<'_>) -> MemorySource {
+    let input = Vec::from_slice(alloc, run.input).expect(rt, "memory");
+    let failing = Vec::from_slice(alloc, &[run.failing_read]).expect(rt, "memory");
+    MemorySource::new(input, run.most.max(1), failing)
+}
+
+fn sink_of(rt: &impl Abort, alloc: Global, run: &Run<'_>) -> MemorySink {
+    let failing = Vec::from_slice(alloc, &[run.failing_write]).expect(rt, "memory");
+    let written = Vec::with_capacity(alloc, run.room).expect(rt, "memory");
+    MemorySink::new(written, run.room, run.most.max(1), failing)
+}
+
+pub(crate) fn perform(rt: &impl Abort, alloc: Global, run: &Run<'_>) -> Ran {
+    let words = words_of(rt, alloc, run.words);
+    let mut source = source_of(rt, alloc, run);
+    let mut sink = sink_of(rt, alloc, run);
+    let status = command(alloc, &words, &mut source, &mut sink);
+    Ran {
         status,
-        written: over.sink.into_bytes(),
-    })
+        written: sink.into_bytes(),
+    }
 }
 
 /// The same where threads may be started.
-pub(crate) fn perform_by_threads<R: Threads + Sync, G: Gate>(
+pub(crate) fn perform_by_threads<R: Threads + Sync + Abort, G: Gate>(
     rt: &R,
     alloc: Global,
     run: &Run<'_>,
     gate: &G,
     tries: u64,
-) -> Result<Ran, Fail> {
-    let mut over = devices_of(alloc, run)?;
-    let (source, sink) = (&mut over.source, &mut over.sink);
-    let status = command_with_threads(rt, alloc, &over.words, source, sink, gate, tries);
-    Ok(Ran {
+) -> Ran {
+    let words = words_of(rt, alloc, run.words);
+    let (mut source, mut sink) = (source_of(rt, alloc, run), sink_of(rt, alloc, run));
+    let (from, to) = (&mut source, &mut sink);
+    let status = command_with_threads(rt, alloc, &words, from, to, gate, tries);
+    Ran {
         status,
-        written: over.sink.into_bytes(),
-    })
+        written: sink.into_bytes(),
+    }
 }
 
 // A run by the call that serves its words.
-fn perform_either<R: Threads + Sync>(rt: &R, alloc: Global, run: &Run<'_>) -> Result<Ran, Fail> {
-    if run.words.starts_with(&["run"]) {
+fn perform_either<R: Threads + Sync + Abort>(rt: &R, alloc: Global, run: &Run<'_>) -> Ran {
+    if run.words.starts_with("run") {
         return perform_by_threads(rt, alloc, run, &OpenGate, RUN_TRIES);
     }
-    perform(alloc, run)
+    perform(rt, alloc, run)
 }
 
-/// A run is to end with this status, and to write this text.
+/// A run is to have ended with this status, and to have written this text.
+pub(crate) fn has_ended(rt: &impl Abort, place: usize, ran: &Ran, status: u32, text: &[u8]) {
+    same_number(rt, place, u64::from(ran.status), u64::from(status));
+    same_text(rt, place, &ran.written, text);
+}
+
+/// A run by the call that serves its words is to end so.
 pub(crate) fn ends<R: Threads + Sync + Abort>(
     rt: &R,
     alloc: Global,
     place: usize,
     run: &Run<'_>,
-    status: u8,
+    status: u32,
     text: &[u8],
-) -> Result<(), Fail> {
-    let ran = perform_either(rt, alloc, run)?;
-    same_numbers(rt, place, &[u64::from(ran.status)], &[u64::from(status)]);
-    same_text(rt, place, &ran.written, text);
-    Ok(())
+) {
+    has_ended(rt, place, &perform_either(rt, alloc, run), status, text);
 }
 
 // What stands before a mark, and what stands behind it.
@@ -142,19 +138,25 @@ fn halves(text: &str, mark: char) -> (&str, &str) {
     text.split_once(mark).unwrap_or((text, ""))
 }
 
+/// Puts a part behind a text.
+pub(crate) fn append(rt: &impl Abort, text: &mut Vec<u8>, part: &str) {
+    text.extend_from_slice(part.as_bytes()).expect(rt, "memory");
+}
+
 /// A text, and its end: another text, or `HEAD^LINE*TIMES^TAIL`, where the line stands so many
 /// times between the head and the tail.
-pub(crate) fn text_of(alloc: Global, before: &str, end: &str) -> Result<Vec<u8>, Fail> {
+pub(crate) fn text_of(rt: &impl Abort, alloc: Global, before: &str, end: &str) -> Vec<u8> {
     let (head, lines) = halves(end, '^');
     let (line, rest) = halves(lines, '*');
     let (times, tail) = halves(rest, '^');
-    let mut text = Vec::from_slice(alloc, before.as_bytes())?;
-    text.extend_from_slice(head.as_bytes())?;
+    let mut text = Vec::new(alloc);
+    append(rt, &mut text, before);
+    append(rt, &mut text, head);
     for _ in 0..times.parse::<u32>().unwrap_or(0) {
-        text.extend_from_slice(line.as_bytes())?;
+        append(rt, &mut text, line);
     }
-    text.extend_from_slice(tail.as_bytes())?;
-    Ok(text)
+    append(rt, &mut text, tail);
+    text
 }
 
 /// An input is to be answered so by each of these words, however many bytes come in a call.
@@ -162,16 +164,15 @@ pub(crate) fn play_words<R: Threads + Sync + Abort>(
     rt: &R,
     alloc: Global,
     place: usize,
-    words: &[&str],
-    mosts: &[usize],
+    words: &str,
+    pieces: &str,
     input: &[u8],
-    status: u8,
+    status: u32,
     text: &str,
-) -> Result<(), Fail> {
-    for word in words {
-        play_word(rt, alloc, place, word, mosts, input, status, text)?;
+) {
+    for word in words.split_ascii_whitespace() {
+        play_word(rt, alloc, place, word, pieces, input, status, text);
     }
-    Ok(())
 }
 
 fn play_word<R: Threads + Sync + Abort>(
@@ -179,21 +180,20 @@ fn play_word<R: Threads + Sync + Abort>(
     alloc: Global,
     place: usize,
     word: &str,
-    mosts: &[usize],
+    pieces: &str,
     input: &[u8],
-    status: u8,
+    status: u32,
     text: &str,
-) -> Result<(), Fail> {
-    for most in mosts {
-        let run = Run {
-            words: &[word],
-            input,
-            most: *most,
-            room: ROOM,
-            failing_reads: &[],
-            failing_writes: &[],
-        };
-        ends(rt, alloc, place, &run, status, text.as_bytes())?;
+) {
+    for piece in pieces.split_ascii_whitespace() {
+        let most = piece.parse::<usize>().expect(rt, "a number of bytes");
+        ends(
+            rt,
+            alloc,
+            place,
+            &run_of(word, input, most),
+            status,
+            text.as_bytes(),
+        );
     }
-    Ok(())
 }

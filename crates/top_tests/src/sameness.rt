@@ -1,19 +1,13 @@
 //! Comparisons that tell what was found where it isn't what was wanted. In each `place` tells which
 //! of a test's comparisons it is.
-use std::fmt::Debug;
 use std::process::Abort;
 
-/// Stops with both values where they differ.
-pub fn same<T: PartialEq + Debug + Drop>(rt: &impl Abort, place: usize, found: T, wanted: T) {
-    assert_eq!(rt; found, wanted, "at {place}");
-}
-
-/// Stops with both lists where they differ.
-pub fn same_numbers(rt: &impl Abort, place: usize, found: &[u64], wanted: &[u64]) {
-    same(rt, place, found, wanted);
+/// Stops with both numbers where they differ.
+pub(crate) fn same_number(rt: &impl Abort, place: usize, found: u64, wanted: u64) {
+    assert!(rt; found == wanted, "at {place}: {found}, not {wanted}");
 }
 
 /// Stops with both texts where they differ.
-pub fn same_text(rt: &impl Abort, place: usize, found: &[u8], wanted: &[u8]) {
-    same(rt, place, found, wanted);
+pub(crate) fn same_text(rt: &impl Abort, place: usize, found: &[u8], wanted: &[u8]) {
+    assert!(rt; found == wanted, "at {place}: {found:?}, not {wanted:?}");
 }
