@@ -8,7 +8,6 @@ use Rattle.directory.specs.Histories.{tickets_from, words_after, History}
 use Rattle.directory.specs.Orders.{next, IsPlayed}
 use Rattle.directory.specs.Outcomes.{step_lines}
 use Rattle.net_reader.specs.declared.said.Call.{Call}
-use Rattle.net_reader.specs.declared.said.Call.TheVariants as calls
 use Rattle.net_reader.specs.Input.{Contents}
 use Rattle.net_reader.specs.Valid.{IsValid}
 use Rattle.region_plan.specs.Plan.{PlanData}
@@ -189,7 +188,7 @@ module _ {old : Machine} {history : History} {actor count : ℕ} {cells : CellDa
 
   -- what the machine stands for then
   turned : (subscribers : Vec Subscriber Global) (callers : Vec Caller Global) (order : Vec ℕ Global)
-      → order.items ≡ old.order.items ++ replicate count actor → vec_capacity old.order ≤ vec_capacity order
+      → order.items ≡ old.order.items ++ replicate count actor → vec_capacity order ≡ vec_capacity old.order
       → length subscribers.items ≡ length old.subscribers.items → length callers.items ≡ length old.callers.items
       → ((s : ℕ) (d : Subscriber) → s < length (input_at old).homes
       → IsSubscriber (input_at old) old.plan.now (history ++ made.visits) s (get_or subscribers.items s d))
@@ -237,7 +236,7 @@ module _ {old : Machine} {history : History} {actor count : ℕ} {cells : CellDa
       (order : Vec ℕ Global) → actor < length (input_at old).homes
       → IsSubscriber (input_at old) old.plan.now (history ++ made.visits) actor subscriber
       → subscribers.items ≡ slice_set old.subscribers.items actor subscriber
-      → order.items ≡ old.order.items ++ replicate count actor → vec_capacity old.order ≤ vec_capacity order
+      → order.items ≡ old.order.items ++ replicate count actor → vec_capacity order ≡ vec_capacity old.order
       → HasMade old (record old { cells = cells; subscribers = subscribers; order = order }) history actor count
   sub-turned own_law ticket_law kept {subscriber} subscribers order low its items pushed room =
       turned subscribers old.callers order pushed room (rw (items, length-set)) refl
@@ -251,7 +250,7 @@ module _ {old : Machine} {history : History} {actor count : ℕ} {cells : CellDa
       (order : Vec ℕ Global) → actor ≡ length (input_at old).homes + place
       → IsCaller (input_at old) old.plan.now (history ++ made.visits) actor caller
       → callers.items ≡ slice_set old.callers.items place caller
-      → order.items ≡ old.order.items ++ replicate count actor → vec_capacity old.order ≤ vec_capacity order
+      → order.items ≡ old.order.items ++ replicate count actor → vec_capacity order ≡ vec_capacity old.order
       → HasMade old (record old { cells = cells; callers = callers; order = order }) history actor count
   caller-turned own_law ticket_law kept place {caller} callers order at its items pushed room =
       turned old.subscribers callers order pushed room refl (rw (items, length-set))

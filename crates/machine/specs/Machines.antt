@@ -85,8 +85,8 @@ HasStridden old new history actor count =
     × (count ≡ 0
     → (next (setting_at old) (scripts_at old) history actor ≡ None) × IsStill old new)
 
--- a machine keeps its input, its plan and its distances
+-- a machine keeps its input, its plan, its distances and the room for its order
 abbrev pub IsSame : Machine → Machine → Type 0
 IsSame old new =
     (new.input.now ≡ old.input.now) × (new.plan.now ≡ old.plan.now)
-    × (new.distances.now ≡ old.distances.now)
+    × (new.distances.now ≡ old.distances.now) × (vec_capacity new.order ≡ vec_capacity old.order)

@@ -21,18 +21,12 @@ pub fn run_end(order: &[u32], start: usize) -> usize
 pub fn log_run(order: &mut Vec<u32>, actor: u32, count: usize)
     requires room { length order.old.items + count ≤ vec_capacity order.old }
     ensures items { order.new.items ≡ order.old.items ++ replicate count actor }
-    ensures capacity { vec_capacity order.old ≤ vec_capacity order.new }
+    ensures capacity { vec_capacity order.new ≡ vec_capacity order.old }
     ensures still { count ≡ 0 → order.new ≡ order.old }
 {
-    match count {
-        0 => {}
-        // Most runs of an order that changes the actor at each turn.
-        1 => order.push_reserved(actor),
-        _ => {
-            if order.resize(order.len() + count, actor).is_err() {
-                unreachable!()
-            }
-        }
+    // One by one, since `resize` may take room.
+    for _ in 0..count {
+        order.push_reserved(actor);
     }
 }
 

@@ -145,4 +145,4 @@ pub play-began : (old new : Machine) {last : Machine} (order : List ℕ) → IsS
     → HasHistory last (history_of (setting_at old) (scripts_at old) order)
 play-began old new {last} order same goes =
     of_same (λ setting scripts. HasHistory last (history_of setting scripts order)) new old
-    (sym same.0, sym same.1, sym same.2) goes
+    (sym same.0, sym same.1, sym same.2, sym same.3) goes

@@ -7,7 +7,7 @@ ghost use Rattle.directory.specs.Histories.{History, tickets};
 ghost use Rattle.directory.specs.Orders.{IsPlayed, caller_in};
 ghost use Rattle.directory.specs.Statements.{CallersCount};
 ghost use Rattle.directory.specs.declared.answers.Found.{Found};
-ghost use Rattle.machine.specs.Machines.{HasJustRoom, input_at, setting_at};
+ghost use Rattle.machine.specs.Machines.{HasJustRoom, IsSame, input_at, setting_at};
 ghost use Rattle.machine.specs.declared.machine.Machine.{Machine};
 ghost use Rattle.net_reader.specs.Valid.{count_calls};
 ghost use Rattle.net_reader.specs.declared.said.Call.TheVariants.{Find, Move, Off, On};
@@ -48,7 +48,8 @@ pub fn worked_callers()
 {}
 
 /// A machine has room for just what its input may need: where that is 25 visits, for an order of 25;
-/// where its scripts have four calls, for four; and for its one subscriber, or its two callers.
+/// where its scripts have four calls, for four; and for its one subscriber, or its two callers. Its
+/// turns leave it with room for an order of 25.
 pub fn worked_rooms()
     ensures order { (machine : Machine) → HasJustRoom machine
         → most_visits (setting_at machine) (input_at machine).scripts ≡ 25
@@ -59,4 +60,6 @@ pub fn worked_rooms()
         → length (input_at machine).homes ≡ 1 → vec_capacity machine.subscribers ≡ 1 }
     ensures callers { (machine : Machine) → HasJustRoom machine
         → (input_at machine).callers ≡ 2 → vec_capacity machine.callers ≡ 2 }
+    ensures turns { (old new : Machine) → IsSame old new → vec_capacity old.order ≡ 25
+        → vec_capacity new.order ≡ 25 }
 {}

@@ -12,3 +12,6 @@ returns-clause-subscribers c = λ machine room many. room.subscribers ∙ many
 
 pub returns-clause-callers : goal.returns-clause-callers
 returns-clause-callers c = λ machine room many. room.callers ∙ many
+
+pub returns-clause-turns : goal.returns-clause-turns
+returns-clause-turns c = λ old new same room. same.3 ∙ room
