@@ -19,8 +19,8 @@ that runs out of time fails too, so play these on a machine at rest.
 alone refuse (bench/instructions.py, bench/least_memory.py), and `by: examples` what examples/check
 refuses by its inputs at the limits; this script passes over both.
 
-The gate plays no plants: each takes from half a minute to some minutes. JOBS says how many are
-played at once (1, if it isn't set).
+The gate plays no plants: each takes from some seconds to some minutes. JOBS says how many are
+played at once (1, if it isn't set); those of one crate share copies, of at most 50 plants each.
 """
 import concurrent.futures
 import dataclasses
@@ -39,6 +39,7 @@ import rtlib  # noqa: E402  (the kit's own, which knows what a crate of crates.t
 LAST = re.compile(r"^only=\d+ proved=\d+$", re.M)
 TESTED = re.compile(r"^test result: (ok|FAILED)", re.M)
 FAILED = re.compile(r"^test .* FAILED$", re.M)
+SHARE = 50
 FAULT = re.compile(r"^(?:note: )?\S+?:\d+:\d+: .*$", re.M)
 UNREAD = re.compile(r"is not in scope")
 HOW = {"stdout": subprocess.PIPE, "stderr": subprocess.STDOUT, "text": True, "errors": "replace"}
@@ -132,6 +133,19 @@ def play(plant, root, kept):
             (root / file).write_text(text)
 
 
+def shares_of(plants):
+    """Plants that one crate refuses, by one copy or by several; the longest shares first."""
+    by_crate = {}
+    for plant in plants:
+        by_crate.setdefault((plant.crate, plant.functions == ["test"]), []).append(plant)
+    shares = [
+        of_crate[start:start + SHARE]
+        for of_crate in by_crate.values()
+        for start in range(0, len(of_crate), SHARE)
+    ]
+    return sorted(shares, key=len, reverse=True)
+
+
 def play_all(plants, top):
     """Plays plants that one crate refuses, one after another, on a copy of their own."""
     told = []
@@ -152,13 +166,9 @@ def main(words):
     top = pathlib.Path(".").resolve()
     found = [it for path in sorted(top.glob("checks/plants/*.txt")) for it in plants_of(path)]
     found = [it for it in found if not words or any(w in it.source or w in it.name for w in words)]
-    by_crate = {}
-    for plant in found:
-        if plant.crate not in ("bench", "examples"):
-            of_tests = plant.functions == ["test"]
-            by_crate.setdefault((plant.crate, of_tests), []).append(plant)
+    played = [it for it in found if it.crate not in ("bench", "examples")]
     with concurrent.futures.ThreadPoolExecutor(int(os.environ.get("JOBS", "1"))) as pool:
-        told = sum(pool.map(lambda plants: play_all(plants, top), by_crate.values()), [])
+        told = sum(pool.map(lambda share: play_all(share, top), shares_of(played)), [])
     refused = told.count("refused")
     print(f"{refused} of {len(told)} plants refused, {len(found) - len(told)} for benches and examples")
     return 0 if refused == len(told) else 1
