@@ -11,16 +11,19 @@ A plant is a name, a file with what stands there and what stands there instead, 
     new: what stands there instead
     by: worked_examples grammar::worked_lines
 
-`by` names a crate and functions of it. The prover checks these alone, over all crates below as they
-are written, whose proofs it doesn't read, and at least one must not be proved; each is checked with
-no plant first. `by: CRATE test` has the crate's tests run, with no proof, and one must fail; one
-that runs out of time fails too, so play these on a machine at rest.
+`by` names a crate and functions of it. The prover checks these alone, and at least one must not be
+proved; each is checked with no plant first. A crate below that no plant of the copy touches, and
+that stands on none that one touches, is taken as a gate in this clone has built it; the others are
+read as they are written, without their proofs. Of `worked_examples`, whose modules stand apart, a
+copy has those alone that hold the functions. `by: CRATE test` has the crate's tests run, with no
+proof, and one must fail; one that runs out of time fails too, so play these on a machine at rest.
 `by: bench` names work or memory thrown away, which the counts of instructions or the least memory
 alone refuse (bench/instructions.py, bench/least_memory.py), and `by: examples` what examples/check
 refuses by its inputs at the limits; this script passes over both.
 
-The gate plays no plants: each takes from some seconds to some minutes. JOBS says how many are
-played at once (1, if it isn't set); those of one crate share copies, of at most 50 plants each.
+The gate plays no plants: behind a gate each takes some 10 to 20 seconds, and without one up to a
+minute. JOBS says how many are played at once (1, if it isn't set); those of one crate share copies,
+of at most SHARE plants each.
 """
 import concurrent.futures
 import dataclasses
@@ -39,9 +42,12 @@ import rtlib  # noqa: E402  (the kit's own, which knows what a crate of crates.t
 LAST = re.compile(r"^only=\d+ proved=\d+$", re.M)
 TESTED = re.compile(r"^test result: (ok|FAILED)", re.M)
 FAILED = re.compile(r"^test .* FAILED$", re.M)
-SHARE = 50
 FAULT = re.compile(r"^(?:note: )?\S+?:\d+:\d+: .*$", re.M)
 UNREAD = re.compile(r"is not in scope")
+NAMES_CRATE = re.compile(r"\bRattle\.(\w+)\.|^\s*(?:pub )?use (\w+)(?:::|;)", re.M)
+NAMES_OWN = re.compile(r"\bRattle\.worked_examples\.(specs|proofs)\.(\w+)")
+APART = "worked_examples"
+SHARE = 20
 HOW = {"stdout": subprocess.PIPE, "stderr": subprocess.STDOUT, "text": True, "errors": "replace"}
 
 
@@ -90,18 +96,78 @@ def texts_of(plant, root):
     return before, after
 
 
-def asked(root, crate, functions, kept):
-    """What the prover says of these functions of a crate, over all crates below as written, or what
-    a run of the crate's tests says.
+def leave_modules(root, modules):
+    """Leaves in a copy of APART just these modules, and the crates that they name."""
+    folder, files, crates = root / "crates" / APART, set(), set()
+    todo = [it for name in modules for it in (folder / "proofs" / name).rglob("*.antt")]
+    todo += [folder / "src" / f"{name}.rt" for name in modules]
+    while todo:
+        path = todo.pop()
+        if path in files or not path.exists():
+            continue
+        files.add(path)
+        text = path.read_text()
+        crates.update(name for names in NAMES_CRATE.findall(text) for name in names)
+        todo += [folder / part / f"{name}.antt" for part, name in NAMES_OWN.findall(text)]
+    lib, lists = folder / "src" / "lib.rt", [folder / it / "Lib.antt" for it in ("specs", "proofs")]
+    for path in [*folder.rglob("*.rt"), *folder.rglob("*.antt")]:
+        if path not in files and path not in (lib, *lists):
+            path.unlink()
+    head, *items = re.split(r"(?m)^(?=mod |pub use )", lib.read_text())
+    kept = [it for it in items if re.match(r"(?:mod|pub use) (\w+)", it)[1] in modules]
+    lib.write_text(head + "".join(kept))
+    for path in lists:
+        kept = [it for it in re.findall(r"(?:pub )?mod (\w+)", path.read_text())
+                if path.parent / f"{it}.antt" in files]
+        path.write_text("".join(f"pub mod {it}\n" for it in kept))
+    listed = (root / "crates.txt").read_text()
+    line = re.search(rf"^{APART}:(.*)$", listed, re.M)
+    named = [it for it in line[1].split() if it in crates]
+    (root / "crates.txt").write_text(listed.replace(line[0], f"{APART}: {' '.join(named)}"))
+
+
+def is_fresh(crate, top):
+    """Whether a gate in this clone has built the crate as it is written."""
+    folder = top / "crates" / crate.name
+    built = folder / "out" / "rlib" / f"{crate.name}.rlib" / "format"
+    files = [it for part in rtlib.PARTS for it in (folder / part).rglob("*.*")]
+    return built.exists() and all(it.stat().st_mtime < built.stat().st_mtime for it in files)
+
+
+def libraries(known, top, touched):
+    """The words that name the crates below: built, or as they are written."""
+    fresh = {it.name for it in known.below() if is_fresh(it, top)} - touched
+    words, built = [], set()
+    for crate in sorted(known.below(), key=lambda it: len(it.below())):
+        if crate.name in fresh and all(it.name in built for it in crate.below()):
+            built.add(crate.name)
+            folder = top / "crates" / crate.name / "out" / "rlib"
+            words += ["--extern", f"{crate.name}={folder}/{crate.name}.rlib"]
+            words += ["-L", f"dependency={folder}"]
+        else:
+            uses = dict.fromkeys(["core", *crate.of_kit, *[it.name for it in crate.deps]])
+            words += ["--lib", f"{crate.name}:{','.join(uses)}={crate.folder}/src/lib.rt"]
+    return words
+
+
+def asked(root, top, share, functions, kept):
+    """What the prover says of these functions, or what a run of the crate's tests says. Crates that
+    the share of plants touches are read as they are written.
     """
-    known = rtlib.Crate(str(root / "crates" / crate), str(root), {})
+    known = rtlib.Crate(str(root / "crates" / share[0].crate), str(root), {})
     known.out = io.StringIO()
     words = ["rt", "try", "--test"]
     if functions != ["test"]:
-        flags = ["--jobs", "1", "--incremental", str(kept)]
-        for function in functions:
-            flags += ["--only", function]
-        words = [rtlib.RATTLE, "check", *known.words(flags, as_source=True)]
+        touched = {file.split("/")[1] for plant in share for file, _, _ in plant.changes}
+        kit = {"core", *known.of_kit, *[it for dep in known.below() for it in dep.of_kit]}
+        words = [rtlib.RATTLE, "check", "--crate-name", known.name, "src/lib.rt"]
+        for name in sorted(kit):
+            words += ["--extern", f"{name}={rtlib.KIT}/rlibs/{name}.rlib"]
+        words += ["-L", f"dependency={rtlib.KIT}/rlibs", *libraries(known, top, touched)]
+        words += ["--antt-project", f"{rtlib.KIT}/rattle/logic/antt-project.json"]
+        words += ["--logic-built", f"{rtlib.KIT}/logic_built", "--links", f"{known.name}="]
+        words += ["--jobs", "1", "--incremental", str(kept)]
+        words += [word for function in functions for word in ("--only", function)]
     return subprocess.run(words, cwd=known.folder, **HOW)
 
 
@@ -118,7 +184,7 @@ def judged(ran):
     return "CAN'T BE READ", said.strip().splitlines()[-1:]
 
 
-def play(plant, root, kept):
+def play(plant, root, top, kept):
     """Plays one plant on a copy of the repository, and puts the copy back."""
     try:
         before, after = texts_of(plant, root)
@@ -127,36 +193,43 @@ def play(plant, root, kept):
     try:
         for file, text in after.items():
             (root / file).write_text(text)
-        return judged(asked(root, plant.crate, plant.functions, kept))
+        return judged(asked(root, top, [plant], plant.functions, kept))
     finally:
         for file, text in before.items():
             (root / file).write_text(text)
 
 
+def modules_of(plant):
+    """The modules of APART that hold the functions which refuse a plant."""
+    names = {it.split("::")[0] for it in plant.functions}
+    return tuple(sorted(names)) if plant.crate == APART else ()
+
+
 def shares_of(plants):
-    """Plants that one crate refuses, by one copy or by several; the longest shares first."""
-    by_crate = {}
+    """Plants that share a copy: of one crate, or the same modules of APART; the longest first."""
+    groups = {}
     for plant in plants:
-        by_crate.setdefault((plant.crate, plant.functions == ["test"]), []).append(plant)
-    shares = [
-        of_crate[start:start + SHARE]
-        for of_crate in by_crate.values()
-        for start in range(0, len(of_crate), SHARE)
-    ]
+        key = plant.crate, plant.functions == ["test"], modules_of(plant)
+        groups.setdefault(key, []).append(plant)
+    shares = [it[at:at + SHARE] for it in groups.values() for at in range(0, len(it), SHARE)]
     return sorted(shares, key=len, reverse=True)
 
 
-def play_all(plants, top):
-    """Plays plants that one crate refuses, one after another, on a copy of their own."""
+def play_all(share, top):
+    """Plays plants that share a copy, one after another."""
     told = []
     with tempfile.TemporaryDirectory(prefix="plants-") as room:
         root, kept = pathlib.Path(room, "top"), pathlib.Path(room, "kept")
         shutil.copytree(top, root, ignore=shutil.ignore_patterns(".git", "out"))
         kept.mkdir()
-        wanted = sorted({name for plant in plants for name in plant.functions})
-        without = judged(asked(root, plants[0].crate, wanted, kept))[0]
-        for plant in plants:
-            came = play(plant, root, kept) if without == "STAYS" else ("FAILS WITHOUT IT TOO", [])
+        if share[0].crate == APART:
+            leave_modules(root, modules_of(share[0]))
+        wanted = sorted({name for plant in share for name in plant.functions})
+        without = judged(asked(root, top, share, wanted, kept))[0]
+        for plant in share:
+            came = "FAILS WITHOUT IT TOO", []
+            if without == "STAYS":
+                came = play(plant, root, top, kept)
             print(f"{plant.source}: {plant.name}: {': '.join([came[0], *came[1]])}", flush=True)
             told.append(came[0])
     return told
@@ -169,8 +242,8 @@ def main(words):
     played = [it for it in found if it.crate not in ("bench", "examples")]
     with concurrent.futures.ThreadPoolExecutor(int(os.environ.get("JOBS", "1"))) as pool:
         told = sum(pool.map(lambda share: play_all(share, top), shares_of(played)), [])
-    refused = told.count("refused")
-    print(f"{refused} of {len(told)} plants refused, {len(found) - len(told)} for benches and examples")
+    refused, others = told.count("refused"), len(found) - len(told)
+    print(f"{refused} of {len(told)} plants refused, {others} for benches and examples")
     return 0 if refused == len(told) else 1
 
 
