@@ -19,8 +19,8 @@ use directory::same_key_means;
 use entry_word::Act;
 use visit_log::cell_numbers;
 
-/// Another pass was inside the node: that of the actor `by` of the tracker. Nothing else has happened, so that the
-/// same call may be made again at once.
+/// Another pass was inside the node: that of the actor `by` of the tracker. Nothing else has
+/// happened, so that the same call may be made again at once.
 #[derive(Clone, Copy, PartialEq, Eq, Debug)]
 pub struct Held {
     pub node: u32,

@@ -47,9 +47,9 @@ pub fn worked_callers()
         1).first ≤ 4 }
 {}
 
-/// A machine has room for just what its input may need: where that is 25 visits, for an order of 25;
-/// where its scripts have four calls, for four; and for its one subscriber, or its two callers. Its
-/// turns leave it with room for an order of 25.
+/// A machine has room for just what its input may need: where that is 25 visits, for an order of
+/// 25; where its scripts have four calls, for four; and for its one subscriber, or its two callers.
+/// Its turns leave it with room for an order of 25.
 pub fn worked_rooms()
     ensures order { (machine : Machine) → HasJustRoom machine
         → most_visits (setting_at machine) (input_at machine).scripts ≡ 25

@@ -31,8 +31,8 @@ pub fn wrong_passes()
 {}
 
 /// A turn that is lost is one at the node that was asked for, to another actor of the tracker whose
-/// turn it is by the log, and the pass has it as its last lost turn; nothing else changes. A visit that is made
-/// has had a turn. Nothing else of the pass's own is logged.
+/// turn it is by the log, and the pass has it as its last lost turn; nothing else changes. A visit
+/// that is made has had a turn. Nothing else of the pass's own is logged.
 pub fn wrong_turns()
     ensures elsewhere { (old new : PassData)
         → HasLost old 2 (record { node = 1; by = 5 }) new → ⊥ }
