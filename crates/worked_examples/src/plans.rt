@@ -33,6 +33,7 @@ pub fn worked_measures()
     ensures above { degree_of
         (record line_of_four { levels = line_level 1 1 ∷ line_level_0 ∷ [] }) ≡ 2 }
     ensures stretch { stretch_of line_of_four ≡ 144 }
+    ensures apart_stretch { stretch_of (line_with 1 (end_of_line ∷ lone_node ∷ [])) ≡ 96 }
     ensures mean_stretch { stretch_of mean_line_of_four ≡ 232 }
     ensures bound { bound_of line_of_four 3 5 ≡ 442 }
     ensures tracking { stretch 3 2 ≡ 137 }
