@@ -1,7 +1,8 @@
 #!/usr/bin/env python3
 """Plays the plants of checks/plants/*.txt: wrong definitions and wrong code, each of which
 something must refuse. Run it at the top of the repository, with words to play those plants alone
-whose file or name has one of them. It ends with status 1 where a plant stays, or can't be played.
+whose file, name or crate has one of them. It ends with status 1 where a plant stays, or can't be
+played.
 
 A plant is a name, a file with what stands there and what stands there instead, and who refuses:
 
@@ -238,7 +239,9 @@ def play_all(share, top):
 def main(words):
     top = pathlib.Path(".").resolve()
     found = [it for path in sorted(top.glob("checks/plants/*.txt")) for it in plants_of(path)]
-    found = [it for it in found if not words or any(w in it.source or w in it.name for w in words)]
+    if words:
+        texts = [(it, f"{it.source} {it.name} {it.crate}") for it in found]
+        found = [it for it, text in texts if any(word in text for word in words)]
     played = [it for it in found if it.crate not in ("bench", "examples")]
     with concurrent.futures.ThreadPoolExecutor(int(os.environ.get("JOBS", "1"))) as pool:
         told = sum(pool.map(lambda share: play_all(share, top), shares_of(played)), [])
