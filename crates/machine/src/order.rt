@@ -1,6 +1,8 @@
 //! The actors of all tickets, and the runs of an order.
 ghost use Rattle.std.specs.Prelude.{◌≡◌, ◌∷◌, ◌++◌, ◌+◌, ◌-◌, ◌^◌, ◌<◌, ◌≤◌, [], drop, length, replicate, slice_index, vec_capacity};
 
+use std::mem::replace;
+
 // Where the run of equal numbers ends that starts at a place of an order.
 pub fn run_end(order: &[u32], start: usize) -> usize
     requires inside { start < length order.now }
@@ -24,9 +26,20 @@ pub fn log_run(order: &mut Vec<u32>, actor: u32, count: usize)
     ensures capacity { vec_capacity order.new ≡ vec_capacity order.old }
     ensures still { count ≡ 0 → order.new ≡ order.old }
 {
-    // One by one, since `resize` may take room.
-    for _ in 0..count {
-        order.push_reserved(actor);
+    match count {
+        0 => {}
+        // Most runs of an order that changes the actor at each turn.
+        1 => order.push_reserved(actor),
+        // One by one, since `resize` may take room; and in a list of its own, whose length then
+        // needn't be stored each time.
+        _ => {
+            let alloc = *order.allocator();
+            let mut log = replace(order, Vec::new(alloc));
+            for _ in 0..count {
+                log.push_reserved(actor);
+            }
+            *order = log;
+        }
     }
 }
 
