@@ -48,6 +48,8 @@ pub fn example_fields()
         ≡ codes "find 9 8 7 at 6 number 5 level 4 weight 3 first 2 last 1" ++ 10 ∷ [] }
     ensures switched { call_line (Switched 9 true 8 7 6)
         ≡ codes "switch 9 off 8 number 7 ticket 6" ++ 10 ∷ [] }
+    ensures switched_on { call_line (Switched 9 false 8 7 6)
+        ≡ codes "switch 9 on 8 number 7 ticket 6" ++ 10 ∷ [] }
     ensures report { report_of
         (record { calls = Switched 0 true 3 0 0 ∷ []; order = 0 ∷ 1 ∷ [] })
         ≡ (codes "switch 0 off 3 number 0 ticket 0" ++ 10 ∷ [])

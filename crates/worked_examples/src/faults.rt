@@ -1,6 +1,7 @@
 //! Why a call isn't made, where several reasons stand together: the first of them is told.
 ghost use Rattle.std.specs.Prelude.{◌≡◌, ◌^◌, ◌-◌, [], ◌∷◌, ℕ, Some, None, Ok, Err, true, false, map};
 ghost use Rattle.directory.specs.Finds.{FindCall, most_looks};
+ghost use Rattle.directory.specs.Keys.{act_node};
 ghost use Rattle.directory.specs.Writes.{most_writes};
 ghost use Rattle.entry_word.specs.declared.visit.Visit.{Visit};
 ghost use Rattle.handset.specs.Beginning.{move_fault, switch_fault};
@@ -11,7 +12,8 @@ ghost use Rattle.handset.specs.declared.fault.SwitchFault.TheVariants.{Already, 
 ghost use Rattle.plan_laws.specs.Examples.{line_of_four, line_setting};
 ghost use Rattle.station.specs.Passes.{PassData};
 ghost use Rattle.station.specs.Setup.{Setup, setting_in};
-ghost use Rattle.tracker_calls.specs.Finds.{IsFindFault, IsRefusal, MayFind};
+ghost use Rattle.station.specs.Visits.{HasLost};
+ghost use Rattle.tracker_calls.specs.Finds.{HasStopped, IsFindFault, IsRefusal, MayFind};
 ghost use Rattle.tracker_calls.specs.Moves.{IsStepFault};
 ghost use Rattle.tracker_calls.specs.WholeMoves.{IsMoveToFault};
 ghost use Rattle.tracker_calls.specs.declared.finds.FindFault.TheVariants as finds;
@@ -47,7 +49,8 @@ pub fn worked_switch_faults()
 {}
 
 /// A find from a node that isn't there, of a subscriber that isn't, by a pass without room: the
-/// pass stays as it is. A find that lost a turn was one that may begin.
+/// pass stays as it is. A find that lost a turn was one that may begin. A find that is tried once
+/// is refused for the same reasons.
 pub fn wrong_find_faults()
     ensures walk_node { walk_or_fault line_of_four 4 1 1 ≡ Err NoSuchNode }
     ensures walk_sub { walk_or_fault line_of_four 3 1 1 ≡ Err NoSubscriber }
@@ -75,16 +78,34 @@ pub fn wrong_find_faults()
         → IsFindFault setup old call finds.NoSubscriber new → new ≡ old }
     ensures still_no_room { (setup : Setup) (old new : PassData) (call : FindCall) (need : ℕ)
         → IsFindFault setup old call (finds.Unreserved need) new → new ≡ old }
+    ensures known_sub { (pass : PassData)
+        → IsRefusal line_setup pass (record { from = 3; sub = 0 }) refusals.NoSubscriber → ⊥ }
+    ensures now_node { (setup : Setup) (old new : PassData) (call : FindCall)
+        → IsFindFault setup old call finds.NoNode new
+        → IsRefusal setup old call refusals.NoNode }
+    ensures now_sub { (setup : Setup) (old new : PassData) (call : FindCall)
+        → IsFindFault setup old call finds.NoSubscriber new
+        → IsRefusal setup old call refusals.NoSubscriber }
+    ensures now_room { (setup : Setup) (old new : PassData) (call : FindCall) (need : ℕ)
+        → IsFindFault setup old call (finds.Unreserved need) new
+        → IsRefusal setup old call (refusals.Unreserved need) }
     ensures held_begun { (setup : Setup) (old new : PassData) (call : FindCall) (node by : ℕ)
         → IsFindFault setup old call (finds.Held node by) new → MayFind setup old call }
+    ensures held_told { (setup : Setup) (old new : PassData) (call : FindCall) (node by : ℕ)
+        → IsFindFault setup old call (finds.Held node by) new
+        → HasStopped setup old call (record { node = node; by = by }) new }
 {}
 
 /// A whole move that may not begin is refused for that before its room is counted; a step at rest
-/// is at rest, with room or without; and a turn is lost with room alone. Each fault is told as what
-/// it is, with the room that is asked for, and but for a lost turn the pass stays as it is.
+/// is at rest, with room or without; and a turn is lost with room alone, at the node of the step's
+/// next visit. Each fault is told as what it is, with the room that is asked for, and but for a lost
+/// turn the pass stays as it is.
 pub fn wrong_move_faults()
     ensures room_first { (pass : PassData) (need : ℕ)
         → IsMoveToFault line_of_four pass (stopped_at 3) 3 (moves.Unreserved need) → ⊥ }
+    ensures room_last { (pass : PassData) (handset : HandsetData) (to need : ℕ)
+        → IsMoveToFault line_of_four pass handset to (moves.Unreserved need)
+        → move_fault line_of_four handset to ≡ None }
     ensures later { (pass : PassData)
         → IsMoveToFault line_of_four pass (stopped_at 3) 3 moves.UnderWay → ⊥ }
     ensures off_later { (pass : PassData)
@@ -117,4 +138,12 @@ pub fn wrong_move_faults()
     ensures held_later { (setup : Setup) (old new : PassData) (handset : HandsetData)
         (node by : ℕ) → old.spare ≡ 0
         → IsStepFault setup old handset (steps.Held node by) new → ⊥ }
+    ensures held_at_rest { (setup : Setup) (old new : PassData) (handset : HandsetData)
+        (node by : ℕ) → due (setting_in setup) handset ≡ None
+        → IsStepFault setup old handset (steps.Held node by) new → ⊥ }
+    ensures held_there { (setup : Setup) (old new : PassData) (handset : HandsetData)
+        (visit : Visit) (node by : ℕ) → due (setting_in setup) handset ≡ Some visit
+        → IsStepFault setup old handset (steps.Held node by) new
+        → HasLost old (act_node (setting_in setup) visit.act) (record { node = node; by = by })
+        new }
 {}

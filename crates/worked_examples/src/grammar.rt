@@ -1,6 +1,8 @@
 //! The grammar of inputs, computed: how many fields a line has, what a field is, the limits, and
 //! nodes apart.
+ghost use Rattle.std.specs.List.{filter};
 ghost use Rattle.std.specs.Prelude.{◌≡◌, ◌⊎◌, [], ◌∷◌, ◌++◌, codes, length, map, replicate, Ok, Err, true, is_some, Contains, ℕ, List};
+ghost use Rattle.directory.specs.Writes.{numbers_from};
 ghost use Rattle.net_graph.specs.declared.edge.Edge.{Edge};
 ghost use Rattle.net_graph.specs.Network.{IsFirstApart};
 ghost use Rattle.net_graph.specs.Walks.{make_edge};
@@ -11,7 +13,7 @@ ghost use Rattle.net_reader.specs.Input.{IsInput, read};
 ghost use Rattle.net_reader.specs.TextLines.{begins_comment, is_blank, word_of};
 ghost use Rattle.net_reader.specs.Reading.{most_bytes};
 ghost use Rattle.net_reader.specs.Shown.{◌then◌, refusal_at, two_nodes};
-ghost use Rattle.net_reader.specs.Table.{judge, most_calls, most_nodes};
+ghost use Rattle.net_reader.specs.Table.{judge, may_stand, most_calls, most_nodes};
 ghost use Rattle.worked_examples.specs.Grammar.{apart_at, apart_text, by_sub, first_edge, line_words, moved_once, said_up_to, switched_off, switched_on};
 
 /// Each line with its fields, with one field more, and with one less.
@@ -55,7 +57,7 @@ pub fn worked_lines()
 
 /// Lines without a number, and lines that name a node or a subscriber that there isn't. A text
 /// doesn't end before its callers, nor do they stand before a subscriber; the second subscriber is
-/// counted behind the first.
+/// counted behind the first. And for the last line so far, of each kind, which may stand behind it.
 pub fn worked_places()
     ensures no_format { judge (said_up_to 0 0) (codes "track" ∷ []) ≡ Err Form }
     ensures no_nodes { judge (said_up_to 1 1) (codes "nodes" ∷ []) ≡ Err Form }
@@ -95,6 +97,9 @@ pub fn worked_places()
           },
           5,
         ) }
+    ensures stand { map (λ last. filter (may_stand last) (numbers_from 1 8)) (numbers_from 0 9)
+        ≡ (1 ∷ []) ∷ (2 ∷ []) ∷ (3 ∷ []) ∷ (4 ∷ 5 ∷ []) ∷ (4 ∷ 5 ∷ []) ∷ (5 ∷ 6 ∷ [])
+        ∷ (7 ∷ 8 ∷ []) ∷ (7 ∷ 8 ∷ []) ∷ (8 ∷ []) ∷ [] }
 {}
 
 /// Calls of a subscriber that has moved, or has switched off, or on again.

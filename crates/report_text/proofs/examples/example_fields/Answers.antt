@@ -9,6 +9,7 @@ returns c = record {
   off = refl;
   found = refl;
   switched = refl;
+  switched_on = refl;
   report = refl;
   unknown = refl;
   nowhere = refl;
