@@ -67,7 +67,7 @@ impl Distances {
         })
     }
 
-    /// A copy, which shares the table and takes no memory.
+    /// A copy. It shares the table, and so takes no memory, which no clause says.
     pub fn copy(&self) -> Result<Distances, OutOfMemory>
         ensures { IfOk result (λ copy. copy ≡ self.now) }
     {

@@ -51,7 +51,7 @@ IsWithinReach plan = (i c v : ℕ) → i < levels_of plan → c < clusters_of pl
     → inside plan i c v ≤ plan.reach * 2 ^ (level_at plan i).exponent
 
 -- what bounds the weight of a find by its distance: the plan is matched, its levels are the powers
--- of two from 1 on, a level above the lowest is renewed after half of its radius, clusters are
+-- of two from 1 on, the threshold of a level above the lowest is half of its radius, clusters are
 -- within their reach, and no node reads more clusters of a level than the degree
 pub record BoundsFinds (plan : PlanData) : Type 0 where
   pub matched : IsMatched plan

@@ -116,7 +116,7 @@ leader plan i c = (cluster_at plan i c).leader
 abbrev pub inside : PlanData → ℕ → ℕ → ℕ → ℕ
 inside plan i c v = weight_beside v (cluster_at plan i c).members (cluster_at plan i c).weights
 
--- the weight that a level gathers before it is renewed
+-- the weight at which a level is renewed, if it isn't with a higher one before
 abbrev pub threshold : PlanData → ℕ → ℕ
 threshold plan i = (level_at plan i).threshold
 

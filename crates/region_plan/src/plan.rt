@@ -331,7 +331,7 @@ impl Plan {
 
     /// How many times its distance a quiet find may travel, but for twice an open passage, over a
     /// plan that bounds its finds, as those of `build` and `build_mean` do (docs/DIRECTORY.md,
-    /// "What a find pays"). Over the flat plan it bounds nothing.
+    /// "What a find pays"). Of the flat plan no clause says that it bounds a find.
     pub fn stretch(&self) -> u64
         ensures exact { result ≡ stretch_of self.now }
         ensures small { result ≤ 2 ^ 20 }
