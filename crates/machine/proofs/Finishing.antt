@@ -18,10 +18,11 @@ use Rattle.machine.specs.Machines.{IsSame, HasHistory, HasMade, HasStridden, inp
 use Rattle.directory.specs.HistoryLaws.{turn-none}
 use Rattle.std.proofs.lemmas.Grind.{flat_map-append}
 use Rattle.node_set.specs.SetLaws.{passing_takes}
-use Rattle.machine.specs.RestLaws.{of_same}
+use Rattle.machine.specs.RestLaws.{of_same, same-back}
 
 pub same-through : (one two three : Machine) → IsSame one two → IsSame two three → IsSame one three
-same-through one two three p q = (q.0 ∙ p.0, q.1 ∙ p.1, q.2 ∙ p.2, q.3 ∙ p.3)
+same-through one two three p q =
+    (q.0 ∙ p.0, q.1 ∙ p.1, q.2 ∙ p.2, q.3 ∙ p.3, q.4 ∙ p.4, q.5 ∙ p.5, q.6 ∙ p.6)
 
 -- turns behind turns
 pub turns-joined : (setting : Setting) (scripts : Scripts) (history : History) (actor k n : ℕ)
@@ -136,7 +137,7 @@ turns-following entry now {new} history actor same goes =
     (of_same (λ setting scripts. HasHistory new (after_turns setting scripts
     (behind_turns entry history (turns_of (setting_at entry) (scripts_at entry) actor))
     (replicate (most_turns setting scripts actor) actor))) now entry
-    (sym same.0, sym same.1, sym same.2, sym same.3) goes)
+    (same-back entry now same) goes)
 
 -- and these are the last turns, where all actors have had them
 pub turns-all : (machine : Machine) → IsValid (input_at machine)

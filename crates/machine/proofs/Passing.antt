@@ -226,6 +226,12 @@ module _ {input : Contents} {plan : PlanData} {cells : CellData} {actor : ℕ} w
       let done = last (history ++ all.visits) all.sees (made-count all place) all.its in
       (made-as all all.sees (rw done.1 all.its), λ fewer. done.0)
 
+  -- and where they were none, nothing changes
+  pub looks-still : {history : History} {ticket count : ℕ} {far new : Caller} → length history ≡ ticket
+      → HasPassed input plan cells history actor count far
+      → Looks input plan cells (ticket + count) actor far new Finished → new ≡ far
+  looks-still {history} place all last = (last (history ++ all.visits) all.sees (made-count all place) all.its).1
+
 -- and where there are some, the caller keeps a walk and a first ticket
 pub behind-some : (walk : WalkData) {after : WalkData} (old : Caller) (ticket : ℕ) (climb : Climb) (count : ℕ)
     {first : ℕ} → 0 < count → after ≡ walk_at walk climb → first ≡ unwrap_or old.first ticket

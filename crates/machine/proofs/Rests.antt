@@ -1,6 +1,6 @@
 -- A subscriber at rest: that nothing is left, or how far it is after the first visit of its next step, and what the
 -- code reads of that step.
-use Rattle.std.proofs.Common.{◌≡◌, ℕ, suc, ◌<◌, ◌≤◌, false, List, [], ◌∷◌, ◌++◌, length, take, get_or, sym, ap, ◌∙◌, subst, arith, drop, drop_of_length-le, not, Bool, true, ◌==◌, refl, ◌-◌, ◌^◌}
+use Rattle.std.proofs.Common.{◌≡◌, ℕ, suc, ◌<◌, ◌≤◌, false, List, [], ◌∷◌, ◌++◌, length, take, get_or, sym, ap, ◌∙◌, subst, arith, drop, drop_of_length-le, true, refl, ◌-◌, ◌^◌}
 use Rattle.std.specs.Global.{Vec}
 use Rattle.std.specs.Prelude.{Some, None, slice_get, vec_capacity, Option, Result, Ok, Err, OnErr, OnOk, OnSome}
 use Rattle.std.proofs.lemmas.Option.{slice_get_past}
@@ -43,6 +43,7 @@ use Rattle.machine.specs.declared.subscriber.Subscriber.{Subscriber}
 use Rattle.machine.specs.declared.ahead.Ahead.{Ahead}
 use Rattle.machine.proofs.Owing.{Next, Puts, next-of, put-next}
 use Rattle.entry_word.specs.declared.visit.Key.{Key}
+use Rattle.std.specs.Option.{is_some}
 use Rattle.std.specs.Result.{is_err}
 use Rattle.net_reader.specs.declared.input.Input.{Input}
 use Rattle.net_reader.specs.Seen.{seen_input}
@@ -158,11 +159,22 @@ first-visit setting sub {n} steps step all = grind (
   slice_get-within (visits setting sub (steps ++ step ∷ [])) n,
 )
 
--- a list of writes that is said to be empty is
-pub none-there : (xs : List Ahead) {count : ℕ} {test : Bool} → length xs ≡ count → test ≡ (count == 0)
-    → not test ≡ false → xs ≡ []
-none-there [] size is quiet = refl
-none-there (x ∷ xs) {count} size is quiet = grind arith
+-- a handset that rests has no write left
+pub has-none : (plan : PlanData) (handset : HandsetData) → due (setting_of plan []) handset ≡ None
+    → HasNone plan handset
+has-none plan handset none = record {
+  due = none;
+  next = λ starts steps made stands.
+      let at = rests (setting_of plan starts) handset steps made stands none in
+      slice_get_past (visits (setting_of plan starts) handset.sub steps) made (omega (arith, at.all));
+}
+
+-- where a write is left, one is ahead
+pub some-there : {plan : PlanData} {handset : HandsetData} {next : Option Visit} (ahead : List Ahead)
+    → (ahead ≡ [] → HasNone plan handset) → next ≡ due (setting_of plan []) handset → is_some next ≡ true
+    → 0 < length ahead
+some-there [] none same some = cc (some, same, (none refl).due)
+some-there (write ∷ writes) none same some = omega arith
 
 -- where all writes that were ahead are in their cells, the handset is as far as the history
 now-at : {input : Contents} {plan : PlanData} {history : History} {sub : ℕ} {old : Subscriber}
@@ -170,17 +182,18 @@ now-at : {input : Contents} {plan : PlanData} {history : History} {sub : ℕ} {o
 now-at {old} full its = rw (drop_of_length-le old.ahead.items full) at its.owes
 
 pub shown-now : {input : Contents} {plan : PlanData} {history : History} {sub : ℕ} {old : Subscriber}
-    → old.ahead.items ≡ [] → IsSubscriber input plan history sub old
+    → length old.ahead.items ≤ old.made → IsSubscriber input plan history sub old
     → IsShown input plan history sub (shown_at old.handset old)
-shown-now empty its = rw (now-at (omega (arith, ap length empty)) its) its.shown
+shown-now full its = rw (now-at full its) its.shown
 
 -- other writes are ahead then
 pub refilled : {input : Contents} {plan : PlanData} {history : History} {sub subs : ℕ} {old : Subscriber}
     {handset : HandsetData} {empty ahead : Vec Ahead} → length input.homes ≡ subs → length old.ahead.items ≤ old.made
     → empty.items ≡ [] → vec_capacity empty ≡ vec_capacity old.ahead → IsAhead plan subs old.handset handset empty ahead
+    → (length ahead.items < vec_capacity ahead → due (setting_of plan []) handset ≡ None)
     → IsSubscriber input plan history sub old
     → IsSubscriber input plan history sub (record old { handset = handset; ahead = ahead; made = 0 })
-refilled known full none space is its =
+refilled known full none space is ends its =
     record {
       handset = its.handset;
       shown = its.shown;
@@ -189,6 +202,7 @@ refilled known full none space is its =
       its = is.its ∙ its.its;
       within = omega arith;
       space = omega (arith, its.space, space, is.room);
+      rests = ends;
     }
 
 -- the cell of the first write ahead
@@ -213,10 +227,11 @@ pub first-put : OwnGrow → TicketsGrow → TicketsAreOwn → {input : Contents}
     → lines.items ≡ old.lines.items ++ line ∷ [] → vec_capacity old.lines ≤ vec_capacity lines
     → line ≡ begun_line plan old.handset call ticket → length old.lines.items < length (steps_of (scripts_of input) sub)
     → Puts plan sub cells after write → GoWith plan after
+    → (length ahead.items < vec_capacity ahead → due (setting_of plan []) handset ≡ None)
     → HasWritten input plan history sub old (record { handset = handset; ahead = ahead; made = 1; lines = lines }) cells
     after Visited
 first-put own_law ticket_law tell {plan = plan} {cells} old begun {handset} ahead lines {write = write} low place sees
-    shown begin stands same_sub owes goes own_sub space some same lines_are room line_is short put over =
+    shown begin stands same_sub owes goes own_sub space some same lines_are room line_is short put over ends =
     let next : Next plan cells.subs begun handset write (drop 1 ahead.items) =
     next-of plan cells.subs begun handset ahead.items 0 some same owes in
     let mine = same_sub ∙ shown.its in
@@ -233,6 +248,7 @@ first-put own_law ticket_law tell {plan = plan} {cells} old begun {handset} ahea
         its = own_sub ∙ mine;
         within = omega (arith, some);
         space = space;
+        rests = ends;
       },
       done.3,
       done.4,
@@ -256,16 +272,16 @@ script-of input sub together low reads same =
 
 pub ready : ScriptsAreValid → (input : Input) {plan : PlanData} {distances : DistanceTable} {history : History}
     {sub : ℕ} {subscriber : Subscriber} {held : Vec Call} {script : List Call} {place : ℕ} (default : Call)
-    → BelongTogether (seen_input input) plan distances → sub < length input.homes.items → subscriber.ahead.items ≡ []
-    → IsSubscriber (seen_input input) plan history sub subscriber
+    → BelongTogether (seen_input input) plan distances → sub < length input.homes.items
+    → length subscriber.ahead.items ≤ subscriber.made → IsSubscriber (seen_input input) plan history sub subscriber
     → due (setting_over (seen_input input) plan) subscriber.handset ≡ None → held ≡ get_or input.scripts.items sub held
     → script ≡ held.items → place ≡ length subscriber.lines.items → (place ≡ length script → ⊥)
     → Ready input plan history sub (shown_at subscriber.handset subscriber) script place default
-ready scripts input {plan} {history} {sub} {subscriber} {script} {place} default together low empty far rests reads
+ready scripts input {plan} {history} {sub} {subscriber} {script} {place} default together low full far rests reads
     same here other =
     let old : Shown = shown_at subscriber.handset subscriber in
     let its : IsShown (seen_input input) plan history sub old =
-    shown-now empty far in
+    shown-now full far in
     let script_is : script ≡ get_or (seen_input input).scripts sub [] =
     script-of input sub together low reads same in
     let steps : length (steps_of (scripts_of (seen_input input)) sub) ≡ length script =

@@ -1,7 +1,10 @@
 -- What a machine stands for: its subscribers and callers before their first visits, and all of it after a visit.
 use Rattle.std.proofs.Common.{◌≡◌, ℕ, ◌+◌, ◌<◌, ◌≤◌, false, List, [], ◌∷◌, ◌++◌, length, map, get_or, refl, sym, ap, ◌∙◌, subst, arith, Vec, Global, ◌≢◌, zero, suc, ◌==◌, append_assoc}
-use Rattle.std.specs.Prelude.{None, vec_capacity, Option, Some, replicate, slice_set}
-use Rattle.std.proofs.lemmas.List.{get_or_push, length_push, length-map, get_or-map, append-nil, length-set, map-append, get_or-set_same, get_or-set_other}
+use Rattle.std.specs.Prelude.{None, vec_capacity, vec_len, Option, Some, replicate, slice_set}
+use Rattle.std.specs.Vec.{with_item}
+use Rattle.std.proofs.Math.Nat.{ℕ_set}
+use Rattle.std.proofs.Math.Bridge.{le_prop}
+use Rattle.std.proofs.lemmas.List.{get_or_push, length_push, length-map, get_or-map, append-nil, length-set, map-append, get_or-set_same, get_or-set_other, set-get_or}
 use Rattle.std.proofs.Math.ListN.{get_or-append}
 use Rattle.directory.specs.Finds.{at_origin}
 use Rattle.directory.specs.Histories.{tickets_from, words_after, History}
@@ -12,7 +15,9 @@ use Rattle.net_reader.specs.Input.{Contents}
 use Rattle.net_reader.specs.Valid.{IsValid}
 use Rattle.region_plan.specs.Plan.{PlanData}
 use Rattle.handset.specs.Condition.{GoesWith}
+use Rattle.handset.specs.StepWrites.{due}
 use Rattle.handset.specs.Stands.{StandsForSteps}
+use Rattle.region_plan.specs.Settings.{setting_of}
 use Rattle.machine.specs.declared.caller.Caller.{Caller}
 use Rattle.machine.specs.declared.subscriber.Subscriber.{Subscriber}
 use Rattle.scripts.specs.Scripts.{find_of, scripts_of, step_of}
@@ -31,7 +36,7 @@ use Rattle.directory.specs.Statements.{CallersKept, TicketsGrow, OwnGrow, MoreIs
 use Rattle.visit_log.specs.Cells.{CellData}
 use Rattle.machine.specs.declared.machine.Machine.{Machine}
 use Rattle.scripts.specs.Laws.{VisitsAreFew}
-use Rattle.machine.specs.Machines.{IsStill, HasHistory, input_at, scripts_at, setting_at, HasMade, HasStridden}
+use Rattle.machine.specs.Machines.{HasHistory, input_at, scripts_at, setting_at, HasMade, HasStridden}
 use Rattle.machine.proofs.Making.{made-count, no-visits}
 
 shown-opens : {input : Contents} {plan : PlanData} {sub : ℕ} (shown : Shown) → IsValid input → sub < length input.homes
@@ -56,8 +61,9 @@ pub sub-opens : {input : Contents} {plan : PlanData} {sub : ℕ} (subscriber : S
     → sub < length input.homes → StandsForSteps (setting_over input plan) subscriber.handset [] 0
     → GoesWith plan subscriber.handset → subscriber.handset.sub ≡ sub → subscriber.ahead.items ≡ []
     → subscriber.made ≡ 0 → 1 ≤ vec_capacity subscriber.ahead → subscriber.lines.items ≡ []
-    → length (get_or input.scripts sub []) ≤ vec_capacity subscriber.lines → IsSubscriber input plan [] sub subscriber
-sub-opens {input} {plan} subscriber valid low stands goes its empty none space no_lines room =
+    → length (get_or input.scripts sub []) ≤ vec_capacity subscriber.lines
+    → due (setting_of plan []) subscriber.handset ≡ None → IsSubscriber input plan [] sub subscriber
+sub-opens {input} {plan} subscriber valid low stands goes its empty none space no_lines room resting =
     record {
       handset = subscriber.handset;
       shown = shown-opens (shown_at subscriber.handset subscriber) valid low stands goes its no_lines room;
@@ -66,6 +72,7 @@ sub-opens {input} {plan} subscriber valid low stands goes its empty none space n
       its = its;
       within = omega (arith, none);
       space = space;
+      rests = λ more. resting;
     }
 
 pub caller-opens : (input : Contents) (plan : PlanData) (actor : ℕ) (caller : Caller) {script : List Call}
@@ -75,6 +82,35 @@ pub caller-opens : (input : Contents) (plan : PlanData) (actor : ℕ) (caller : 
 unfolding words_after tickets_from
 caller-opens input plan actor caller {script} high low same walks first none room =
     grind (arith, finds-are input (setting_over input plan) actor refl high low, length-map script find_of, by-parts)
+
+-- a list into which an item is put back is the same
+same-ok : {a b c : ℕ} (one other : (a ≡ b) × (a ≤ c)) → one ≡ other
+same-ok {a} {b} one other =
+    ap (λ p. (p, one.1)) (ℕ_set a b one.0 other.0) ∙ ap (λ q. (other.0, q)) (le_prop one.1 other.1)
+
+put-back : {X : Type 0} (v : Vec X Global) (place : ℕ) {x y : X} → x ≡ get_or v.items place x → y ≡ x
+    → with_item v place y ≡ v
+put-back v place {x} {y} here same =
+    subst (λ items. (ok : (vec_len v ≡ length items) × (vec_len v ≤ vec_capacity v))
+    → record v { items = items; ok = ok } ≡ v)
+    (sym (ap (slice_set v.items place) (same ∙ here) ∙ set-get_or v.items place x))
+    (λ ok. ap (λ k. record v { ok = k }) (same-ok ok v.ok)) (with_item v place y).ok
+
+-- a machine whose subscriber is as before, with its cells and its order, is as before
+pub sub-still : (old : Machine) (actor : ℕ) {x y : Subscriber} {cells : CellData} {order : Vec ℕ Global}
+    → x ≡ get_or old.subscribers.items actor x → (y ≡ x) × (cells ≡ old.cells) → order ≡ old.order
+    → record old { cells = cells; subscribers = with_item old.subscribers actor y; order = order } ≡ old
+sub-still old actor {cells = cells} {order} here still kept =
+    ap (λ s. record old { cells = cells; subscribers = s; order = order }) (put-back old.subscribers actor here still.0)
+    ∙ ap (λ c. record old { cells = c; order = order }) still.1 ∙ ap (λ o. record old { order = o }) kept
+
+-- and one whose caller is, with its order
+pub caller-still : (old : Machine) (place : ℕ) {x y : Caller} {order : Vec ℕ Global}
+    → x ≡ get_or old.callers.items place x → y ≡ x → order ≡ old.order
+    → record old { callers = with_item old.callers place y; order = order } ≡ old
+caller-still old place {order = order} here same kept =
+    ap (λ s. record old { callers = s; order = order }) (put-back old.callers place here same)
+    ∙ ap (λ o. record old { order = o }) kept
 
 -- what holds at each place of a list and of one item more
 pub each-more : {A : Type 0} (P : ℕ → A → Type 0) (xs : List A) {x : A} {n : ℕ} {ys : List A} → ys ≡ xs ++ x ∷ []
@@ -175,7 +211,7 @@ module _ {old : Machine} {history : History} {actor count : ℕ} {cells : CellDa
   -- where they were none, none is left
   pub stridden : VisitsAreFew → MoreIsPlayed → {new : Machine} (reach : ℕ) → HasMade old new history actor count
       → (reach ≡ 0 → vec_capacity old.order ≤ length history) → (count < reach
-      → next (setting_at old) (scripts_at old) (history ++ made.visits) actor ≡ None) → (count ≡ 0 → IsStill old new)
+      → next (setting_at old) (scripts_at old) (history ++ made.visits) actor ≡ None) → (count ≡ 0 → new ≡ old)
       → HasStridden old new history actor count
   stridden few more reach turned full ends still = (
     turned,

@@ -229,6 +229,7 @@ module _ (unpack : MarksUnpack) (own_law : OwnGrow) (ticket_law : TicketsGrow) (
           its = its.its;
           within = omega (arith, left);
           space = its.space;
+          rests = its.rests;
         },
         done.3,
         done.4,
@@ -269,7 +270,17 @@ module _ (unpack : MarksUnpack) (own_law : OwnGrow) (ticket_law : TicketsGrow) (
   plain-put more mine {history} {ticket} {count} place {old} lines line at sees its same come some within lines_are
       room =
       let made = written-many more mine line at sees its.shown count come.handset _ come.put in
-      grind (arith, made-as, its-same, lines-are)
+      made-as made made.sees (record {
+        handset = come.handset;
+        shown = its-same (record { handset = come.handset; lines = lines }) refl
+            (lines_are ∙ sym (lines-are old.lines.items line ticket count some)) room made.its;
+        owes = rw (← made.sees.hold.subs, ← same) come.may.owes;
+        goes = its.goes;
+        its = its.its;
+        within = omega (arith, within, ap length same);
+        space = its.space;
+        rests = its.rests;
+      })
 
 -- a write that isn't left
 pub ended : {input : Contents} {plan : PlanData} {cells after : CellData} {history : History} {ticket sub count : ℕ}
@@ -279,4 +290,12 @@ pub ended : {input : Contents} {plan : PlanData} {cells after : CellData} {histo
     × (count < most → next (setting_over input plan) (scripts_of input) (history ++ made.visits) sub ≡ None)
 ended {history} most place made then =
     let done = then (history ++ made.visits) made.sees (made-count made place) made.its in
-    (made-as made (rw done.2 made.sees) done.1, λ fewer. done.0)
+    (made-as made (rw done.2 made.sees) (rw done.1 made.its), λ fewer. done.0)
+
+-- where the turns were none, nothing changes
+pub none-written : {input : Contents} {plan : PlanData} {cells after : CellData} {history : History}
+    {ticket sub count : ℕ} {mid new : Subscriber} → length history ≡ ticket
+    → AreMade input plan cells history sub count (λ later. IsSubscriber input plan later sub mid)
+    → TakesTurn input plan (ticket + count) sub mid new cells after Finished → (new ≡ mid) × (after ≡ cells)
+none-written {history} place made then =
+    let done = then (history ++ made.visits) made.sees (made-count made place) made.its in (done.1, done.2)

@@ -74,19 +74,17 @@ pub record HasMade (old new : Machine) (history : History) (actor count : ℕ) :
   pub made : length (after_turns (setting_at old) (scripts_at old) history (replicate count actor))
       ≡ length history + count
 
--- a machine's cells and its order stay as they are
-abbrev pub IsStill : Machine → Machine → Type 0
-IsStill old new = (new.cells ≡ old.cells) × (new.order ≡ old.order)
-
--- and where they made none, none is left, and cells and order stay
+-- and where they made none, none is left, and the machine is as it was
 abbrev pub HasStridden : Machine → Machine → History → ℕ → ℕ → Type 0
 HasStridden old new history actor count =
     HasMade old new history actor count
     × (count ≡ 0
-    → (next (setting_at old) (scripts_at old) history actor ≡ None) × IsStill old new)
+    → (next (setting_at old) (scripts_at old) history actor ≡ None) × (new ≡ old))
 
--- a machine keeps its input, its plan, its distances and the room for its order
+-- a machine keeps its input, its plan, its distances, the room for its order, its homes, its routes
+-- and its list of the lines of calls
 abbrev pub IsSame : Machine → Machine → Type 0
 IsSame old new =
     (new.input.now ≡ old.input.now) × (new.plan.now ≡ old.plan.now)
     × (new.distances.now ≡ old.distances.now) × (vec_capacity new.order ≡ vec_capacity old.order)
+    × (new.homes ≡ old.homes) × (new.routes ≡ old.routes) × (new.calls ≡ old.calls)

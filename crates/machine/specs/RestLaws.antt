@@ -1,6 +1,6 @@
 -- Laws of a handset that rests between the steps of a script, and of a machine that stays the same,
 -- for the proofs of the crates above: `may-begin` (a step that may come may begin), `of_same` (what
--- is said of its setting and its scripts stays so).
+-- is said of its setting and its scripts stays so), `same-back` (it was the same before).
 use Rattle.std.proofs.Common.{ℕ, List, ◌∙◌, arith, subst, sym}
 use Rattle.directory.specs.Amid.{course_of}
 use Rattle.directory.specs.Courses.{MayStep, Step}
@@ -46,3 +46,8 @@ of_same P old new same p =
     (scripts_of (seen_input input))) (sym same.0)
     (subst (λ plan. P (setting_of plan homes) (scripts_of (seen_input old.input.now)))
     (sym same.1) p)
+
+-- a machine that stays the same was the same before
+pub same-back : (old new : Machine) → IsSame old new → IsSame new old
+same-back old new same =
+    (sym same.0, sym same.1, sym same.2, sym same.3, sym same.4, sym same.5, sym same.6)

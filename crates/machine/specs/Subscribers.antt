@@ -21,6 +21,7 @@ use Rattle.net_reader.specs.Input.{Contents}
 use Rattle.region_plan.specs.Plan.{PlanData, nodes_of}
 use Rattle.region_plan.specs.Settings.{setting_of}
 use Rattle.handset.specs.Condition.{GoesWith, HandsetData}
+use Rattle.handset.specs.StepWrites.{due}
 use Rattle.handset.specs.Stands.{StandsForSteps}
 use Rattle.visit_log.specs.Cells.{CellData, GoWith, Hold}
 use Rattle.machine.specs.declared.subscriber.Subscriber.{Subscriber}
@@ -108,18 +109,21 @@ pub record IsSubscriber (input : Contents) (plan : PlanData) (history : History)
   pub its : subscriber.handset.sub ≡ sub
   pub within : subscriber.made ≤ length subscriber.ahead.items
   pub space : 1 ≤ vec_capacity subscriber.ahead
+  -- where there was room for one write more, none came
+  pub rests : length subscriber.ahead.items < vec_capacity subscriber.ahead
+      → due (setting_of plan []) subscriber.handset ≡ None
 
 -- a subscriber has room for just as many lines as it has steps, and for just 64 writes ahead
 pub record HasRoomFor (steps : ℕ) (subscriber : Subscriber) : Type 0 where
   pub lines : vec_capacity subscriber.lines ≡ steps
   pub ahead : vec_capacity subscriber.ahead ≡ 64
 
--- a turn makes its next visit, or none is left and the cells stay
+-- a turn makes its next visit, or none is left and nothing changes
 abbrev pub HasWritten : Contents → PlanData → History → ℕ → Subscriber → Subscriber → CellData
     → CellData → Turn → Type 0
 HasWritten input plan history sub old new cells after Finished =
-    (next (setting_over input plan) (scripts_of input) history sub ≡ None)
-    × IsSubscriber input plan history sub new × (after ≡ cells)
+    (next (setting_over input plan) (scripts_of input) history sub ≡ None) × (new ≡ old)
+    × (after ≡ cells)
 HasWritten input plan history sub old new cells after Visited =
     (visit : Visit) × (next (setting_over input plan) (scripts_of input) history sub ≡ Some visit)
     × IsSubscriber input plan (history ++ visit ∷ []) sub new × GoWith plan after

@@ -1,8 +1,10 @@
 //! The writes that a subscriber has ahead.
-ghost use Rattle.std.specs.Prelude.{◌≡◌, ◌≤◌, ◌<◌, ◌-◌, [], ℕ, IfNone, IfSome, drop, length, vec_capacity, vec_len};
+ghost use Rattle.std.specs.Prelude.{◌≡◌, ◌≤◌, ◌<◌, ◌-◌, [], ℕ, None, IfNone, IfSome, drop, length, vec_capacity, vec_len};
 ghost use Rattle.region_plan.specs.Plan.{PlanData};
+ghost use Rattle.region_plan.specs.Settings.{setting_of};
 ghost use Rattle.handset.specs.Condition.{GoesWith, HandsetData};
 ghost use Rattle.handset.specs.NextEntries.{erasures_from, renewals_from};
+ghost use Rattle.handset.specs.StepWrites.{due};
 ghost use Rattle.handset.specs.declared.stage.Stage.{Stage};
 ghost use Rattle.visit_log.specs.Cells.{GoWith};
 ghost use Rattle.visit_log.specs.Homes.{AreHomes};
@@ -40,6 +42,8 @@ pub fn fill(
     requires room { 1 ≤ vec_capacity ahead.old }
     ensures ahead { IsAhead plan.now cells.now.subs handset.old handset.new ahead.old ahead.new }
     ensures rests { ahead.new.items ≡ [] → HasNone plan.now handset.old }
+    ensures ends { length ahead.new.items < vec_capacity ahead.new
+        → due (setting_of plan.now []) handset.new ≡ None }
 {
     'writes: while ahead.len() < ahead.capacity() {
         let Some(write) = next_ahead(handset, plan, cells) else {

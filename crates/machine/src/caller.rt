@@ -77,6 +77,7 @@ impl Caller {
         ensures few { result ≤ most }
         ensures taken { TakesLooks (seen_input input.now) plan.now cells.now ticket actor most
             self.old self.new result }
+        ensures still { result ≡ 0 → self.new ≡ self.old }
     {
         each_visit_is_next();
         if ALONE {
@@ -131,6 +132,7 @@ impl Caller {
         ensures few { result ≤ most }
         ensures taken { TakesLooks (seen_input input.now) plan.now cells.now ticket actor most
             self.old self.new result }
+        ensures still { result ≡ 0 → self.new ≡ self.old }
     {
         each_visit_is_next();
         if most == 0 {
@@ -217,6 +219,7 @@ impl Caller {
         ensures few { result ≤ most }
         ensures passed { MakesLooks (seen_input input.now) plan.now cells.now ticket actor result
             self.old self.new }
+        ensures still { result ≡ 0 → self.new ≡ self.old }
     {
         scripts_are_valid();
         each_visit_is_next();

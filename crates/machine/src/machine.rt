@@ -95,8 +95,7 @@ impl<'a> Machine<'a> {
         ensures finished { (history : History) → HasHistory self.old history
             → ((result ≡ Finished)
             ↔ (next (setting_at self.old) (scripts_at self.old) history actor ≡ None)) }
-        ensures still { result ≡ Finished
-            → (self.new.cells ≡ self.old.cells) × (self.new.order ≡ self.old.order) }
+        ensures still { result ≡ Finished → self.new ≡ self.old }
         ensures stands { (history : History) → HasHistory self.old history
             → HasHistory self.new
             (after_turn (setting_at self.old) (scripts_at self.old) history actor) }

@@ -60,6 +60,8 @@ impl Subscriber {
             → StandsForSteps (setting_of plan.now starts) subscriber.handset [] 0) }
         ensures goes { IfOk result (λ subscriber. GoesWith plan.now subscriber.handset) }
         ensures its { IfOk result (λ subscriber. subscriber.handset.sub ≡ sub) }
+        ensures rests { IfOk result
+            (λ subscriber. due (setting_of plan.now []) subscriber.handset ≡ None) }
         ensures ahead { IfOk result
             (λ subscriber. (subscriber.ahead.items ≡ []) × (subscriber.made ≡ 0)) }
         ensures space { IfOk result (λ subscriber. vec_capacity subscriber.ahead ≡ 64) }
@@ -97,7 +99,7 @@ impl Subscriber {
         ensures few { result ≤ most }
         ensures taken { TakesTurns (seen_input input.now) plan.now ticket sub most self.old self.new
             cells.old cells.new result }
-        ensures still { result ≡ 0 → cells.new ≡ cells.old }
+        ensures still { result ≡ 0 → (self.new ≡ self.old) × (cells.new ≡ cells.old) }
     {
         each_visit_is_next();
         next_is_own();
@@ -140,7 +142,7 @@ impl Subscriber {
         ensures few { result ≤ most }
         ensures made { MakesTurns (seen_input input.now) plan.now ticket sub self.old self.new
             cells.old cells.new result }
-        ensures still { result ≡ 0 → cells.new ≡ cells.old }
+        ensures still { result ≡ 0 → (self.new ≡ self.old) × (cells.new ≡ cells.old) }
     {
         own_after();
         tickets_tell();
@@ -180,7 +182,7 @@ impl Subscriber {
         ensures few { result ≤ most }
         ensures taken { TakesTurns (seen_input input.now) plan.now ticket sub most self.old self.new
             cells.old cells.new result }
-        ensures still { result ≡ 0 → cells.new ≡ cells.old }
+        ensures still { result ≡ 0 → (self.new ≡ self.old) × (cells.new ≡ cells.old) }
     {
         each_visit_is_next();
         next_is_own();
@@ -221,7 +223,7 @@ impl Subscriber {
     }
 
     // Whether a write of the steps that are begun is ahead. Where all that were are in their cells,
-    // those that come next are ahead from now on.
+    // those that come next are ahead from now on; where none comes, nothing changes.
     #[inline(always)]
     fn has_ahead(&mut self, plan: &Plan, homes: &Homes, cells: &PlainCells) -> bool
         requires goes { GoesWith plan.now self.old.handset }
@@ -230,21 +232,30 @@ impl Subscriber {
         requires known { self.old.handset.sub < cells.now.subs }
         requires within { self.old.made ≤ length self.old.ahead.items }
         requires space { 1 ≤ vec_capacity self.old.ahead }
+        requires rests { length self.old.ahead.items < vec_capacity self.old.ahead
+            → due (setting_of plan.now []) self.old.handset ≡ None }
         ensures stands { (input : Contents) (history : History) (sub : ℕ)
             → length input.homes ≡ cells.now.subs
             → IsSubscriber input plan.now history sub self.old
             → IsSubscriber input plan.now history sub self.new }
         ensures some { result ≡ true → self.new.made < length self.new.ahead.items }
-        ensures none { result ≡ false
-            → (self.new.ahead.items ≡ []) × HasNone plan.now self.new.handset }
+        ensures none { result ≡ false → (self.new ≡ self.old)
+            × (length self.old.ahead.items ≤ self.old.made) × HasNone plan.now self.old.handset }
     {
         if self.made < self.ahead.len() {
             return true;
         }
+        // Where there was room for one more, none came.
+        if self.ahead.len() < self.ahead.capacity() {
+            return false;
+        }
+        if self.handset.next(plan).is_none() {
+            return false;
+        }
         self.ahead.clear();
         self.made = 0;
         fill(&mut self.ahead, &mut self.handset, plan, homes, cells);
-        !self.ahead.is_empty()
+        true
     }
 
     // The visit ahead that comes next.
@@ -293,7 +304,7 @@ impl Subscriber {
         requires together { BelongTogether (seen_input input.now) plan.now distances.now }
         requires homes { AreHomes plan.now homes.now }
         requires low { sub < length input.now.homes.items }
-        requires none { self.old.ahead.items ≡ [] }
+        requires none { length self.old.ahead.items ≤ self.old.made }
         requires rests { due (setting_of plan.now []) self.old.handset ≡ None }
         requires stands { MayTakeTurn (seen_input input.now) plan.now cells.old ticket sub
             self.old }
@@ -312,6 +323,7 @@ impl Subscriber {
         if self.lines.push(line).is_err() {
             unreachable!()
         }
+        self.ahead.clear();
         fill(&mut self.ahead, &mut self.handset, plan, homes, cells);
         let write = self.ahead[0];
         cells.put_at(sub, write.place, write.word);

@@ -36,7 +36,7 @@ use Rattle.net_reader.specs.Seen.{seen_input}
 use Rattle.region_plan.specs.Settings.{setting_of}
 use Rattle.machine.specs.declared.machine.Machine.{Machine}
 use Rattle.machine.specs.Machines.{IsSame, HasHistory, scripts_at, setting_at}
-use Rattle.machine.specs.RestLaws.{of_same}
+use Rattle.machine.specs.RestLaws.{of_same, same-back}
 use Rattle.report_check.specs.Inputs.{plan_for}
 
 -- the checker finds no flaw in the report of a valid input, under whatever order
@@ -145,4 +145,4 @@ pub play-began : (old new : Machine) {last : Machine} (order : List ℕ) → IsS
     → HasHistory last (history_of (setting_at old) (scripts_at old) order)
 play-began old new {last} order same goes =
     of_same (λ setting scripts. HasHistory last (history_of setting scripts order)) new old
-    (sym same.0, sym same.1, sym same.2, sym same.3) goes
+    (same-back old new same) goes

@@ -49,7 +49,8 @@ pub fn worked_callers()
 
 /// A machine has room for just what its input may need: where that is 25 visits, for an order of
 /// 25; where its scripts have four calls, for four; and for its one subscriber, or its two callers.
-/// Its turns leave it with room for an order of 25.
+/// Its turns leave it with room for an order of 25 and for four lines, and with homes and routes of
+/// three levels.
 pub fn worked_rooms()
     ensures order { (machine : Machine) → HasJustRoom machine
         → most_visits (setting_at machine) (input_at machine).scripts ≡ 25
@@ -62,4 +63,10 @@ pub fn worked_rooms()
         → (input_at machine).callers ≡ 2 → vec_capacity machine.callers ≡ 2 }
     ensures turns { (old new : Machine) → IsSame old new → vec_capacity old.order ≡ 25
         → vec_capacity new.order ≡ 25 }
+    ensures lines { (old new : Machine) → IsSame old new → vec_capacity old.calls ≡ 4
+        → vec_capacity new.calls ≡ 4 }
+    ensures homes { (old new : Machine) → IsSame old new → old.homes.levels ≡ 3
+        → new.homes.levels ≡ 3 }
+    ensures routes { (old new : Machine) → IsSame old new → old.routes.levels ≡ 3
+        → new.routes.levels ≡ 3 }
 {}

@@ -1,5 +1,7 @@
 use Rattle.std.proofs.lemmas.Grind.{common_steps}
-use Rattle.std.proofs.Common.{◌≡◌, arith, refl, subst, sym}
+use Rattle.std.proofs.Common.{◌≡◌, [], None, arith, refl, subst, sym}
+use Rattle.region_plan.specs.Settings.{setting_of}
+use Rattle.handset.specs.StepWrites.{due}
 use Rattle.machine.specs.Owed.{HasNone, Owes}
 use Rattle.machine.proofs.Owing.{ahead-joined, ahead-more, ahead-none}
 use Rattle.machine.proofs.ahead.fill.Goals as goal
@@ -26,6 +28,11 @@ returns-in_default-clause-rests c = λ none.
     subst (Owes plan subs old c.writes.handset) none
     (c.writes.invariant.ahead.owes old (subst (Owes plan subs old old) (sym c.requires.none) refl)) in
     subst (HasNone plan) same c.in_default.ensures.rests
+
+pub returns-in_default-clause-ends : goal.returns-in_default-clause-ends
+returns-in_default-clause-ends c = λ room.
+    subst (λ h. due (setting_of c.args.plan.now []) h ≡ None) (sym c.in_default.ensures.still)
+    c.in_default.ensures.rests.due
 
 pub writes-smaller : goal.writes-smaller
 writes-smaller c = grind (arith, common_steps)

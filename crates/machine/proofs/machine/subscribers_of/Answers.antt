@@ -25,7 +25,7 @@ loop-sub-preserved c =
           (get_or_default c.args.input.now.homes.items c.loop-sub.sub 0 c.index-home.result.now low
           ∙ sym c.index-home.ensures)) c.in_ok-new.ensures.goes c.in_ok-new.ensures.its c.in_ok-new.ensures.ahead.0
           c.in_ok-new.ensures.ahead.1 (omega (arith, c.in_ok-new.ensures.space)) c.in_ok-new.ensures.lines
-          (omega (arith, c.in_ok-new.ensures.room, steps)));
+          (omega (arith, c.in_ok-new.ensures.room, steps)) c.in_ok-new.ensures.rests);
       rooms = each-more (λ i x. HasRoomFor (calls_of (seen_input c.args.input.now) i) x) c.loop-sub.subscribers.items
           c.push_reserved.ensures.items (omega (arith, c.loop-sub.invariant.count)) c.loop-sub.invariant.rooms
           (record { lines = c.in_ok-new.ensures.room ∙ steps; ahead = c.in_ok-new.ensures.space });

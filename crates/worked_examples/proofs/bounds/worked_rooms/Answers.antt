@@ -1,4 +1,5 @@
-use Rattle.std.proofs.Common.{◌∙◌}
+use Rattle.std.proofs.Common.{ap, ◌∙◌}
+use Rattle.std.specs.Prelude.{vec_capacity}
 use Rattle.worked_examples.proofs.bounds.worked_rooms.Goals as goal
 
 pub returns-clause-order : goal.returns-clause-order
@@ -15,3 +16,12 @@ returns-clause-callers c = λ machine room many. room.callers ∙ many
 
 pub returns-clause-turns : goal.returns-clause-turns
 returns-clause-turns c = λ old new same room. same.3 ∙ room
+
+pub returns-clause-lines : goal.returns-clause-lines
+returns-clause-lines c = λ old new same room. ap vec_capacity same.6 ∙ room
+
+pub returns-clause-homes : goal.returns-clause-homes
+returns-clause-homes c = λ old new same levels. ap (λ homes. homes.levels) same.4 ∙ levels
+
+pub returns-clause-routes : goal.returns-clause-routes
+returns-clause-routes c = λ old new same levels. ap (λ routes. routes.levels) same.5 ∙ levels

@@ -1,5 +1,5 @@
-use Rattle.std.proofs.Common.{◌≡◌, ◌+◌, arith}
-use Rattle.machine.proofs.Passing.{looked-through, looks-ended, passed-none}
+use Rattle.std.proofs.Common.{◌≡◌, ◌+◌, ◌∙◌, arith}
+use Rattle.machine.proofs.Passing.{looked-through, looks-ended, looks-still, passed-none}
 use Rattle.machine.proofs.Making.{may-follow}
 use Rattle.machine.proofs.caller.Caller.look_alone.Goals as goal
 
@@ -23,3 +23,10 @@ returns-in-Finished-clause-taken c = λ history sees place its.
     let none : c.pass-made.result ≡ 0 = omega (arith, c.pass-made.ensures.few, c.if-made-eq1.false) in
     rw none at
     (looks-ended c.args.most place (c.pass-made.ensures.passed history sees place its) c.in-Finished.ensures)
+
+pub returns-in-Finished-clause-still : goal.returns-in-Finished-clause-still
+returns-in-Finished-clause-still c = λ zero.
+    let stands = c.requires.stands in
+    let none : c.pass-made.result ≡ 0 = omega (arith, c.pass-made.ensures.few, c.if-made-eq1.false) in
+    looks-still stands.2 (c.pass-made.ensures.passed stands.0 stands.1 stands.2 stands.3) c.in-Finished.ensures
+    ∙ c.pass-made.ensures.still none

@@ -2,7 +2,7 @@ use Rattle.std.proofs.lemmas.Grind.{common_steps}
 use Rattle.std.proofs.Common.{◌≡◌, ◌+◌, ◌-◌, arith, length, refl}
 use Rattle.machine.specs.Machines.{input_at}
 use Rattle.machine.proofs.Looked.{scripts-low}
-use Rattle.machine.proofs.Turning.{caller-may, caller-turned, rooms-left, stridden}
+use Rattle.machine.proofs.Turning.{caller-may, caller-still, caller-turned, rooms-left, stridden}
 use Rattle.machine.proofs.machine.Machine.look.Goals as goal
 
 pub look-count-requires-clause-stands : goal.look-count-requires-clause-stands
@@ -40,7 +40,8 @@ returns-clause-stands g c = λ history stands.
     (caller-turned stands taken.0 c.own_after.ensures.visits c.own_after.ensures.tickets c.lines_grow.ensures.kept
     (c.args.actor - c.len.result) _ _ at taken.0.its refl c.log_run.ensures.items c.log_run.ensures.capacity)
     (λ empty. omega (arith, c.room_for-reach.ensures.full empty c.requires.some, may.2, c.len-ticket.ensures)) taken.1
-    (λ none. (refl, c.log_run.ensures.still none))
+    (λ none. caller-still c.args.self.now (c.args.actor - c.len.result) c.index_mut.ensures.value
+    (c.look-count.ensures.still none) (c.log_run.ensures.still none))
 
 pub index_mut-requires : goal.index_mut-requires
 index_mut-requires c = grind (arith, common_steps)

@@ -18,6 +18,6 @@ returns-then-len-actor-clause-stands g c = λ history stands. (
           c.len.ensures,
           length-map c.args.self.now.input.now.scripts.items (λ (s : Vec Call Global). s.items),
         )),
-    (refl, refl),
+    refl,
   ),
 )

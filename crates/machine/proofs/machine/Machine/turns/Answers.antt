@@ -15,7 +15,7 @@ returns-then-count-eq1-clause-made c = λ history is.
 
 pub turns-init : goal.turns-init
 turns-init c = record {
-  same = (refl, refl, refl, refl);
+  same = (refl, refl, refl, refl, refl, refl, refl);
   few = omega arith;
   stands = λ history is.
       let none : c.args.count - c.args.count ≡ 0 = omega arith in rw none (made-none c.args.actor is);

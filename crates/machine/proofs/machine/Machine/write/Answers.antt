@@ -1,6 +1,6 @@
 use Rattle.std.proofs.lemmas.Grind.{common_steps}
 use Rattle.std.proofs.Common.{arith, refl}
-use Rattle.machine.proofs.Turning.{rooms-left, stridden, sub-may, sub-turned}
+use Rattle.machine.proofs.Turning.{rooms-left, stridden, sub-may, sub-still, sub-turned}
 use Rattle.machine.proofs.machine.Machine.write.Goals as goal
 
 pub write-count-requires-clause-stands : goal.write-count-requires-clause-stands
@@ -31,7 +31,8 @@ returns-clause-stands g c = λ history stands.
     (sub-turned stands taken.0 c.own_after.ensures.visits c.own_after.ensures.tickets c.lines_grow.ensures.kept _ _
     c.requires.known taken.0.its refl c.log_run.ensures.items c.log_run.ensures.capacity)
     (λ empty. omega (arith, c.room_for-reach.ensures.full empty c.requires.some, may.2, c.len-ticket.ensures)) taken.1
-    (λ none. (c.write-count.ensures.still none, c.log_run.ensures.still none))
+    (λ none. sub-still c.args.self.now c.args.actor c.index_mut.ensures.value (c.write-count.ensures.still none)
+    (c.log_run.ensures.still none))
 
 pub index_mut-requires : goal.index_mut-requires
 index_mut-requires c = grind (arith, common_steps)

@@ -15,7 +15,7 @@ returns-then-place-script c = λ history sees place its. (
     ap length (script-of c.args.input.now c.args.sub c.requires.together c.requires.low c.index.ensures
         c.as_slice-script.ensures.value),
   )),
-  its,
+  refl,
   refl,
 )
 
@@ -66,7 +66,7 @@ put_at-requires c =
     (c.begin_step-line.ensures.stands c.args.input.now.homes.items _ _ at.shown.handset) c.fill.ensures.rests in
     let owes = c.fill.ensures.ahead.owes c.begin_step-line.new.handset
     (subst (Owes c.args.plan.now c.args.cells.now.subs c.begin_step-line.new.handset c.begin_step-line.new.handset)
-    (sym c.requires.none) refl) in
+    (sym c.clear.ensures.items) refl) in
     let cell = first-cell c.args.plan.now c.args.cells.now.subs c.begin_step-line.new.handset c.fill.new.handset
     c.fill.new.ahead.items some c.index-write.ensures owes (c.begin_step-line.ensures.its ∙ at.shown.its) in
     record { cell = (c.args.plan.now, cell.0, c.requires.stands.1.goes, cell.1) }
@@ -83,14 +83,14 @@ returns c = λ history sees place its.
     (c.begin_step-line.ensures.stands c.args.input.now.homes.items _ _ at.shown.handset) c.fill.ensures.rests in
     let owes = c.fill.ensures.ahead.owes c.begin_step-line.new.handset
     (subst (Owes c.args.plan.now c.args.cells.now.subs c.begin_step-line.new.handset c.begin_step-line.new.handset)
-    (sym c.requires.none) refl) in
+    (sym c.clear.ensures.items) refl) in
     first-put c.own_after.ensures.visits c.own_after.ensures.tickets c.tickets_tell.ensures.visits c.args.self.now
     c.begin_step-line.new.handset c.fill.new.ahead c.push.new.self c.requires.low place sees at.shown at.begin begun
     c.begin_step-line.ensures.its owes c.fill.ensures.ahead.goes c.fill.ensures.ahead.its
-    (omega (arith, its.space, c.fill.ensures.ahead.room)) some c.index-write.ensures lines
+    (omega (arith, its.space, c.clear.ensures.capacity, c.fill.ensures.ahead.room)) some c.index-write.ensures lines
     (omega (arith, c.push.ensures.capacity)) c.begin_step-line.ensures.line at.left
     (λ key cell. c.put_at.ensures.history c.args.plan.now key sees.goes cell)
-    (c.put_at.ensures.goes c.args.plan.now sees.goes)
+    (c.put_at.ensures.goes c.args.plan.now sees.goes) c.fill.ensures.ends
 
 pub index-requires : goal.index-requires
 index-requires c = grind (arith, common_steps)

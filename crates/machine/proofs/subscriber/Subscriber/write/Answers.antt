@@ -1,13 +1,13 @@
 use Rattle.std.proofs.lemmas.Grind.{common_steps}
-use Rattle.std.proofs.Common.{arith, refl, ◌++◌, ◌∙◌}
-use Rattle.machine.proofs.Making.{made-count, made-next, made-none, may-follow, turns-behind}
-use Rattle.machine.proofs.Written.{ended}
+use Rattle.std.proofs.Common.{arith, refl, ◌∙◌}
+use Rattle.machine.proofs.Making.{made-next, made-none, may-follow, turns-behind}
+use Rattle.machine.proofs.Written.{ended, none-written}
 use Rattle.machine.proofs.subscriber.Subscriber.write.Goals as goal
 
 pub writes-init : goal.writes-init
 writes-init g c = record {
   few = omega arith;
-  still = λ none. refl;
+  still = λ none. (refl, refl);
   written = λ history sees place its. made-none _ sees its;
 }
 
@@ -27,7 +27,8 @@ returns-then-made-most-clause-taken g c = λ history sees place its. (
 
 pub returns-then-made-most-clause-still : goal.returns-then-made-most-clause-still
 returns-then-made-most-clause-still g c = λ none.
-    c.write_plain-made.ensures.still (omega (arith, none)) ∙ c.writes.invariant.still (omega (arith, none))
+    let before = c.writes.invariant.still (omega (arith, none)) in
+    let last = c.write_plain-made.ensures.still (omega (arith, none)) in (last.0 ∙ before.0, last.1 ∙ before.1)
 
 pub writes-preserved : goal.writes-preserved
 writes-preserved g c = record {
@@ -49,8 +50,10 @@ returns-in-Finished-clause-still g c = λ none.
     let stands = c.requires.stands in
     let made = turns-behind c.writes.invariant.written c.write_plain-made.ensures.made stands.0 stands.1 stands.2
     stands.3 in
-    (c.in-Finished.ensures (stands.0 ++ made.visits) made.sees (made-count made stands.2) made.its).2
-    ∙ c.write_plain-made.ensures.still (omega (arith, none)) ∙ c.writes.invariant.still (omega (arith, none))
+    let before = c.writes.invariant.still (omega (arith, none)) in
+    let last = c.write_plain-made.ensures.still (omega (arith, none)) in
+    let end = none-written stands.2 made c.in-Finished.ensures in
+    (end.0 ∙ (last.0 ∙ before.0), end.1 ∙ (last.1 ∙ before.1))
 
 pub returns-clause-taken : goal.returns-clause-taken
 returns-clause-taken g c = λ history sees place its.
