@@ -59,6 +59,10 @@ three =
           (list_in (near_weights ∷ near_weights ∷ three_distances ∷ []) level cluster) node;
     }
 
+-- what holds of the first of a list, whichever value stands for one that is missing
+abbrev pub OfFirst : {A : Type 0} → List A → (A → Type 0) → Type 0
+OfFirst {A} items P = (d : A) → P (slice_index_or items 0 d)
+
 -- the act of the visit with a ticket
 abbrev pub act_at : List Visit → ℕ → Act
 act_at history ticket = option_map_or (λ visit. visit.act) (slice_get history ticket) (Census 0)

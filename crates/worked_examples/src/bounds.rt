@@ -1,6 +1,6 @@
 //! How much there may be: the looks that a find has left, the visits and calls of scripts, and the
 //! room of a machine. No law above counts on more of these than that they are enough.
-ghost use Rattle.std.specs.Prelude.{◌≡◌, ◌≤◌, ℕ, Option, [], ◌∷◌, length, vec_capacity};
+ghost use Rattle.std.specs.Prelude.{◌≡◌, ◌≤◌, ◌+◌, ℕ, Option, [], ◌∷◌, length, vec_capacity};
 ghost use Rattle.directory.specs.Finds.{Chase, Pursuit, Reader, at_origin, chases, climbs, ended, looks_left};
 ghost use Rattle.directory.specs.Courses.{move_to};
 ghost use Rattle.directory.specs.Histories.{History, tickets};
@@ -9,11 +9,12 @@ ghost use Rattle.directory.specs.Statements.{CallersCount};
 ghost use Rattle.directory.specs.declared.answers.Found.{Found};
 ghost use Rattle.machine.specs.Machines.{HasJustRoom, IsSame, input_at, setting_at};
 ghost use Rattle.machine.specs.declared.machine.Machine.{Machine};
+ghost use Rattle.machine.specs.Stands.{calls_of};
 ghost use Rattle.net_reader.specs.Valid.{count_calls};
 ghost use Rattle.net_reader.specs.declared.said.Call.TheVariants.{Find, Move, Off, On};
 ghost use Rattle.plan_laws.specs.Examples.{line_scripts, line_setting};
 ghost use Rattle.scripts.specs.Scripts.{most_in, most_visits};
-ghost use Rattle.worked_examples.specs.Examples.{find_from};
+ghost use Rattle.worked_examples.specs.Examples.{OfFirst, find_from};
 
 /// On the line of four a find from node 2 has twelve looks at most, one more than one from node 0.
 /// With two readers behind the one that is next it has ten left, and in a chase with five hops left
@@ -49,8 +50,9 @@ pub fn worked_callers()
 
 /// A machine has room for just what its input may need: where that is 25 visits, for an order of
 /// 25; where its scripts have four calls, for four; and for its one subscriber, or its two callers.
-/// Its turns leave it with room for an order of 25 and for four lines, and with homes and routes of
-/// three levels.
+/// A caller of three finds has room for three lines, a subscriber of two steps for two, and for 64
+/// writes ahead. Turns leave a machine with its room for an order of 25 and for four lines, and
+/// with homes and routes of three levels.
 pub fn worked_rooms()
     ensures order { (machine : Machine) → HasJustRoom machine
         → most_visits (setting_at machine) (input_at machine).scripts ≡ 25
@@ -63,10 +65,19 @@ pub fn worked_rooms()
         → (input_at machine).callers ≡ 2 → vec_capacity machine.callers ≡ 2 }
     ensures turns { (old new : Machine) → IsSame old new → vec_capacity old.order ≡ 25
         → vec_capacity new.order ≡ 25 }
-    ensures lines { (old new : Machine) → IsSame old new → vec_capacity old.calls ≡ 4
+    ensures calls_stay { (old new : Machine) → IsSame old new → vec_capacity old.calls ≡ 4
         → vec_capacity new.calls ≡ 4 }
     ensures homes { (old new : Machine) → IsSame old new → old.homes.levels ≡ 3
         → new.homes.levels ≡ 3 }
     ensures routes { (old new : Machine) → IsSame old new → old.routes.levels ≡ 3
         → new.routes.levels ≡ 3 }
+    ensures finds { (machine : Machine) → HasJustRoom machine → (input_at machine).callers ≡ 1
+        → calls_of (input_at machine) (length (input_at machine).homes + 0) ≡ 3
+        → OfFirst machine.callers.items (λ caller. vec_capacity caller.lines ≡ 3) }
+    ensures lines { (machine : Machine) → HasJustRoom machine
+        → length (input_at machine).homes ≡ 1 → calls_of (input_at machine) 0 ≡ 2
+        → OfFirst machine.subscribers.items (λ subscriber. vec_capacity subscriber.lines ≡ 2) }
+    ensures ahead { (machine : Machine) → HasJustRoom machine
+        → length (input_at machine).homes ≡ 1
+        → OfFirst machine.subscribers.items (λ subscriber. vec_capacity subscriber.ahead ≡ 64) }
 {}

@@ -1,6 +1,6 @@
 //! What each part of a find costs on the line of four, by number: its clusters are 3 radii wide,
 //! and a node reads at most 2 of a level.
-ghost use Rattle.std.specs.Prelude.{◌≡◌, ◌≤◌, ◌<◌, List, [], ◌∷◌, suc, ℕ};
+ghost use Rattle.std.specs.Prelude.{◌≡◌, ◌≤◌, ◌<◌, List, None, [], ◌∷◌, suc, ℕ};
 ghost use Rattle.entry_word.specs.declared.address.Address.{Address};
 ghost use Rattle.directory.specs.Finds.{FindCall, found_weight};
 ghost use Rattle.directory.specs.Histories.{History, before};
@@ -16,6 +16,7 @@ ghost use Rattle.stretch_laws.specs.Costs.{AfterConfirm, AtRest, ClimbsEndEarly,
 ghost use Rattle.stretch_laws.specs.Tracking.{IsTracking, RestingFindsAreNearer, radius};
 ghost use Rattle.trail_laws.specs.Phases.{IsAtRest, IsBeforeCommit, IsCurrent, IsPassingFrom, IsSettled};
 ghost use Rattle.trail_laws.specs.Rightness.{IsAnswered};
+ghost use Rattle.trail_laws.specs.Trail.{IsLed, mark_seen};
 ghost use Rattle.worked_examples.specs.Examples.{find_from};
 ghost use Rattle.worked_examples.specs.Trails.{LineMeets};
 
@@ -74,10 +75,15 @@ pub fn worked_climbs()
 {}
 
 /// A cost is of the whole way, from the leader, node 0, to the address's node and on from there: it
-/// is 3 here, and no less.
+/// is 3 here, and no less. The marks lead along it, in no more hops than there are nodes.
 pub fn wrong_costs()
     ensures whole { Costs line_setting 0 [] 1 0 (record { number = 0; node = 3 }) 3 }
     ensures less { Costs line_setting 0 [] 1 0 (record { number = 0; node = 3 }) 2 → ⊥ }
+    ensures leads { (history : History) (cluster : ℕ) (address : Address)
+        → Costs line_setting 0 history 1 cluster address 8
+        → (hops : ℕ) × (way : ℕ) × (hops ≤ 4)
+        × IsLed line_setting (mark_seen line_setting 0 history) None address.node
+        (standing line_setting 0 history) hops way }
 {}
 
 /// Over three levels of clusters 3 radii wide, a subscriber that made one move of weight 1 writes

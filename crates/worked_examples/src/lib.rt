@@ -48,7 +48,7 @@ pub use handsets::told_handsets;
 pub use moments::told_moments;
 pub use moves::{worked_moves, wrong_moves};
 pub use nexts::{worked_nexts, worked_stops, worked_ways};
-pub use orders::worked_orders;
+pub use orders::{worked_orders, wrong_made};
 pub use others::worked_others;
 pub use passes::{
     worked_bits, wrong_censuses, wrong_notes, wrong_passes, wrong_stays, wrong_turns,

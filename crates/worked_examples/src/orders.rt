@@ -1,7 +1,12 @@
-//! The worked examples of orders, computed: what becomes of the calls on the line of four nodes.
+//! The worked examples of orders, computed: what becomes of the calls on the line of four nodes;
+//! and a line that no script has.
 ghost use Rattle.std.specs.Prelude.{◌≡◌, [], ◌∷◌, Some, None, true, false};
+ghost use Rattle.node_set.specs.Ascending.{IsAscending};
 ghost use Rattle.directory.specs.Courses.{move_to, switch_off, switch_on};
-ghost use Rattle.directory.specs.Outcomes.{outcome_of};
+ghost use Rattle.directory.specs.Histories.{History};
+ghost use Rattle.directory.specs.Orders.{Scripts};
+ghost use Rattle.directory.specs.Outcomes.{IsMade, IsStepLine, outcome_of};
+ghost use Rattle.directory.specs.declared.answers.Done.{Done};
 ghost use Rattle.directory.specs.declared.answers.Why.TheVariants.{Empty as EmptyAt};
 ghost use Rattle.directory.specs.declared.answers.Done.TheVariants.{Moved, Switched, Found as FoundBy, Off as OffBy, Again as AgainBy};
 ghost use Rattle.plan_laws.specs.Examples.{line_setting, line_scripts};
@@ -87,4 +92,12 @@ pub fn worked_orders()
               ∷ [];
           order = 0 ∷ 1 ∷ 0 ∷ [];
         } }
+{}
+
+/// No line tells of a move where the script has none; and the tickets of a step's line ascend.
+pub fn wrong_made()
+    ensures unscripted { (history : History) → IsMade line_setting
+        (line_scripts ([]) ([])) history (Moved 0 1 3 2 1 0 3 5) → ⊥ }
+    ensures ascending { (scripts : Scripts) (history : History) (line : Done)
+        (made : IsStepLine line_setting scripts history 0 line) → IsAscending made.seen }
 {}

@@ -2,24 +2,25 @@
 //! node 3 to node 2.
 ghost use Rattle.std.specs.Prelude.{◌≡◌, ◌<◌, ◌≤◌, [], ◌∷◌, Some, ℕ, map, true};
 ghost use Rattle.node_set.specs.Ascending.{has};
-ghost use Rattle.entry_word.specs.declared.mark.PresenceMark.TheVariants.{Coming, Gone, Here, Off};
+ghost use Rattle.entry_word.specs.declared.mark.PresenceMark.TheVariants.{Coming, Empty, Gone, Here, Off};
 ghost use Rattle.directory.specs.Census.{census};
-ghost use Rattle.directory.specs.Courses.{move_to, switch_off};
+ghost use Rattle.directory.specs.Courses.{move_to, stop, switch_off};
 ghost use Rattle.directory.specs.Histories.{History, before, puts_to};
 ghost use Rattle.directory.specs.Legal.{IsLegal};
-ghost use Rattle.directory.specs.Puts.{last_move};
+ghost use Rattle.directory.specs.Puts.{course_in, last_move};
 ghost use Rattle.directory.specs.Writes.{visits};
 ghost use Rattle.plan_laws.specs.Examples.{line_setting};
 ghost use Rattle.trail_laws.specs.Censuses.{IsCounted, IsOnAt, ListedStandThere, RestingAreListed, who_ends_at};
 ghost use Rattle.trail_laws.specs.Phases.{ComingStands, IsAtRest, IsBeforeCommit, IsPassingFrom, IsSettled, PhasesCover};
-ghost use Rattle.trail_laws.specs.Trail.{GoesUp, NumbersGoUp, OneComing};
+ghost use Rattle.trail_laws.specs.Trail.{EntriesTell, GoesUp, NumbersGoUp, OneComing, entry_seen};
 ghost use Rattle.worked_examples.specs.Trails.{line_mark};
 
 /// After a legal history of the subscriber: where a Coming is at node 2, none is elsewhere; where
 /// its fourth move is begun, from node 3 to node 2, and not committed, that Coming is there; behind
 /// a Gone with number 4 that leads to node 2, the mark there has no lower number, and a Gone a
-/// higher one; and where no move waits for its commit and no passage is open, the subscriber is
-/// settled.
+/// higher one; where no move waits for its commit and no passage is open, the subscriber is
+/// settled; and where an address of level 1 names node 2, that is the stop of the address's number,
+/// and has a mark.
 pub fn worked_trails()
     ensures one { OneComing → (history : History) → IsLegal line_setting 0 history
         → (other p q u v : ℕ) → other < 4 → line_mark history 2 ≡ Coming p u
@@ -39,6 +40,14 @@ pub fn worked_trails()
         → (IsBeforeCommit line_setting 0 history → ⊥)
         → ((from : ℕ) → IsPassingFrom line_setting 0 history from → ⊥)
         → IsSettled line_setting 0 history }
+    ensures stop { EntriesTell → (history : History) → IsLegal line_setting 0 history
+        → (number : ℕ)
+        → entry_seen line_setting 0 history 1 0 ≡ Some (record { number = number; node = 2 })
+        → 2 ≡ stop (course_in line_setting 0 (puts_to 0 history)) number }
+    ensures marked { EntriesTell → (history : History) → IsLegal line_setting 0 history
+        → (number : ℕ)
+        → entry_seen line_setting 0 history 1 0 ≡ Some (record { number = number; node = 2 })
+        → line_mark history 2 ≡ Empty → ⊥ }
 {}
 
 /// The phases of the move, of whose six puts the fourth is the commit and the fifth the confirm:

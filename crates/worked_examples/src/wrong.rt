@@ -36,6 +36,10 @@ pub fn wrong_lines()
         (FoundBy 1 0 0 3 2 None 0 0 3 ∷ FoundBy 2 0 0 3 1 None 0 4 5 ∷ []) → ⊥ }
     ensures falling_off { TellRisingNumbers
         (FoundBy 1 0 0 3 2 None 0 0 3 ∷ OffBy 2 0 0 3 1 None 0 4 5 ∷ []) → ⊥ }
+    ensures falling_first { TellRisingNumbers
+        (FoundBy 1 0 0 3 1 None 0 4 5 ∷ FoundBy 2 0 0 3 2 None 0 0 3 ∷ []) → ⊥ }
+    ensures falling_alone { TellRisingNumbers
+        (FoundBy 1 0 0 3 2 None 0 0 3 ∷ FoundBy 1 0 0 3 1 None 0 4 5 ∷ []) → ⊥ }
     ensures out_of_turn { TellInTurn
         (FoundBy 1 0 0 3 2 None 0 4 5 ∷ FoundBy 1 0 1 3 2 None 0 0 3 ∷ []) → ⊥ }
     ensures off_out_of_turn { TellInTurn

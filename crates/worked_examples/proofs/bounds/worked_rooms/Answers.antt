@@ -1,4 +1,4 @@
-use Rattle.std.proofs.Common.{ap, ◌∙◌}
+use Rattle.std.proofs.Common.{ap, ◌∙◌, arith}
 use Rattle.std.specs.Prelude.{vec_capacity}
 use Rattle.worked_examples.proofs.bounds.worked_rooms.Goals as goal
 
@@ -17,11 +17,20 @@ returns-clause-callers c = λ machine room many. room.callers ∙ many
 pub returns-clause-turns : goal.returns-clause-turns
 returns-clause-turns c = λ old new same room. same.3 ∙ room
 
-pub returns-clause-lines : goal.returns-clause-lines
-returns-clause-lines c = λ old new same room. ap vec_capacity same.6 ∙ room
+pub returns-clause-calls_stay : goal.returns-clause-calls_stay
+returns-clause-calls_stay c = λ old new same room. ap vec_capacity same.6 ∙ room
 
 pub returns-clause-homes : goal.returns-clause-homes
 returns-clause-homes c = λ old new same levels. ap (λ homes. homes.levels) same.4 ∙ levels
 
 pub returns-clause-routes : goal.returns-clause-routes
 returns-clause-routes c = λ old new same levels. ap (λ routes. routes.levels) same.5 ∙ levels
+
+pub returns-clause-finds : goal.returns-clause-finds
+returns-clause-finds c = λ machine room one three d. room.finds 0 d (omega (arith, one)) ∙ three
+
+pub returns-clause-lines : goal.returns-clause-lines
+returns-clause-lines c = λ machine room one two d. (room.steps 0 d (omega (arith, one))).lines ∙ two
+
+pub returns-clause-ahead : goal.returns-clause-ahead
+returns-clause-ahead c = λ machine room one d. (room.steps 0 d (omega (arith, one))).ahead

@@ -10,3 +10,7 @@ pub returns-clause-less : goal.returns-clause-less
 returns-clause-less c = λ costs.
     let found = costs None tt in
     let far : 3 + found.1 ≤ 2 = found.4 in omega (arith, far)
+
+pub returns-clause-leads : goal.returns-clause-leads
+returns-clause-leads c = λ history cluster address costs.
+    let found = costs None tt in (found.0, found.1, found.2, found.3)

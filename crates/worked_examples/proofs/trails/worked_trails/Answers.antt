@@ -1,6 +1,6 @@
 use Rattle.std.proofs.Common.{inl, inr, subst, arith}
 use Rattle.plan_laws.specs.Examples.{line_setting}
-use Rattle.trail_laws.specs.Trail.{GoesUp}
+use Rattle.trail_laws.specs.Trail.{EntryTells, GoesUp}
 use Rattle.worked_examples.proofs.trails.worked_trails.Goals as goal
 
 pub returns-clause-one : goal.returns-clause-one
@@ -26,3 +26,13 @@ returns-clause-cover c = λ law history legal committed closed.
       | inr (inl passing) ↦ absurd (closed passing.0 passing.1)
       | inr (inr settled) ↦ settled
     ]
+
+pub returns-clause-stop : goal.returns-clause-stop
+returns-clause-stop c = λ law history legal number is.
+    (subst (EntryTells line_setting 0 history 1 0) is
+    (law line_setting 0 history (omega arith) legal 1 0 (omega arith))).3
+
+pub returns-clause-marked : goal.returns-clause-marked
+returns-clause-marked c = λ law history legal number is.
+    (subst (EntryTells line_setting 0 history 1 0) is
+    (law line_setting 0 history (omega arith) legal 1 0 (omega arith))).4

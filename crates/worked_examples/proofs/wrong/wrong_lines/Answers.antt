@@ -70,6 +70,14 @@ pub returns-clause-falling_off : goal.returns-clause-falling_off
 returns-clause-falling_off c = λ r. let e : 2 ≤ 1 = r 0 1 _ _ refl refl 0 2 1 3 5 (refl, refl, refl)
     (refl, refl, refl) (omega arith) in omega (arith, e)
 
+pub returns-clause-falling_first : goal.returns-clause-falling_first
+returns-clause-falling_first c = λ r. let e : 2 ≤ 1 = r 1 0 _ _ refl refl 0 2 1 3 5 (refl, refl, refl)
+    (refl, refl, refl) (omega arith) in omega (arith, e)
+
+pub returns-clause-falling_alone : goal.returns-clause-falling_alone
+returns-clause-falling_alone c = λ r. let e : 2 ≤ 1 = r 0 1 _ _ refl refl 0 2 1 3 5 (refl, refl, refl)
+    (refl, refl, refl) (omega arith) in omega (arith, e)
+
 abbrev find : ℕ → Found → ℕ → ℕ → FindLine
 find sub found first last =
     record { actor = 1; from = 0; sub = sub; found = found; first = first; last = last }
