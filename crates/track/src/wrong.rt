@@ -1,6 +1,7 @@
 //! Ends that no status may tell, each wrong in one part; the numbers of statuses; and what the laws
 //! of the top calls say of one command.
-ghost use Rattle.std.specs.Prelude.{◌≡◌, [], ◌∷◌, ◌<◌, ◌≤◌, ℕ, Bool, List, Option, length, map, Ok, Some, None, true, false};
+ghost use Rattle.std.specs.Prelude.{◌≡◌, [], ◌∷◌, ◌++◌, ◌<◌, ◌≤◌, ℕ, Bool, List, Option, length, map, Ok, Some, None, true, false};
+ghost use Rattle.make_load.specs.Load.{load_text_of};
 ghost use Rattle.net_reader.specs.Input.{Contents, IsInput};
 ghost use Rattle.net_reader.specs.Reading.{most_bytes};
 ghost use Rattle.report_check.specs.Cuts.{input_part, report_part};
@@ -9,7 +10,8 @@ ghost use Rattle.report_check.specs.declared.verdict.Flaw.{Flaw};
 ghost use Rattle.report_check.specs.declared.verdict.Verdict.TheVariants.{Unsound as Flawed};
 ghost use Rattle.report_text.specs.ReportText.{report_of};
 ghost use Rattle.word_line.specs.declared.command.Command.{Command};
-ghost use Rattle.word_line.specs.declared.command.Command.TheVariants.{Census, Check, Cover, Replay, Run};
+ghost use Rattle.word_line.specs.declared.command.Command.TheVariants.{Census, Check, Cover, Make, Replay, Run};
+ghost use Rattle.word_line.specs.declared.load.Load.{Load};
 ghost use Rattle.track.specs.declared.status.Status.{Status};
 ghost use Rattle.track.specs.declared.status.Status.TheVariants.{Done, Refused, BadWords, OutOfMemory, ReadFailed, WriteFailed, TooLong, Unsound};
 ghost use Rattle.track.specs.Ends.{Ends, EndsAlone, EndsAs, IsShort, Streams, Tells, status_number, streams};
@@ -152,7 +154,8 @@ pub fn wrong_rests()
     ensures unknown { IsEndOf (Some []) None → ⊥ }
 {}
 
-/// The statuses by number; words of no command end with 2 alone, and no status has 7.
+/// The statuses by number; words of no command end with 2 alone, and no status has 7. What a status
+/// says goes by whether the command reads an input.
 pub fn told_numbers()
     ensures numbers { map status_number (Done ∷ Refused ∷ BadWords ∷ OutOfMemory ∷ ReadFailed
         ∷ WriteFailed ∷ TooLong ∷ Unsound ∷ []) ≡ 0 ∷ 1 ∷ 2 ∷ 3 ∷ 4 ∷ 5 ∷ 6 ∷ 8 ∷ [] }
@@ -163,11 +166,17 @@ pub fn told_numbers()
         (streams None 0 (Some (1 ∷ [])) 0) → ⊥ }
     ensures seven { (threads : Bool) (command : Option Command) (before now : Streams)
         → Tells threads command 7 before now → ⊥ }
+    ensures reads { (threads : Bool) (status : Status) (before now : Streams)
+        → Ends threads (Some Cover) status before now → EndsAs Cover status before now }
+    ensures makes { (threads : Bool) (load : Load) (status : Status) (before now : Streams)
+        → Ends threads (Some (Make load)) status before now
+        → EndsAlone (load_text_of load) status before now }
 {}
 
 /// What the laws of the top calls say where all that they ask for holds: two texts of a cover are
 /// one, and it isn't refused too; a census that has memory is done, and a check whose report has a
-/// flaw says so; and a run prints an order whole, of which each replay has the same text.
+/// flaw says so; and a run prints an order whole, of which each replay has the same text. What was
+/// written, where nothing stood before, is the one text of the bytes, or a front of it.
 pub fn told_laws()
     ensures one { BytesHaveOneText → (bytes one other : List ℕ) (s t : Status)
         → IsText Cover bytes s one → IsText Cover bytes t other → one ≡ other }
@@ -198,4 +207,17 @@ pub fn told_laws()
         → ((others : List ℕ) (other : Status) (replayed : List ℕ)
         → IsInput others (Ok (in_order contents order)) → IsText Replay others other replayed
         → replayed ≡ text) → ⊥) → ⊥ }
+    ensures written { BytesHaveOneText → (bytes text : List ℕ) (now : Streams)
+        → IsText Cover bytes Done text
+        → EndsAs Cover Done (streams (Some bytes) 0 (Some []) 0) now → now.written ≡ Some text }
+    ensures written_refused { BytesHaveOneText → (bytes text : List ℕ) (now : Streams)
+        → IsText Cover bytes Refused text
+        → EndsAs Cover Refused (streams (Some bytes) 0 (Some []) 0) now → now.written ≡ Some text }
+    ensures written_check { BytesHaveOneText → (bytes text : List ℕ) (now : Streams)
+        → IsText Check bytes Unsound text
+        → EndsAs Check Unsound (streams (Some bytes) 0 (Some []) 0) now → now.written ≡ Some text }
+    ensures begun { BytesHaveOneText → (bytes text part : List ℕ) (s : Status)
+        (left : Option (List ℕ)) → IsText Cover bytes s text → EndsAs Cover WriteFailed
+        (streams (Some bytes) 0 (Some []) 0) (streams left 0 (Some part) 1)
+        → (back : List ℕ) × (text ≡ part ++ back) }
 {}

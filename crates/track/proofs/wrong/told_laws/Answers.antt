@@ -1,11 +1,15 @@
-use Rattle.std.proofs.Common.{◌≡◌, ◌⊎◌, [], Some, refl, ap, ◌∙◌, inl, inr, arith}
+use Rattle.std.proofs.Common.{◌≡◌, ◌⊎◌, ◌++◌, ℕ, List, [], Some, refl, ap, ◌∙◌, inl, inr, arith}
 use Rattle.outside.specs.Calls.{HasFaulted}
 use Rattle.word_line.specs.declared.command.Command.TheVariants.{Census, Check, Cover}
 use Rattle.track.specs.Ends.{streams}
 use Rattle.track.specs.Results.{verdict_status}
 use Rattle.track.specs.declared.status.Status.{Status}
-use Rattle.track.specs.declared.status.Status.TheVariants.{Done, OutOfMemory, Refused}
+use Rattle.track.specs.declared.status.Status.TheVariants.{Done, OutOfMemory, Refused, Unsound}
 use Rattle.track.proofs.wrong.told_laws.Goals as goal
+
+-- what was written, where nothing stood before, is the front
+front-is : {part front : List ℕ} → Some part ≡ Some front → front ≡ part
+front-is is = cc
 
 calm : HasFaulted 0 0 → ⊥
 calm faulted = omega (arith, faulted)
@@ -33,4 +37,19 @@ returns c = record {
       let its = law bytes contents status text input is in printed its.0 its.1 its.2;
   replayed = λ law bytes contents status text input is replayed.
       let its = law bytes contents status text input is in replayed its.0 its.1 its.3;
+  written = λ law bytes text now right ends.
+      ends.0.written
+      ∙ ap (λ (t : List ℕ). Some t) (law Cover bytes Done Done ends.0.text text refl ends.0.right right).1;
+  written_refused = λ law bytes text now right ends.
+      ends.0.written
+      ∙ ap (λ (t : List ℕ). Some t) (law Cover bytes Refused Refused ends.0.text text refl ends.0.right right).1;
+  written_check = λ law bytes text now right ends.
+      ends.0.written
+      ∙ ap (λ (t : List ℕ). Some t) (law Check bytes Unsound Unsound ends.0.text text refl ends.0.right right).1;
+  begun = λ law bytes text part s left right ends.
+      let part_of = ends.1.part in (
+        part_of.back,
+        (law Cover bytes s ends.1.status text ends.1.text refl right ends.1.right).1 ∙ part_of.parts
+            ∙ ap (λ (front : List ℕ). front ++ part_of.back) (front-is part_of.written),
+      );
 }

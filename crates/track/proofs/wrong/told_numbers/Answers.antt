@@ -19,4 +19,6 @@ returns c = record {
       let e : ◌≡◌ {A = ℕ} 0 2 = two-only tells.is tells.ends.0 in omega (arith, e);
   spoke = λ tells. cc (ap (λ (s : Streams). s.written) tells.ends.1);
   seven = λ threads command before now tells. seven-no tells.status tells.is;
+  reads = λ threads status before now ends. ends;
+  makes = λ threads load status before now ends. ends;
 }
