@@ -17,7 +17,6 @@ use Rattle.track.specs.Laws.{BytesHaveOneText, IsCompleteAlone, RunsAreReplayed}
 
 same_result : (command : Command) (contents : Contents) (one other : List ℕ) → is_served false command ≡ true
     → IsResult command contents one → IsResult command contents other → one ≡ other
-same_result commands.Cover contents one other served p q = p ∙ sym q
 same_result commands.Replay contents one other served p q = p.over.text_is ∙ sym q.over.text_is
 same_result commands.Check contents one other served p q = absurd p
 same_result commands.ToJson contents one other served p q = p ∙ sym q

@@ -22,7 +22,7 @@ use Rattle.region_plan.specs.Settings.{setting_of}
 use Rattle.stretch_laws.specs.Plans.{bound_of}
 use Rattle.stretch_laws.specs.NearOutcomes.{IsLineWithin}
 use Rattle.scripts.specs.Scripts.{scripts_of}
-use Rattle.region_plan.specs.Matched.{BoundsFinds, HasSmallSum}
+use Rattle.region_plan.specs.Matched.{BoundsFinds, HasFewReaders, HasSmallSum}
 use Rattle.region_plan.specs.Regions.{mean_plan}
 use Rattle.census_text.specs.CensusText.{census_text_of}
 use Rattle.make_load.specs.Load.{IsLoad, load_contents, load_text_of}
@@ -105,6 +105,13 @@ pub record IsReport (contents : Contents) (text : List ℕ) : Type 0 where
   pub over : IsReportOver (plan_for contents) contents text
   pub sound : verdict_for contents text ≡ Sound
 
+-- the text is that of the plan of the input's network: a matched plan that bounds the weight of its
+-- finds, in which no node reads more clusters of a level than n and k allow
+pub record IsPlanText (contents : Contents) (text : List ℕ) : Type 0 where
+  pub text_is : text ≡ plan_text_of (plan_for contents)
+  pub bounding : BoundsFinds (plan_for contents)
+  pub sparse : HasFewReaders (plan_for contents)
+
 -- the text is that of the plan over mean covers: a matched plan whose clusters are within 2 k + 1
 -- radii of their leaders, and whose sizes at a level are small in the sum
 pub record IsMeanPlanText (contents : Contents) (text : List ℕ) : Type 0 where
@@ -182,7 +189,7 @@ text_alone command = None
 
 -- what a command makes of an input; those that read nothing make nothing of one
 abbrev pub IsResult : Command → Contents → List ℕ → Type 0
-IsResult Cover contents text = text ≡ plan_text_of (plan_for contents)
+IsResult Cover contents text = IsPlanText contents text
 IsResult Replay contents text = IsReport contents text
 IsResult Census contents text = IsCensusText contents text
 IsResult Costs contents text = IsCostText contents text

@@ -14,8 +14,8 @@ ghost use Rattle.track.specs.Bodies.{text_of};
 ghost use Rattle.region_plan.specs.Coverings.{trade_off_of};
 ghost use Rattle.region_plan.specs.Regions.{covered_plan};
 ghost use Rattle.report_text.specs.PlanText.{plan_text_of};
-ghost use Rattle.track.specs.Results.{IsInputText, IsMeanPlanText, IsReport, IsReportOver, IsResult};
-ghost use Rattle.track.specs.Results.{IsRefused, IsRightAnswer, is_made_alike};
+ghost use Rattle.track.specs.Results.{IsInputText, IsMeanPlanText, IsPlanText, IsReport, IsReportOver};
+ghost use Rattle.track.specs.Results.{IsRefused, IsResult, IsRightAnswer, is_made_alike};
 ghost use Rattle.report_check.specs.Inputs.{network_of};
 ghost use Rattle.track.specs.Results.{outcome_for, outcome_over};
 
@@ -32,6 +32,7 @@ use own_reports::own_reports_are_sound;
 use plan_laws::covered_plan_of_same_walks;
 use region_plan::{
     Covering, Plan, covered_plan_is_bounding, covered_plan_means, mean_plan_is_small,
+    plan_is_sparse,
 };
 use scripts::scripts_are_valid;
 use std::alloc::{AllocError, Global};
@@ -72,6 +73,17 @@ fn cover(
     covered_plan_of_same_walks();
     let distances = Distances::new(alloc, graph)?;
     Plan::build_by(alloc, graph, &distances, covering)
+}
+
+// The plan of an input's network, which is sparse.
+fn phased_cover(alloc: Global, input: &Input, graph: &Graph) -> Result<Plan, AllocError>
+    requires valid { IsValid (seen_input input.now) }
+    requires graph { IsGraphOf input.now.nodes input.now.edges.items graph.now }
+    ensures { IfOk result (λ plan. IsPlanText (seen_input input.now) (plan_text_of plan)) }
+{
+    covered_plan_is_bounding();
+    plan_is_sparse();
+    cover(alloc, Covering::Phased(input.k), input, graph)
 }
 
 // The plan of an input's network over mean covers.
@@ -168,10 +180,7 @@ fn body_of(
     ensures { IfOk result (λ body. IsResult command (seen_input input.now) (text_of body)) }
 {
     match command {
-        Command::Cover => {
-            let plan = cover(alloc, Covering::Phased(input.k), input, graph)?;
-            Ok(Body::Plan(plan))
-        }
+        Command::Cover => Ok(Body::Plan(phased_cover(alloc, input, graph)?)),
         Command::MeanCover => Ok(Body::Plan(mean_cover(alloc, input, graph)?)),
         Command::Replay => {
             let outcome = own_replay(alloc, input, graph)?;

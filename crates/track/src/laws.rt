@@ -4,7 +4,7 @@ ghost use Rattle.directory.specs.Census.{census};
 ghost use Rattle.move_cost.specs.Costs.{cost_lines};
 ghost use Rattle.move_cost.specs.Rate.{IsWithinRate};
 ghost use Rattle.net_reader.specs.Input.{Contents};
-ghost use Rattle.region_plan.specs.Matched.{BoundsFinds, HasSmallSum};
+ghost use Rattle.region_plan.specs.Matched.{BoundsFinds, HasFewReaders, HasSmallSum};
 ghost use Rattle.region_plan.specs.Plan.{levels_of};
 ghost use Rattle.report_check.specs.declared.verdict.Verdict.TheVariants.{Sound};
 ghost use Rattle.report_text.specs.ReportText.{report_of};
@@ -13,10 +13,11 @@ ghost use Rattle.stretch_laws.specs.NearOutcomes.{IsLineWithin};
 ghost use Rattle.stretch_laws.specs.Plans.{bound_of};
 ghost use Rattle.trail_laws.specs.Censuses.{IsCounted, who_ends_at};
 ghost use Rattle.trail_laws.specs.RightOutcomes.{IsRightLine, TellInTurn, TellRisingNumbers};
+ghost use Rattle.word_line.specs.declared.command.Command.TheVariants.{Census, Costs, Cover, MeanCover, MeanReplay, Replay, ReplayJson, Run};
 ghost use Rattle.track.specs.Laws.{BytesHaveOneText, IsComplete, IsCompleteAlone, RunsAreReplayed};
 ghost use Rattle.report_check.specs.Inputs.{plan_for};
-ghost use Rattle.track.specs.Results.{IsCensusText, IsCostText, IsMeanPlanText, IsReport, IsReportJson, IsRunReport};
-ghost use Rattle.track.specs.Results.{history_for, mean_plan_for, outcome_for, setting_for, verdict_for};
+ghost use Rattle.track.specs.Results.{IsCensusText, IsCostText, IsMeanPlanText, IsPlanText, IsReport, IsReportJson, IsReportOver, IsResult, IsRunReport};
+ghost use Rattle.track.specs.Results.{history_for, in_order, mean_plan_for, outcome_for, setting_for, verdict_for};
 
 use json_form::one_text;
 use net_reader::text_says_one;
@@ -65,11 +66,16 @@ pub fn reports_tell()
         → verdict_for contents text ≡ Sound }
 {}
 
-/// What the texts of other commands tell: a plan over mean covers has its reach, bounds its finds
-/// and is small in the sum; a census lists whom the scripts leave at a node, each just where it
-/// stands; costs are within the rate; a report as JSON is that of a report; and the checker finds
-/// no flaw in the report of a run.
+/// What the texts of other commands tell: a plan bounds its finds and is sparse; one over mean
+/// covers has its reach, bounds its finds and is small in the sum; a census lists whom the scripts
+/// leave at a node, each just where it stands; costs are within the rate; a report as JSON is that
+/// of a report; and the report of a run is one under some order, in which the checker finds no
+/// flaw. What each command makes of an input is such a text.
 pub fn texts_tell()
+    ensures bounding { (contents : Contents) (text : List ℕ) → IsPlanText contents text
+        → BoundsFinds (plan_for contents) }
+    ensures sparse { (contents : Contents) (text : List ℕ) → IsPlanText contents text
+        → HasFewReaders (plan_for contents) }
     ensures mean_reach { (contents : Contents) (text : List ℕ) → IsMeanPlanText contents text
         → (mean_plan_for contents).reach ≡ 2 * contents.k + 1 }
     ensures mean_bounding { (contents : Contents) (text : List ℕ) → IsMeanPlanText contents text
@@ -90,4 +96,23 @@ pub fn texts_tell()
         → IsReport contents (report_of (outcome_for contents)) }
     ensures run_sound { (contents : Contents) (text : List ℕ) → IsRunReport contents text
         → verdict_for contents text ≡ Sound }
+    ensures run_report { (contents : Contents) (text : List ℕ) → IsRunReport contents text
+        → (order : List ℕ) × IsReport (in_order contents order) text }
+    ensures replay { (contents : Contents) (text : List ℕ) → IsResult Replay contents text
+        → IsReport contents text }
+    ensures mean_replay { (contents : Contents) (text : List ℕ)
+        → IsResult MeanReplay contents text
+        → IsReportOver (mean_plan_for contents) contents text }
+    ensures census { (contents : Contents) (text : List ℕ) → IsResult Census contents text
+        → IsCensusText contents text }
+    ensures costs { (contents : Contents) (text : List ℕ) → IsResult Costs contents text
+        → IsCostText contents text }
+    ensures replay_json { (contents : Contents) (text : List ℕ)
+        → IsResult ReplayJson contents text → IsReportJson contents text }
+    ensures cover { (contents : Contents) (text : List ℕ) → IsResult Cover contents text
+        → IsPlanText contents text }
+    ensures mean_cover { (contents : Contents) (text : List ℕ)
+        → IsResult MeanCover contents text → IsMeanPlanText contents text }
+    ensures run { (contents : Contents) (text : List ℕ) → IsResult Run contents text
+        → IsRunReport contents text }
 {}

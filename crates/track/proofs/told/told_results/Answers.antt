@@ -12,7 +12,7 @@ use Rattle.track.specs.Results.{outcome_over}
 use Rattle.track.proofs.told.told_results.Goals as goal
 
 pub returns-clause-cover : goal.returns-clause-cover
-returns-clause-cover c = λ text told. told ∙ ap plan_text_of c.line_has_its_plan.ensures.plan
+returns-clause-cover c = λ text told. told.text_is ∙ ap plan_text_of c.line_has_its_plan.ensures.plan
 
 pub returns-clause-mean_cover : goal.returns-clause-mean_cover
 returns-clause-mean_cover c = λ text told.
