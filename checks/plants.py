@@ -44,7 +44,8 @@ LAST = re.compile(r"^only=\d+ proved=\d+$", re.M)
 TESTED = re.compile(r"^test result: (ok|FAILED)", re.M)
 FAILED = re.compile(r"^test .* FAILED$", re.M)
 FAULT = re.compile(r"^(?:note: )?\S+?:\d+:\d+: .*$", re.M)
-UNREAD = re.compile(r"is not in scope")
+ERROR = re.compile(r"(?:src|specs)/\S+?:\d+:\d+: error: (?:(`[^`]*`): )?(.*)")
+UNREAD = re.compile(r"is not in scope|has no field|is no name|operand is missing|cannot continue")
 NAMES_CRATE = re.compile(r"\bRattle\.(\w+)\.|^\s*(?:pub )?use (\w+)(?:::|;)", re.M)
 NAMES_OWN = re.compile(r"\bRattle\.worked_examples\.(specs|proofs)\.(\w+)")
 APART = "worked_examples"
@@ -172,13 +173,22 @@ def asked(root, top, share, functions, kept):
     return subprocess.run(words, cwd=known.folder, **HOW)
 
 
+def is_unread(fault):
+    """Whether a text can't be read, so that it is refused whatever it means: it names what its file
+    doesn't have, or what the prover says of it names no definition.
+    """
+    at = ERROR.search(fault)
+    if not at:
+        return "is not in scope" in fault
+    return not at[1] or bool(UNREAD.search(re.sub(r"`[^`]*`", "", at[2])))
+
+
 def judged(ran):
     """Whether all is proved or passes, or what is refused first."""
     said, tested = ran.stdout, TESTED.search(ran.stdout)
     if LAST.search(said) and ran.returncode in (0, 1):
         faults = FAULT.findall(said)[:1]
-        # (a name that its file doesn't have is refused whatever it means)
-        refusal = "CAN'T BE READ" if any(map(UNREAD.search, faults)) else "refused"
+        refusal = "CAN'T BE READ" if any(map(is_unread, faults)) else "refused"
         return (refusal, faults) if ran.returncode else ("STAYS", [])
     if tested:
         return ("STAYS", []) if tested[1] == "ok" else ("refused", FAILED.findall(said)[:1])
