@@ -1,22 +1,24 @@
 -- An event comes into the log behind all that was logged before its step.
 use Rattle.std.proofs.Common.{◌≡◌, ◌≢◌, ◌⊎◌, ℕ, ◌<◌, List, [], ◌∷◌, ◌++◌, get_or, length, refl, sym, ap, ◌∙◌, inl, inr, ⊎_elim, arith, append_assoc, length-append, None}
 use Rattle.std.specs.List.{last_or}
+use Rattle.std.specs.Prelude.{slice_index}
 use Rattle.std.proofs.lemmas.List.{append-nil, append_cancel_left}
 use Rattle.std.proofs.lemmas.Bool.Decides.{nat_tests}
 use Rattle.directory.specs.ListLaws.{last_or-push, same_some}
 use mathlib.Core.Logic.{dite}
 use native.Mathlib.Decide.{ℕ_discrete, dec_le}
 use lib.ListN.{get_elem?}
-use Rattle.atomic_table.specs.Table.{State}
+use Rattle.atomic_table.specs.Table.{State, stepped}
 use Rattle.atomic_table.proofs.Lists.{set_here, set_else}
 use Rattle.entry_word.specs.declared.visit.Act.{Act}
-use Rattle.station.specs.Moments.{EventsComeNow, HasLocks, IsStepOf}
+use Rattle.station.specs.Moments.{EventsComeNow, HasLocks, IsStepOf, LostTurnsAreRead}
 use Rattle.station.specs.Rule.{KeepsRule, IsViewOf}
 use Rattle.station.specs.Setup.{Setup}
 use Rattle.station.specs.Turns.{HasLogged, Logs, event_actor, events_of, lock_in}
 use Rattle.station.specs.TurnLaws.{events-append, events-mine}
 use Rattle.station.specs.Views.{StandsForActor}
 use Rattle.station.specs.declared.view.TurnEvent.{TurnEvent}
+use Rattle.station.specs.declared.view.TurnEvent.TheVariants.{Lost}
 use Rattle.station.specs.declared.view.View.{View}
 use Rattle.station.proofs.Logging.{last_or_there, own-all}
 use Rattle.station.proofs.Steps.{same_view, seat_below}
@@ -170,3 +172,16 @@ come_now setup old new seat before after event was is me views alone low high mi
       low = low;
       high = high;
     } event mine logs
+
+-- so the rule allows no step to tell a turn as lost to another word than that of its lock
+pub lost_read : LostTurnsAreRead
+lost_read setup slots seat place node is_told change word before state known alone allowed rule homes view small tells =
+    let found = slice_index state.words place in
+    let event : TurnEvent = Lost before.0.low node (word found) in
+    let t = allowed state rule homes view small in
+    let told = t.4 tells in
+    let logs = told.2 in
+    let next = stepped state place (change found) seat before.1 t.0 t.1 in
+    let locks = come_now setup state next seat before.0 t.0 event rule t.3 view refl alone told.0 told.1 refl logs in
+    let may = logs.in_turn (before.0.turns ++ logs.later) event [] logs.goes_on in
+    (locks.words node known ∙ may.0, may.1, may.2)

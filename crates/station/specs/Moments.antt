@@ -1,11 +1,13 @@
 -- When an event comes into the log of turns: at the very step that makes it one of a view's own. So
 -- no step can add a turn that was lost earlier, or that nobody has: whatever the step is, just
 -- before it the lock word of the node is that of the other actor, whose pass is inside the node.
+-- Nor does the rule allow a step that tells a lost turn by another word than the lock has.
 -- And of a whole call, whatever its steps are: each event that the view has logged meanwhile came
 -- at a step of the call, and just before that step the locks were as the event says.
--- Key laws: `events_come_now` (of a step), `events_come_within_calls` (of a call).
-use Rattle.std.specs.Prelude.{◌≡◌, ◌≢◌, ◌⊎◌, ℕ, suc, ◌<◌, ◌≤◌, List, ◌∷◌, ◌++◌, length, Some, slice_index, slice_set}
-use Rattle.atomic_table.specs.Table.{State}
+-- Key laws: `events_come_now` (of a step), `lost_turns_are_read` (of what a step may tell),
+-- `events_come_within_calls` (of a call).
+use Rattle.std.specs.Prelude.{◌≡◌, ◌≢◌, ◌⊎◌, ℕ, suc, ◌^◌, ◌<◌, ◌≤◌, Bool, true, List, ◌∷◌, ◌++◌, length, Some, slice_index, slice_set}
+use Rattle.atomic_table.specs.Table.{Allows, Me, State}
 use Rattle.entry_word.specs.declared.visit.Act.{Act}
 use Rattle.station.specs.Setup.{Setup, nodes_in, lock_word}
 use Rattle.station.specs.Turns.{Logs, event_actor, lock_in}
@@ -34,6 +36,29 @@ EventsComeNow =
     → before.high ≡ suc before.low → after.low ≡ before.low → after.high ≡ before.high
     → event_actor event ≡ before.low → (logs : Logs before.turns event after.turns)
     → HasLocks setup old (before.turns ++ logs.later)
+
+-- a step tells of some numbers found that a turn at the node is lost, and to which lock word: its
+-- seat stands for the same actor afterwards, and has logged it so
+abbrev pub TellsLost : Me Act View → ℕ → (ℕ → Bool) → (ℕ → ℕ) → ℕ → Me Act View → Type 0
+TellsLost before node is_told word found after =
+    is_told found ≡ true
+    → (after.0.low ≡ before.0.low) × (after.0.high ≡ before.0.high)
+    × Logs before.0.turns (Lost before.0.low node (word found)) after.0.turns
+
+-- the rule allows a step to tell so only where it is true. Whatever word of the table the step is
+-- at, and whatever it makes of it: where it tells a lost turn, the lock word of the node is the one
+-- that it tells, which isn't 0, and isn't that of its own actor
+abbrev pub LostTurnsAreRead : Type 0
+LostTurnsAreRead =
+    (setup : Setup) (slots seat place node : ℕ) (is_told : ℕ → Bool) (change word : ℕ → ℕ)
+    (before : Me Act View) (state : State Act View) → node < nodes_in setup
+    → before.0.high ≡ suc before.0.low → Allows (KeepsRule setup) slots seat before place change
+    (TellsLost before node is_told word) → KeepsRule setup state → length state.homes ≡ slots
+    → IsViewOf state.views seat before.0 → slice_index state.words place < 2 ^ 64
+    → is_told (slice_index state.words place) ≡ true
+    → (slice_index state.words (lock_word node) ≡ word (slice_index state.words place))
+    × (word (slice_index state.words place) ≢ 0)
+    × (word (slice_index state.words place) ≢ suc before.0.low)
 
 -- an event stands in a log, behind these
 abbrev pub IsLoggedAt : List TurnEvent → TurnEvent → List TurnEvent → Type 0

@@ -34,5 +34,5 @@ pub use net_graph::OutOfMemory;
 pub use notes::Note;
 pub use pass::Pass;
 pub use tracker::Tracker;
-pub use turns::{Held, Stay, events_come_now, events_come_within_calls};
+pub use turns::{Held, Stay, events_come_now, events_come_within_calls, lost_turns_are_read};
 pub use visits::{CensusSeen, Looked};

@@ -2,7 +2,7 @@
 ghost use Rattle.std.specs.Prelude.{◌≡◌, ◌<◌, List, suc, false, Some, None, MatchResult};
 ghost use Rattle.entry_word.specs.declared.visit.Act.TheVariants.{Census};
 ghost use Rattle.station.specs.Passes.{IsPassOf, IsStayOf, actor_of};
-ghost use Rattle.station.specs.Moments.{EventsComeNow, EventsComeWithinCalls};
+ghost use Rattle.station.specs.Moments.{EventsComeNow, EventsComeWithinCalls, LostTurnsAreRead};
 ghost use Rattle.station.specs.Turns.{Logs};
 ghost use Rattle.station.specs.declared.view.TurnEvent.{TurnEvent};
 ghost use Rattle.station.specs.declared.view.TurnEvent.TheVariants.{GivenBack, Lost, Won};
@@ -167,6 +167,13 @@ impl Tracker {
 /// of its steps the lock word named the other actor, whose pass was inside the node.
 pub fn events_come_now()
     ensures { EventsComeNow }
+{}
+
+/// The rule allows no step to tell a turn as lost, whatever the step does, unless the lock word is
+/// the one that it tells, another actor's, in each state in which it tells so. A step that names an
+/// actor without having read its lock can't be proved.
+pub fn lost_turns_are_read()
+    ensures { LostTurnsAreRead }
 {}
 
 /// Each event that a pass has logged in a whole call came at one of the call's own steps, and just

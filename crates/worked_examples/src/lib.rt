@@ -45,7 +45,7 @@ pub use grammar::{
     worked_apart, worked_bytes, worked_calls, worked_limits, worked_lines, worked_places,
 };
 pub use handsets::told_handsets;
-pub use moments::told_moments;
+pub use moments::{told_moments, wrong_losses};
 pub use moves::{worked_moves, wrong_moves};
 pub use nexts::{worked_nexts, worked_stops, worked_ways};
 pub use orders::{worked_orders, wrong_made};

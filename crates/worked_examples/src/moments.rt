@@ -1,14 +1,14 @@
 //! When an event of a turn comes: what the locks are just before the step that brings it.
-ghost use Rattle.std.specs.Prelude.{◌≡◌, ◌<◌, ℕ, List, Some, slice_index};
-ghost use Rattle.atomic_table.specs.Table.{State};
+ghost use Rattle.std.specs.Prelude.{◌≡◌, ◌<◌, ◌==◌, ℕ, List, Some, slice_index, true};
+ghost use Rattle.atomic_table.specs.Table.{Me, State};
 ghost use Rattle.entry_word.specs.declared.visit.Act.{Act};
-ghost use Rattle.station.specs.Moments.{ComesAt, EventsComeNow, GoesThrough, IsMoment, IsStepBeside, IsStepOf};
+ghost use Rattle.station.specs.Moments.{ComesAt, EventsComeNow, GoesThrough, IsMoment, IsStepBeside, IsStepOf, LostTurnsAreRead};
 ghost use Rattle.station.specs.Rule.{IsViewOf, KeepsRule};
 ghost use Rattle.station.specs.Setup.{Setup, lock_word, nodes_in};
 ghost use Rattle.station.specs.declared.view.TurnEvent.{TurnEvent};
 ghost use Rattle.station.specs.declared.view.TurnEvent.TheVariants.{Lost, Won};
 ghost use Rattle.station.specs.declared.view.View.{View};
-ghost use Rattle.worked_examples.specs.Moments.{Brings, one_step};
+ghost use Rattle.worked_examples.specs.Moments.{Brings, IsToldLost, one_step};
 
 /// Just before the step at which actor 0 loses a turn at node 2 to actor 5, the lock word there is
 /// 6, and the pass of actor 5 is inside; just before it wins one the word is 0. A moment at which a
@@ -42,4 +42,28 @@ pub fn told_moments()
     ensures beside { (setup : Setup) (seat : ℕ) (old new : State Act View)
         → KeepsRule setup old → KeepsRule setup new → IsStepBeside seat old new
         → GoesThrough setup seat 1 (one_step old new) }
+{}
+
+/// No step may tell that actor 4 has lost a turn at node 2 to actor 0, whatever it reads or writes,
+/// where the lock word is that of actor 5, or where it is free; nor one that finds the lock free
+/// and tells so then alone. None may tell that it was lost to nobody, or to itself.
+pub fn wrong_losses()
+    ensures anothers { LostTurnsAreRead → (setup : Setup) (place : ℕ) (change : ℕ → ℕ)
+        (before : Me Act View) (state : State Act View)
+        → IsToldLost setup place change (λ found. true) 1 before state
+        → slice_index state.words (lock_word 2) ≡ 6 → ⊥ }
+    ensures free { LostTurnsAreRead → (setup : Setup) (place : ℕ) (change : ℕ → ℕ)
+        (before : Me Act View) (state : State Act View)
+        → IsToldLost setup place change (λ found. true) 1 before state
+        → slice_index state.words (lock_word 2) ≡ 0 → ⊥ }
+    ensures found_free { LostTurnsAreRead → (setup : Setup) (change : ℕ → ℕ)
+        (before : Me Act View) (state : State Act View)
+        → IsToldLost setup (lock_word 2) change (λ found. found == 0) 1 before state
+        → slice_index state.words (lock_word 2) ≡ 0 → ⊥ }
+    ensures nobody { LostTurnsAreRead → (setup : Setup) (place : ℕ) (change : ℕ → ℕ)
+        (before : Me Act View) (state : State Act View)
+        → IsToldLost setup place change (λ found. true) 0 before state → ⊥ }
+    ensures own { LostTurnsAreRead → (setup : Setup) (place : ℕ) (change : ℕ → ℕ)
+        (before : Me Act View) (state : State Act View)
+        → IsToldLost setup place change (λ found. true) 5 before state → ⊥ }
 {}
