@@ -1,6 +1,7 @@
 -- Short laws of handsets and passes, for the crates above. Key laws: `new-handset` (a new handset
--- goes with the fresh pass of its subscriber), `begun-handset` (one that begins a move still goes
--- with its pass), `at-rest` (what a handset tells of its course, and that all visits are made).
+-- goes with the fresh pass of its subscriber), `begun-handset` and `switched-handset` (one that
+-- begins a move, or a switch, still goes with its pass), `at-rest` (what a handset tells of its
+-- course, and that all visits are made).
 use Rattle.std.proofs.Common.{◌≡◌, ◌≢◌, ℕ, suc, ◌-◌, ◌^◌, ◌<◌, ◌≤◌, ◌==◌, Bool, true, false, not, List, [], ◌∷◌, ◌++◌, Some, None, length, take, refl, sym, ap, ◌∙◌, subst, arith}
 use Rattle.std.specs.Prelude.{nat_le, if◌then◌else◌}
 use Rattle.std.proofs.lemmas.Bool.{eqb-false, leb-false}
@@ -10,12 +11,14 @@ use Rattle.directory.specs.Histories.{puts_to}
 use Rattle.directory.specs.Settings.{Setting, start}
 use Rattle.directory.specs.StepLaws.{take-append, visits-append, visits_in}
 use Rattle.directory.specs.Writes.{visits}
-use Rattle.handset.specs.Beginning.{begin_move, is_rest, move_fault}
+use Rattle.handset.specs.Beginning.{begin_move, is_rest, move_fault, same_state, switch_fault}
 use Rattle.handset.specs.Condition.{GoesWith, HandsetData, begun_at}
 use Rattle.directory.specs.Amid.{course_of}
-use Rattle.handset.specs.Stands.{StandsForSteps}
+use Rattle.handset.specs.Stands.{StandsForSteps, switch_to}
 use Rattle.handset.specs.declared.fault.MoveFault.TheVariants.{NoNode, SamePlace, UnderWay, IsOff, NumbersSpent}
+use Rattle.handset.specs.declared.fault.SwitchFault.TheVariants.{UnderWay as StillUnderWay, Already}
 use Rattle.handset.specs.declared.stage.Stage.{Stage}
+use Rattle.handset.specs.declared.stage.Stage.TheVariants.{Switching}
 use Rattle.region_plan.specs.Plan.{PlanData, nodes_of}
 use Rattle.station.specs.Handsets.{IsHandsetOf}
 use Rattle.station.specs.Passes.{fresh_view}
@@ -109,6 +112,36 @@ made-still setting sub made steps step few =
     ∙ (take-append made all more
     ∙ (ap (λ k. take made all ++ take k more) none ∙ append-nil (take made all))))
 
+-- a handset that has begun a step that may come behind its steps
+more-handset : (setup : Setup) (view : View) (handset begun : HandsetData) (step : Step)
+    → (its : IsHandsetOf setup view handset) → is_rest handset.stage ≡ true
+    → begun.sub ≡ handset.sub → GoesWith setup.plan begun
+    → MayStep (setting_in setup) (course_of (setting_in setup) view.low its.steps) step
+    → ((steps : List Step) (made : ℕ) → StandsForSteps (setting_in setup) handset steps made
+    → StandsForSteps (setting_in setup) begun (steps ++ step ∷ []) made)
+    → (next : IsHandsetOf setup view begun) × (next.steps ≡ its.steps ++ step ∷ [])
+more-handset setup view handset begun step its rests same goes may stands =
+    let setting : Setting = setting_in setup in
+    let puts = puts_to view.low view.seen in
+    let rest = at-rest setting view.low handset its.steps (length puts) its.sub its.stands
+    rests in (
+      record {
+        goes = goes;
+        sub = same ∙ its.sub;
+        steps = its.steps ++ step ∷ [];
+        script = record {
+          known = its.script.known;
+          begins = its.script.begins;
+          allowed = may-more setting (course_at (start setting view.low)) its.steps step
+              its.script.allowed may;
+        };
+        stands = stands its.steps (length puts) its.stands;
+        made = its.made ∙ made-still setting view.low (length puts) its.steps step
+            (omega (arith, rest.all));
+      },
+      refl,
+    )
+
 -- a handset that has begun a move
 pub begun-handset : (setup : Setup) (view : View) (handset begun : HandsetData) (to : ℕ)
     → (its : IsHandsetOf setup view handset) → move_fault setup.plan handset to ≡ None
@@ -127,28 +160,51 @@ begun-handset setup view handset begun to its begins is goes stands =
       its.goes.numbered,
       its.goes.counted,
       ap (λ (stage : Stage). begun_at stage handset.number) (rest-means handset.stage holds.2),
-    ) in (
-      record {
-        goes = goes;
-        sub = ap (λ h. h.sub) is ∙ its.sub;
-        steps = its.steps ++ move_to to ∷ [];
-        script = record {
-          known = its.script.known;
-          begins = its.script.begins;
-          allowed = may-more setting (course_at (start setting view.low)) its.steps (move_to to)
-              its.script.allowed (record {
-                inside = holds.0;
-                moving = λ e. holds.1 (e ∙ sym rest.place);
-                is_on = sym rest.is_off ∙ holds.3;
-                few = below handset.number _ rest.number few holds.4;
-              });
-        };
-        stands = stands its.steps (length puts) its.stands;
-        made = its.made ∙ made-still setting view.low (length puts) its.steps (move_to to)
-            (omega (arith, rest.all));
-      },
-      refl,
-    )
+    ) in
+    more-handset setup view handset begun (move_to to) its holds.2 (ap (λ h. h.sub) is) goes
+    (record {
+      inside = holds.0;
+      moving = λ e. holds.1 (e ∙ sym rest.place);
+      is_on = sym rest.is_off ∙ holds.3;
+      few = below handset.number _ rest.number few holds.4;
+    }) stands
   where
     below : (a b : ℕ) → a ≡ b → a < 2 ^ 32 → a ≢ 2 ^ 32 - 1 → suc b < 2 ^ 32
     below a b e f g = omega (arith, e, f, g)
+
+-- where a switch has no fault, the handset rests, and is in the other state
+pub switch-conditions : (handset : HandsetData) (off : Bool) → switch_fault handset off ≡ None
+    → (is_rest handset.stage ≡ true) × (same_state handset.is_off off ≡ false)
+switch-conditions handset off none =
+    unfaulty (is_rest handset.stage) (same_state handset.is_off off) none
+  where
+    unfaulty : (rests same : Bool)
+        → (if not rests then Some StillUnderWay else if same then Some Already else None) ≡ None
+        → (rests ≡ true) × (same ≡ false)
+    unfaulty false same h = cc
+    unfaulty true true h = cc
+    unfaulty true false h = (refl, refl)
+
+-- a switch to the other state may come
+may-switch : (setting : Setting) (course : Course) (was off : Bool) → was ≡ course.is_off
+    → same_state was off ≡ false → MayStep setting course (switch_to off)
+may-switch setting course true true is differs = cc
+may-switch setting course true false is differs = sym is
+may-switch setting course false true is differs = sym is
+may-switch setting course false false is differs = cc
+
+-- a handset that has begun a switch
+pub switched-handset : (setup : Setup) (view : View) (handset switched : HandsetData) (off : Bool)
+    → (its : IsHandsetOf setup view handset) → switch_fault handset off ≡ None
+    → switched ≡ record handset { stage = Switching off } → GoesWith setup.plan switched
+    → ((steps : List Step) (made : ℕ) → StandsForSteps (setting_in setup) handset steps made
+    → StandsForSteps (setting_in setup) switched (steps ++ switch_to off ∷ []) made)
+    → (next : IsHandsetOf setup view switched) × (next.steps ≡ its.steps ++ switch_to off ∷ [])
+switched-handset setup view handset switched off its begins is goes stands =
+    let setting : Setting = setting_in setup in
+    let holds = switch-conditions handset off begins in
+    let rest = at-rest setting view.low handset its.steps (length (puts_to view.low view.seen))
+    its.sub its.stands holds.0 in
+    more-handset setup view handset switched (switch_to off) its holds.0 (ap (λ h. h.sub) is) goes
+    (may-switch setting (course_of setting view.low its.steps) handset.is_off off rest.is_off
+    holds.1) stands

@@ -134,6 +134,25 @@ fn a_switch_and_a_find(rt: HostRuntime) -> Result<(), Fail> {
     play_over(&rt, rt.alloc(), Over::Line, true, 20, rows, wanted)
 }
 
+// Between two moves the subscriber switches off (`switch 1`) and on again, by one put each.
+#[test]
+fn a_switch_between_two_moves(rt: HostRuntime) -> Result<(), Fail> {
+    let rows = "own move 2>Ok(Moved { number: 1, first: 0, commit: 3, last: 5 })|\
+        own switch 0>Err(Already)|\
+        own switch 1>Ok(())|\
+        own switch 0>Err(UnderWay)|\
+        own put>Some(Ok(6))|\
+        own move 3>Err(IsOff)|\
+        caller census 2>Some(Ok(CensusSeen { ticket: 7, who: 0, count: 0 }))|\
+        own switch 0>Ok(())|\
+        own step>Ok(8)|\
+        caller census 2>Some(Ok(CensusSeen { ticket: 9, who: 1, count: 1 }))|\
+        own move 3>Ok(Moved { number: 2, first: 10, commit: 14, last: 17 })|\
+        state>([18, 10, 0], [14, 28, 30], false)|";
+    let wanted = "(Missing { actor: 1 }, [0, 0, 0, 0, 0, 0, 0, 1, 0, 1, 0, 0, 0, 0, 0, 0, 0, 0])";
+    play_over(&rt, rt.alloc(), Over::Line, false, 30, rows, wanted)
+}
+
 // The subscriber moves from one end to the other by five puts, the last of which purges the first.
 #[test]
 fn a_move_over_the_most_nodes(rt: HostRuntime) -> Result<(), Fail> {

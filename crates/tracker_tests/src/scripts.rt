@@ -11,7 +11,8 @@ use crate::parties::{Parties, reserve_all};
 use crate::rows::{first_word, number_of, row_of, rows_in, step_of};
 use crate::sameness::same_shown;
 use crate::steps::{
-    begin, census, find_soon, find_through, first_look, hear, look, make_step, put, whole_move,
+    begin, census, find_soon, find_through, first_look, hear, look, make_step, put, switch,
+    whole_move,
 };
 use distances::Distances;
 use handset::Handset;
@@ -44,6 +45,10 @@ fn take_own<R: Wait + Abort>(
     match name {
         "begin" => {
             let begun = begin(tracker, own, plan, distances, handset, one);
+            same_shown(rt, alloc, place, &begun, wanted)
+        }
+        "switch" => {
+            let begun = switch(tracker, own, handset, one == 1);
             same_shown(rt, alloc, place, &begun, wanted)
         }
         "put" => same_shown(rt, alloc, place, &put(tracker, own, plan, handset), wanted),

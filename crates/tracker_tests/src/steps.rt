@@ -10,7 +10,7 @@ ghost use Rattle.tracker_tests.specs.Ready.{IsOver};
 use directory::Found;
 use distances::Distances;
 use entry_word::Key;
-use handset::{Handset, MoveFault};
+use handset::{Handset, MoveFault, SwitchFault};
 use region_plan::Plan;
 use station::{CensusSeen, Held, Looked, Pass, Tracker};
 use std::sync::Wait;
@@ -36,6 +36,24 @@ pub fn begin(
     let _ = tracker;
     let _ = own;
     match handset.begin(plan, distances, to) {
+        Ok(()) => Ok(()),
+        Err(fault) => Err(fault),
+    }
+}
+
+// The handset begins to switch off or on.
+pub fn switch(
+    tracker: &Tracker,
+    own: &Pass,
+    handset: &mut Handset,
+    off: bool,
+) -> Result<(), SwitchFault>
+    requires own { IsHandsetOf tracker.now.setup own.now.view handset.old }
+    ensures own { IsHandsetOf tracker.now.setup own.now.view handset.new }
+{
+    let _ = tracker;
+    let _ = own;
+    match handset.switch(off) {
         Ok(()) => Ok(()),
         Err(fault) => Err(fault),
     }

@@ -1,6 +1,8 @@
-use Rattle.std.proofs.Common.{refl, sym, subst}
+use Rattle.std.proofs.Common.{List, [], ◌∷◌, ◌++◌, true, refl, sym, subst, ap, ◌∙◌}
+use Rattle.directory.specs.Courses.{Step, move_to, switch_off}
 use Rattle.directory.specs.Keys.{key_node}
 use Rattle.entry_word.specs.declared.visit.Act.TheVariants.{Census, Look}
+use Rattle.station.specs.HandsetLaws.{begun-handset, switched-handset}
 use Rattle.station.specs.Handsets.{IsHandsetOf}
 use Rattle.station.specs.Setup.{Setup, setting_in}
 use Rattle.station.specs.StayLaws.{handset-heard, handset-held, handset-inside, handset-outside, handset-visited}
@@ -46,3 +48,13 @@ returns-clause-stopped c = λ old new call held handset stopped its.
     (key_node (setting_in old.view.setup) stopped.key) held new handset stopped.turn
     (subst (λ (s : Setup). IsHandsetOf s
     between.view handset) (sym same) (stopped.keeps handset its)))
+
+pub returns-clause-begun : goal.returns-clause-begun
+returns-clause-begun c = λ setup view handset begun its before begins is goes stands.
+    let next = begun-handset setup view handset begun 2 its begins is goes stands in
+    (next.0, next.1 ∙ ap (λ (steps : List Step). steps ++ move_to 2 ∷ []) before)
+
+pub returns-clause-switched : goal.returns-clause-switched
+returns-clause-switched c = λ setup view handset switched its before begins is goes stands.
+    let next = switched-handset setup view handset switched true its begins is goes stands in
+    (next.0, next.1 ∙ ap (λ (steps : List Step). steps ++ switch_off ∷ []) before)
