@@ -82,6 +82,8 @@ pub record HasPut (setup : Setup) (begun : PassData) (from : HandsetData) (to : 
   pub puts : puts_to (actor_of begun) pass.view.seen ≡ puts_to (actor_of begun) begun.view.seen ++ put
   pub its : IsHandsetOf setup pass.view handset
   pub steps_are : its.steps ≡ steps ++ move_to to ∷ []
+  pub goes_on : (own : IsHandsetOf setup begun.view from)
+      → (its : IsHandsetOf setup pass.view handset) × (its.steps ≡ own.steps ++ move_to to ∷ [])
   pub after : handset ≡ after_writes (setting_in setup) (begin_move (setting_in setup) from to) (length made)
   pub room : length (visits (setting_in setup) (actor_of begun) (steps ++ move_to to ∷ []))
       ≤ length (puts_to (actor_of begun) pass.view.seen) + pass.spare
@@ -121,6 +123,7 @@ put-none short {setup} {pass} {handset} {begun} {to} its may is goes stands =
       puts = sym (append-nil _);
       its = next.0;
       steps_are = next.1;
+      goes_on = λ own. begun-handset setup pass.view handset begun to own may.begins is goes stands;
       after = is ∙ none-written setting (begin_move setting handset to);
       room = omega (
         arith,
@@ -159,6 +162,7 @@ put-tried lost at =
       puts = at.puts;
       its = search;
       steps_are = at.steps_are;
+      goes_on = λ own. let t = at.goes_on own in (search t.0, t.1);
       after = at.after;
       room = at.room;
     })
@@ -196,6 +200,9 @@ put-more {setup} {begun} {from} {to} {made} {pass} {new} {handset} {ticket} at s
       puts = puts ∙ (ap (λ l. l ++ visit ∷ []) at.puts ∙ append_assoc _ at.put (visit ∷ []));
       its = goes.own;
       steps_are = goes.steps_are ∙ at.steps_are;
+      goes_on = λ own. let t = at.goes_on own in
+          let on = stepped.goes_on t.0 in
+          (on.own, on.steps_are ∙ t.1);
       after = stepped.made ∙ (ap (λ h. after_write setting h h.stage) at.after
           ∙ (one-written setting (begin_move setting from to) (length made)
           ∙ ap (after_writes setting (begin_move setting from to)) (sym one)));

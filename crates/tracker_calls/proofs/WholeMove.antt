@@ -140,7 +140,7 @@ moving-out {setup} {begun} {handset} moving none =
     let count = sym put.count ∙ ap length all in
     let visits = put.visits_are ∙ ap (λ l. own (actor_of begun) begun.view.seen ++ l) all in
     let commit = (moving.timed.late (ap is_early (rest-means handset.stage rests))).0 in
-    search
+    search put.goes_on
 
 -- nothing is due where the code reads no next put
 pub none-due : (setup : Setup) {plan : PlanData} (handset : HandsetData) {next : Option Visit} → plan ≡ setup.plan

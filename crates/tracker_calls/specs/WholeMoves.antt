@@ -55,7 +55,8 @@ after_writes setting handset (suc count) =
 
 -- the pass has made all puts of a move with these tickets, as its next own visits; the handset,
 -- which stood for these steps with nothing left, has begun the move and made each of its puts, and
--- now stands for the steps and the move behind them
+-- now stands for the steps and the move behind them; whatever steps of its own a caller knew it to
+-- stand for, it stands for these and the move
 pub record HasMoved (setup : Setup) (old : PassData) (handset : HandsetData) (to : ℕ)
     (moved : Moved) (new : PassData) (after : HandsetData) : Type 0 where
   pub steps : List Step
@@ -72,6 +73,8 @@ pub record HasMoved (setup : Setup) (old : PassData) (handset : HandsetData) (to
   pub rest : due (setting_in setup) after ≡ None
   pub its : IsHandsetOf setup new.view after
   pub steps_are : its.steps ≡ steps ++ move_to to ∷ []
+  pub goes_on : (own : IsHandsetOf setup old.view handset)
+      → (its : IsHandsetOf setup new.view after) × (its.steps ≡ own.steps ++ move_to to ∷ [])
   pub number : moved.number ≡ suc handset.number
   pub first : moved.first ≡ first_of made
   pub commit : moved.commit ≡ slice_index made

@@ -1,7 +1,7 @@
 //! What a whole move over a tracker tells: its visits, its tickets and its number.
 ghost use Rattle.std.specs.Prelude.{◌≡◌, [], ◌∷◌, ℕ, List, Some, length};
 ghost use Rattle.entry_word.specs.declared.visit.Visit.{Visit};
-ghost use Rattle.directory.specs.Courses.{move_to};
+ghost use Rattle.directory.specs.Courses.{move_to, switch_off, switch_on};
 ghost use Rattle.directory.specs.Histories.{own, puts_to};
 ghost use Rattle.directory.specs.Writes.{visits};
 ghost use Rattle.handset.specs.Beginning.{begin_move, journey_to};
@@ -19,7 +19,8 @@ ghost use Rattle.worked_examples.specs.Passes.{HasPass, count_by, line_setup};
 
 /// The first move of the line's subscriber, to node 2: its pass has made the six puts of the move,
 /// they are all of its own visits, behind those that it had made before, and its handset stands for
-/// this one step.
+/// this one step. One that was known to stand for a move, a switch off and one on stands for these
+/// and the move.
 pub fn worked_moves()
     ensures count { (old new : PassData) (handset after : HandsetData) (moved : Moved)
         (made : HasMoved line_setup old handset 2 moved new after) → HasPass old 0 []
@@ -35,6 +36,12 @@ pub fn worked_moves()
     ensures steps { (old new : PassData) (handset after : HandsetData) (moved : Moved)
         (made : HasMoved line_setup old handset 2 moved new after) → made.steps ≡ []
         → made.its.steps ≡ move_to 2 ∷ [] }
+    ensures own_steps { (old new : PassData) (handset after : HandsetData) (moved : Moved)
+        (own : IsHandsetOf line_setup old.view handset)
+        → HasMoved line_setup old handset 2 moved new after
+        → own.steps ≡ move_to 1 ∷ switch_off ∷ switch_on ∷ []
+        → (its : IsHandsetOf line_setup new.view after)
+        × (its.steps ≡ move_to 1 ∷ switch_off ∷ switch_on ∷ move_to 2 ∷ []) }
     ensures first { (old new : PassData) (handset after : HandsetData) (moved : Moved)
         (made : HasMoved line_setup old handset 2 moved new after)
         → made.made ≡ 4 ∷ 6 ∷ 7 ∷ 8 ∷ 9 ∷ 11 ∷ [] → moved.first ≡ 4 }

@@ -1,6 +1,6 @@
-use Rattle.std.proofs.Common.{◌≡◌, List, length, [], ◌∷◌, ◌++◌, subst}
+use Rattle.std.proofs.Common.{◌≡◌, List, length, [], ◌∷◌, ◌++◌, subst, ap, ◌∙◌}
 use Rattle.entry_word.specs.declared.visit.Visit.{Visit}
-use Rattle.directory.specs.Courses.{highest, move_to}
+use Rattle.directory.specs.Courses.{Step, highest, move_to}
 use Rattle.directory.specs.Histories.{own}
 use Rattle.directory.specs.Writes.{writes}
 use Rattle.handset.specs.Condition.{HandsetData}
@@ -42,3 +42,8 @@ returns-clause-behind c = λ old new handset after moved made is first.
 pub returns-clause-steps : goal.returns-clause-steps
 returns-clause-steps c = λ old new handset after moved made first.
     subst (λ s. made.its.steps ≡ s ++ move_to 2 ∷ []) first made.steps_are
+
+pub returns-clause-own_steps : goal.returns-clause-own_steps
+returns-clause-own_steps c = λ old new handset after moved own made before.
+    let on = made.goes_on own in
+    (on.0, on.1 ∙ ap (λ (steps : List Step). steps ++ move_to 2 ∷ []) before)
