@@ -5,14 +5,14 @@ use Rattle.std.proofs.Common.{◌≡◌, ◌⊎◌, ℕ, ◌-◌, ◌≤◌, fal
 use Rattle.std.specs.Prelude.{filter_map}
 use Rattle.node_set.specs.Ascending.{IsAscending, IsBelowAll}
 use Rattle.entry_word.specs.declared.mark.PresenceMark.{PresenceMark}
-use Rattle.entry_word.specs.declared.mark.PresenceMark.TheVariants.{Gone, Coming, Off}
+use Rattle.entry_word.specs.declared.mark.PresenceMark.TheVariants.{Empty, Here, Gone, Coming, Off}
 use Rattle.directory.specs.Settings.{Setting, start}
 use Rattle.directory.specs.Histories.{before, History}
 use Rattle.directory.specs.Finds.{after_word, chases, ended, FindCall, is_known, Pursuit}
 use Rattle.directory.specs.Standing.{commits, number}
 use Rattle.trail_laws.specs.Trail.{GoesUp}
 use Rattle.trail_laws.specs.Phases.{moves_begun}
-use Rattle.trail_laws.specs.Chased.{FollowOn, gone_number, mark_chased, marks_chased}
+use Rattle.trail_laws.specs.Chased.{AreNoLower, FollowOn, IsNoLower, StayAbove, gone_number, mark_chased, marks_chased}
 use Rattle.trail_laws.proofs.Stops.{stop_after}
 use Rattle.trail_laws.proofs.Passing.{begun-grows, commits-grow, number-grows}
 
@@ -68,13 +68,34 @@ pub record Rises (behind : Behind) (marks : List PresenceMark) : Type 0 where
   pub on : FollowOn marks
   pub above : IsBelowAll behind.gone (filter_map gone_number marks)
   pub ascends : IsAscending (filter_map gone_number marks)
+  pub up : AreNoLower behind.gone marks
+  pub stays : StayAbove marks
 
 pub none-rise : (behind : Behind) → Rises behind []
-none-rise behind = record { head = tt; on = tt; above = tt; ascends = tt }
+none-rise behind = record { head = tt; on = tt; above = tt; ascends = tt; up = tt; stays = tt }
 
 below-less : (a b : ℕ) (xs : List ℕ) → a ≤ b → IsBelowAll b xs → IsBelowAll a xs
 below-less a b [] h all = tt
 below-less a b (x ∷ xs) h all = (omega (arith, h, all.0), below-less a b xs h all.1)
+
+-- a mark that goes up from a number, or is no lower, is no lower than a smaller one
+up-less : (a b : ℕ) (mark : PresenceMark) → a ≤ b → GoesUp b mark → IsNoLower a mark
+up-less a b Empty h up = tt
+up-less a b (Here number) h up = omega (arith, h, up)
+up-less a b (Gone number to) h up = omega (arith, h, up)
+up-less a b (Coming number from) h up = omega (arith, h, up)
+up-less a b (Off number) h up = omega (arith, h, up)
+
+no-lower-less : (a b : ℕ) (mark : PresenceMark) → a ≤ b → IsNoLower b mark → IsNoLower a mark
+no-lower-less a b Empty h up = tt
+no-lower-less a b (Here number) h up = omega (arith, h, up)
+no-lower-less a b (Gone number to) h up = omega (arith, h, up)
+no-lower-less a b (Coming number from) h up = omega (arith, h, up)
+no-lower-less a b (Off number) h up = omega (arith, h, up)
+
+all-less : (a b : ℕ) (marks : List PresenceMark) → a ≤ b → AreNoLower b marks → AreNoLower a marks
+all-less a b [] h all = tt
+all-less a b (mark ∷ marks) h all = (no-lower-less a b mark h all.0, all-less a b marks h all.1)
 
 -- what a mark leaves for the next one
 abbrev pub after_gone : ℕ → Behind
@@ -88,10 +109,28 @@ Continues behind (Gone q to) later = Rises (after_gone q) later
 Continues behind (Coming q from) later = Rises (after_coming behind q) later
 Continues behind mark later = later ≡ []
 
+-- a mark and those behind it are no lower than the last Gone
+all-up : (behind : Behind) (mark : PresenceMark) (later : List PresenceMark) → behind.gone ≤ behind.place
+    → GoesUp behind.place mark → Continues behind mark later → AreNoLower behind.gone (mark ∷ later)
+all-up behind (Gone q to) later low up rest =
+    (up-less behind.gone behind.place (Gone q to) low up, all-less behind.gone q later (omega (arith, low, up)) rest.up)
+all-up behind (Coming q from) later low up rest =
+    (up-less behind.gone behind.place (Coming q from) low up, rest.up)
+all-up behind mark later low up rest = (up-less behind.gone behind.place mark low up, rw rest tt)
+
+stays-on : (behind : Behind) (mark : PresenceMark) (later : List PresenceMark) → Continues behind mark later
+    → StayAbove (mark ∷ later)
+stays-on behind (Gone q to) later rest = (rest.up, rest.stays)
+stays-on behind (Coming q from) later rest = rest.stays
+stays-on behind mark later rest = rw rest tt
+
 pub one-more : (behind : Behind) (mark : PresenceMark) (later : List PresenceMark) → behind.gone ≤ behind.place
     → GoesUp behind.place mark → IsBegun behind.begun mark → Continues behind mark later
     → Rises behind (mark ∷ later)
-one-more behind mark later low up begun rest = grind (arith, below-less)
+one-more behind mark later low up begun rest =
+    let gone_up = all-up behind mark later low up rest in
+    let stays = stays-on behind mark later rest in
+    grind (arith, below-less)
 
 -- no mark is read after the end
 pub ended-none : (setting : Setting) (call : FindCall) (pursuit : Pursuit) (words : List ℕ)

@@ -187,4 +187,4 @@ looks-rise laws {setting} history actor call low inside legal (t ∷ later) earl
 pub chases-rise : ChaseLaws → ChasesRise
 chases-rise laws setting history actor call tickets low inside legal looks =
     let all = looks-rise laws history actor call low inside legal tickets 0 at_origin nothing tt refl looks in
-    (all.on, all.ascends)
+    (all.on, all.ascends, all.stays)

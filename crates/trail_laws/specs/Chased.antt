@@ -1,7 +1,8 @@
 -- How the marks follow one another that a find reads in its chase, whatever visits fall between its
--- looks. Behind a Gone stands no lower number, and no Gone that isn't higher; behind a Coming,
--- which leads back, no lower number but that of a Here, which is at most one lower and answers. The
--- numbers of the Gones rise all along. Key law: `chases_rise`.
+-- looks. Next behind a Gone stands no lower number, and no Gone that isn't higher; next behind a
+-- Coming, which leads back, no lower number but that of a Here, which is at most one lower and
+-- answers. The numbers of the Gones rise all along; and however far behind a Gone a mark is read,
+-- its number is no lower. Key law: `chases_rise`.
 use Rattle.std.specs.Prelude.{ℕ, suc, ◌<◌, ◌≤◌, ◌^◌, List, [], ◌∷◌, ◌++◌, filter_map, flat_map, Option, Some, None}
 use Rattle.node_set.specs.Ascending.{IsAscending}
 use Rattle.entry_word.specs.Marks.{mark_in}
@@ -45,9 +46,30 @@ gone_number (Gone number to) = Some number
 gone_number (Coming number from) = None
 gone_number (Off number) = None
 
--- the marks of a chase may follow one another, and the numbers of all its Gones rise
+-- a mark has no lower number
+abbrev pub IsNoLower : ℕ → PresenceMark → Type 0
+IsNoLower p Empty = Unit {0}
+IsNoLower p (Here number) = p ≤ number
+IsNoLower p (Gone number to) = p ≤ number
+IsNoLower p (Coming number from) = p ≤ number
+IsNoLower p (Off number) = p ≤ number
+
+-- none of these has
+abbrev pub AreNoLower : ℕ → List PresenceMark → Type 0
+AreNoLower p [] = Unit {0}
+AreNoLower p (mark ∷ later) = IsNoLower p mark × AreNoLower p later
+
+-- no mark behind a Gone has a lower number, however far behind
+abbrev pub StayAbove : List PresenceMark → Type 0
+StayAbove [] = Unit {0}
+StayAbove (Gone number to ∷ later) = AreNoLower number later × StayAbove later
+StayAbove (mark ∷ later) = StayAbove later
+
+-- the marks of a chase may follow one another, the numbers of all its Gones rise, and no number
+-- falls below that of a Gone that was read
 abbrev pub ChaseRises : List PresenceMark → Type 0
-ChaseRises marks = FollowOn marks × IsAscending (filter_map gone_number marks)
+ChaseRises marks =
+    FollowOn marks × IsAscending (filter_map gone_number marks) × StayAbove marks
 
 -- the mark in a word, where the find chases
 abbrev pub mark_chased : Pursuit → ℕ → List PresenceMark

@@ -12,10 +12,10 @@ ghost use Rattle.worked_examples.specs.Chases.{chase_before_commit, chase_over_c
 ghost use Rattle.worked_examples.specs.Examples.{find_from};
 
 /// In a legal history a chase that reads Gone 4 reads no lower Here behind it, one that reads
-/// Coming 4 none lower than 3, and a Gone behind the hop back is above the one before it; behind a
-/// Here nothing is read. A chase that meets the Coming before the commit reads Here 0 behind it; if
-/// the commit falls into it, Gone 1, and the Coming again, which answers. Neither the mark at the
-/// origin nor an address is of the chase.
+/// Coming 4 none lower than 3; behind the hop back a Gone is above the one before it, and a Here no
+/// lower; behind a Here nothing is read. A chase that meets the Coming before the commit reads
+/// Here 0 behind it; if the commit falls into it, Gone 1, and the Coming again, which answers.
+/// Neither the mark at the origin nor an address is of the chase.
 pub fn worked_chases()
     ensures there { ChasesRise → (history : History) → (actor node number : ℕ)
         → (tickets : List ℕ)
@@ -27,6 +27,10 @@ pub fn worked_chases()
         → (tickets : List ℕ)
         → LineChases history actor node tickets (Gone p 2 ∷ Coming q 3 ∷ Gone number 1 ∷ [])
         → p < number }
+    ensures above { ChasesRise → (history : History) → (actor node p q number : ℕ)
+        → (tickets : List ℕ)
+        → LineChases history actor node tickets (Gone p 2 ∷ Coming q 3 ∷ Here number ∷ [])
+        → p ≤ number }
     ensures ended { ChasesRise → (history : History) → (actor node number : ℕ)
         → (tickets : List ℕ)
         → LineChases history actor node tickets (Here 3 ∷ Gone number 2 ∷ []) → ⊥ }
@@ -43,8 +47,9 @@ pub fn worked_chases()
 {}
 
 /// What no chase reads: a number that falls behind a Gone, or stays at one; one that falls behind a
-/// Coming to another mark than a Here, or by two; anything behind a mark that doesn't lead on; and
-/// a Gone again, though no number falls from one mark to the next.
+/// Coming to another mark than a Here, or by two; anything behind a mark that doesn't lead on; a
+/// Gone again, though no number falls from one mark to the next; and a Here that is lower than a
+/// Gone further ahead, though it may follow the Coming next to it.
 pub fn wrong_chases()
     ensures lower { FollowOn (Gone 4 2 ∷ Here 3 ∷ []) → ⊥ }
     ensures same { FollowOn (Gone 4 2 ∷ Gone 4 1 ∷ []) → ⊥ }
@@ -58,4 +63,8 @@ pub fn wrong_chases()
     ensures later { FollowOn (Gone 1 2 ∷ Gone 4 2 ∷ Here 3 ∷ []) → ⊥ }
     ensures again { ChaseRises (Gone 4 2 ∷ Coming 4 3 ∷ Gone 4 2 ∷ []) → ⊥ }
     ensures may_follow { FollowOn (Gone 4 2 ∷ Coming 4 3 ∷ Gone 4 2 ∷ []) }
+    ensures fallen { ChaseRises (Gone 4 2 ∷ Coming 4 3 ∷ Here 3 ∷ []) → ⊥ }
+    ensures far { ChaseRises (Gone 4 2 ∷ Coming 4 3 ∷ Coming 4 1 ∷ Here 3 ∷ []) → ⊥ }
+    ensures behind_both { ChaseRises (Coming 4 3 ∷ Gone 4 2 ∷ Coming 4 3 ∷ Here 3 ∷ []) → ⊥ }
+    ensures may_fall { FollowOn (Coming 4 3 ∷ Gone 4 2 ∷ Coming 4 3 ∷ Coming 4 1 ∷ Here 3 ∷ []) }
 {}

@@ -25,6 +25,11 @@ pub returns-clause-on : goal.returns-clause-on
 returns-clause-on c = λ law history actor node p q number tickets is.
     (subst ChaseRises is.3 (law line_setting history actor (find_from node) tickets (omega arith) is.0 is.1 is.2)).1.0.0
 
+pub returns-clause-above : goal.returns-clause-above
+returns-clause-above c = λ law history actor node p q number tickets is.
+    let all = subst ChaseRises is.3
+    (law line_setting history actor (find_from node) tickets (omega arith) is.0 is.1 is.2) in all.2.0.1.0
+
 pub returns-clause-ended : goal.returns-clause-ended
 returns-clause-ended c = λ law history actor node number tickets is.
     (subst ChaseRises is.3 (law line_setting history actor (find_from node) tickets (omega arith) is.0 is.1 is.2)).0.0

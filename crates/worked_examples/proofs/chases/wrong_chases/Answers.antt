@@ -36,3 +36,16 @@ returns-clause-again c = λ rises. let e : 4 < 4 = rises.1.0.0 in omega (arith, 
 
 pub returns-clause-may_follow : goal.returns-clause-may_follow
 returns-clause-may_follow c = (omega arith, (omega arith, tt))
+
+pub returns-clause-fallen : goal.returns-clause-fallen
+returns-clause-fallen c = λ rises. let e : 4 ≤ 3 = rises.2.0.1.0 in omega (arith, e)
+
+pub returns-clause-far : goal.returns-clause-far
+returns-clause-far c = λ rises. let e : 4 ≤ 3 = rises.2.0.1.1.0 in omega (arith, e)
+
+pub returns-clause-behind_both : goal.returns-clause-behind_both
+returns-clause-behind_both c = λ rises. let e : 4 ≤ 3 = rises.2.0.1.0 in omega (arith, e)
+
+pub returns-clause-may_fall : goal.returns-clause-may_fall
+returns-clause-may_fall c =
+    (omega arith, (omega arith, (omega arith, (omega arith, tt))))
