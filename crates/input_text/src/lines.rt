@@ -18,7 +18,7 @@ use text_line::{Line, write_next_order};
 const FAST_NUMBERS: usize = 1_024;
 
 /// The line that is next, where one of the first few is, or else what has one line for each part.
-#[derive(Clone, Copy, Debug, PartialEq, Eq)]
+#[derive(Clone, Copy, Debug)]
 pub(crate) enum NextLine {
     Format,
     Nodes,
