@@ -14,6 +14,7 @@ mod faults;
 mod finds;
 mod grammar;
 mod handsets;
+mod marks;
 mod moments;
 mod moves;
 mod nexts;
@@ -45,6 +46,7 @@ pub use grammar::{
     worked_apart, worked_bytes, worked_calls, worked_limits, worked_lines, worked_places,
 };
 pub use handsets::told_handsets;
+pub use marks::{worked_comings, worked_marks};
 pub use moments::{told_moments, wrong_losses};
 pub use moves::{worked_moves, wrong_moves};
 pub use nexts::{worked_nexts, worked_stops, worked_ways};
@@ -53,7 +55,7 @@ pub use others::worked_others;
 pub use passes::{
     worked_bits, wrong_censuses, wrong_notes, wrong_passes, wrong_stays, wrong_turns,
 };
-pub use plans::{worked_levels, worked_measures, wrong_matches, wrong_overlaps};
+pub use plans::{worked_levels, worked_measures, wrong_matches, wrong_overlaps, wrong_plans};
 pub use powers::worked_powers;
 pub use puts::worked_puts;
 pub use rules::{told_tickets, wrong_logs, wrong_moments, wrong_views};

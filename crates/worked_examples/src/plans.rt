@@ -1,10 +1,11 @@
-//! The measures of plans, computed.
-ghost use Rattle.std.specs.Prelude.{◌≡◌, ◌<◌, ◌≤◌, ◌*◌, ◌^◌, [], ◌∷◌, map};
+//! The measures of plans, computed, and what no plan may be.
+ghost use Rattle.std.specs.Prelude.{◌≡◌, ◌<◌, ◌≤◌, ◌*◌, ◌^◌, [], ◌∷◌, length, map};
 ghost use Rattle.plan_laws.specs.Examples.{end_of_line, line_level, line_level_0, line_of_four, mean_line_of_four, whole_line};
+ghost use Rattle.region_plan.specs.Kept.{IsKept, IsSized};
 ghost use Rattle.region_plan.specs.Matched.{HasFewReaders, HasSmallSum, IsMatched};
 ghost use Rattle.region_plan.specs.Meanings.{IsTop};
 ghost use Rattle.region_plan.specs.Measures.{degree_in, degree_of, most, stretch_of};
-ghost use Rattle.region_plan.specs.Plan.{PlanData, clusters_of, inside, leader, nodes_of, threshold};
+ghost use Rattle.region_plan.specs.Plan.{Level, PlanData, clusters_of, inside, leader, levels_of, nodes_of, threshold};
 ghost use Rattle.region_plan.specs.Regions.{threshold_of, top_for};
 ghost use Rattle.stretch_laws.specs.Plans.{bound_of};
 ghost use Rattle.stretch_laws.specs.Tracking.{radius, resting_stretch, stretch};
@@ -60,4 +61,18 @@ pub fn wrong_matches()
         → inside plan 0 0 (leader plan 0 0) ≡ 1 → ⊥ }
     ensures low_top { IsTop two_apart 1 → ⊥ }
     ensures high_top { IsTop two_apart 3 → ⊥ }
+{}
+
+/// No plan has no level or 32, a k of 0 or of 9, a reach of 18, or a level that has a home or a row
+/// of readers fewer than it has nodes, a cluster more, or the exponent 31.
+pub fn wrong_plans()
+    ensures empty { (plan : PlanData) → IsKept plan → levels_of plan ≡ 0 → ⊥ }
+    ensures high { (plan : PlanData) → IsKept plan → levels_of plan ≡ 32 → ⊥ }
+    ensures no_k { (plan : PlanData) → IsKept plan → plan.k ≡ 0 → ⊥ }
+    ensures great_k { (plan : PlanData) → IsKept plan → plan.k ≡ 9 → ⊥ }
+    ensures reach { (plan : PlanData) → IsKept plan → plan.reach ≡ 18 → ⊥ }
+    ensures homes { (level : Level) → IsSized 4 level → length level.homes ≡ 3 → ⊥ }
+    ensures readers { (level : Level) → IsSized 4 level → length level.readers ≡ 3 → ⊥ }
+    ensures clusters { (level : Level) → IsSized 4 level → length level.clusters ≡ 5 → ⊥ }
+    ensures exponent { (level : Level) → IsSized 4 level → level.exponent ≡ 31 → ⊥ }
 {}
