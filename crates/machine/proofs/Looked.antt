@@ -1,6 +1,6 @@
 -- A caller's look: which cell it is at, which nodes its word names, and how far the caller is after it.
 use Rattle.std.proofs.Common.{◌≡◌, ℕ, ◌-◌, ◌^◌, ◌<◌, ◌≤◌, true, false, List, [], ◌∷◌, length, map, drop, get_or, refl, sym, ap, ◌∙◌, subst, arith, Vec, Global, suc, ◌++◌, Option}
-use Rattle.std.specs.Prelude.{Some, vec_capacity, vec_len, Result, Ok, Err, None, slice_index, nat_lt, option_map, unwrap_or, if◌then◌else◌}
+use Rattle.std.specs.Prelude.{Some, vec_capacity, vec_len, None, slice_index, nat_lt, option_map, unwrap_or, if◌then◌else◌}
 use Rattle.std.proofs.lemmas.List.{get_or-map, length-map, length-drop, append-nil, length_push, get_or_push}
 use Rattle.entry_word.specs.declared.visit.Key.{Key}
 use Rattle.directory.specs.Histories.{History, cell, tickets}
@@ -12,7 +12,6 @@ use Rattle.region_plan.specs.Matched.{IsMatched}
 use Rattle.region_plan.specs.Plan.{PlanData, nodes_of}
 use Rattle.region_plan.specs.Cells.{IsCell}
 use Rattle.walk.specs.Walks.{IsWalkOver, IsWordBelow, WalkData, call_of, pursuit_of}
-use Rattle.std.specs.Result.{is_err, is_ok}
 use Rattle.walk.specs.LookLaws.{cell-wanted, word-wanted}
 use Rattle.distances.specs.Table.{DistanceTable}
 use Rattle.net_reader.specs.declared.said.Call.{Call}
@@ -76,8 +75,8 @@ module _ {input : Contents} {plan : PlanData} {history : History} {actor : ℕ} 
   finds-left = grind (arith, drop-more)
 
   -- so there is room for one more
-  pub room-left : vec_capacity caller.lines ≤ vec_len caller.lines → ⊥
-  room-left full = omega (arith, finds-left, its.room, full, caller.lines.ok.0)
+  pub room-left : vec_len caller.lines < vec_capacity caller.lines
+  room-left = omega (arith, finds-left, its.room, caller.lines.ok.0)
 
   -- and for fewer than its script has
   pub place-low : length input.homes ≤ actor → actor < length input.scripts
@@ -130,11 +129,6 @@ call-at input plan actor n {script} {call} {later} default high low same short l
     sym (get_or-map find_of script n default call short)
     ∙ rw (same, ← finds-are input (setting_over input plan) actor refl high low) (more.2 call)
 
--- a push that didn't fail
-pub ok-of : {T E : Type 0} (r : Result T E) → is_err r ≡ false → is_ok r ≡ true
-ok-of (Ok x) h = refl
-ok-of (Err e) h = cc
-
 -- the ticket of the first look
 pub first-is : (first : ℕ) {next : ℕ} (ticket : ℕ) (seen : List ℕ) {kept : Option ℕ}
     → kept ≡ (if nat_lt first next then Some (slice_index seen first) else None) → length seen ≡ next → first ≤ next
@@ -148,7 +142,7 @@ pub by-parts : (input : Contents) (plan : PlanData) (history : History) (actor :
     → caller.first ≡ first_ticket seeker seen → caller.lines.items ≡ caller_lines (setting_over input plan)
     (scripts_of input) history actor → seeker.calls ≡ drop (length caller.lines.items)
     (finds_of (setting_over input plan) (scripts_of input) actor)
-    → length (finds_of (setting_over input plan) (scripts_of input) actor) ≤ vec_capacity caller.lines
+    → vec_capacity caller.lines ≡ length (finds_of (setting_over input plan) (scripts_of input) actor)
     → IsCaller input plan history actor caller
 by-parts input plan history actor {seen} caller e t walks first lines left room = grind arith
 
@@ -228,7 +222,7 @@ pub looked-up : CallersRead → CallerLinesGrow → CallersCount → {input : Co
     → call ∷ later ≡ drop (length old.lines.items) (finds_of (setting_over input plan) (scripts_of input) actor)
     → line ≡ found_line actor call found (unwrap_or old.first ticket) ticket)
     → new.lines.items ≡ old.lines.items ++ line ∷ [] → left ≡ suc (length old.lines.items)
-    → vec_capacity old.lines ≤ vec_capacity new.lines → new.first ≡ None
+    → vec_capacity new.lines ≡ vec_capacity old.lines → new.first ≡ None
     → IsWalking plan (drop left (finds_of (setting_over input plan) (scripts_of input) actor)) at_origin new.walk
     → HasLooked input plan history actor old new Visited
 looked-up read grow count {input} {plan} {history} {actor} {ticket} {old} new {key} {found} {line} high sees place its
@@ -265,5 +259,5 @@ looked-up read grow count {input} {plan} {history} {actor} {ticket} {old} new {k
             lines,
             its.lines,
             told,
-          )) (rw longer more.1) (omega (arith, its.room, room)),
+          )) (rw longer more.1) (room ∙ its.room),
     )

@@ -2,7 +2,7 @@
 -- code reads of that step.
 use Rattle.std.proofs.Common.{◌≡◌, ℕ, suc, ◌<◌, ◌≤◌, false, List, [], ◌∷◌, ◌++◌, length, take, get_or, sym, ap, ◌∙◌, subst, arith, drop, drop_of_length-le, true, refl, ◌-◌, ◌^◌}
 use Rattle.std.specs.Global.{Vec}
-use Rattle.std.specs.Prelude.{Some, None, slice_get, vec_capacity, Option, Result, Ok, Err, OnErr, OnOk, OnSome}
+use Rattle.std.specs.Prelude.{Some, None, slice_get, vec_capacity, Option, Result, Ok, Err, OnOk, OnSome}
 use Rattle.std.proofs.lemmas.Option.{slice_get_past}
 use Rattle.std.proofs.lemmas.List.{take_all, length_push, length-map, same_from_push, get_or_default}
 use Rattle.entry_word.specs.declared.visit.Visit.{Visit}
@@ -117,7 +117,7 @@ module _ {input : Contents} {plan : PlanData} {history : History} {sub : ℕ} {o
       → StandsForSteps (setting_over input plan) begun (begun_steps input sub old ++ step_of call ∷ [])
       (length (own sub history)) → begun.sub ≡ sub → HasPut plan begun new.handset cells after
       → GoesWith plan new.handset → new.handset.sub ≡ begun.sub → GoWith plan after
-      → new.lines.items ≡ old.lines.items ++ line ∷ [] → vec_capacity old.lines ≤ vec_capacity new.lines
+      → new.lines.items ≡ old.lines.items ++ line ∷ [] → vec_capacity new.lines ≡ vec_capacity old.lines
       → line ≡ begun_line plan old.handset call ticket
       → length old.lines.items < length (steps_of (scripts_of input) sub)
       → HasNext input plan after history sub (λ later. IsShown input plan later sub new)
@@ -141,7 +141,7 @@ module _ {input : Contents} {plan : PlanData} {history : History} {sub : ℕ} {o
           lines = grind (arith, lines-partial, tickets-count);
           few = omega (arith, longer, short);
           under = grind (arith, same_from_push);
-          room = omega (arith, its.room, room);
+          room = room ∙ its.room;
         },
         over,
         put.hold input.homes history hold,
@@ -223,8 +223,8 @@ pub first-put : OwnGrow → TicketsGrow → TicketsAreOwn → {input : Contents}
     → Begins input plan history sub (shown_at old.handset old) call → StandsForSteps (setting_over input plan) begun
     (begun_steps input sub (shown_at old.handset old) ++ step_of call ∷ []) (length (own sub history))
     → begun.sub ≡ old.handset.sub → Owes plan cells.subs begun handset ahead.items → GoesWith plan handset
-    → handset.sub ≡ begun.sub → 1 ≤ vec_capacity ahead → 0 < length ahead.items → write ≡ get_or ahead.items 0 write
-    → lines.items ≡ old.lines.items ++ line ∷ [] → vec_capacity old.lines ≤ vec_capacity lines
+    → handset.sub ≡ begun.sub → vec_capacity ahead ≡ 64 → 0 < length ahead.items → write ≡ get_or ahead.items 0 write
+    → lines.items ≡ old.lines.items ++ line ∷ [] → vec_capacity lines ≡ vec_capacity old.lines
     → line ≡ begun_line plan old.handset call ticket → length old.lines.items < length (steps_of (scripts_of input) sub)
     → Puts plan sub cells after write → GoWith plan after
     → (length ahead.items < vec_capacity ahead → due (setting_of plan []) handset ≡ None)
@@ -306,10 +306,6 @@ on-some P e h = subst (λ o. OnSome o P) e h
 pub on-ok : {A E : Type 0} (P : Type 0) (r : Result A E) → is_err r ≡ false → OnOk r P → P
 on-ok P (Ok x) e h = h
 on-ok P (Err x) e h = cc
-
-pub on-err : {A E : Type 0} {P : Type 0} (r : Result A E) → is_err r ≡ true → OnErr r P → P
-on-err (Ok x) e h = cc
-on-err (Err x) e h = h
 
 -- a write of the step that is begun is ahead
 pub first-ahead : {input : Input} {plan : PlanData} {history : History} {sub : ℕ} {old : Shown} {script : List Call}

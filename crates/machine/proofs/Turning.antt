@@ -41,7 +41,7 @@ use Rattle.machine.proofs.Making.{made-count, no-visits}
 
 shown-opens : {input : Contents} {plan : PlanData} {sub : ℕ} (shown : Shown) → IsValid input → sub < length input.homes
     → StandsForSteps (setting_over input plan) shown.handset [] 0 → GoesWith plan shown.handset
-    → shown.handset.sub ≡ sub → shown.lines.items ≡ [] → length (get_or input.scripts sub []) ≤ vec_capacity shown.lines
+    → shown.handset.sub ≡ sub → shown.lines.items ≡ [] → vec_capacity shown.lines ≡ length (get_or input.scripts sub [])
     → IsShown input plan [] sub shown
 unfolding step_lines
 shown-opens {input} {plan} {sub} shown valid low stands goes its none room =
@@ -60,8 +60,8 @@ shown-opens {input} {plan} {sub} shown valid low stands goes its none room =
 pub sub-opens : {input : Contents} {plan : PlanData} {sub : ℕ} (subscriber : Subscriber) → IsValid input
     → sub < length input.homes → StandsForSteps (setting_over input plan) subscriber.handset [] 0
     → GoesWith plan subscriber.handset → subscriber.handset.sub ≡ sub → subscriber.ahead.items ≡ []
-    → subscriber.made ≡ 0 → 1 ≤ vec_capacity subscriber.ahead → subscriber.lines.items ≡ []
-    → length (get_or input.scripts sub []) ≤ vec_capacity subscriber.lines
+    → subscriber.made ≡ 0 → vec_capacity subscriber.ahead ≡ 64 → subscriber.lines.items ≡ []
+    → vec_capacity subscriber.lines ≡ length (get_or input.scripts sub [])
     → due (setting_of plan []) subscriber.handset ≡ None → IsSubscriber input plan [] sub subscriber
 sub-opens {input} {plan} subscriber valid low stands goes its empty none space no_lines room resting =
     record {
@@ -78,7 +78,7 @@ sub-opens {input} {plan} subscriber valid low stands goes its empty none space n
 pub caller-opens : (input : Contents) (plan : PlanData) (actor : ℕ) (caller : Caller) {script : List Call}
     → length input.homes ≤ actor → actor < length input.scripts → script ≡ get_or input.scripts actor []
     → IsWalking plan (map find_of script) at_origin caller.walk → caller.first ≡ None → caller.lines.items ≡ []
-    → length script ≤ vec_capacity caller.lines → IsCaller input plan [] actor caller
+    → vec_capacity caller.lines ≡ length script → IsCaller input plan [] actor caller
 unfolding words_after tickets_from
 caller-opens input plan actor caller {script} high low same walks first none room =
     grind (arith, finds-are input (setting_over input plan) actor refl high low, length-map script find_of, by-parts)
@@ -226,29 +226,33 @@ module _ {old : Machine} {history : History} {actor count : ℕ} {cells : CellDa
   turned : (subscribers : Vec Subscriber Global) (callers : Vec Caller Global) (order : Vec ℕ Global)
       → order.items ≡ old.order.items ++ replicate count actor → vec_capacity order ≡ vec_capacity old.order
       → length subscribers.items ≡ length old.subscribers.items → length callers.items ≡ length old.callers.items
+      → vec_capacity subscribers ≡ vec_capacity old.subscribers → vec_capacity callers ≡ vec_capacity old.callers
       → ((s : ℕ) (d : Subscriber) → s < length (input_at old).homes
       → IsSubscriber (input_at old) old.plan.now (history ++ made.visits) s (get_or subscribers.items s d))
       → ((c : ℕ) (d : Caller) → c < (input_at old).callers → IsCaller (input_at old) old.plan.now
       (history ++ made.visits) (length (input_at old).homes + c) (get_or callers.items c d))
       → HasMade old (record old { cells = cells; subscribers = subscribers; callers = callers; order = order }) history
       actor count
-  turned subscribers callers order pushed room subs_count callers_count subs_are callers_are = record {
-    stands = subst (HasHistory _) (sym made.turns) (record {
-      together = stands.together;
-      homes = stands.homes;
-      routes = stands.routes;
-      sees = made.sees;
-      order = rw (map-append, made.actors, ← stands.order) pushed;
-      room = omega (arith, stands.room, room);
-      subscribers_count = subs_count ∙ stands.subscribers_count;
-      callers_count = callers_count ∙ stands.callers_count;
-      subscribers = subs_are;
-      callers = callers_are;
-      calls = stands.calls;
-      total = stands.total;
-    });
-    made = ap length made.turns ∙ made-count made refl;
-  }
+  turned subscribers callers order pushed room subs_count callers_count subs_room callers_room subs_are callers_are
+      = record {
+        stands = subst (HasHistory _) (sym made.turns) (record {
+          together = stands.together;
+          homes = stands.homes;
+          routes = stands.routes;
+          sees = made.sees;
+          order = rw (map-append, made.actors, ← stands.order) pushed;
+          room = room ∙ stands.room;
+          subscribers_count = subs_count ∙ stands.subscribers_count;
+          callers_count = callers_count ∙ stands.callers_count;
+          subscribers_room = subs_room ∙ stands.subscribers_room;
+          callers_room = callers_room ∙ stands.callers_room;
+          subscribers = subs_are;
+          callers = callers_are;
+          calls = stands.calls;
+          total = stands.total;
+        });
+        made = ap length made.turns ∙ made-count made refl;
+      }
 
   -- the other actors are as far as they were
   subs-stay : OwnGrow → TicketsGrow → (s : ℕ) (d : Subscriber) → s < length (input_at old).homes → s ≢ actor
@@ -272,10 +276,11 @@ module _ {old : Machine} {history : History} {actor count : ℕ} {cells : CellDa
       (order : Vec ℕ Global) → actor < length (input_at old).homes
       → IsSubscriber (input_at old) old.plan.now (history ++ made.visits) actor subscriber
       → subscribers.items ≡ slice_set old.subscribers.items actor subscriber
+      → vec_capacity subscribers ≡ vec_capacity old.subscribers
       → order.items ≡ old.order.items ++ replicate count actor → vec_capacity order ≡ vec_capacity old.order
       → HasMade old (record old { cells = cells; subscribers = subscribers; order = order }) history actor count
-  sub-turned own_law ticket_law kept {subscriber} subscribers order low its items pushed room =
-      turned subscribers old.callers order pushed room (rw (items, length-set)) refl
+  sub-turned own_law ticket_law kept {subscriber} subscribers order low its items same pushed room =
+      turned subscribers old.callers order pushed room (rw (items, length-set)) refl same refl
       (λ s d below. each-set (IsSubscriber (input_at old) old.plan.now (history ++ made.visits)) old.subscribers.items
       subscribers.items actor subscriber items its (λ k e within. subs-stay own_law ticket_law k e
       (omega (arith, within, stands.subscribers_count))) s d (omega (arith, below, stands.subscribers_count)))
@@ -285,11 +290,11 @@ module _ {old : Machine} {history : History} {actor count : ℕ} {cells : CellDa
   pub caller-turned : OwnGrow → TicketsGrow → CallersKept → (place : ℕ) {caller : Caller} (callers : Vec Caller Global)
       (order : Vec ℕ Global) → actor ≡ length (input_at old).homes + place
       → IsCaller (input_at old) old.plan.now (history ++ made.visits) actor caller
-      → callers.items ≡ slice_set old.callers.items place caller
+      → callers.items ≡ slice_set old.callers.items place caller → vec_capacity callers ≡ vec_capacity old.callers
       → order.items ≡ old.order.items ++ replicate count actor → vec_capacity order ≡ vec_capacity old.order
       → HasMade old (record old { cells = cells; callers = callers; order = order }) history actor count
-  caller-turned own_law ticket_law kept place {caller} callers order at its items pushed room =
-      turned old.subscribers callers order pushed room refl (rw (items, length-set))
+  caller-turned own_law ticket_law kept place {caller} callers order at its items same pushed room =
+      turned old.subscribers callers order pushed room refl (rw (items, length-set)) refl same
       (λ s d below. subs-stay own_law ticket_law s d below (λ e. omega (arith, e, at, below)))
       (λ c d below. each-set (λ k x. IsCaller (input_at old) old.plan.now (history ++ made.visits)
       (length (input_at old).homes + k) x) old.callers.items callers.items place caller items (rw at at its)

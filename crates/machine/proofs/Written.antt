@@ -92,7 +92,7 @@ lines-are lines line ticket (suc count) some = grind arith
 -- a subscriber by its handset, its lines and the room for them
 its-same : {input : Contents} {plan : PlanData} {history : History} {sub : ℕ} {one : Shown} (other : Shown)
     → other.handset ≡ one.handset → other.lines.items ≡ one.lines.items
-    → vec_capacity one.lines ≤ vec_capacity other.lines → IsShown input plan history sub one
+    → vec_capacity other.lines ≡ vec_capacity one.lines → IsShown input plan history sub one
     → IsShown input plan history sub other
 its-same {input} {sub} {one} other handset lines room its = grind arith
 
@@ -171,7 +171,7 @@ module _ (unpack : MarksUnpack) (own_law : OwnGrow) (ticket_law : TicketsGrow) (
       (default : Done) → length history ≡ ticket → Hold plan input.homes cells history
       → IsShown input plan history sub old → (put : HasPut plan old.handset new.handset cells after)
       → GoesWith plan new.handset → new.handset.sub ≡ old.handset.sub → GoWith plan after
-      → new.lines.items ≡ slice_set old.lines.items last line → vec_capacity old.lines ≤ vec_capacity new.lines
+      → new.lines.items ≡ slice_set old.lines.items last line → vec_capacity new.lines ≡ vec_capacity old.lines
       → suc last ≡ length old.lines.items
       → line ≡ line_after (get_or old.lines.items last default) (is_commit put.visit.act) ticket
       → HasNext input plan after history sub (λ later. IsShown input plan later sub new)
@@ -197,7 +197,7 @@ module _ (unpack : MarksUnpack) (own_law : OwnGrow) (ticket_law : TicketsGrow) (
           lines = rw (← steps, seen.seen, way.then, now, line_is, row, place);
           few = omega (arith, longer, its.few);
           under = λ before step split. omega (arith, its.under before step (steps ∙ split), seen.count);
-          room = omega (arith, its.room, room);
+          room = room ∙ its.room;
         },
         over,
         put.hold input.homes history hold,
@@ -208,7 +208,7 @@ module _ (unpack : MarksUnpack) (own_law : OwnGrow) (ticket_law : TicketsGrow) (
       {write : Ahead} {line : Done} (default : Done) → length history ≡ ticket → Sees input plan cells history
       → IsSubscriber input plan history sub old → old.made < length old.ahead.items
       → write ≡ get_or old.ahead.items old.made write → lines.items ≡ slice_set old.lines.items last line
-      → vec_capacity old.lines ≤ vec_capacity lines → suc last ≡ length old.lines.items
+      → vec_capacity lines ≡ vec_capacity old.lines → suc last ≡ length old.lines.items
       → line ≡ line_after (get_or old.lines.items last default) write.commits ticket → Puts plan sub cells after write
       → GoWith plan after
       → HasWritten input plan history sub old (record old { made = old.made + 1; lines = lines }) cells after Visited
@@ -254,7 +254,7 @@ module _ (unpack : MarksUnpack) (own_law : OwnGrow) (ticket_law : TicketsGrow) (
       let some : 0 < length lines = some-line stands
       (entry.put.next input.homes (begun_steps input sub mid) (length (own sub later)) stands.handset) in
       made-next more mine New sight (written-on new line at sight.hold stands entry.put entry.goes entry.its entry.over
-      (lines-more old.lines.items line ticket count (omega (arith, some, size))) (omega arith)
+      (lines-more old.lines.items line ticket count (omega (arith, some, size))) refl
       (omega (arith, some, size))
       (ap (λ b. line_after (get_or lines (length old.lines.items - 1) line) b (ticket + count)) (sym entry.plain)))))
 
@@ -265,7 +265,7 @@ module _ (unpack : MarksUnpack) (own_law : OwnGrow) (ticket_law : TicketsGrow) (
       → HasCome plan sub its.handset old.handset cells after count (drop place writes) → 0 < count
       → place ≤ length writes → lines.items ≡ set old.lines.items (length old.lines.items - 1)
       (line_after (get_or old.lines.items (length old.lines.items - 1) line) false (ticket + count - 1))
-      → vec_capacity old.lines ≤ vec_capacity lines → AreMade input plan after history sub count
+      → vec_capacity lines ≡ vec_capacity old.lines → AreMade input plan after history sub count
       (λ later. IsSubscriber input plan later sub (record old { made = place; lines = lines }))
   plain-put more mine {history} {ticket} {count} place {old} lines line at sees its same come some within lines_are
       room =

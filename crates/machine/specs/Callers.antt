@@ -2,7 +2,7 @@
 -- of that find's first look, and its lines are those of the finds that are done.
 -- Key law: `Caller::look`, by its clause (so many turns make the caller's next looks, or none is
 -- left).
-use Rattle.std.specs.Prelude.{◌≡◌, ℕ, ◌<◌, ◌≤◌, nat_lt, if◌then◌else◌, List, [], ◌∷◌, ◌++◌, Option, Some, None, drop, length, slice_index, vec_capacity}
+use Rattle.std.specs.Prelude.{◌≡◌, ℕ, ◌<◌, nat_lt, if◌then◌else◌, List, [], ◌∷◌, ◌++◌, Option, Some, None, drop, length, slice_index, vec_capacity}
 use Rattle.entry_word.specs.declared.visit.Key.{Key}
 use Rattle.directory.specs.Histories.{History, tickets}
 use Rattle.directory.specs.Looks.{look_by}
@@ -22,7 +22,7 @@ abbrev pub first_ticket : Seeker → List ℕ → Option ℕ
 first_ticket seeker seen =
     if nat_lt seeker.first seeker.next then Some (slice_index seen seeker.first) else None
 
--- a caller is as far as a history says
+-- a caller is as far as a history says; it has room for just the lines of all its finds
 pub record IsCaller (input : Contents) (plan : PlanData) (history : History) (actor : ℕ)
     (caller : Caller) : Type 0 where
   pub walk : IsWalking plan
@@ -36,8 +36,8 @@ pub record IsCaller (input : Contents) (plan : PlanData) (history : History) (ac
   pub left : (caller_in (setting_over input plan) (scripts_of input) history actor).calls
       ≡ drop (length caller.lines.items)
       (finds_of (setting_over input plan) (scripts_of input) actor)
-  pub room : length (finds_of (setting_over input plan) (scripts_of input) actor)
-      ≤ vec_capacity caller.lines
+  pub room : vec_capacity caller.lines
+      ≡ length (finds_of (setting_over input plan) (scripts_of input) actor)
 
 -- a turn makes its next look, or none is left and nothing changes
 abbrev pub HasLooked : Contents → PlanData → History → ℕ → Caller → Caller → Turn → Type 0

@@ -1,10 +1,10 @@
 -- What a machine stands for: a history in which each visit was its actor's next one. Its cells hold
--- what the history leaves; each subscriber and each caller is as far as the history says; and it
--- keeps the actor of each ticket.
--- Key laws: `Machine::new` (it stands for no visits, and has just the room that it needs), `turn`
--- (for a turn more), `turns` (for so many turns more), `finish` (for all visits) and `outcome`, by
--- their clauses.
-use Rattle.std.specs.Prelude.{◌≡◌, ℕ, ◌+◌, ◌<◌, ◌≤◌, [], None, length, map, replicate, slice_index_or, vec_capacity}
+-- what the history leaves; each subscriber and each caller is as far as the history says; it keeps
+-- the actor of each ticket; and after each turn its lists have the room that they were made with,
+-- just what may come into them.
+-- Key laws: `Machine::new` (it stands for no visits), `turn` (for a turn more), `turns` (for so many
+-- turns more), `finish` (for all visits) and `outcome`, by their clauses.
+use Rattle.std.specs.Prelude.{◌≡◌, ℕ, ◌+◌, ◌<◌, [], None, length, map, replicate, slice_index_or, vec_capacity}
 use Rattle.directory.specs.Settings.{Setting}
 use Rattle.directory.specs.Histories.{History}
 use Rattle.directory.specs.Orders.{Scripts, after_turns, next}
@@ -15,11 +15,11 @@ use Rattle.machine.specs.declared.caller.Caller.{Caller}
 use Rattle.machine.specs.declared.machine.Machine.{Machine}
 use Rattle.machine.specs.declared.subscriber.Subscriber.{Subscriber}
 use Rattle.scripts.specs.Scripts.{most_visits, scripts_of}
-use Rattle.machine.specs.Stands.{BelongTogether, Sees, calls_of, setting_over}
+use Rattle.machine.specs.Stands.{BelongTogether, Sees, setting_over}
 use Rattle.visit_log.specs.Homes.{AreHomes}
 use Rattle.visit_log.specs.Routes.{AreRoutes}
 use Rattle.machine.specs.Callers.{IsCaller}
-use Rattle.machine.specs.Subscribers.{HasRoomFor, IsSubscriber}
+use Rattle.machine.specs.Subscribers.{IsSubscriber}
 
 -- the input of a machine
 abbrev pub input_at : Machine → Contents
@@ -33,17 +33,20 @@ setting_at machine = setting_over (input_at machine) machine.plan.now
 abbrev pub scripts_at : Machine → Scripts
 scripts_at machine = scripts_of (input_at machine)
 
--- a machine stands for a history
+-- a machine stands for a history; its lists have room for just the visits that the scripts may have,
+-- for the lines of all calls, and for the actors
 pub record HasHistory (machine : Machine) (history : History) : Type 0 where
   pub together : BelongTogether (input_at machine) machine.plan.now machine.distances.now
   pub homes : AreHomes machine.plan.now machine.homes
   pub routes : AreRoutes machine.plan.now machine.routes
   pub sees : Sees (input_at machine) machine.plan.now machine.cells history
   pub order : machine.order.items ≡ map (λ visit. visit.actor) history
-  pub room : most_visits (setting_at machine) (input_at machine).scripts
-      ≤ vec_capacity machine.order
+  pub room : vec_capacity machine.order
+      ≡ most_visits (setting_at machine) (input_at machine).scripts
   pub subscribers_count : length machine.subscribers.items ≡ length (input_at machine).homes
   pub callers_count : length machine.callers.items ≡ (input_at machine).callers
+  pub subscribers_room : vec_capacity machine.subscribers ≡ length (input_at machine).homes
+  pub callers_room : vec_capacity machine.callers ≡ (input_at machine).callers
   pub subscribers : (s : ℕ) (d : Subscriber) → s < length (input_at machine).homes
       → IsSubscriber (input_at machine) machine.plan.now history s
       (slice_index_or machine.subscribers.items s d)
@@ -51,21 +54,7 @@ pub record HasHistory (machine : Machine) (history : History) : Type 0 where
       → IsCaller (input_at machine) machine.plan.now history
       (length (input_at machine).homes + c) (slice_index_or machine.callers.items c d)
   pub calls : machine.calls.items ≡ []
-  pub total : count_calls (input_at machine).scripts ≤ vec_capacity machine.calls
-
--- a machine's lists have room for just what comes into them: a place for each visit that the
--- scripts may have, for each of their calls and for each actor; an actor's own, for its own calls
-pub record HasJustRoom (machine : Machine) : Type 0 where
-  pub order : vec_capacity machine.order
-      ≡ most_visits (setting_at machine) (input_at machine).scripts
-  pub calls : vec_capacity machine.calls ≡ count_calls (input_at machine).scripts
-  pub subscribers : vec_capacity machine.subscribers ≡ length (input_at machine).homes
-  pub callers : vec_capacity machine.callers ≡ (input_at machine).callers
-  pub steps : (s : ℕ) (d : Subscriber) → s < length (input_at machine).homes
-      → HasRoomFor (calls_of (input_at machine) s) (slice_index_or machine.subscribers.items s d)
-  pub finds : (c : ℕ) (d : Caller) → c < (input_at machine).callers
-      → vec_capacity (slice_index_or machine.callers.items c d).lines
-      ≡ calls_of (input_at machine) (length (input_at machine).homes + c)
+  pub total : vec_capacity machine.calls ≡ count_calls (input_at machine).scripts
 
 -- so many turns of an actor made as many visits
 pub record HasMade (old new : Machine) (history : History) (actor count : ℕ) : Type 0 where

@@ -1,7 +1,7 @@
 -- What the parts of a machine lean on: an input with its plan and its distances, cells that hold
 -- what a history leaves, many turns at once, and a walk for the find that a caller is at.
 -- Key laws: `Machine::new`, `turn`, `finish` and `outcome`, by their clauses.
-use Rattle.std.specs.Prelude.{◌≡◌, refl, ℕ, ◌<◌, List, [], ◌∷◌, ◌++◌, All, Option, Some, None, length, map, replicate, slice_index_or}
+use Rattle.std.specs.Prelude.{◌≡◌, refl, ℕ, ◌<◌, List, [], ◌∷◌, ◌++◌, All, Option, Some, None, map, replicate}
 use Rattle.distances.specs.Table.{DistanceTable}
 use Rattle.directory.specs.Settings.{Setting}
 use Rattle.directory.specs.Histories.{History}
@@ -16,10 +16,6 @@ use Rattle.region_plan.specs.Settings.{setting_of}
 use Rattle.visit_log.specs.Cells.{CellData, GoWith, Hold}
 use Rattle.walk.specs.Walks.{IsWalkOver, WalkData, call_of, pursuit_of}
 use Rattle.scripts.specs.Scripts.{IsSettingOf, scripts_of}
-
--- how many calls an actor makes
-abbrev pub calls_of : Contents → ℕ → ℕ
-calls_of input actor = length (slice_index_or input.scripts actor [])
 
 -- a find begins at one of so many nodes
 abbrev pub BeginsInside : ℕ → Call → Type 0

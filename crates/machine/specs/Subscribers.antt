@@ -79,7 +79,7 @@ abbrev pub begun_steps : Contents → ℕ → Shown → List Step
 begun_steps input sub shown =
     take (length shown.lines.items) (steps_of (scripts_of input) sub)
 
--- what is seen is as far as a history says
+-- what is seen is as far as a history says; there is room for just the lines of all its steps
 pub record IsShown (input : Contents) (plan : PlanData) (history : History) (sub : ℕ)
     (shown : Shown) : Type 0 where
   pub handset : StandsForSteps (setting_over input plan) shown.handset
@@ -96,9 +96,9 @@ pub record IsShown (input : Contents) (plan : PlanData) (history : History) (sub
       → length (writes (setting_over input plan)
       (course_at (start (setting_over input plan) sub)) before)
       < length (own sub history)
-  pub room : length (steps_of (scripts_of input) sub) ≤ vec_capacity shown.lines
+  pub room : vec_capacity shown.lines ≡ length (steps_of (scripts_of input) sub)
 
--- a subscriber is as far as a history says
+-- a subscriber is as far as a history says; it has room for just 64 writes ahead
 pub record IsSubscriber (input : Contents) (plan : PlanData) (history : History) (sub : ℕ)
     (subscriber : Subscriber) : Type 0 where
   pub handset : HandsetData
@@ -108,15 +108,10 @@ pub record IsSubscriber (input : Contents) (plan : PlanData) (history : History)
   pub goes : GoesWith plan subscriber.handset
   pub its : subscriber.handset.sub ≡ sub
   pub within : subscriber.made ≤ length subscriber.ahead.items
-  pub space : 1 ≤ vec_capacity subscriber.ahead
+  pub space : vec_capacity subscriber.ahead ≡ 64
   -- where there was room for one write more, none came
   pub rests : length subscriber.ahead.items < vec_capacity subscriber.ahead
       → due (setting_of plan []) subscriber.handset ≡ None
-
--- a subscriber has room for just as many lines as it has steps, and for just 64 writes ahead
-pub record HasRoomFor (steps : ℕ) (subscriber : Subscriber) : Type 0 where
-  pub lines : vec_capacity subscriber.lines ≡ steps
-  pub ahead : vec_capacity subscriber.ahead ≡ 64
 
 -- a turn makes its next visit, or none is left and nothing changes
 abbrev pub HasWritten : Contents → PlanData → History → ℕ → Subscriber → Subscriber → CellData

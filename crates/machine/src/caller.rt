@@ -189,9 +189,7 @@ impl Caller {
         };
         let script = input.scripts[actor as usize].as_slice();
         let line = line_of(actor, script[self.lines.len()], found, first, ticket);
-        if self.lines.push(line).is_err() {
-            unreachable!()
-        }
+        self.lines.push_reserved(line);
         self.walk = walk_at(script, self.lines.len(), input.homes.len() as u32, plan);
         self.first = None;
         Turn::Visited

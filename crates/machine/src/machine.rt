@@ -11,9 +11,9 @@ ghost use Rattle.visit_log.specs.Homes.{AreHomes};
 ghost use Rattle.visit_log.specs.Routes.{AreRoutes};
 ghost use Rattle.trail_laws.specs.RightOutcomes.{IsRightLine, TellInTurn, TellRisingNumbers};
 ghost use Rattle.machine.specs.Callers.{IsCaller};
-ghost use Rattle.machine.specs.Machines.{HasJustRoom, HasStridden, IsSame, HasHistory, scripts_at, setting_at};
-ghost use Rattle.machine.specs.Stands.{BelongTogether, calls_of};
-ghost use Rattle.machine.specs.Subscribers.{HasRoomFor, IsSubscriber};
+ghost use Rattle.machine.specs.Machines.{HasStridden, IsSame, HasHistory, scripts_at, setting_at};
+ghost use Rattle.machine.specs.Stands.{BelongTogether};
+ghost use Rattle.machine.specs.Subscribers.{IsSubscriber};
 ghost use Rattle.machine.specs.declared.caller.Caller.{Caller};
 ghost use Rattle.machine.specs.declared.subscriber.Subscriber.{Subscriber};
 ghost use Rattle.machine.specs.declared.turn.Turn.TheVariants.{Finished};
@@ -66,7 +66,6 @@ impl<'a> Machine<'a> {
             (λ machine. (machine.input.now ≡ input.now) × (machine.plan.now ≡ plan.now)
             × (machine.distances.now ≡ distances.now)) }
         ensures stands { IfOk result (λ machine. HasHistory machine []) }
-        ensures room { IfOk result HasJustRoom }
     {
         // The actors first: each call drops what was made before it where it fails, and the prover
         // goes through each drop.
@@ -337,9 +336,6 @@ fn subscribers_of(
         (slice_index_or subscribers.items s d)) }
     ensures room { IfOk result
         (λ subscribers. vec_capacity subscribers ≡ length input.now.homes.items) }
-    ensures rooms { IfOk result
-        (λ subscribers. (s : ℕ) (d : Subscriber) → s < length input.now.homes.items
-        → HasRoomFor (calls_of (seen_input input.now) s) (slice_index_or subscribers.items s d)) }
 {
     let mut subscribers = Vec::with_capacity(alloc, input.homes.len())?;
     for sub in 0..input.homes.len() as u32 {
@@ -363,9 +359,6 @@ fn callers_of(
         → IsCaller (seen_input input.now) plan.now [] (length input.now.homes.items + c)
         (slice_index_or callers.items c d)) }
     ensures room { IfOk result (λ callers. vec_capacity callers ≡ input.now.callers) }
-    ensures rooms { IfOk result (λ callers. (c : ℕ) (d : Caller) → c < input.now.callers
-        → vec_capacity (slice_index_or callers.items c d).lines
-        ≡ calls_of (seen_input input.now) (length input.now.homes.items + c)) }
 {
     let subs = input.homes.len();
     let mut callers = Vec::with_capacity(alloc, input.callers as usize)?;

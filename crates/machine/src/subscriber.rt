@@ -320,9 +320,7 @@ impl Subscriber {
             return Turn::Finished;
         }
         let line = begin_step(&mut self.handset, script[place], plan, distances, ticket);
-        if self.lines.push(line).is_err() {
-            unreachable!()
-        }
+        self.lines.push_reserved(line);
         self.ahead.clear();
         fill(&mut self.ahead, &mut self.handset, plan, homes, cells);
         let write = self.ahead[0];

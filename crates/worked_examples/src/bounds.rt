@@ -4,12 +4,11 @@ ghost use Rattle.std.specs.Prelude.{◌≡◌, ◌≤◌, ◌+◌, ℕ, Option, 
 ghost use Rattle.directory.specs.Finds.{Chase, Pursuit, Reader, at_origin, chases, climbs, ended, looks_left};
 ghost use Rattle.directory.specs.Courses.{move_to};
 ghost use Rattle.directory.specs.Histories.{History, tickets};
-ghost use Rattle.directory.specs.Orders.{IsPlayed, caller_in};
+ghost use Rattle.directory.specs.Orders.{IsPlayed, caller_in, finds_of, steps_of};
 ghost use Rattle.directory.specs.Statements.{CallersCount};
 ghost use Rattle.directory.specs.declared.answers.Found.{Found};
-ghost use Rattle.machine.specs.Machines.{HasJustRoom, IsSame, input_at, setting_at};
+ghost use Rattle.machine.specs.Machines.{HasHistory, IsSame, input_at, scripts_at, setting_at};
 ghost use Rattle.machine.specs.declared.machine.Machine.{Machine};
-ghost use Rattle.machine.specs.Stands.{calls_of};
 ghost use Rattle.net_reader.specs.Valid.{count_calls};
 ghost use Rattle.net_reader.specs.declared.said.Call.TheVariants.{Find, Move, Off, On};
 ghost use Rattle.plan_laws.specs.Examples.{line_scripts, line_setting};
@@ -48,20 +47,20 @@ pub fn worked_callers()
         1).first ≤ 4 }
 {}
 
-/// A machine has room for just what its input may need: where that is 25 visits, for an order of
-/// 25; where its scripts have four calls, for four; and for its one subscriber, or its two callers.
-/// A caller of three finds has room for three lines, a subscriber of two steps for two, and for 64
-/// writes ahead. Turns leave a machine with its room for an order of 25 and for four lines, and
-/// with homes and routes of three levels.
+/// A machine has room for just what its input may need, whatever its history: where that is 25
+/// visits, for an order of 25; where its scripts have four calls, for four; and for its one
+/// subscriber, or its two callers. A caller of three finds has room for three lines, a subscriber of
+/// two steps for two, and for 64 writes ahead. Turns leave a machine with its room for an order of
+/// 25 and for four lines, and with homes and routes of three levels.
 pub fn worked_rooms()
-    ensures order { (machine : Machine) → HasJustRoom machine
+    ensures order { (machine : Machine) (history : History) → HasHistory machine history
         → most_visits (setting_at machine) (input_at machine).scripts ≡ 25
         → vec_capacity machine.order ≡ 25 }
-    ensures calls { (machine : Machine) → HasJustRoom machine
+    ensures calls { (machine : Machine) (history : History) → HasHistory machine history
         → count_calls (input_at machine).scripts ≡ 4 → vec_capacity machine.calls ≡ 4 }
-    ensures subscribers { (machine : Machine) → HasJustRoom machine
+    ensures subscribers { (machine : Machine) (history : History) → HasHistory machine history
         → length (input_at machine).homes ≡ 1 → vec_capacity machine.subscribers ≡ 1 }
-    ensures callers { (machine : Machine) → HasJustRoom machine
+    ensures callers { (machine : Machine) (history : History) → HasHistory machine history
         → (input_at machine).callers ≡ 2 → vec_capacity machine.callers ≡ 2 }
     ensures turns { (old new : Machine) → IsSame old new → vec_capacity old.order ≡ 25
         → vec_capacity new.order ≡ 25 }
@@ -71,13 +70,15 @@ pub fn worked_rooms()
         → new.homes.levels ≡ 3 }
     ensures routes { (old new : Machine) → IsSame old new → old.routes.levels ≡ 3
         → new.routes.levels ≡ 3 }
-    ensures finds { (machine : Machine) → HasJustRoom machine → (input_at machine).callers ≡ 1
-        → calls_of (input_at machine) (length (input_at machine).homes + 0) ≡ 3
+    ensures finds { (machine : Machine) (history : History) → HasHistory machine history
+        → (input_at machine).callers ≡ 1
+        → length (finds_of (setting_at machine) (scripts_at machine)
+        (length (input_at machine).homes + 0)) ≡ 3
         → OfFirst machine.callers.items (λ caller. vec_capacity caller.lines ≡ 3) }
-    ensures lines { (machine : Machine) → HasJustRoom machine
-        → length (input_at machine).homes ≡ 1 → calls_of (input_at machine) 0 ≡ 2
+    ensures lines { (machine : Machine) (history : History) → HasHistory machine history
+        → length (input_at machine).homes ≡ 1 → length (steps_of (scripts_at machine) 0) ≡ 2
         → OfFirst machine.subscribers.items (λ subscriber. vec_capacity subscriber.lines ≡ 2) }
-    ensures ahead { (machine : Machine) → HasJustRoom machine
+    ensures ahead { (machine : Machine) (history : History) → HasHistory machine history
         → length (input_at machine).homes ≡ 1
         → OfFirst machine.subscribers.items (λ subscriber. vec_capacity subscriber.ahead ≡ 64) }
 {}

@@ -1,9 +1,6 @@
 use Rattle.std.proofs.Common.{◌≡◌, ◌<◌, ◌+◌, ◌∙◌, [], get_or, arith, length}
-use Rattle.std.specs.Prelude.{vec_capacity}
 use Rattle.net_reader.specs.Seen.{seen_input}
-use Rattle.machine.specs.declared.caller.Caller.{Caller}
 use Rattle.machine.specs.Callers.{IsCaller}
-use Rattle.machine.specs.Stands.{calls_of}
 use Rattle.machine.proofs.Turning.{caller-opens, each-more}
 use Rattle.machine.proofs.machine.callers_of.Goals as goal
 use Rattle.machine.specs.ScriptVisits.{script-searches, script-is}
@@ -34,10 +31,5 @@ loop-caller-preserved c =
           (omega (arith, c.loop-caller.invariant.count)) c.loop-caller.invariant.each
           (rw count at (caller-opens (seen_input c.args.input.now) c.args.plan.now
           (c.len-subs.result + c.loop-caller.caller) c.in_ok-new.field-0 (omega (arith, c.len-subs.ensures)) low script
-          c.in_ok-new.ensures.walk c.in_ok-new.ensures.first c.in_ok-new.ensures.lines
-          (omega (arith, c.in_ok-new.ensures.room))));
-      rooms = each-more (λ i (x : Caller). vec_capacity x.lines ≡ calls_of (seen_input c.args.input.now)
-          (length c.args.input.now.homes.items + i)) c.loop-caller.callers.items c.push_reserved.ensures.items
-          (omega (arith, c.loop-caller.invariant.count)) c.loop-caller.invariant.rooms
-          (rw (c.in_ok-new.ensures.room, script, count));
+          c.in_ok-new.ensures.walk c.in_ok-new.ensures.first c.in_ok-new.ensures.lines c.in_ok-new.ensures.room));
     }

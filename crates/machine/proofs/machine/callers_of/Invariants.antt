@@ -3,7 +3,6 @@ use Rattle.std.specs.Prelude.{vec_capacity, vec_len}
 use Rattle.net_reader.specs.Seen.{seen_input}
 use Rattle.machine.specs.declared.caller.Caller.{Caller}
 use Rattle.machine.specs.Callers.{IsCaller}
-use Rattle.machine.specs.Stands.{calls_of}
 use Rattle.machine.proofs.machine.callers_of.Given as goal
 
 abbrev pub invariant-loop-caller : goal.invariant-loop-caller
@@ -12,7 +11,4 @@ invariant-loop-caller l = record {
   room : vec_capacity l.callers ≡ l.input.callers;
   each : (c : ℕ) (d : Caller) → c < l.caller
       → IsCaller (seen_input l.input) l.plan [] (length l.input.homes.items + c) (get_or l.callers.items c d);
-  rooms : (c : ℕ) (d : Caller) → c < l.caller
-      → vec_capacity (get_or l.callers.items c d).lines
-      ≡ calls_of (seen_input l.input) (length l.input.homes.items + c);
 }

@@ -3,16 +3,16 @@ use Rattle.std.specs.Prelude.{vec_capacity}
 use Rattle.worked_examples.proofs.bounds.worked_rooms.Goals as goal
 
 pub returns-clause-order : goal.returns-clause-order
-returns-clause-order c = λ machine room many. room.order ∙ many
+returns-clause-order c = λ machine history stands many. stands.room ∙ many
 
 pub returns-clause-calls : goal.returns-clause-calls
-returns-clause-calls c = λ machine room many. room.calls ∙ many
+returns-clause-calls c = λ machine history stands many. stands.total ∙ many
 
 pub returns-clause-subscribers : goal.returns-clause-subscribers
-returns-clause-subscribers c = λ machine room many. room.subscribers ∙ many
+returns-clause-subscribers c = λ machine history stands many. stands.subscribers_room ∙ many
 
 pub returns-clause-callers : goal.returns-clause-callers
-returns-clause-callers c = λ machine room many. room.callers ∙ many
+returns-clause-callers c = λ machine history stands many. stands.callers_room ∙ many
 
 pub returns-clause-turns : goal.returns-clause-turns
 returns-clause-turns c = λ old new same room. same.3 ∙ room
@@ -27,10 +27,12 @@ pub returns-clause-routes : goal.returns-clause-routes
 returns-clause-routes c = λ old new same levels. ap (λ routes. routes.levels) same.5 ∙ levels
 
 pub returns-clause-finds : goal.returns-clause-finds
-returns-clause-finds c = λ machine room one three d. room.finds 0 d (omega (arith, one)) ∙ three
+returns-clause-finds c = λ machine history stands one three d.
+    (stands.callers 0 d (omega (arith, one))).room ∙ three
 
 pub returns-clause-lines : goal.returns-clause-lines
-returns-clause-lines c = λ machine room one two d. (room.steps 0 d (omega (arith, one))).lines ∙ two
+returns-clause-lines c = λ machine history stands one two d.
+    (stands.subscribers 0 d (omega (arith, one))).shown.room ∙ two
 
 pub returns-clause-ahead : goal.returns-clause-ahead
-returns-clause-ahead c = λ machine room one d. (room.steps 0 d (omega (arith, one))).ahead
+returns-clause-ahead c = λ machine history stands one d. (stands.subscribers 0 d (omega (arith, one))).space

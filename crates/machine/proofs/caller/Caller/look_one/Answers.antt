@@ -1,10 +1,9 @@
-use Rattle.std.proofs.Common.{◌≡◌, ◌<◌, ◌∙◌, [], ◌∷◌, ◌++◌, drop, ap, subst, sym, refl, arith, length, get_or, map}
+use Rattle.std.proofs.Common.{◌≡◌, ◌<◌, ◌∙◌, [], drop, ap, subst, sym, refl, arith, length, get_or, map}
 use Rattle.std.specs.Prelude.{Some}
 use Rattle.std.proofs.lemmas.List.{length_push}
 use Rattle.scripts.specs.Scripts.{find_of}
 use Rattle.machine.specs.Stands.{setting_over, IsWalking}
-use Rattle.machine.proofs.Rests.{on-err}
-use Rattle.machine.proofs.Looked.{ok-of, room-left, wanted, scripts-low, place-low, call-at, looks, looked-on, looked-up}
+use Rattle.machine.proofs.Looked.{room-left, wanted, scripts-low, place-low, call-at, looks, looked-on, looked-up}
 use Rattle.net_reader.specs.Seen.{seen_input}
 use Rattle.region_plan.specs.Plan.{nodes_of}
 use Rattle.walk.specs.Walks.{IsWordBelow}
@@ -57,10 +56,8 @@ offset_bounds-script-len c = grind (arith, calls-few, low-here, script-here)
 pub bounds-script-len : goal.bounds-script-len
 bounds-script-len c = low-here c
 
-pub unreachable-requires-then-is_err : goal.unreachable-requires-then-is_err
-unreachable-requires-then-is_err c =
-    room-left c.requires.stands.3 c.in-Some.is (on-err c.push.result (sym c.is_err.ensures.value ∙ c.if-is_err.true)
-    c.push.ensures.full)
+pub push_reserved-requires : goal.push_reserved-requires
+push_reserved-requires c = room-left c.requires.stands.3 c.in-Some.is
 
 pub walk_at-self-requires : goal.walk_at-self-requires
 walk_at-self-requires c =
@@ -77,8 +74,6 @@ returns c = λ history sees place its.
     let script = script-is c.args.input.now.scripts.items c.args.actor low c.index.ensures
     c.as_slice-script.ensures.value in
     let count : length c.args.self.now.lines.items ≡ c.len.result = omega (arith, c.len.ensures) in
-    let lines : c.push.new.self.items ≡ c.args.self.now.lines.items ++ c.line_of-line.result ∷ [] =
-    grind (arith, ok-of) in
     looked-up c.lines_grow.ensures.read c.lines_grow.ensures.finds c.lines_grow.ensures.count _ c.requires.high sees
     place its (looks c.own_after.ensures.tickets c.saw.new.self c.requires.high its c.in-Some.is
     (sym c.next.ensures ∙ c.in-Some-next.is) (c.look.ensures.history c.args.input.now.homes.items history sees.hold)
@@ -90,9 +85,15 @@ returns c = λ history sees place its.
           (omega (arith, c.len.ensures, ap length script, place-low its c.in-Some.is c.requires.high low))
           (rw count at left),
       c.unwrap_or-first.ensures,
-    )) lines
-    (omega (arith, c.len-2.ensures, ap length lines, length_push c.args.self.now.lines.items c.line_of-line.result))
-    (omega (arith, c.push.ensures.capacity)) refl (subst
+    )) c.push_reserved.ensures.items
+    (omega (
+      arith,
+      c.len-2.ensures,
+      ap length c.push_reserved.ensures.items,
+      length_push c.args.self.now.lines.items
+          c.line_of-line.result,
+    ))
+    c.push_reserved.ensures.capacity refl (subst
     (λ fs. IsWalking c.args.plan.now (drop c.len-2.result fs) at_origin c.walk_at-self.result)
     (ap (map find_of) script ∙ sym (finds-are (seen_input c.args.input.now)
     (setting_over (seen_input c.args.input.now) c.args.plan.now) c.args.actor refl c.requires.high low))

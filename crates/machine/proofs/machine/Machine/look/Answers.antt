@@ -38,7 +38,7 @@ returns-clause-stands g c = λ history stands.
     let taken = c.look-count.ensures.taken history may.1 may.2 may.3 in
     stridden stands taken.0 c.visits_are_few.ensures c.each_visit_is_next.ensures.more c.room_for-reach.result
     (caller-turned stands taken.0 c.own_after.ensures.visits c.own_after.ensures.tickets c.lines_grow.ensures.kept
-    (c.args.actor - c.len.result) _ _ at taken.0.its refl c.log_run.ensures.items c.log_run.ensures.capacity)
+    (c.args.actor - c.len.result) _ _ at taken.0.its refl refl c.log_run.ensures.items c.log_run.ensures.capacity)
     (λ empty. omega (arith, c.room_for-reach.ensures.full empty c.requires.some, may.2, c.len-ticket.ensures)) taken.1
     (λ none. caller-still c.args.self.now (c.args.actor - c.len.result) c.index_mut.ensures.value
     (c.look-count.ensures.still none) (c.log_run.ensures.still none))

@@ -1,9 +1,8 @@
 use Rattle.std.proofs.lemmas.Grind.{common_steps}
-use Rattle.std.proofs.Common.{◌≡◌, ◌++◌, ◌∷◌, [], sym, ap, ◌∙◌, refl, arith, length, subst}
+use Rattle.std.proofs.Common.{sym, ap, ◌∙◌, refl, arith, length, subst}
 use Rattle.net_reader.specs.declared.said.Call.TheVariants as calls
 use Rattle.machine.specs.Owed.{Owes}
-use Rattle.machine.proofs.Looked.{ok-of}
-use Rattle.machine.proofs.Rests.{all-written, first-cell, first-put, shown-now, first-ahead, on-err, ready, script-of}
+use Rattle.machine.proofs.Rests.{all-written, first-cell, first-put, shown-now, first-ahead, ready, script-of}
 use Rattle.machine.proofs.subscriber.Subscriber.begin.Goals as goal
 
 pub returns-then-place-script : goal.returns-then-place-script
@@ -40,13 +39,12 @@ begin_step-line-requires-clause-may c =
     (omega (arith, c.len-place.ensures)) c.if-place-script.false in
     at.begin.may
 
-pub unreachable-requires : goal.unreachable-requires
-unreachable-requires c =
+pub push_reserved-requires : goal.push_reserved-requires
+push_reserved-requires c =
     let at = ready c.scripts_are_valid.ensures c.args.input.now (calls.Move 0) c.requires.together c.requires.low
     c.requires.none c.requires.stands.3 c.requires.rests c.index.ensures c.as_slice-script.ensures.value
     (omega (arith, c.len-place.ensures)) c.if-place-script.false in
-    let full = on-err c.push.result (sym c.is_err.ensures.value ∙ c.if-is_err.true) c.push.ensures.full in
-    omega (arith, at.left, c.requires.stands.3.shown.room, full)
+    omega (arith, at.left, c.requires.stands.3.shown.room, c.args.self.now.lines.ok.0)
 
 pub index-write-requires : goal.index-write-requires
 index-write-requires c =
@@ -77,18 +75,16 @@ returns c = λ history sees place its.
     c.requires.none its c.requires.rests c.index.ensures c.as_slice-script.ensures.value
     (omega (arith, c.len-place.ensures)) c.if-place-script.false in
     let begun = c.begin_step-line.ensures.stands c.args.input.now.homes.items _ _ at.shown.handset in
-    let lines : c.push.new.self.items ≡ c.args.self.now.lines.items ++ c.begin_step-line.result ∷ [] =
-    grind (arith, ok-of) in
     let some = first-ahead c.fill.new.ahead.items at c.begin_step-line.ensures.its
     (c.begin_step-line.ensures.stands c.args.input.now.homes.items _ _ at.shown.handset) c.fill.ensures.rests in
     let owes = c.fill.ensures.ahead.owes c.begin_step-line.new.handset
     (subst (Owes c.args.plan.now c.args.cells.now.subs c.begin_step-line.new.handset c.begin_step-line.new.handset)
     (sym c.clear.ensures.items) refl) in
     first-put c.own_after.ensures.visits c.own_after.ensures.tickets c.tickets_tell.ensures.visits c.args.self.now
-    c.begin_step-line.new.handset c.fill.new.ahead c.push.new.self c.requires.low place sees at.shown at.begin begun
+    c.begin_step-line.new.handset c.fill.new.ahead c.push_reserved.new.self c.requires.low place sees at.shown at.begin begun
     c.begin_step-line.ensures.its owes c.fill.ensures.ahead.goes c.fill.ensures.ahead.its
-    (omega (arith, its.space, c.clear.ensures.capacity, c.fill.ensures.ahead.room)) some c.index-write.ensures lines
-    (omega (arith, c.push.ensures.capacity)) c.begin_step-line.ensures.line at.left
+    (omega (arith, its.space, c.clear.ensures.capacity, c.fill.ensures.ahead.room)) some c.index-write.ensures
+    c.push_reserved.ensures.items c.push_reserved.ensures.capacity c.begin_step-line.ensures.line at.left
     (λ key cell. c.put_at.ensures.history c.args.plan.now key sees.goes cell)
     (c.put_at.ensures.goes c.args.plan.now sees.goes) c.fill.ensures.ends
 
