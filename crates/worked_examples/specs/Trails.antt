@@ -1,5 +1,5 @@
 -- What the laws of trails and of costs say of the line of four. Key laws: `worked_costs`,
--- `worked_climbs`, `worked_trails`.
+-- `worked_lowest_costs`, `worked_climbs`, `worked_trails`.
 use Rattle.std.specs.Prelude.{ℕ}
 use Rattle.entry_word.specs.declared.address.Address.{Address}
 use Rattle.entry_word.specs.declared.mark.PresenceMark.{PresenceMark}

@@ -2,11 +2,13 @@
 //! each is wrong in one part.
 ghost use Rattle.std.specs.Prelude.{◌≡◌, ◌<◌, ◌+◌, ◌++◌, [], ◌∷◌, ℕ, List, Some, None, flat_map, suc, slice_get};
 ghost use Rattle.atomic_table.specs.Table.{State};
+ghost use Rattle.directory.specs.Courses.{move_to};
 ghost use Rattle.directory.specs.Finds.{FindCall};
 ghost use Rattle.directory.specs.Histories.{History, before, through};
 ghost use Rattle.directory.specs.Legal.{IsLegal};
 ghost use Rattle.directory.specs.Looks.{IsQuiet, first_of, last_of};
 ghost use Rattle.directory.specs.Standing.{number};
+ghost use Rattle.directory.specs.Writes.{visits};
 ghost use Rattle.directory.specs.declared.answers.Found.{Found};
 ghost use Rattle.directory.specs.declared.answers.Found.TheVariants.{At, Off as OffAt, Again};
 ghost use Rattle.directory.specs.declared.answers.Why.TheVariants.{NoEntry};
@@ -14,7 +16,7 @@ ghost use Rattle.entry_word.specs.declared.visit.Act.{Act};
 ghost use Rattle.handset.specs.Condition.{HandsetData};
 ghost use Rattle.handset.specs.StepWrites.{due};
 ghost use Rattle.handset.specs.declared.stage.Stage.TheVariants.{Coming};
-ghost use Rattle.plan_laws.specs.Examples.{line_of_four};
+ghost use Rattle.plan_laws.specs.Examples.{line_of_four, line_setting};
 ghost use Rattle.region_plan.specs.Matched.{BoundsFinds};
 ghost use Rattle.station.specs.Moments.{AreOthersOut, GoesThrough};
 ghost use Rattle.station.specs.Passes.{PassData, actor_of};
@@ -31,6 +33,7 @@ ghost use Rattle.tracker_calls.specs.Added.{HasAdded, KeepsHandsets, VisitTurns,
 ghost use Rattle.tracker_calls.specs.RightAnswers.{TellsRightly};
 ghost use Rattle.tracker_calls.specs.Finds.{HasFound, HasStopped};
 ghost use Rattle.tracker_calls.specs.Moves.{HasStepped};
+ghost use Rattle.trail_laws.specs.Rightness.{IsAnswered};
 ghost use Rattle.worked_examples.specs.Examples.{find_from};
 ghost use Rattle.worked_examples.specs.Passes.{HasPass, count_by, line_setup};
 
@@ -38,7 +41,8 @@ use station::events_come_within_calls;
 
 /// Answers of a find from node 2 whose subscriber rests at node 3: of another node, number or
 /// state; none at all; beyond the bound, which is told at the first look and at the last; or older
-/// than what the pass had seen.
+/// than what the pass had seen. Each quiet find has its answer; and one from node 2, while its
+/// subscriber has come there and hasn't confirmed it, travels at most twice the passage of 1.
 pub fn wrong_answers()
     ensures node { (old : PassData) → TellsRightly line_setup old (find_from 2)
         (At 2 0 (Some 0) 5) (0 ∷ []) [] → ⊥ }
@@ -48,8 +52,14 @@ pub fn wrong_answers()
         (OffAt 3 0 (Some 0) 5) (0 ∷ []) [] → ⊥ }
     ensures again { (setup : Setup) (old : PassData) (call : FindCall)
         → TellsRightly setup old call (Again NoEntry 4) (0 ∷ []) [] → ⊥ }
+    ensures quiet { (setup : Setup) (old : PassData) (call : FindCall) (found : Found)
+        (made : List ℕ) (seen : History) → TellsRightly setup old call found made seen
+        → IsQuiet seen call.sub (first_of made) (last_of made) → IsAnswered found }
     ensures far { BoundsFinds line_of_four → (old : PassData)
         → TellsRightly line_setup old (find_from 2) (At 3 0 (Some 0) 145) (0 ∷ []) [] → ⊥ }
+    ensures passing { BoundsFinds line_of_four → (old : PassData)
+        → TellsRightly line_setup old (find_from 2) (At 2 1 None 3) (4 ∷ [])
+        (before 4 (visits line_setting 0 (move_to 2 ∷ []))) → ⊥ }
     ensures near_first { (setup : Setup) (old : PassData) (call : FindCall) (found : Found)
         (made : List ℕ) (seen : History) → TellsRightly setup old call found made seen
         → BoundsFinds setup.plan → IsQuiet seen call.sub (first_of made) (last_of made)

@@ -1,6 +1,6 @@
 //! What each part of a find costs on the line of four, by number: its clusters are 3 radii wide,
 //! and a node reads at most 2 of a level.
-ghost use Rattle.std.specs.Prelude.{◌≡◌, ◌≤◌, ◌<◌, List, None, [], ◌∷◌, suc, ℕ};
+ghost use Rattle.std.specs.Prelude.{◌≡◌, ◌≤◌, ◌<◌, List, None, Some, [], ◌∷◌, suc, ℕ};
 ghost use Rattle.entry_word.specs.declared.address.Address.{Address};
 ghost use Rattle.directory.specs.Finds.{FindCall, found_weight};
 ghost use Rattle.directory.specs.Histories.{History, before};
@@ -47,6 +47,33 @@ pub fn worked_costs()
         → Costs line_setting 0 history 1 cluster address 8 }
 {}
 
+/// What the laws of costs say of a find from node 0 that meets an address at level 0, the lowest.
+pub fn worked_lowest_costs()
+    ensures old { OldBeforeCommit → (history : History) (cluster : ℕ) (address : Address)
+        → LineMeets history 0 cluster address → IsBeforeCommit line_setting 0 history
+        → address.number ≤ number 0 history
+        → Costs line_setting 0 history 0 cluster address 4 }
+    ensures new { NewBeforeCommit → (history : History) (cluster : ℕ) (address : Address)
+        → LineMeets history 0 cluster address → IsBeforeCommit line_setting 0 history
+        → address.number ≡ suc (number 0 history) → standing line_setting 0 history ≡ 3
+        → Costs line_setting 0 history 0 cluster address 12 }
+    ensures passing { InPassage → (history : History) (cluster left : ℕ) (address : Address)
+        → LineMeets history 0 cluster address → IsPassingFrom line_setting 0 history left
+        → passage line_setting 0 history ≡ 1
+        → Costs line_setting 0 history 0 cluster address 6 }
+    ensures after { AfterConfirm → (history : History) (cluster : ℕ) (address : Address)
+        → LineMeets history 0 cluster address → IsSettled line_setting 0 history
+        → standing line_setting 0 history ≡ 3
+        → Costs line_setting 0 history 0 cluster address 13 }
+    ensures current { CurrentAfterConfirm → (history : History) (cluster : ℕ) (address : Address)
+        → LineMeets history 0 cluster address → IsSettled line_setting 0 history
+        → IsCurrent line_setting 0 history 0 address
+        → Costs line_setting 0 history 0 cluster address 4 }
+    ensures rest { AtRest → (history : History) (cluster : ℕ) (address : Address)
+        → LineMeets history 0 cluster address → IsAtRest line_setting 0 history
+        → Costs line_setting 0 history 0 cluster address 4 }
+{}
+
 /// How high a find from node 0 climbs whose subscriber stands at node 3; what reading weighs at
 /// most where clusters are 3 radii wide and a node reads 2 of a level; what a find from node 2
 /// reads; and what it weighs at most while its subscriber rests at node 3.
@@ -75,7 +102,8 @@ pub fn worked_climbs()
 {}
 
 /// A cost is of the whole way, from the leader, node 0, to the address's node and on from there: it
-/// is 3 here, and no less. The marks lead along it, in no more hops than there are nodes.
+/// is 3 here, and no less. The marks lead along it, in no more hops than there are nodes; and they
+/// do too when what is known is as high as the subscriber's number.
 pub fn wrong_costs()
     ensures whole { Costs line_setting 0 [] 1 0 (record { number = 0; node = 3 }) 3 }
     ensures less { Costs line_setting 0 [] 1 0 (record { number = 0; node = 3 }) 2 → ⊥ }
@@ -83,6 +111,11 @@ pub fn wrong_costs()
         → Costs line_setting 0 history 1 cluster address 8
         → (hops : ℕ) × (way : ℕ) × (hops ≤ 4)
         × IsLed line_setting (mark_seen line_setting 0 history) None address.node
+        (standing line_setting 0 history) hops way }
+    ensures known { (history : History) (cluster : ℕ) (address : Address)
+        → Costs line_setting 0 history 1 cluster address 8 → number 0 history ≡ 1
+        → (hops : ℕ) × (way : ℕ) × (hops ≤ 4)
+        × IsLed line_setting (mark_seen line_setting 0 history) (Some 1) address.node
         (standing line_setting 0 history) hops way }
 {}
 

@@ -38,7 +38,7 @@ pub use cells::{worked_cells, worked_rungs, worked_words};
 pub use censuses::worked_censuses;
 pub use chases::{worked_chases, wrong_chases};
 pub use closing::{wrong_causes, wrong_orders};
-pub use costs::{worked_climbs, worked_costs, wrong_costs, wrong_rates};
+pub use costs::{worked_climbs, worked_costs, worked_lowest_costs, wrong_costs, wrong_rates};
 pub use covers::{wrong_distances, wrong_homes, wrong_phases, wrong_tree_faults};
 pub use faults::{worked_move_faults, worked_switch_faults, wrong_find_faults, wrong_move_faults};
 pub use finds::{worked_finds, worked_parts, wrong_parts};
@@ -53,7 +53,7 @@ pub use nexts::{worked_nexts, worked_stops, worked_ways};
 pub use orders::{worked_orders, wrong_made};
 pub use others::worked_others;
 pub use passes::{
-    worked_bits, wrong_censuses, wrong_notes, wrong_passes, wrong_stays, wrong_turns,
+    worked_bits, wrong_censuses, wrong_held, wrong_notes, wrong_passes, wrong_stays, wrong_turns,
 };
 pub use plans::{worked_levels, worked_measures, wrong_matches, wrong_overlaps, wrong_plans};
 pub use powers::worked_powers;

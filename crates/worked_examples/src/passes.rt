@@ -1,17 +1,25 @@
 //! What a fresh pass isn't, and what a pass doesn't do when it loses a turn, stays in a node, takes
 //! a census or hears a note: each is wrong in one part.
-ghost use Rattle.std.specs.Prelude.{◌≡◌, ◌++◌, ◌<◌, [], ◌∷◌, ℕ, List, Some, None, suc, length};
+ghost use Rattle.std.specs.Prelude.{◌≡◌, ◌++◌, ◌<◌, ◌≤◌, [], ◌∷◌, ℕ, List, Some, None, suc, length};
+ghost use Rattle.atomic_table.specs.Table.{State};
+ghost use Rattle.directory.specs.Histories.{own};
 ghost use Rattle.directory.specs.Legal.{IsLegal};
+ghost use Rattle.entry_word.specs.declared.visit.Act.{Act};
 ghost use Rattle.entry_word.specs.declared.visit.Act.TheVariants.{Census};
+ghost use Rattle.station.specs.Moments.{AreOthersOut, GoesThrough};
 ghost use Rattle.station.specs.Passes.{AreFresh, IsFreshPass, IsStayOf, NoteData, PassData, TrackerData, actor_of};
-ghost use Rattle.station.specs.Setup.{setting_in, subs_in};
+ghost use Rattle.station.specs.Rule.{IsViewOf};
+ghost use Rattle.station.specs.Setup.{Setup, nodes_in, setting_in, subs_in};
 ghost use Rattle.station.specs.Turns.{events_of, lock_in};
 ghost use Rattle.station.specs.Views.{turn_at};
 ghost use Rattle.station.specs.Visits.{HasHeard, HasLost, HasVisited, IsCensus};
 ghost use Rattle.station.specs.declared.turns.Stay.{Stay};
 ghost use Rattle.station.specs.declared.view.TurnEvent.{TurnEvent};
 ghost use Rattle.station.specs.declared.view.TurnEvent.TheVariants.{GivenBack, Lost, Won};
-ghost use Rattle.worked_examples.specs.Passes.{HasNote, HasPass, count_by, line_setup};
+ghost use Rattle.station.specs.declared.view.View.{View};
+ghost use Rattle.worked_examples.specs.Passes.{HasNote, HasPass, count_by};
+
+use station::events_come_within_calls;
 
 /// A fresh pass has room for no visit, has seen none, is in no node, and has logged and lost no
 /// turn; and it is that of the actor at whose place it stands.
@@ -66,6 +74,19 @@ pub fn wrong_turns()
         ++ Won (actor_of old) 2 ∷ GivenBack (actor_of old) 2 ∷ [] }
 {}
 
+/// Over states in which no other actor's pass is inside node 2, no turn is lost there: so neither a
+/// pass that enters the node nor a visit there tells that it is held.
+pub fn wrong_held()
+    ensures alone { (setup : Setup) (old new : PassData) (other count : ℕ)
+        (states : ℕ → State Act View) → HasLost old 2 (record { node = 2; by = other }) new
+        → GoesThrough setup old.seat count states
+        → IsViewOf (states 0).views old.seat old.view
+        → IsViewOf (states count).views old.seat new.view → 2 < nodes_in setup
+        → ((step : ℕ) → step < count → AreOthersOut (states step) (actor_of old) 2) → ⊥ }
+{
+    events_come_within_calls();
+}
+
 /// A stay is its pass's own, whose pass is inside the node of the stay, one of the plan's.
 pub fn wrong_stays()
     ensures outside { (stay : Stay) (pass : PassData) → pass.view.inside ≡ None
@@ -94,8 +115,8 @@ pub fn wrong_censuses()
 {}
 
 /// A pass that hears a note has seen the longer of what it had seen and what was noted, and that
-/// goes on from both; its own visits, its spare, its node and its lost turns stay, and all that it
-/// has seen is legal and of known actors.
+/// goes on from both; its own visits, its spare, its node and its lost turns stay; and what it has
+/// seen is legal for each subscriber, and has no visit of an actor that there isn't.
 pub fn wrong_notes()
     ensures unheard { (old new : PassData) (note : NoteData) → HasPass old 0 []
         → HasNote note (count_by 1 0 ∷ []) → HasPass new 0 [] → HasHeard old note new → ⊥ }
@@ -133,6 +154,9 @@ pub fn wrong_notes()
         → new.table ≡ old.table }
     ensures setup { (old new : PassData) (note : NoteData) → HasHeard old note new
         → new.view.setup ≡ old.view.setup }
-    ensures legal { (old new : PassData) (note : NoteData) → HasPass old 0 []
-        → HasHeard old note new → IsLegal (setting_in line_setup) 0 new.view.seen }
+    ensures known { (old new : PassData) (note : NoteData) (actor : ℕ) → HasHeard old note new
+        → old.view.setup.actors ≤ actor → own actor new.view.seen ≡ [] }
+    ensures legal { (old new : PassData) (note : NoteData) (sub : ℕ) → HasHeard old note new
+        → sub < subs_in old.view.setup
+        → IsLegal (setting_in old.view.setup) sub new.view.seen }
 {}

@@ -1,4 +1,4 @@
-use Rattle.std.proofs.Common.{◌≤◌, ◌+◌, None, refl, arith}
+use Rattle.std.proofs.Common.{◌≤◌, ◌+◌, None, Some, refl, arith}
 use Rattle.trail_laws.specs.Trail.{IsLed}
 use Rattle.worked_examples.proofs.costs.wrong_costs.Goals as goal
 
@@ -14,3 +14,7 @@ returns-clause-less c = λ costs.
 pub returns-clause-leads : goal.returns-clause-leads
 returns-clause-leads c = λ history cluster address costs.
     let found = costs None tt in (found.0, found.1, found.2, found.3)
+
+pub returns-clause-known : goal.returns-clause-known
+returns-clause-known c = λ history cluster address costs one.
+    let found = costs (Some 1) (omega (arith, one)) in (found.0, found.1, found.2, found.3)
