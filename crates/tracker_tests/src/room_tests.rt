@@ -38,7 +38,7 @@ fn rooms(mut pass: Pass) -> [u64; 5]
 {
     let _ = has_reserved(&mut pass, 9);
     let first = pass.spare();
-    let some = u64::from(has_reserved(&mut pass, 1 << 20));
+    let some = u64::from(has_reserved(&mut pass, 1 << 23));
     let more = pass.spare();
     let most = u64::from(has_reserved(&mut pass, 1 << 50));
     let few = u64::from(has_reserved(&mut pass, 9));
@@ -56,7 +56,7 @@ pub fn tell_rooms(rt: &impl Abort, alloc: Global, plan: &Plan, home: u32, wanted
 
 #[test]
 fn room_for_many_visits(rt: HostRuntime) -> Result<(), Fail> {
-    let wanted = "[9, 1048576, 1048576, 1, 2]";
+    let wanted = "[9, 8388608, 8388608, 1, 2]";
     perform(&rt, rt.alloc(), Over::Line, Subject::Rooms, wanted)
 }
 
