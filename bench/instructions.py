@@ -2,7 +2,8 @@
 """Counts the instructions of standard runs (valgrind --tool=callgrind) and compares them with those that
 bench/instructions.txt keeps, so that work that is thrown away is seen: no clause speaks of it. A count of one binary repeats to
 within one in a thousand; a run fails here that takes more than three in a hundred more than is kept. A run of which no number
-is kept yet is counted, told, and fails nothing. Where valgrind is missing it says that it was skipped, and nothing was counted.
+is kept yet is counted, told, and fails nothing. Where valgrind is missing nothing is counted: it says that it was skipped, and
+ends with status 77, which is neither that of a pass nor that of a failure.
 
 Usage, at the top of the repository: bench/instructions.py [--keep]        With --keep it writes the numbers anew, once a change
 has been found to be worth them. It runs crates/track_main/out/track_main."""
@@ -17,6 +18,7 @@ OURS = "crates/track_main/out/track_main"
 KEPT = "bench/instructions.txt"
 MOST = 1.03
 MOST_BYTES = 4194304
+SKIPPED = 77
 
 
 def wide():
@@ -80,7 +82,7 @@ def kept():
 def main():
     if not shutil.which("valgrind"):
         print("bench/instructions.py: skipped, there is no valgrind here")
-        return 0
+        return SKIPPED
     counted = [(name, count(word, given())) for name, word, given in RUNS]
     if sys.argv[1:] == ["--keep"]:
         with open(KEPT, "w", encoding="utf-8") as file:
