@@ -2,8 +2,8 @@
 -- what the history leaves; each subscriber and each caller is as far as the history says; it keeps
 -- the actor of each ticket; and after each turn its lists have the room that they were made with,
 -- just what may come into them.
--- Key laws: `Machine::new` (it stands for no visits), `turn` (for a turn more), `turns` (for so many
--- turns more), `finish` (for all visits) and `outcome`, by their clauses.
+-- Key laws: `Machine::new` (it stands for no visits), `turn` (for a turn more), `turns` (for so
+-- many turns more), `finish` (for all visits) and `outcome`, by their clauses.
 use Rattle.std.specs.Prelude.{◌≡◌, ℕ, ◌+◌, ◌<◌, [], None, length, map, replicate, slice_index_or, vec_capacity}
 use Rattle.directory.specs.Settings.{Setting}
 use Rattle.directory.specs.Histories.{History}
@@ -33,8 +33,8 @@ setting_at machine = setting_over (input_at machine) machine.plan.now
 abbrev pub scripts_at : Machine → Scripts
 scripts_at machine = scripts_of (input_at machine)
 
--- a machine stands for a history; its lists have room for just the visits that the scripts may have,
--- for the lines of all calls, and for the actors
+-- a machine stands for a history; its lists have room for just the visits that the scripts may
+-- have, for the lines of all calls, and for the actors
 pub record HasHistory (machine : Machine) (history : History) : Type 0 where
   pub together : BelongTogether (input_at machine) machine.plan.now machine.distances.now
   pub homes : AreHomes machine.plan.now machine.homes

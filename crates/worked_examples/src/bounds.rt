@@ -49,9 +49,9 @@ pub fn worked_callers()
 
 /// A machine has room for just what its input may need, whatever its history: where that is 25
 /// visits, for an order of 25; where its scripts have four calls, for four; and for its one
-/// subscriber, or its two callers. A caller of three finds has room for three lines, a subscriber of
-/// two steps for two, and for 64 writes ahead. Turns leave a machine with its room for an order of
-/// 25 and for four lines, and with homes and routes of three levels.
+/// subscriber, or its two callers. A caller of three finds has room for three lines, a subscriber
+/// of two steps for two, and for 64 writes ahead. Turns leave a machine with its room for an order
+/// of 25 and for four lines, and with homes and routes of three levels.
 pub fn worked_rooms()
     ensures order { (machine : Machine) (history : History) → HasHistory machine history
         → most_visits (setting_at machine) (input_at machine).scripts ≡ 25

@@ -81,8 +81,8 @@ returns c = λ history sees place its.
     (subst (Owes c.args.plan.now c.args.cells.now.subs c.begin_step-line.new.handset c.begin_step-line.new.handset)
     (sym c.clear.ensures.items) refl) in
     first-put c.own_after.ensures.visits c.own_after.ensures.tickets c.tickets_tell.ensures.visits c.args.self.now
-    c.begin_step-line.new.handset c.fill.new.ahead c.push_reserved.new.self c.requires.low place sees at.shown at.begin begun
-    c.begin_step-line.ensures.its owes c.fill.ensures.ahead.goes c.fill.ensures.ahead.its
+    c.begin_step-line.new.handset c.fill.new.ahead c.push_reserved.new.self c.requires.low place sees at.shown at.begin
+    begun c.begin_step-line.ensures.its owes c.fill.ensures.ahead.goes c.fill.ensures.ahead.its
     (omega (arith, its.space, c.clear.ensures.capacity, c.fill.ensures.ahead.room)) some c.index-write.ensures
     c.push_reserved.ensures.items c.push_reserved.ensures.capacity c.begin_step-line.ensures.line at.left
     (λ key cell. c.put_at.ensures.history c.args.plan.now key sees.goes cell)
