@@ -338,7 +338,7 @@ pub fn ask_levels(rt: &impl Abort, alloc: Global, head: &str) -> Result<(), Fail
     Ok(())
 }
 
-// Whatever the diameter is, there is a plan: at each small one, at the last ones, and on both sides
+// Plans of two nodes at each distance from 1 to 1,100, at the last 77 up to 2^20, and on both sides
 // of each power of two between them, where a level more is wanted.
 #[test]
 fn a_plan_at_each_diameter(rt: HostRuntime) -> Result<(), Fail> {
