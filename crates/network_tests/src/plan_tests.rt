@@ -338,13 +338,17 @@ pub fn ask_levels(rt: &impl Abort, alloc: Global, head: &str) -> Result<(), Fail
     Ok(())
 }
 
-// Plans of two nodes at each distance from 1 to 1,100, at the last 77 up to 2^20, and on both sides
-// of each power of two between them, where a level more is wanted.
+// Plans of two nodes at each distance from 1 to 1,100, at the last 77 up to 2^20, on both sides of
+// each power of two between them, where a level more is wanted, and at ten in a row at ten places
+// more.
 #[test]
 fn a_plan_at_each_diameter(rt: HostRuntime) -> Result<(), Fail> {
     let subjects = "levels 1 1100;\
         levels 2032 2064;levels 4080 4112;levels 8176 8208;levels 16368 16400;\
         levels 32752 32784;levels 65520 65552;levels 131056 131088;levels 262128 262160;\
-        levels 524272 524304;levels 1048500 1048576;";
+        levels 524272 524304;levels 1048500 1048576;\
+        levels 1500 1509;levels 3000 3009;levels 5000 5009;levels 10000 10009;\
+        levels 25000 25009;levels 50000 50009;levels 100000 100009;levels 200000 200009;\
+        levels 300000 300009;levels 777777 777786;";
     ask(&rt, rt.alloc(), subjects)
 }
