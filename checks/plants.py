@@ -20,11 +20,12 @@ copy has those alone that hold the functions. `by: CRATE test` has the crate's t
 proof, and one must fail; one that runs out of time fails too, so play these on a machine at rest.
 `by: bench` names work or memory thrown away, which the counts of instructions or the least memory
 alone refuse (bench/instructions.py, bench/least_memory.py), and `by: examples` what examples/check
-refuses by its inputs at the limits; this script passes over both.
+refuses by its inputs at the limits. For these bench/unproved.py builds a program of the copy, over
+which one of the scripts must end with status 1 and say why; with no plant all must pass first.
 
 The gate plays no plants: behind a gate each takes some 10 to 20 seconds, and without one up to a
-minute. JOBS says how many are played at once (1, if it isn't set); those of one crate share copies,
-of at most SHARE plants each.
+minute; two, where a program is built. JOBS says how many are played at once (1, if it isn't set);
+those of one crate share copies, of at most SHARE plants each.
 """
 import concurrent.futures
 import dataclasses
@@ -45,10 +46,16 @@ TESTED = re.compile(r"^test result: (ok|FAILED)", re.M)
 FAILED = re.compile(r"^test .* FAILED$", re.M)
 FAULT = re.compile(r"^(?:note: )?\S+?:\d+:\d+: .*$", re.M)
 ERROR = re.compile(r"(?:src|specs)/\S+?:\d+:\d+: error: (?:(`[^`]*`): )?(.*)")
+UNMET = re.compile(r"^(?:bench/\w+\.py|examples): .*$", re.M)
 UNREAD = re.compile(r"is not in scope|has no field|is no name|operand is missing|cannot continue")
 NAMES_CRATE = re.compile(r"\bRattle\.(\w+)\.|^\s*(?:pub )?use (\w+)(?:::|;)", re.M)
 NAMES_OWN = re.compile(r"\bRattle\.worked_examples\.(specs|proofs)\.(\w+)")
 APART = "worked_examples"
+PROGRAM = "crates/track_main/out/track_main"
+SCRIPTS = {
+    "bench": ["bench/instructions.py", "bench/least_memory.py"],
+    "examples": ["examples/check"],
+}
 SHARE = 20
 HOW = {"stdout": subprocess.PIPE, "stderr": subprocess.STDOUT, "text": True, "errors": "replace"}
 
@@ -195,6 +202,31 @@ def judged(ran):
     return "CAN'T BE READ", said.strip().splitlines()[-1:]
 
 
+def run_over_program(root, scripts):
+    """Whether the scripts pass over a program of the copy that isn't proved, or what the first of
+    them says that doesn't. ./track takes that program, since it is newer than its sources.
+    """
+    program = root / PROGRAM
+    program.parent.mkdir(parents=True, exist_ok=True)
+    program.unlink(missing_ok=True)
+    for words in (["bench/unproved.py", PROGRAM], *([it] for it in scripts)):
+        ran = subprocess.run(words, cwd=root, env={**os.environ, "TRACK": PROGRAM}, **HOW)
+        unmet = UNMET.findall(ran.stdout)[:1]
+        if ran.returncode == 1 and unmet:
+            return "refused", unmet
+        if ran.returncode or not program.exists():
+            return "CAN'T BE RUN", ran.stdout.strip().splitlines()[-1:]
+    return "STAYS", []
+
+
+def came_of(root, top, share, functions, kept):
+    """Whether nothing in the copy is refused, or what is refused first."""
+    scripts = SCRIPTS.get(share[0].crate)
+    if scripts:
+        return run_over_program(root, scripts)
+    return judged(asked(root, top, share, functions, kept))
+
+
 def play(plant, root, top, kept):
     """Plays one plant on a copy of the repository, and puts the copy back."""
     try:
@@ -204,7 +236,7 @@ def play(plant, root, top, kept):
     try:
         for file, text in after.items():
             (root / file).write_text(text)
-        return judged(asked(root, top, [plant], plant.functions, kept))
+        return came_of(root, top, [plant], plant.functions, kept)
     finally:
         for file, text in before.items():
             (root / file).write_text(text)
@@ -217,13 +249,15 @@ def modules_of(plant):
 
 
 def shares_of(plants):
-    """Plants that share a copy: of one crate, or the same modules of APART; the longest first."""
+    """Plants that share a copy: of one crate, or the same modules of APART; the longest first, and
+    before all of them those for which programs are built.
+    """
     groups = {}
     for plant in plants:
         key = plant.crate, plant.functions == ["test"], modules_of(plant)
         groups.setdefault(key, []).append(plant)
     shares = [it[at:at + SHARE] for it in groups.values() for at in range(0, len(it), SHARE)]
-    return sorted(shares, key=len, reverse=True)
+    return sorted(shares, key=lambda it: (it[0].crate in SCRIPTS, len(it)), reverse=True)
 
 
 def play_all(share, top):
@@ -236,9 +270,9 @@ def play_all(share, top):
         if share[0].crate == APART:
             leave_modules(root, modules_of(share[0]))
         wanted = sorted({name for plant in share for name in plant.functions})
-        without = judged(asked(root, top, share, wanted, kept))[0]
+        without, faults = came_of(root, top, share, wanted, kept)
         for plant in share:
-            came = "FAILS WITHOUT IT TOO", []
+            came = "FAILS WITHOUT IT TOO", faults
             if without == "STAYS":
                 came = play(plant, root, top, kept)
             print(f"{plant.source}: {plant.name}: {': '.join([came[0], *came[1]])}", flush=True)
@@ -252,11 +286,10 @@ def main(words):
     if words:
         texts = [(it, f"{it.source} {it.name} {it.crate}") for it in found]
         found = [it for it, text in texts if any(word in text for word in words)]
-    played = [it for it in found if it.crate not in ("bench", "examples")]
     with concurrent.futures.ThreadPoolExecutor(int(os.environ.get("JOBS", "1"))) as pool:
-        told = sum(pool.map(lambda share: play_all(share, top), shares_of(played)), [])
-    refused, others = told.count("refused"), len(found) - len(told)
-    print(f"{refused} of {len(told)} plants refused, {others} for benches and examples")
+        told = sum(pool.map(lambda share: play_all(share, top), shares_of(found)), [])
+    refused = told.count("refused")
+    print(f"{refused} of {len(told)} plants refused")
     return 0 if refused == len(told) else 1
 
 
