@@ -28,6 +28,12 @@ pub record IsHandsetOf (setup : Setup) (view : View) (handset : HandsetData) : T
   pub made : puts_to view.low view.seen ≡ take (length (puts_to view.low view.seen))
       (visits (setting_in setup) view.low steps)
 
+-- a handset stays with its pass from one view to another, and stands for the same steps
+abbrev pub HandsetStays : Setup → View → View → HandsetData → Type 0
+HandsetStays setup old new handset =
+    (its : IsHandsetOf setup old handset) → (next : IsHandsetOf setup new handset)
+    × (next.steps ≡ its.steps)
+
 -- a handset goes on by a put of its pass: it stands for the same steps, and the put is the last one
 -- of its subscriber that the pass has seen
 pub record HandsetGoesOn (setup : Setup) (old new : View) (moved : HandsetData) (steps : List Step)

@@ -3,14 +3,16 @@ use Rattle.std.proofs.Common.{◌≡◌, ℕ, ◌≤◌, true, [], refl, subst, 
 use Rattle.std.specs.Prelude.{IfSome, Some, None}
 use Rattle.std.specs.Option.{is_some}
 use Rattle.entry_word.specs.declared.visit.Visit.{Visit}
+use Rattle.directory.specs.Histories.{puts_to}
 use Rattle.directory.specs.Keys.{act_node}
 use Rattle.handset.specs.Condition.{HandsetData}
 use Rattle.handset.specs.StepWrites.{after_write, due}
 use Rattle.region_plan.specs.Plan.{PlanData}
 use Rattle.region_plan.specs.Settings.{setting_of}
-use Rattle.station.specs.Handsets.{HandsetGoesOn, IsHandsetOf}
+use Rattle.station.specs.Handsets.{HandsetGoesOn, HandsetStays, IsHandsetOf}
 use Rattle.station.specs.Passes.{PassData}
 use Rattle.station.specs.Setup.{Setup, setting_in}
+use Rattle.station.specs.StayLaws.{handset-stays}
 use Rattle.station.specs.Visits.{HasLost, HasVisited}
 use Rattle.station.specs.declared.turns.Held.{Held}
 use Rattle.tracker_calls.specs.Added.{HasTried}
@@ -71,5 +73,7 @@ tried-put setup {pass} new handset held {visit} same next tried lost =
 
 -- turns that are lost leave a handset with its pass
 pub own-tried : {setup : Setup} {node : ℕ} {begun tried : PassData} {handset : HandsetData} → HasTried node begun tried
-    → IsHandsetOf setup begun.view handset → IsHandsetOf setup tried.view handset
-own-tried lost its = rw lost.is (search)
+    → HandsetStays setup begun.view tried.view handset
+own-tried {setup} {begun} {tried} {handset} lost =
+    handset-stays setup begun.view tried.view handset (ap (λ (q : PassData). q.view.low) lost.is)
+    (ap (λ (q : PassData). puts_to begun.view.low q.view.seen) lost.is)

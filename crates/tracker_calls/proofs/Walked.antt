@@ -19,8 +19,8 @@ use Rattle.stretch_laws.specs.Plans.{PlanFindsAreNear}
 use Rattle.trail_laws.specs.Rightness.{AnswersAreRight, QuietFindsAnswer}
 use Rattle.walk.specs.Walks.{IsWalkOver, WalkData, call_of, pursuit_of}
 use Rattle.handset.specs.Condition.{HandsetData}
-use Rattle.station.specs.Handsets.{IsHandsetOf}
-use Rattle.station.specs.StayLaws.{handset-visited}
+use Rattle.station.specs.Handsets.{HandsetStays}
+use Rattle.station.specs.StayLaws.{handset-stays-on, handset-visited}
 use Rattle.station.specs.Visits.{HasVisited}
 use Rattle.station.specs.declared.turns.Held.{Held}
 use Rattle.station.specs.Walking.{HasLookedOn, HasLostLook, MayWalkOn}
@@ -50,10 +50,11 @@ pub record IsWalked (setup : Setup) (begun : PassData) (call : FindCall) (pass :
 
 -- a handset goes on over a look, and over lost turns
 seen-on : {setup : Setup} {pass new : PassData} {key : Key} {ticket : ℕ} → pass.view.setup ≡ setup
-    → HasVisited pass (Look key) ticket new → {handset : HandsetData} → IsHandsetOf setup pass.view handset
-    → IsHandsetOf setup new.view handset
-seen-on {pass} {new} {key} {ticket} told visited {handset} its =
-    rw (← told) (handset-visited pass (Look key) ticket new handset refl visited (rw (← told) at its))
+    → HasVisited pass (Look key) ticket new → {handset : HandsetData}
+    → HandsetStays setup pass.view new.view handset
+seen-on {pass} {new} {key} {ticket} told visited {handset} =
+    subst (λ (s : Setup). HandsetStays s pass.view new.view handset) told
+    (handset-visited pass (Look key) ticket new handset refl visited)
 
 -- turns that are lost before a look are lost at its node
 pub tried-look : {setup : Setup} {begun pass new : PassData} {first walk moved : WalkData} {held : Held} {key : Key}
@@ -84,7 +85,7 @@ walked-first itself setup pass {walk} goes origin outside room =
     record {
       made = [];
       added = added-none itself setup pass outside;
-      keeps = λ handset its. its;
+      keeps = λ handset its. (its, refl);
       looks = no-looks (setting_in setup) pass.view.seen (actor_of pass) (call_of walk);
       pursuit = origin;
       late = λ h. absurd (omega (arith, h));
@@ -124,7 +125,8 @@ walked-on longer through fall {setup} {begun} {call} {pass} {tried} {new} {walk}
     record {
       made = at.made ++ ticket ∷ [];
       added = added-more longer through told at.added lost visited;
-      keeps = λ handset its. seen-on setups visited (own-tried lost (at.keeps handset its));
+      keeps = λ handset. handset-stays-on (handset-stays-on (at.keeps handset) (own-tried lost))
+          (seen-on setups visited);
       looks = more.0;
       pursuit = pursuit ∙ (ap (λ s. after_word setting call s word) at.pursuit ∙ sym more.1);
       late = λ some. grind (arith, last-push, late, front-short);

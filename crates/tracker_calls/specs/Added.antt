@@ -5,7 +5,7 @@ use Rattle.std.specs.Prelude.{◌≡◌, ℕ, ◌+◌, ◌<◌, ◌≤◌, List,
 use Rattle.directory.specs.Histories.{IsFront, tickets}
 use Rattle.directory.specs.Legal.{IsLegal}
 use Rattle.handset.specs.Condition.{HandsetData}
-use Rattle.station.specs.Handsets.{IsHandsetOf}
+use Rattle.station.specs.Handsets.{HandsetStays}
 use Rattle.station.specs.Passes.{PassData, actor_of}
 use Rattle.station.specs.Setup.{Setup, setting_in, subs_in}
 use Rattle.station.specs.Turns.{LogsAll, losses}
@@ -47,10 +47,10 @@ pub record HasAdded (setup : Setup) (old : PassData) (made : List ℕ) (new : Pa
   pub logged : HasLoggedMore old (flat_map (turns_taken (actor_of old)) turns) new
   pub same : IsSamePass old new
 
--- a handset that went with the pass still goes with it
+-- a handset that went with the pass still goes with it, and stands for the same steps
 abbrev pub KeepsHandsets : Setup → PassData → PassData → Type 0
-KeepsHandsets setup old new = (handset : HandsetData) → IsHandsetOf setup old.view handset
-    → IsHandsetOf setup new.view handset
+KeepsHandsets setup old new =
+    (handset : HandsetData) → HandsetStays setup old.view new.view handset
 
 -- the pass has lost turns at a node, where it read these lock words; each is logged so, and nothing
 -- else has changed

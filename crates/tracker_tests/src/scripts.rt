@@ -60,6 +60,10 @@ fn take_own<R: Wait + Abort>(
             let moved = whole_move(rt, tracker, own, plan, distances, handset, one);
             same_shown(rt, alloc, place, &moved, wanted)
         }
+        "look" => {
+            let looked = look(tracker, own, plan, distances, one);
+            same_shown(rt, alloc, place, &looked, wanted)
+        }
         "census" => same_shown(rt, alloc, place, &census(tracker, own, plan, one), wanted),
         "find-now" => {
             let found = find_soon(tracker, own, plan, distances, one, two);

@@ -66,10 +66,10 @@ fn a_note_is_heard(rt: HostRuntime) -> Result<(), Fail> {
     play_on_line(&rt, rt.alloc(), 9, rows, wanted)
 }
 
-// Between two puts the subscriber's pass hears a note, makes a census and a find, and its handset
-// goes on: by the tracker's own call in the first half of a move, by whole calls from there on. The
-// second move has eight puts, a new address and a purge more than the others, as it renews the top
-// level.
+// Between two puts the subscriber's pass hears a note, makes a census, a look and a find, and its
+// handset goes on: by the tracker's own call in the first half of a move, by whole calls from there
+// on. The second move has eight puts, a new address and a purge more than the others, as it renews
+// the top level. The word of its look says that the subscriber is there with number 0.
 #[test]
 fn a_handset_goes_on(rt: HostRuntime) -> Result<(), Fail> {
     let rows = "own begin 2>Ok(())|\
@@ -80,23 +80,24 @@ fn a_handset_goes_on(rt: HostRuntime) -> Result<(), Fail> {
         state>([2, 2, 0], [39, 39, 40], false)|\
         own put>Some(Ok(2))|\
         own census 3>Some(Ok(CensusSeen { ticket: 3, who: 1, count: 1 }))|\
+        own look 3>Some(Ok(Looked { ticket: 4, word: 281474976710656 }))|\
         own find-now 3 0>Ok(At { node: 3, number: 0, level: None, weight: 0 })|\
-        own put>Some(Ok(5))|\
-        state>([6, 2, 0], [35, 39, 40], false)|\
-        caller census 2>Some(Ok(CensusSeen { ticket: 6, who: 0, count: 0 }))|\
+        own put>Some(Ok(6))|\
+        state>([7, 2, 0], [34, 39, 40], false)|\
+        caller census 2>Some(Ok(CensusSeen { ticket: 7, who: 0, count: 0 }))|\
         hear own caller>true|\
-        own step>Ok(7)|\
-        own census 3>Some(Ok(CensusSeen { ticket: 8, who: 0, count: 0 }))|\
-        own step>Ok(9)|\
+        own step>Ok(8)|\
+        own census 3>Some(Ok(CensusSeen { ticket: 9, who: 0, count: 0 }))|\
         own step>Ok(10)|\
+        own step>Ok(11)|\
         own step>Err(AtRest)|\
-        caller census 2>Some(Ok(CensusSeen { ticket: 11, who: 1, count: 1 }))|\
+        caller census 2>Some(Ok(CensusSeen { ticket: 12, who: 1, count: 1 }))|\
         hear own caller>true|\
-        own move 3>Ok(Moved { number: 2, first: 12, commit: 16, last: 19 })|\
-        own census 3>Some(Ok(CensusSeen { ticket: 20, who: 1, count: 1 }))|\
-        own move 2>Ok(Moved { number: 3, first: 21, commit: 24, last: 26 })|\
-        state>([27, 12, 0], [16, 37, 40], false)|";
-    let wanted = "(Missing { actor: 1 }, [0, 1, 0, 0, 0, 0, 1, 0, 0, 0, 0, 1, \
+        own move 3>Ok(Moved { number: 2, first: 13, commit: 17, last: 20 })|\
+        own census 3>Some(Ok(CensusSeen { ticket: 21, who: 1, count: 1 }))|\
+        own move 2>Ok(Moved { number: 3, first: 22, commit: 25, last: 27 })|\
+        state>([28, 13, 0], [15, 37, 40], false)|";
+    let wanted = "(Missing { actor: 1 }, [0, 1, 0, 0, 0, 0, 0, 1, 0, 0, 0, 0, 1, \
         0, 0, 0, 0, 0, 0, 0, 0, 0, 0, 0, 0, 0, 0, 0])";
     play_on_line(&rt, rt.alloc(), 40, rows, wanted)
 }

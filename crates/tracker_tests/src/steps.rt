@@ -146,6 +146,7 @@ pub fn look(
     requires over { IsOver tracker.now plan.now distances.now }
     requires free { IsFree tracker.now 0 pass.old }
     ensures free { IsFree tracker.now 0 pass.new }
+    ensures keeps { KeepsHandsets tracker.now.setup pass.old pass.new }
 {
     let _ = distances;
     if node >= plan.nodes() || pass.spare() == 0 {

@@ -23,8 +23,8 @@ ghost use Rattle.tracker_calls.specs.Finds.{HasFound, HasStopped};
 
 /// A put keeps the steps that its handset stood for, and is the last one of its subscriber that the
 /// pass has seen. A note, a look, a census, a lost turn, a node that is entered and left, and a
-/// find, answered or held, leave the handset with its pass. So does a move or a switch that it
-/// begins, and stands then behind its steps.
+/// find, answered or held, leave the handset with its pass, and with its one step. So does a move
+/// or a switch that it begins, and stands then behind its steps.
 pub fn told_handsets()
     ensures steps { (setup : Setup) (old new : View) (moved : HandsetData) (steps : List Step)
         (put : Visit) (on : HandsetGoesOn setup old new moved steps put) → on.own.steps ≡ steps }
@@ -32,29 +32,40 @@ pub fn told_handsets()
         (put : Visit) → HandsetGoesOn setup old new moved steps put
         → puts_to new.low new.seen ≡ puts_to old.low old.seen ++ put ∷ [] }
     ensures heard { (old new : PassData) (note : NoteData) (handset : HandsetData)
-        → HasHeard old note new → IsHandsetOf old.view.setup old.view handset
-        → IsHandsetOf old.view.setup new.view handset }
+        (its : IsHandsetOf old.view.setup old.view handset) → HasHeard old note new
+        → its.steps ≡ move_to 2 ∷ [] → (next : IsHandsetOf old.view.setup new.view handset)
+        × (next.steps ≡ move_to 2 ∷ []) }
     ensures looked { (old new : PassData) (key : Key) (ticket : ℕ) (handset : HandsetData)
-        → HasVisited old (Look key) ticket new → IsHandsetOf old.view.setup old.view handset
-        → IsHandsetOf old.view.setup new.view handset }
+        (its : IsHandsetOf old.view.setup old.view handset) → HasVisited old (Look key) ticket new
+        → its.steps ≡ move_to 2 ∷ [] → (next : IsHandsetOf old.view.setup new.view handset)
+        × (next.steps ≡ move_to 2 ∷ []) }
     ensures counted { (old new : PassData) (node ticket : ℕ) (handset : HandsetData)
-        → HasVisited old (Census node) ticket new → IsHandsetOf old.view.setup old.view handset
-        → IsHandsetOf old.view.setup new.view handset }
+        (its : IsHandsetOf old.view.setup old.view handset)
+        → HasVisited old (Census node) ticket new
+        → its.steps ≡ move_to 2 ∷ [] → (next : IsHandsetOf old.view.setup new.view handset)
+        × (next.steps ≡ move_to 2 ∷ []) }
     ensures held { (old new : PassData) (place : ℕ) (held : Held) (handset : HandsetData)
-        → HasLost old place held new → IsHandsetOf old.view.setup old.view handset
-        → IsHandsetOf old.view.setup new.view handset }
+        (its : IsHandsetOf old.view.setup old.view handset) → HasLost old place held new
+        → its.steps ≡ move_to 2 ∷ [] → (next : IsHandsetOf old.view.setup new.view handset)
+        × (next.steps ≡ move_to 2 ∷ []) }
     ensures entered { (setup : Setup) (old : View) (node : ℕ) (log : List TurnEvent)
-        (handset : HandsetData) → IsHandsetOf setup old handset
-        → IsHandsetOf setup (view_inside old node (Census node) log) handset }
+        (handset : HandsetData) (its : IsHandsetOf setup old handset)
+        → its.steps ≡ move_to 2 ∷ []
+        → (next : IsHandsetOf setup (view_inside old node (Census node) log) handset)
+        × (next.steps ≡ move_to 2 ∷ []) }
     ensures left { (setup : Setup) (old : View) (log : List TurnEvent) (handset : HandsetData)
-        → IsHandsetOf setup old handset → IsHandsetOf setup (view_outside old log) handset }
+        (its : IsHandsetOf setup old handset) → its.steps ≡ move_to 2 ∷ []
+        → (next : IsHandsetOf setup (view_outside old log) handset)
+        × (next.steps ≡ move_to 2 ∷ []) }
     ensures found { (setup : Setup) (old new : PassData) (call : FindCall) (found : Found)
-        (handset : HandsetData) → HasFound setup old call found new
-        → IsHandsetOf setup old.view handset → IsHandsetOf setup new.view handset }
+        (handset : HandsetData) (its : IsHandsetOf setup old.view handset)
+        → HasFound setup old call found new → its.steps ≡ move_to 2 ∷ []
+        → (next : IsHandsetOf setup new.view handset) × (next.steps ≡ move_to 2 ∷ []) }
     ensures stopped { (old new : PassData) (call : FindCall) (held : Held)
-        (handset : HandsetData) → HasStopped old.view.setup old call held new
-        → IsHandsetOf old.view.setup old.view handset
-        → IsHandsetOf old.view.setup new.view handset }
+        (handset : HandsetData) (its : IsHandsetOf old.view.setup old.view handset)
+        → HasStopped old.view.setup old call held new → its.steps ≡ move_to 2 ∷ []
+        → (next : IsHandsetOf old.view.setup new.view handset)
+        × (next.steps ≡ move_to 2 ∷ []) }
     ensures begun { (setup : Setup) (view : View) (handset begun : HandsetData)
         (its : IsHandsetOf setup view handset) → its.steps ≡ switch_off ∷ switch_on ∷ []
         → move_fault setup.plan handset 2 ≡ None

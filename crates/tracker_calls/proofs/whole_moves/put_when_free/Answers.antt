@@ -26,7 +26,7 @@ tries-preserved g c =
     lost.0 in record {
       tried = (next.0, ap (due (setting_in setup)) lost.1 ∙ next.1, tried);
       handset = lost.1 ∙ same;
-      own = rw (lost.1 ∙ same) (own-tried tried c.requires.handset);
+      own = rw (lost.1 ∙ same) (own-tried tried c.requires.handset).0;
     }
 
 pub returns-in-Ok : goal.returns-in-Ok

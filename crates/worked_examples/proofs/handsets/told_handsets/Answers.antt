@@ -1,11 +1,11 @@
-use Rattle.std.proofs.Common.{List, [], ◌∷◌, ◌++◌, true, refl, sym, subst, ap, ◌∙◌}
+use Rattle.std.proofs.Common.{List, [], ◌∷◌, ◌++◌, true, refl, subst, ap, ◌∙◌}
 use Rattle.directory.specs.Courses.{Step, move_to, switch_off}
 use Rattle.directory.specs.Keys.{key_node}
 use Rattle.entry_word.specs.declared.visit.Act.TheVariants.{Census, Look}
 use Rattle.station.specs.HandsetLaws.{begun-handset, switched-handset}
-use Rattle.station.specs.Handsets.{IsHandsetOf}
+use Rattle.station.specs.Handsets.{HandsetStays}
 use Rattle.station.specs.Setup.{Setup, setting_in}
-use Rattle.station.specs.StayLaws.{handset-heard, handset-held, handset-inside, handset-outside, handset-visited}
+use Rattle.station.specs.StayLaws.{handset-heard, handset-held, handset-inside, handset-outside, handset-stays-on, handset-visited}
 use Rattle.worked_examples.proofs.handsets.told_handsets.Goals as goal
 
 pub returns-clause-steps : goal.returns-clause-steps
@@ -15,39 +15,39 @@ pub returns-clause-puts : goal.returns-clause-puts
 returns-clause-puts c = λ setup old new moved steps put on. on.puts
 
 pub returns-clause-heard : goal.returns-clause-heard
-returns-clause-heard c = λ old new note handset heard its.
-    handset-heard old note new handset heard its
+returns-clause-heard c = λ old new note handset its heard one.
+    let next = handset-heard old note new handset heard its in (next.0, next.1 ∙ one)
 
 pub returns-clause-looked : goal.returns-clause-looked
-returns-clause-looked c = λ old new key ticket handset visited its.
-    handset-visited old (Look key) ticket new handset refl visited its
+returns-clause-looked c = λ old new key ticket handset its visited one.
+    let next = handset-visited old (Look key) ticket new handset refl visited its in (next.0, next.1 ∙ one)
 
 pub returns-clause-counted : goal.returns-clause-counted
-returns-clause-counted c = λ old new node ticket handset visited its.
-    handset-visited old (Census node) ticket new handset refl visited its
+returns-clause-counted c = λ old new node ticket handset its visited one.
+    let next = handset-visited old (Census node) ticket new handset refl visited its in (next.0, next.1 ∙ one)
 
 pub returns-clause-held : goal.returns-clause-held
-returns-clause-held c = λ old new place held handset lost its.
-    handset-held old place held new handset lost its
+returns-clause-held c = λ old new place held handset its lost one.
+    let next = handset-held old place held new handset lost its in (next.0, next.1 ∙ one)
 
 pub returns-clause-entered : goal.returns-clause-entered
-returns-clause-entered c = λ setup old node log handset its.
-    handset-inside setup old node (Census node) log handset its
+returns-clause-entered c = λ setup old node log handset its one.
+    let next = handset-inside setup old node (Census node) log handset its in (next.0, next.1 ∙ one)
 
 pub returns-clause-left : goal.returns-clause-left
-returns-clause-left c = λ setup old log handset its. handset-outside setup old log handset its
+returns-clause-left c = λ setup old log handset its one.
+    let next = handset-outside setup old log handset its in (next.0, next.1 ∙ one)
 
 pub returns-clause-found : goal.returns-clause-found
-returns-clause-found c = λ setup old new call found handset has its. has.keeps handset its
+returns-clause-found c = λ setup old new call found handset its has one.
+    let next = has.keeps handset its in (next.0, next.1 ∙ one)
 
 pub returns-clause-stopped : goal.returns-clause-stopped
-returns-clause-stopped c = λ old new call held handset stopped its.
+returns-clause-stopped c = λ old new call held handset its stopped one.
     let between = stopped.between in
-    let same = stopped.added.same.setup in
-    subst (λ (s : Setup). IsHandsetOf s new.view handset) same (handset-held between
-    (key_node (setting_in old.view.setup) stopped.key) held new handset stopped.turn
-    (subst (λ (s : Setup). IsHandsetOf s
-    between.view handset) (sym same) (stopped.keeps handset its)))
+    let lost = subst (λ (s : Setup). HandsetStays s between.view new.view handset) stopped.added.same.setup
+    (handset-held between (key_node (setting_in old.view.setup) stopped.key) held new handset stopped.turn) in
+    let next = handset-stays-on (stopped.keeps handset) lost its in (next.0, next.1 ∙ one)
 
 pub returns-clause-begun : goal.returns-clause-begun
 returns-clause-begun c = λ setup view handset begun its before begins is goes stands.
