@@ -1,6 +1,6 @@
 //! What the making of a cover writes over.
 
-ghost use Rattle.std.specs.Prelude.{◌≡◌, ◌≤◌, ◌++◌, ◌∷◌, ◌-◌, ℕ, [], All, IfOk, OnErr, OnOk, length};
+ghost use Rattle.std.specs.Prelude.{◌≡◌, ◌≤◌, ◌++◌, ◌∷◌, ◌-◌, ℕ, [], All, IfOk, IsOk, OnErr, OnOk, length};
 ghost use Rattle.node_set.specs.Nodes.{Nodes};
 ghost use Rattle.node_set.specs.Workspaces.{IsWorkspace, SpareTaken};
 
@@ -62,13 +62,15 @@ impl Workspace {
     }
 }
 
-/// An empty set: the last of the spare sets where there is one, and the others stay.
+/// An empty set: the last of the spare sets where there is one, so that memory can't be wanting
+/// then, and the others stay.
 pub fn empty_set(alloc: Global, spare: &mut Vec<NodeSet>, room: u32) -> Result<NodeSet, OutOfMemory>
     requires small { room ≤ 1024 }
     requires spare { All (λ (s : Nodes). s.room ≡ room) spare.old.items }
     ensures set { IfOk result (λ set. set ≡ record { room = room; members = [] }) }
     ensures spare { All (λ (s : Nodes). s.room ≡ room) spare.new.items }
     ensures taken { SpareTaken 1 spare.old.items spare.new.items }
+    ensures there { 1 ≤ length spare.old.items → IsOk result }
 {
     match spare.pop() {
         Some(set) => {
