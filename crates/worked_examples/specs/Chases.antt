@@ -1,28 +1,27 @@
 -- Chases on the line of four: the marks that a find reads while the subscriber moves from node 3 to
 -- node 2. Caller 1 looks for it from node 1, and is led to node 2 by the new address of level 0.
 -- Key laws: `worked_chases`, `wrong_chases`.
-use Rattle.std.specs.Prelude.{◌≡◌, ℕ, ◌<◌, List, [], ◌∷◌, ◌++◌, drop, flat_map, take}
+use Rattle.std.specs.Prelude.{◌≡◌, ℕ, ◌<◌, ◌≤◌, List, [], ◌∷◌, ◌++◌, drop, flat_map, take}
 use Rattle.entry_word.specs.declared.mark.PresenceMark.{PresenceMark}
 use Rattle.entry_word.specs.declared.visit.Key.TheVariants.{Presence, Entry}
 use Rattle.entry_word.specs.declared.visit.Visit.{Visit}
 use Rattle.directory.specs.Courses.{move_to}
-use Rattle.directory.specs.Finds.{at_origin}
+use Rattle.directory.specs.Finds.{FindCall, at_origin}
 use Rattle.directory.specs.Histories.{History, words_at}
 use Rattle.directory.specs.Legal.{IsLegal}
 use Rattle.directory.specs.Looks.{AreLooks, look_by}
+use Rattle.directory.specs.Settings.{Setting}
 use Rattle.directory.specs.Writes.{visits}
 use Rattle.plan_laws.specs.Examples.{line_setting}
 use Rattle.trail_laws.specs.Chased.{marks_chased}
-use Rattle.worked_examples.specs.Examples.{find_from}
 
--- in a legal history an actor's find from a node has looks with these tickets, and reads these
--- marks in its chase
-abbrev pub LineChases : History → ℕ → ℕ → List ℕ → List PresenceMark → Type 0
-LineChases history actor node tickets marks =
-    (node < 4) × IsLegal line_setting 0 history
-    × AreLooks line_setting history actor (find_from node) 0 at_origin tickets
-    × (marks_chased line_setting (find_from node) at_origin
-    (flat_map (words_at line_setting history) tickets) ≡ marks)
+-- in a legal history over up to 65,536 nodes an actor's find has looks with these tickets, and
+-- reads these marks in its chase
+abbrev pub ReadsInChase : Setting → History → ℕ → FindCall → List ℕ → List PresenceMark → Type 0
+ReadsInChase setting history actor call tickets marks =
+    (setting.nodes ≤ 65536) × (call.from < setting.nodes) × IsLegal setting call.sub history
+    × AreLooks setting history actor call 0 at_origin tickets
+    × (marks_chased setting call at_origin (flat_map (words_at setting history) tickets) ≡ marks)
 
 -- the visits of the move
 abbrev pub the_move : List Visit

@@ -33,7 +33,7 @@ ghost use Rattle.tracker_calls.specs.Added.{HasAdded, KeepsHandsets, VisitTurns,
 ghost use Rattle.tracker_calls.specs.RightAnswers.{TellsRightly};
 ghost use Rattle.tracker_calls.specs.Finds.{HasFound, HasStopped};
 ghost use Rattle.tracker_calls.specs.Moves.{HasStepped};
-ghost use Rattle.trail_laws.specs.Rightness.{IsAnswered};
+ghost use Rattle.trail_laws.specs.Rightness.{IsAnswered, IsRight};
 ghost use Rattle.worked_examples.specs.Examples.{find_from};
 ghost use Rattle.worked_examples.specs.Passes.{HasPass, count_by, line_setup};
 
@@ -41,8 +41,9 @@ use station::events_come_within_calls;
 
 /// Answers of a find from node 2 whose subscriber rests at node 3: of another node, number or
 /// state; none at all; beyond the bound, which is told at the first look and at the last; or older
-/// than what the pass had seen. Each quiet find has its answer; and one from node 2, while its
-/// subscriber has come there and hasn't confirmed it, travels at most twice the passage of 1.
+/// than what the pass had seen. Each answer is right at the find's last look, and each quiet find
+/// has one; and one from node 2, while its subscriber has come there and hasn't confirmed it,
+/// travels at most twice the passage of 1.
 pub fn wrong_answers()
     ensures node { (old : PassData) → TellsRightly line_setup old (find_from 2)
         (At 2 0 (Some 0) 5) (0 ∷ []) [] → ⊥ }
@@ -52,6 +53,9 @@ pub fn wrong_answers()
         (OffAt 3 0 (Some 0) 5) (0 ∷ []) [] → ⊥ }
     ensures again { (setup : Setup) (old : PassData) (call : FindCall)
         → TellsRightly setup old call (Again NoEntry 4) (0 ∷ []) [] → ⊥ }
+    ensures right { (setup : Setup) (old : PassData) (call : FindCall) (found : Found)
+        (made : List ℕ) (seen : History) → TellsRightly setup old call found made seen
+        → IsRight (setting_in setup) seen call.sub found (last_of made) }
     ensures quiet { (setup : Setup) (old : PassData) (call : FindCall) (found : Found)
         (made : List ℕ) (seen : History) → TellsRightly setup old call found made seen
         → IsQuiet seen call.sub (first_of made) (last_of made) → IsAnswered found }

@@ -1,14 +1,15 @@
-//! What the law of chases says of the line of four, what finds read there while the subscriber
-//! moves, and what no chase reads.
+//! What the law of chases says of single marks, what finds read on the line of four while the
+//! subscriber moves, and what no chase reads.
 ghost use Rattle.std.specs.Prelude.{◌≡◌, ◌<◌, ◌≤◌, List, [], ◌∷◌, Some, None, ℕ};
 ghost use Rattle.entry_word.specs.Addresses.{address_word};
 ghost use Rattle.entry_word.specs.Marks.{mark_word};
 ghost use Rattle.entry_word.specs.declared.mark.PresenceMark.TheVariants.{Coming, Empty, Gone, Here, Off};
-ghost use Rattle.directory.specs.Finds.{at_origin};
+ghost use Rattle.directory.specs.Finds.{FindCall, at_origin};
 ghost use Rattle.directory.specs.Histories.{History};
+ghost use Rattle.directory.specs.Settings.{Setting};
 ghost use Rattle.plan_laws.specs.Examples.{line_setting};
 ghost use Rattle.trail_laws.specs.Chased.{ChaseRises, ChasesRise, FollowOn, marks_chased};
-ghost use Rattle.worked_examples.specs.Chases.{chase_before_commit, chase_over_commit, LineChases};
+ghost use Rattle.worked_examples.specs.Chases.{ReadsInChase, chase_before_commit, chase_over_commit};
 ghost use Rattle.worked_examples.specs.Examples.{find_from};
 
 /// In a legal history a chase that reads Gone 4 reads no lower Here behind it, one that reads
@@ -17,27 +18,31 @@ ghost use Rattle.worked_examples.specs.Examples.{find_from};
 /// Here 0 behind it; if the commit falls into it, Gone 1, and the Coming again, which answers.
 /// Neither the mark at the origin nor an address is of the chase.
 pub fn worked_chases()
-    ensures there { ChasesRise → (history : History) → (actor node number : ℕ)
-        → (tickets : List ℕ)
-        → LineChases history actor node tickets (Gone 4 2 ∷ Here number ∷ []) → 4 ≤ number }
-    ensures back { ChasesRise → (history : History) → (actor node number : ℕ)
-        → (tickets : List ℕ)
-        → LineChases history actor node tickets (Coming 4 3 ∷ Here number ∷ []) → 3 ≤ number }
-    ensures on { ChasesRise → (history : History) → (actor node p q number : ℕ)
-        → (tickets : List ℕ)
-        → LineChases history actor node tickets (Gone p 2 ∷ Coming q 3 ∷ Gone number 1 ∷ [])
+    ensures there { ChasesRise → (setting : Setting) (history : History) (call : FindCall)
+        → (actor number : ℕ) (tickets : List ℕ)
+        → ReadsInChase setting history actor call tickets (Gone 4 2 ∷ Here number ∷ [])
+        → 4 ≤ number }
+    ensures back { ChasesRise → (setting : Setting) (history : History) (call : FindCall)
+        → (actor number : ℕ) (tickets : List ℕ)
+        → ReadsInChase setting history actor call tickets (Coming 4 3 ∷ Here number ∷ [])
+        → 3 ≤ number }
+    ensures on { ChasesRise → (setting : Setting) (history : History) (call : FindCall)
+        → (actor p q number : ℕ) (tickets : List ℕ)
+        → ReadsInChase setting history actor call tickets
+        (Gone p 2 ∷ Coming q 3 ∷ Gone number 1 ∷ [])
         → p < number }
-    ensures above { ChasesRise → (history : History) → (actor node p q number : ℕ)
-        → (tickets : List ℕ)
-        → LineChases history actor node tickets (Gone p 2 ∷ Coming q 3 ∷ Here number ∷ [])
+    ensures above { ChasesRise → (setting : Setting) (history : History) (call : FindCall)
+        → (actor p q number : ℕ) (tickets : List ℕ)
+        → ReadsInChase setting history actor call tickets
+        (Gone p 2 ∷ Coming q 3 ∷ Here number ∷ [])
         → p ≤ number }
-    ensures ended { ChasesRise → (history : History) → (actor node number : ℕ)
-        → (tickets : List ℕ)
-        → LineChases history actor node tickets (Here 3 ∷ Gone number 2 ∷ []) → ⊥ }
-    ensures before_commit { LineChases chase_before_commit 1 1 (2 ∷ 3 ∷ 4 ∷ 5 ∷ [])
-        (Coming 1 3 ∷ Here 0 ∷ []) }
-    ensures over_commit { LineChases chase_over_commit 1 1 (2 ∷ 3 ∷ 4 ∷ 7 ∷ 8 ∷ [])
-        (Coming 1 3 ∷ Gone 1 2 ∷ Coming 1 3 ∷ []) }
+    ensures ended { ChasesRise → (setting : Setting) (history : History) (call : FindCall)
+        → (actor number : ℕ) (tickets : List ℕ)
+        → ReadsInChase setting history actor call tickets (Here 3 ∷ Gone number 2 ∷ []) → ⊥ }
+    ensures before_commit { ReadsInChase line_setting chase_before_commit 1 (find_from 1)
+        (2 ∷ 3 ∷ 4 ∷ 5 ∷ []) (Coming 1 3 ∷ Here 0 ∷ []) }
+    ensures over_commit { ReadsInChase line_setting chase_over_commit 1 (find_from 1)
+        (2 ∷ 3 ∷ 4 ∷ 7 ∷ 8 ∷ []) (Coming 1 3 ∷ Gone 1 2 ∷ Coming 1 3 ∷ []) }
     ensures from_address { marks_chased line_setting (find_from 3) at_origin
         (mark_word (Gone 2 0) ∷ address_word (Some (record { number = 1; node = 1 }))
         ∷ mark_word (Gone 1 2) ∷ mark_word (Coming 2 0) ∷ []) ≡ (Gone 1 2 ∷ Coming 2 0 ∷ []) }

@@ -1,4 +1,5 @@
-//! Homes, clusters, faults of trees and distances that are wrong in one part.
+//! Homes, clusters, faults of trees and distances that are wrong in one part; and which spare sets
+//! are taken.
 ghost use Rattle.std.specs.Prelude.{◌≡◌, ◌<◌, [], ◌∷◌};
 ghost use Rattle.cluster_tree.specs.Faults.{IsTreeFault};
 ghost use Rattle.cluster_tree.specs.Inside.{StandBefore};
@@ -6,6 +7,8 @@ ghost use Rattle.cluster_tree.specs.declared.fault.TreeFault.TheVariants.{Outsid
 ghost use Rattle.coarse_cover.specs.Covers.{AreApart};
 ghost use Rattle.distances.specs.Table.{DistanceTable, IsMetric, dist};
 ghost use Rattle.node_set.specs.Balls.{AreHomes};
+ghost use Rattle.node_set.specs.Nodes.{Nodes};
+ghost use Rattle.node_set.specs.Workspaces.{AreSpareLeft, SpareTaken};
 ghost use Rattle.worked_examples.specs.Covers.{cluster_with, one_edge};
 
 /// A home that lacks a node of its ball, and one beyond the clusters.
@@ -38,4 +41,18 @@ pub fn wrong_tree_faults()
 /// Two nodes of a network are apart.
 pub fn wrong_distances()
     ensures { (table : DistanceTable) → IsMetric table → 1 < table.nodes → dist table 0 1 ≡ 0 → ⊥ }
+{}
+
+/// The one that was taken of two spare sets is the last, and as many are taken as are told; where
+/// some were taken, those that are left come first. Where there are fewer, all are taken.
+pub fn worked_spares()
+    ensures one { (first last : Nodes) → SpareTaken 1 (first ∷ last ∷ []) (first ∷ []) }
+    ensures two { (first last : Nodes) → SpareTaken 1 (first ∷ last ∷ []) [] → ⊥ }
+    ensures none { (first last : Nodes) → SpareTaken 1 (first ∷ last ∷ []) (first ∷ last ∷ [])
+        → ⊥ }
+    ensures all { SpareTaken 1 [] [] }
+    ensures front { (first last : Nodes) → AreSpareLeft (first ∷ last ∷ []) (first ∷ []) }
+    ensures back { (first last : Nodes) → AreSpareLeft (first ∷ last ∷ []) (last ∷ [])
+        → first ≡ last }
+    ensures more { (first last : Nodes) → AreSpareLeft (first ∷ []) (first ∷ last ∷ []) → ⊥ }
 {}

@@ -16,7 +16,8 @@ ghost use Rattle.net_reader.specs.Shown.{◌then◌, refusal_at, two_nodes};
 ghost use Rattle.net_reader.specs.Table.{judge, may_stand, most_calls, most_nodes};
 ghost use Rattle.worked_examples.specs.Grammar.{apart_at, apart_text, by_sub, first_edge, line_words, moved_once, said_up_to, switched_off, switched_on};
 
-/// Each line with its fields, with one field more, and with one less.
+/// Each line with its fields, with one field more, and with one less; a weight, nodes and k of 0;
+/// and calls by an actor that isn't of their kind.
 pub fn worked_lines()
     ensures edge { judge (said_up_to 3 1)
         (codes "edge" ∷ codes "0" ∷ codes "1" ∷ codes "5" ∷ [])
@@ -51,13 +52,19 @@ pub fn worked_lines()
         ≡ Err Form }
     ensures on_more { judge (said_up_to 6 2) (codes "on" ∷ codes "0" ∷ codes "0" ∷ [])
         ≡ Err Form }
+    ensures on_past_subs { judge (said_up_to 6 2) (codes "on" ∷ codes "1" ∷ []) ≡ Err Unknown }
+    ensures no_weight { judge (said_up_to 3 1)
+        (codes "edge" ∷ codes "0" ∷ codes "1" ∷ codes "0" ∷ []) ≡ Err Form }
+    ensures nodes_0 { judge (said_up_to 1 1) (codes "nodes" ∷ codes "0" ∷ []) ≡ Err Form }
+    ensures k_0 { judge (said_up_to 2 1) (codes "k" ∷ codes "0" ∷ []) ≡ Err Form }
     ensures find_by_sub { judge (said_up_to 6 1)
         (codes "find" ∷ codes "0" ∷ codes "2" ∷ codes "0" ∷ []) ≡ Err Unknown }
 {}
 
 /// Lines without a number, and lines that name a node or a subscriber that there isn't. A text
 /// doesn't end before its callers, nor do they stand before a subscriber; the second subscriber is
-/// counted behind the first. And for the last line so far, of each kind, which may stand behind it.
+/// counted behind the first. No edge stands behind a subscriber, and no call behind an order. And
+/// for the last line so far, of each kind, which may stand behind it.
 pub fn worked_places()
     ensures no_format { judge (said_up_to 0 0) (codes "track" ∷ []) ≡ Err Form }
     ensures no_nodes { judge (said_up_to 1 1) (codes "nodes" ∷ []) ≡ Err Form }
@@ -97,6 +104,12 @@ pub fn worked_places()
           },
           5,
         ) }
+    ensures edge_behind { judge (said_up_to 5 1)
+        (codes "edge" ∷ codes "0" ∷ codes "1" ∷ codes "5" ∷ []) ≡ Err Form }
+    ensures move_behind { judge (said_up_to 8 1) (codes "move" ∷ codes "0" ∷ codes "2" ∷ [])
+        ≡ Err Form }
+    ensures off_behind { judge (said_up_to 8 2) (codes "off" ∷ codes "0" ∷ []) ≡ Err Form }
+    ensures on_behind { judge (said_up_to 8 2) (codes "on" ∷ codes "0" ∷ []) ≡ Err Form }
     ensures stand { map (λ last. filter (may_stand last) (numbers_from 1 8)) (numbers_from 0 9)
         ≡ (1 ∷ []) ∷ (2 ∷ []) ∷ (3 ∷ []) ∷ (4 ∷ 5 ∷ []) ∷ (4 ∷ 5 ∷ []) ∷ (5 ∷ 6 ∷ [])
         ∷ (7 ∷ 8 ∷ []) ∷ (7 ∷ 8 ∷ []) ∷ (8 ∷ []) ∷ [] }

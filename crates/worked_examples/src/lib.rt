@@ -38,8 +38,8 @@ pub use cells::{worked_cells, worked_rungs, worked_words};
 pub use censuses::worked_censuses;
 pub use chases::{worked_chases, wrong_chases};
 pub use closing::{wrong_causes, wrong_orders};
-pub use costs::{worked_climbs, worked_costs, worked_lowest_costs, wrong_costs, wrong_rates};
-pub use covers::{wrong_distances, wrong_homes, wrong_phases, wrong_tree_faults};
+pub use costs::{worked_climbs, worked_costs, worked_meetings, wrong_costs, wrong_rates};
+pub use covers::{worked_spares, wrong_distances, wrong_homes, wrong_phases, wrong_tree_faults};
 pub use faults::{worked_move_faults, worked_switch_faults, wrong_find_faults, wrong_move_faults};
 pub use finds::{worked_finds, worked_parts, wrong_parts};
 pub use grammar::{

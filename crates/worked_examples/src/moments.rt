@@ -1,5 +1,5 @@
 //! When an event of a turn comes: what the locks are just before the step that brings it.
-ghost use Rattle.std.specs.Prelude.{◌≡◌, ◌<◌, ◌==◌, ℕ, List, Some, slice_index, true};
+ghost use Rattle.std.specs.Prelude.{◌≡◌, ◌≢◌, ◌<◌, ◌==◌, ℕ, List, Some, slice_index, slice_set, true};
 ghost use Rattle.atomic_table.specs.Table.{Me, State};
 ghost use Rattle.entry_word.specs.declared.visit.Act.{Act};
 ghost use Rattle.station.specs.Moments.{ComesAt, EventsComeNow, GoesThrough, IsMoment, IsStepBeside, IsStepOf, LostTurnsAreRead};
@@ -13,8 +13,8 @@ ghost use Rattle.worked_examples.specs.Moments.{Brings, IsToldLost, one_step};
 /// Just before the step at which actor 0 loses a turn at node 2 to actor 5, the lock word there is
 /// 6, and the pass of actor 5 is inside; just before it wins one the word is 0. A moment at which a
 /// turn is lost has such a word and such a pass, another actor's, and an event that comes at a step
-/// has its moment just before it. A step of the pass's own and one of others are each a call of one
-/// step.
+/// has its moment just before it. A step that loses a turn is one of the pass's own, whatever step
+/// changes another pass's view is one of others, and each is a call of one step.
 pub fn told_moments()
     ensures word { EventsComeNow → (setup : Setup) (old new : State Act View)
         → Brings setup old new (Lost 0 2 6) → 2 < nodes_in setup
@@ -36,6 +36,10 @@ pub fn told_moments()
     ensures moment { (setup : Setup) (seat : ℕ) (old new : State Act View)
         (earlier : List TurnEvent) (event : TurnEvent)
         → ComesAt setup seat earlier event old new → IsMoment setup old event }
+    ensures own { (setup : Setup) (old new : State Act View)
+        → Brings setup old new (Lost 0 2 6) → IsStepOf 1 old new }
+    ensures others { (seat other : ℕ) (view : View) (old new : State Act View) → seat ≢ other
+        → new.views ≡ slice_set old.views other view → IsStepBeside seat old new }
     ensures step { (setup : Setup) (seat : ℕ) (old new : State Act View) → KeepsRule setup old
         → KeepsRule setup new → IsStepOf seat old new
         → GoesThrough setup seat 1 (one_step old new) }

@@ -1,6 +1,6 @@
 //! What a fresh pass isn't, and what a pass doesn't do when it loses a turn, stays in a node, takes
 //! a census or hears a note: each is wrong in one part.
-ghost use Rattle.std.specs.Prelude.{◌≡◌, ◌++◌, ◌<◌, ◌≤◌, [], ◌∷◌, ℕ, List, Some, None, suc, length};
+ghost use Rattle.std.specs.Prelude.{◌≡◌, ◌++◌, ◌<◌, ◌≤◌, [], ◌∷◌, ℕ, List, Some, None, suc, length, slice_index};
 ghost use Rattle.atomic_table.specs.Table.{State};
 ghost use Rattle.directory.specs.Histories.{own};
 ghost use Rattle.directory.specs.Legal.{IsLegal};
@@ -9,7 +9,7 @@ ghost use Rattle.entry_word.specs.declared.visit.Act.TheVariants.{Census};
 ghost use Rattle.station.specs.Moments.{AreOthersOut, GoesThrough};
 ghost use Rattle.station.specs.Passes.{AreFresh, IsFreshPass, IsStayOf, NoteData, PassData, TrackerData, actor_of};
 ghost use Rattle.station.specs.Rule.{IsViewOf};
-ghost use Rattle.station.specs.Setup.{Setup, nodes_in, setting_in, subs_in};
+ghost use Rattle.station.specs.Setup.{lock_word, Setup, nodes_in, setting_in, subs_in};
 ghost use Rattle.station.specs.Turns.{events_of, lock_in};
 ghost use Rattle.station.specs.Views.{turn_at};
 ghost use Rattle.station.specs.Visits.{HasHeard, HasLost, HasVisited, IsCensus};
@@ -74,8 +74,9 @@ pub fn wrong_turns()
         ++ Won (actor_of old) 2 ∷ GivenBack (actor_of old) 2 ∷ [] }
 {}
 
-/// Over states in which no other actor's pass is inside node 2, no turn is lost there: so neither a
-/// pass that enters the node nor a visit there tells that it is held.
+/// Over states in which no other actor's pass is inside node 2, or whose lock word there is 0, no
+/// turn is lost there: so neither a pass that enters the node nor a visit there tells that it is
+/// held.
 pub fn wrong_held()
     ensures alone { (setup : Setup) (old new : PassData) (other count : ℕ)
         (states : ℕ → State Act View) → HasLost old 2 (record { node = 2; by = other }) new
@@ -83,6 +84,12 @@ pub fn wrong_held()
         → IsViewOf (states 0).views old.seat old.view
         → IsViewOf (states count).views old.seat new.view → 2 < nodes_in setup
         → ((step : ℕ) → step < count → AreOthersOut (states step) (actor_of old) 2) → ⊥ }
+    ensures free { (setup : Setup) (old new : PassData) (other count : ℕ)
+        (states : ℕ → State Act View) → HasLost old 2 (record { node = 2; by = other }) new
+        → GoesThrough setup old.seat count states
+        → IsViewOf (states 0).views old.seat old.view
+        → IsViewOf (states count).views old.seat new.view → 2 < nodes_in setup
+        → ((step : ℕ) → step < count → slice_index (states step).words (lock_word 2) ≡ 0) → ⊥ }
 {
     events_come_within_calls();
 }

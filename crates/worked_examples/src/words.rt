@@ -75,6 +75,9 @@ pub fn worked_loads()
 pub fn worked_names()
     ensures names { (name : List ℕ) → is_some (plain_command name) ≡ true
         → Contains names_alone name }
+    ensures all_names { (name : List ℕ) (rest : List (List ℕ))
+        → is_some (command_of (name ∷ rest)) ≡ true
+        → Contains (codes "make" ∷ codes "trial" ∷ names_alone) name }
     ensures replay { command_of (codes "replay" ∷ []) ≡ Some Replay }
     ensures census { command_of (codes "census" ∷ []) ≡ Some Census }
     ensures capital { command_of (codes "Replay" ∷ []) ≡ None }

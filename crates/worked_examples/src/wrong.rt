@@ -1,5 +1,5 @@
 //! Lines that are wrong in one part: none is right, in turn, or within the bound.
-ghost use Rattle.std.specs.Prelude.{◌≡◌, ◌+◌, ◌*◌, [], ◌∷◌, Some, None, true, false};
+ghost use Rattle.std.specs.Prelude.{◌≡◌, ◌+◌, ◌*◌, [], ◌∷◌, Some, None, ℕ};
 ghost use Rattle.directory.specs.Courses.{move_to, switch_off};
 ghost use Rattle.directory.specs.Writes.{visits};
 ghost use Rattle.directory.specs.declared.answers.Done.TheVariants.{Found as FoundBy, Off as OffBy, Again as AgainBy};
@@ -10,8 +10,8 @@ ghost use Rattle.trail_laws.specs.RightOutcomes.{IsRightLine, TellInTurn, TellRi
 ghost use Rattle.worked_examples.specs.Passes.{count_by};
 
 /// A line of a find on the line of four with a wrong node, number or state, with a cause that comes
-/// before the find or after it, or heavier than the bound; numbers that fall, and finds out of
-/// turn.
+/// before the find or after it, or heavier than the bound; and of whichever actors and subscribers,
+/// numbers that fall, and finds out of turn.
 pub fn wrong_lines()
     ensures node { IsRightLine line_setting ([]) (FoundBy 1 2 0 2 0 (Some 0) 5 0 3) → ⊥ }
     ensures number { IsRightLine line_setting ([]) (FoundBy 1 2 0 3 1 (Some 0) 5 0 3) → ⊥ }
@@ -32,22 +32,20 @@ pub fn wrong_lines()
         (OffBy 1 0 0 3 0 (Some 1) 412 0 3) → ⊥ }
     ensures quiet_again { IsLineWithin (λ d p. 137 * d + 2 * p) line_setting ([])
         (AgainBy 1 0 0 NoEntry 4 0 3) → ⊥ }
-    ensures falling { TellRisingNumbers
-        (FoundBy 1 0 0 3 2 None 0 0 3 ∷ FoundBy 2 0 0 3 1 None 0 4 5 ∷ []) → ⊥ }
-    ensures falling_off { TellRisingNumbers
-        (FoundBy 1 0 0 3 2 None 0 0 3 ∷ OffBy 2 0 0 3 1 None 0 4 5 ∷ []) → ⊥ }
-    ensures falling_first { TellRisingNumbers
-        (FoundBy 1 0 0 3 1 None 0 4 5 ∷ FoundBy 2 0 0 3 2 None 0 0 3 ∷ []) → ⊥ }
-    ensures falling_alone { TellRisingNumbers
-        (FoundBy 1 0 0 3 2 None 0 0 3 ∷ FoundBy 1 0 0 3 1 None 0 4 5 ∷ []) → ⊥ }
-    ensures out_of_turn { TellInTurn
-        (FoundBy 1 0 0 3 2 None 0 4 5 ∷ FoundBy 1 0 1 3 2 None 0 0 3 ∷ []) → ⊥ }
-    ensures off_out_of_turn { TellInTurn
-        (OffBy 1 0 0 3 2 None 0 4 5 ∷ FoundBy 1 0 1 3 2 None 0 0 3 ∷ []) → ⊥ }
-    ensures again_out_of_turn { TellInTurn
-        (AgainBy 1 0 0 NoEntry 0 4 6 ∷ FoundBy 1 0 1 3 2 None 0 5 7 ∷ []) → ⊥ }
-    ensures at_once { TellInTurn
-        (FoundBy 1 0 0 3 2 None 0 4 5 ∷ FoundBy 1 0 1 3 2 None 0 5 7 ∷ []) → ⊥ }
-    ensures turned { TellInTurn
-        (FoundBy 1 0 0 3 2 None 0 0 3 ∷ FoundBy 1 0 1 3 2 None 0 5 4 ∷ []) → ⊥ }
+    ensures falling { (actor other sub : ℕ) → TellRisingNumbers
+        (FoundBy actor 0 sub 3 2 None 0 0 3 ∷ FoundBy other 0 sub 3 1 None 0 4 5 ∷ []) → ⊥ }
+    ensures falling_off { (actor other sub : ℕ) → TellRisingNumbers
+        (FoundBy actor 0 sub 3 2 None 0 0 3 ∷ OffBy other 0 sub 3 1 None 0 4 5 ∷ []) → ⊥ }
+    ensures falling_first { (actor other sub : ℕ) → TellRisingNumbers
+        (FoundBy actor 0 sub 3 1 None 0 4 5 ∷ FoundBy other 0 sub 3 2 None 0 0 3 ∷ []) → ⊥ }
+    ensures out_of_turn { (actor sub other : ℕ) → TellInTurn
+        (FoundBy actor 0 sub 3 2 None 0 4 5 ∷ FoundBy actor 0 other 3 2 None 0 0 3 ∷ []) → ⊥ }
+    ensures off_out_of_turn { (actor sub other : ℕ) → TellInTurn
+        (OffBy actor 0 sub 3 2 None 0 4 5 ∷ FoundBy actor 0 other 3 2 None 0 0 3 ∷ []) → ⊥ }
+    ensures again_out_of_turn { (actor sub other : ℕ) → TellInTurn
+        (AgainBy actor 0 sub NoEntry 0 4 6 ∷ FoundBy actor 0 other 3 2 None 0 5 7 ∷ []) → ⊥ }
+    ensures at_once { (actor sub other : ℕ) → TellInTurn
+        (FoundBy actor 0 sub 3 2 None 0 4 5 ∷ FoundBy actor 0 other 3 2 None 0 5 7 ∷ []) → ⊥ }
+    ensures turned { (actor sub other : ℕ) → TellInTurn
+        (FoundBy actor 0 sub 3 2 None 0 0 3 ∷ FoundBy actor 0 other 3 2 None 0 5 4 ∷ []) → ⊥ }
 {}

@@ -8,31 +8,30 @@ use Rattle.directory.specs.Writes.{writes}
 use Rattle.plan_laws.specs.Examples.{line_setting}
 use Rattle.trail_laws.specs.Chased.{ChaseRises}
 use Rattle.worked_examples.specs.Chases.{chase_before_commit, chase_over_commit}
-use Rattle.worked_examples.specs.Examples.{find_from}
 use Rattle.worked_examples.proofs.chases.worked_chases.Goals as goal
 
 pub returns-clause-there : goal.returns-clause-there
-returns-clause-there c = λ law history actor node number tickets is.
-    (subst ChaseRises is.3 (law line_setting history actor (find_from node) tickets (omega arith) is.0 is.1 is.2)).0.0
+returns-clause-there c = λ law setting history call actor number tickets is.
+    (subst ChaseRises is.4 (law setting history actor call tickets is.0 is.1 is.2 is.3)).0.0
 
 pub returns-clause-back : goal.returns-clause-back
-returns-clause-back c = λ law history actor node number tickets is.
-    let all = subst ChaseRises is.3
-    (law line_setting history actor (find_from node) tickets (omega arith) is.0 is.1 is.2) in
+returns-clause-back c = λ law setting history call actor number tickets is.
+    let all = subst ChaseRises is.4
+    (law setting history actor call tickets is.0 is.1 is.2 is.3) in
     omega (arith, all.0.0)
 
 pub returns-clause-on : goal.returns-clause-on
-returns-clause-on c = λ law history actor node p q number tickets is.
-    (subst ChaseRises is.3 (law line_setting history actor (find_from node) tickets (omega arith) is.0 is.1 is.2)).1.0.0
+returns-clause-on c = λ law setting history call actor p q number tickets is.
+    (subst ChaseRises is.4 (law setting history actor call tickets is.0 is.1 is.2 is.3)).1.0.0
 
 pub returns-clause-above : goal.returns-clause-above
-returns-clause-above c = λ law history actor node p q number tickets is.
-    let all = subst ChaseRises is.3
-    (law line_setting history actor (find_from node) tickets (omega arith) is.0 is.1 is.2) in all.2.0.1.0
+returns-clause-above c = λ law setting history call actor p q number tickets is.
+    let all = subst ChaseRises is.4
+    (law setting history actor call tickets is.0 is.1 is.2 is.3) in all.2.0.1.0
 
 pub returns-clause-ended : goal.returns-clause-ended
-returns-clause-ended c = λ law history actor node number tickets is.
-    (subst ChaseRises is.3 (law line_setting history actor (find_from node) tickets (omega arith) is.0 is.1 is.2)).0.0
+returns-clause-ended c = λ law setting history call actor number tickets is.
+    (subst ChaseRises is.4 (law setting history actor call tickets is.0 is.1 is.2 is.3)).0.0
 
 -- the move may be made, and its puts so far are legal
 may_move : MayMove line_setting (course_at 3) 2
@@ -59,6 +58,7 @@ over-legal = record {
 pub returns-clause-before_commit : goal.returns-clause-before_commit
 unfolding AreLooks writes highest steps_from
 returns-clause-before_commit c = (
+  omega arith,
   omega arith,
   before-legal,
   (
@@ -87,6 +87,7 @@ returns-clause-before_commit c = (
 pub returns-clause-over_commit : goal.returns-clause-over_commit
 unfolding AreLooks writes highest steps_from
 returns-clause-over_commit c = (
+  omega arith,
   omega arith,
   over-legal,
   (

@@ -12,9 +12,9 @@ returns-clause-less c = λ costs.
     let far : 3 + found.1 ≤ 2 = found.4 in omega (arith, far)
 
 pub returns-clause-leads : goal.returns-clause-leads
-returns-clause-leads c = λ history cluster address costs.
+returns-clause-leads c = λ setting sub cluster history address costs.
     let found = costs None tt in (found.0, found.1, found.2, found.3)
 
 pub returns-clause-known : goal.returns-clause-known
-returns-clause-known c = λ history cluster address costs one.
+returns-clause-known c = λ setting sub cluster history address costs one.
     let found = costs (Some 1) (omega (arith, one)) in (found.0, found.1, found.2, found.3)

@@ -1,8 +1,9 @@
-use Rattle.std.proofs.Common.{◌≡◌, ℕ, zero, suc, ◌<◌, ◌≤◌, ◌⊎◌, arith, [], ◌++◌, refl, sym, ◌∙◌, inl, inr}
+use Rattle.std.proofs.Common.{◌≡◌, ℕ, zero, suc, ◌<◌, ◌≤◌, ◌⊎◌, arith, List, [], ◌++◌, refl, subst, sym, ◌∙◌, inl, inr}
+use Rattle.atomic_table.proofs.Lists.{set_else}
 use Rattle.atomic_table.specs.Table.{State}
 use Rattle.entry_word.specs.declared.visit.Act.{Act}
 use Rattle.station.specs.Moments.{EventsComeNow, HasLocks, IsStepBeside, IsStepOf}
-use Rattle.station.specs.Rule.{KeepsRule}
+use Rattle.station.specs.Rule.{IsViewOf, KeepsRule}
 use Rattle.station.specs.Setup.{Setup}
 use Rattle.station.specs.Turns.{IsInTurn}
 use Rattle.station.specs.declared.view.TurnEvent.TheVariants.{Lost, Won}
@@ -51,6 +52,21 @@ returns-clause-lost_own c = λ setup state known moment. (moment known).0 refl
 
 pub returns-clause-moment : goal.returns-clause-moment
 returns-clause-moment c = λ setup seat old new earlier event comes. comes.moment
+
+pub returns-clause-own : goal.returns-clause-own
+returns-clause-own c = λ setup old new brings. record {
+  before = brings.before;
+  after = brings.after;
+  was = brings.was;
+  views = brings.views;
+  alone = brings.alone;
+  low = brings.low;
+  high = brings.high;
+}
+
+pub returns-clause-others : goal.returns-clause-others
+returns-clause-others c = λ seat other view old new away views shown there.
+    sym (set_else old.views other seat view away) ∙ subst (λ (vs : List View). IsViewOf vs seat shown) views there
 
 -- the rule holds of both states of a call of one step
 both-keep : (setup : Setup) (old new : State Act View) → KeepsRule setup old → KeepsRule setup new

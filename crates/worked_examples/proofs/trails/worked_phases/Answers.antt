@@ -19,6 +19,10 @@ pub returns-clause-begun : goal.returns-clause-begun
 unfolding writes highest steps_from
 returns-clause-begun c = refl
 
+pub returns-clause-its : goal.returns-clause-its
+unfolding writes highest steps_from
+returns-clause-its c = refl
+
 pub returns-clause-comes : goal.returns-clause-comes
 unfolding writes highest steps_from
 returns-clause-comes c = refl
@@ -62,6 +66,18 @@ returns-clause-unsettled c = λ settled. settled.1 3 refl
 pub returns-clause-waiting : goal.returns-clause-waiting
 unfolding writes highest steps_from
 returns-clause-waiting c = λ settled. let e : ◌≡◌ {A = ℕ} 1 0 = settled.0 in omega (arith, e)
+
+pub returns-clause-current : goal.returns-clause-current
+unfolding writes highest steps_from
+returns-clause-current c = refl
+
+pub returns-clause-kept : goal.returns-clause-kept
+unfolding writes highest steps_from
+returns-clause-kept c = refl
+
+pub returns-clause-old : goal.returns-clause-old
+unfolding writes highest steps_from
+returns-clause-old c = λ current. let e : ◌≡◌ {A = ℕ} 0 1 = current in omega (arith, e)
 
 pub returns-clause-rest : goal.returns-clause-rest
 unfolding writes highest steps_from

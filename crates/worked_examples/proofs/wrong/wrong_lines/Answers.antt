@@ -63,41 +63,37 @@ pub returns-clause-quiet_again : goal.returns-clause-quiet_again
 returns-clause-quiet_again c = λ r. (r (λ t a b. refl)).0
 
 pub returns-clause-falling : goal.returns-clause-falling
-returns-clause-falling c = λ r. let e : 2 ≤ 1 = r 0 1 _ _ refl refl 0 2 1 3 5 (refl, refl, refl) (refl, refl, refl)
-    (omega arith) in omega (arith, e)
+returns-clause-falling c = λ actor other sub r. let e : 2 ≤ 1 = r 0 1 _ _ refl refl sub 2 1 3 5 (refl, refl, refl)
+    (refl, refl, refl) (omega arith) in omega (arith, e)
 
 pub returns-clause-falling_off : goal.returns-clause-falling_off
-returns-clause-falling_off c = λ r. let e : 2 ≤ 1 = r 0 1 _ _ refl refl 0 2 1 3 5 (refl, refl, refl)
+returns-clause-falling_off c = λ actor other sub r. let e : 2 ≤ 1 = r 0 1 _ _ refl refl sub 2 1 3 5 (refl, refl, refl)
     (refl, refl, refl) (omega arith) in omega (arith, e)
 
 pub returns-clause-falling_first : goal.returns-clause-falling_first
-returns-clause-falling_first c = λ r. let e : 2 ≤ 1 = r 1 0 _ _ refl refl 0 2 1 3 5 (refl, refl, refl)
+returns-clause-falling_first c = λ actor other sub r. let e : 2 ≤ 1 = r 1 0 _ _ refl refl sub 2 1 3 5 (refl, refl, refl)
     (refl, refl, refl) (omega arith) in omega (arith, e)
 
-pub returns-clause-falling_alone : goal.returns-clause-falling_alone
-returns-clause-falling_alone c = λ r. let e : 2 ≤ 1 = r 0 1 _ _ refl refl 0 2 1 3 5 (refl, refl, refl)
-    (refl, refl, refl) (omega arith) in omega (arith, e)
-
-abbrev find : ℕ → Found → ℕ → ℕ → FindLine
-find sub found first last =
-    record { actor = 1; from = 0; sub = sub; found = found; first = first; last = last }
+abbrev find : ℕ → ℕ → Found → ℕ → ℕ → FindLine
+find actor sub found first last =
+    record { actor = actor; from = 0; sub = sub; found = found; first = first; last = last }
 
 pub returns-clause-out_of_turn : goal.returns-clause-out_of_turn
-returns-clause-out_of_turn c = λ r. let e : 5 < 0 = (r 0 1 _ _ (omega arith) refl refl refl
-    (find 0 (At 3 2 None 0) 4 5) (find 1 (At 3 2 None 0) 0 3) refl refl).0 in omega (arith, e)
+returns-clause-out_of_turn c = λ actor sub other r. let e : 5 < 0 = (r 0 1 _ _ (omega arith) refl refl refl
+    (find actor sub (At 3 2 None 0) 4 5) (find actor other (At 3 2 None 0) 0 3) refl refl).0 in omega (arith, e)
 
 pub returns-clause-off_out_of_turn : goal.returns-clause-off_out_of_turn
-returns-clause-off_out_of_turn c = λ r. let e : 5 < 0 = (r 0 1 _ _ (omega arith) refl refl refl
-    (find 0 (OffAt 3 2 None 0) 4 5) (find 1 (At 3 2 None 0) 0 3) refl refl).0 in omega (arith, e)
+returns-clause-off_out_of_turn c = λ actor sub other r. let e : 5 < 0 = (r 0 1 _ _ (omega arith) refl refl refl
+    (find actor sub (OffAt 3 2 None 0) 4 5) (find actor other (At 3 2 None 0) 0 3) refl refl).0 in omega (arith, e)
 
 pub returns-clause-again_out_of_turn : goal.returns-clause-again_out_of_turn
-returns-clause-again_out_of_turn c = λ r. let e : 6 < 5 = (r 0 1 _ _ (omega arith) refl refl refl
-    (find 0 (Again NoEntry 0) 4 6) (find 1 (At 3 2 None 0) 5 7) refl refl).0 in omega (arith, e)
+returns-clause-again_out_of_turn c = λ actor sub other r. let e : 6 < 5 = (r 0 1 _ _ (omega arith) refl refl refl
+    (find actor sub (Again NoEntry 0) 4 6) (find actor other (At 3 2 None 0) 5 7) refl refl).0 in omega (arith, e)
 
 pub returns-clause-at_once : goal.returns-clause-at_once
-returns-clause-at_once c = λ r. let e : 5 < 5 = (r 0 1 _ _ (omega arith) refl refl refl
-    (find 0 (At 3 2 None 0) 4 5) (find 1 (At 3 2 None 0) 5 7) refl refl).0 in omega (arith, e)
+returns-clause-at_once c = λ actor sub other r. let e : 5 < 5 = (r 0 1 _ _ (omega arith) refl refl refl
+    (find actor sub (At 3 2 None 0) 4 5) (find actor other (At 3 2 None 0) 5 7) refl refl).0 in omega (arith, e)
 
 pub returns-clause-turned : goal.returns-clause-turned
-returns-clause-turned c = λ r. let e : 5 ≤ 4 = (r 0 1 _ _ (omega arith) refl refl refl
-    (find 0 (At 3 2 None 0) 0 3) (find 1 (At 3 2 None 0) 5 4) refl refl).1 in omega (arith, e)
+returns-clause-turned c = λ actor sub other r. let e : 5 ≤ 4 = (r 0 1 _ _ (omega arith) refl refl refl
+    (find actor sub (At 3 2 None 0) 0 3) (find actor other (At 3 2 None 0) 5 4) refl refl).1 in omega (arith, e)
