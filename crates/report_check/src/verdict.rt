@@ -13,7 +13,8 @@ pub enum Flaw {
     Form,
     /// The order of actors doesn't give the call these tickets, or has tickets that no call holds.
     Tickets,
-    /// The answer isn't where the subscriber stood at the find's last visit, or not its state.
+    /// The answer isn't where the subscriber stood at the find's last visit, or hasn't its number
+    /// or its state.
     Place,
     /// The find is to be made again, and no visit of a move of its subscriber fell within it.
     Again,

@@ -295,8 +295,8 @@ impl<'a> PlanParts<'a> {
         })
     }
 
-    /// Makes the next part, which isn't empty, and answers whether there was one left. It takes no
-    /// memory.
+    /// Makes the next part, which isn't empty, and answers whether there was one left. It can't
+    /// fail for want of memory.
     pub fn advance(&mut self) -> bool
         ensures part { result ≡ true → self.old.left ≡ self.new.part ++ self.new.left }
         ensures some { result ≡ true → 0 < length self.new.part }

@@ -207,7 +207,8 @@ impl<'a> Lines<'a> {
         })
     }
 
-    /// Makes the next line, and answers whether there was one left. It takes no memory.
+    /// Makes the next line, and answers whether there was one left. It can't fail for want of
+    /// memory.
     pub fn advance(&mut self) -> bool
         ensures line { result ≡ true → self.old.left ≡ self.new.line ∷ self.new.left }
         ensures none { result ≡ false → (self.old.left ≡ []) × (self.new.left ≡ []) }
@@ -238,7 +239,8 @@ impl<'a> Lines<'a> {
         self.line.bytes()
     }
 
-    /// The next line with its line feed, and None where none is left. It takes no memory.
+    /// The next line with its line feed, and None where none is left. It can't fail for want of
+    /// memory.
     pub fn next_line(&mut self) -> Option<&[u8]>
         ensures line { IfSome result (λ line. self.old.left ≡ line.now ∷ drop 1 self.old.left) }
         ensures none { IfNone result (self.old.left ≡ []) }
