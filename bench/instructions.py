@@ -1,9 +1,9 @@
 #!/usr/bin/env python3
 """Counts the instructions of standard runs (valgrind --tool=callgrind) and compares them with those that
 bench/instructions.txt keeps, so that work that is thrown away is seen: no clause speaks of it. A count of one binary repeats to
-within one in a thousand; a run fails here that takes more than three in a hundred more than is kept. A run of which no number
-is kept yet is counted, told, and fails nothing. Where valgrind is missing nothing is counted: it says that it was skipped, and
-ends with status 77, which is neither that of a pass nor that of a failure.
+within one in a thousand, that of threads too where one alone makes visits; a run fails here that takes more than three in a
+hundred more than is kept. A run of which no number is kept yet is counted, told, and fails nothing. Where valgrind is missing
+nothing is counted: it says that it was skipped, and ends with status 77, which is neither that of a pass nor that of a failure.
 
 Usage, at the top of the repository: bench/instructions.py [--keep]        With --keep it writes the numbers anew, once a change
 has been found to be worth them. It runs crates/track_main/out/track_main."""
@@ -48,11 +48,30 @@ def largest():
     return make("7 1024 3 64 64 16384")
 
 
+def answered(word):
+    """What a word answers to the made input of 256 nodes."""
+    return subprocess.run([OURS, word], input=busy(), stdout=subprocess.PIPE, check=True).stdout
+
+
 def judged():
     """That input, and the report that its replay writes."""
-    given = busy()
-    report = subprocess.run([OURS, "replay"], input=given, stdout=subprocess.PIPE, check=True).stdout
-    return given + b"report\n" + report
+    return busy() + b"report\n" + answered("replay")
+
+
+def listed():
+    """That input as JSON."""
+    return answered("tojson")
+
+
+def moving():
+    """A made input of 64 nodes, where one subscriber makes 2,000 moves and nobody looks for it."""
+    return make("5 64 2 1 0 2000")
+
+
+def sought():
+    """A grid of 64 nodes, where one caller makes 2,000 finds, from each node in turn, of a subscriber that stays."""
+    calls = "".join(f"find 1 {call % 64} 0\n" for call in range(2000))
+    return (text(64, 2, edges("grid", 64, 3)).replace("callers 0", "callers 1") + calls).encode()
 
 
 RUNS = [
@@ -63,6 +82,13 @@ RUNS = [
     ("check of a made input", "check", judged),
     ("cover of four nodes behind comments", "cover", commented),
     ("replay of a made input of 1,024 nodes", "replay", largest),
+    ("cover of a made input by mean covers", "meancover", busy),
+    ("costs of a made input", "costs", busy),
+    ("a made input as JSON", "tojson", busy),
+    ("a made input from JSON", "fromjson", listed),
+    ("report of a made input as JSON", "replayjson", busy),
+    ("moves of one subscriber in its thread", "run", moving),
+    ("finds of one caller in its thread", "run", sought),
 ]
 
 
