@@ -3,3 +3,4 @@ pub mod Moves
 pub mod WholeMoves
 pub mod Finds
 pub mod RightAnswers
+pub mod FaultLaws

@@ -19,7 +19,8 @@ ghost use Rattle.station.specs.Visits.{HasHeard, HasLost, HasVisited};
 ghost use Rattle.station.specs.declared.turns.Held.{Held};
 ghost use Rattle.station.specs.declared.view.TurnEvent.{TurnEvent};
 ghost use Rattle.station.specs.declared.view.View.{View};
-ghost use Rattle.tracker_calls.specs.Finds.{HasFound, HasStopped};
+ghost use Rattle.tracker_calls.specs.Finds.{HasFound, HasStopped, IsFindFault};
+ghost use Rattle.tracker_calls.specs.declared.finds.FindFault.{FindFault};
 
 /// A put keeps the steps that its handset stood for, and is the last one of its subscriber that the
 /// pass has seen. A note, a look, a census, a lost turn, a node that is entered and left, and a
@@ -61,11 +62,14 @@ pub fn told_handsets()
         (handset : HandsetData) (its : IsHandsetOf setup old.view handset)
         → HasFound setup old call found new → its.steps ≡ move_to 2 ∷ []
         → (next : IsHandsetOf setup new.view handset) × (next.steps ≡ move_to 2 ∷ []) }
-    ensures stopped { (old new : PassData) (call : FindCall) (held : Held)
-        (handset : HandsetData) (its : IsHandsetOf old.view.setup old.view handset)
-        → HasStopped old.view.setup old call held new → its.steps ≡ move_to 2 ∷ []
-        → (next : IsHandsetOf old.view.setup new.view handset)
-        × (next.steps ≡ move_to 2 ∷ []) }
+    ensures stopped { (setup : Setup) (old new : PassData) (call : FindCall) (held : Held)
+        (handset : HandsetData) (its : IsHandsetOf setup old.view handset)
+        → HasStopped setup old call held new → its.steps ≡ move_to 2 ∷ []
+        → (next : IsHandsetOf setup new.view handset) × (next.steps ≡ move_to 2 ∷ []) }
+    ensures unfound { (setup : Setup) (old new : PassData) (call : FindCall) (fault : FindFault)
+        (handset : HandsetData) (its : IsHandsetOf setup old.view handset)
+        → IsFindFault setup old call fault new → its.steps ≡ move_to 2 ∷ []
+        → (next : IsHandsetOf setup new.view handset) × (next.steps ≡ move_to 2 ∷ []) }
     ensures begun { (setup : Setup) (view : View) (handset begun : HandsetData)
         (its : IsHandsetOf setup view handset) → its.steps ≡ switch_off ∷ switch_on ∷ []
         → move_fault setup.plan handset 2 ≡ None

@@ -1,11 +1,9 @@
-use Rattle.std.proofs.Common.{List, [], ◌∷◌, ◌++◌, true, refl, subst, ap, ◌∙◌}
+use Rattle.std.proofs.Common.{List, [], ◌∷◌, ◌++◌, true, refl, ap, ◌∙◌}
 use Rattle.directory.specs.Courses.{Step, move_to, switch_off}
-use Rattle.directory.specs.Keys.{key_node}
 use Rattle.entry_word.specs.declared.visit.Act.TheVariants.{Census, Look}
 use Rattle.station.specs.HandsetLaws.{begun-handset, switched-handset}
-use Rattle.station.specs.Handsets.{HandsetStays}
-use Rattle.station.specs.Setup.{Setup, setting_in}
-use Rattle.station.specs.StayLaws.{handset-heard, handset-held, handset-inside, handset-outside, handset-stays-on, handset-visited}
+use Rattle.station.specs.StayLaws.{handset-heard, handset-held, handset-inside, handset-outside, handset-visited}
+use Rattle.tracker_calls.specs.FaultLaws.{handset-stopped, handset-unfound}
 use Rattle.worked_examples.proofs.handsets.told_handsets.Goals as goal
 
 pub returns-clause-steps : goal.returns-clause-steps
@@ -43,11 +41,12 @@ returns-clause-found c = λ setup old new call found handset its has one.
     let next = has.keeps handset its in (next.0, next.1 ∙ one)
 
 pub returns-clause-stopped : goal.returns-clause-stopped
-returns-clause-stopped c = λ old new call held handset its stopped one.
-    let between = stopped.between in
-    let lost = subst (λ (s : Setup). HandsetStays s between.view new.view handset) stopped.added.same.setup
-    (handset-held between (key_node (setting_in old.view.setup) stopped.key) held new handset stopped.turn) in
-    let next = handset-stays-on (stopped.keeps handset) lost its in (next.0, next.1 ∙ one)
+returns-clause-stopped c = λ setup old new call held handset its stopped one.
+    let next = handset-stopped setup old new call held handset stopped its in (next.0, next.1 ∙ one)
+
+pub returns-clause-unfound : goal.returns-clause-unfound
+returns-clause-unfound c = λ setup old new call fault handset its failed one.
+    let next = handset-unfound setup old new call fault handset failed its in (next.0, next.1 ∙ one)
 
 pub returns-clause-begun : goal.returns-clause-begun
 returns-clause-begun c = λ setup view handset begun its before begins is goes stands.
