@@ -11,7 +11,6 @@ Usage, at the top of the repository:
 
 The weights of the directory's finds are those of `replay`: each load is an input, and TRACK names the program that runs it, ./track
 where it isn't set. Moves are weighed here, since a report doesn't tell what they cost: docs/PRICE.md says how."""
-import heapq
 import math
 import os
 import subprocess
@@ -23,6 +22,7 @@ sys.path.insert(0, os.path.join(TOP, "scripts"))
 from loads import Draw, Story, story_on  # noqa: E402
 from known_networks import NETWORKS  # noqa: E402
 from pictures import INK, PALE, Picture, colour  # noqa: E402
+from rivals import Rivals, origins  # noqa: E402
 from texts import BadText, Found, ends_clearly, load_input, read_report  # noqa: E402
 
 NAMES = {"nsfnet": "NSFNET, 14 nodes", "geant": "GEANT, 21 nodes", "grid": "streets, 256 nodes", "ring": "ring, 32 nodes"}
@@ -30,54 +30,6 @@ FINDS, MOVERS = ("near", "far", "mixed"), ("slow", "fast")
 SUBS, CALLERS, MOVES, FINDS_A_MOVE = 8, 4, 160, 2
 RIVALS = ("directory", "home register", "pointers", "everybody")
 K = 2
-
-
-class Rivals:
-    """Where the subscriber of each call is, and what the call costs without the directory."""
-
-    def __init__(self, network, homes):
-        self.network, self.homes, self.at = network, list(homes), list(homes)
-        self.pointers = [{} for _ in homes]
-        self.everybody = 2 * lightest_tree(network)
-
-    def move(self, sub, to):
-        """The weights of the home register's update, of the pointer's and of telling everybody."""
-        start, self.at[sub] = self.at[sub], to
-        self.pointers[sub][start] = to
-        self.pointers[sub].pop(to, None)
-        far = self.network.distance
-        return 2 * far(to, self.homes[sub]), 2 * far(to, start), self.everybody
-
-    def find(self, start, sub):
-        """The weights of a find by the home register, along the pointers, and where everybody knows."""
-        far, home, to = self.network.distance, self.homes[sub], self.at[sub]
-        chain, node = far(start, home), home
-        while node != to:
-            chain += far(node, self.pointers[sub][node])
-            node = self.pointers[sub][node]
-        return far(start, home) + far(home, to), chain, far(start, to)
-
-
-def lightest_tree(network):
-    """The weight of a lightest spanning tree."""
-    seen, waiting, weight = set(), [(0, 0)], 0
-    while waiting:
-        w, u = heapq.heappop(waiting)
-        if u not in seen:
-            seen.add(u)
-            weight += w
-            for v, way in network.arcs[u].items():
-                heapq.heappush(waiting, (way, v))
-    return weight
-
-
-def origins(network, at, kind):
-    """The nodes from which such a find may come: another node than that of the subscriber."""
-    others = [v for v in range(network.nodes) if v != at]
-    least, most = min(network.distance(v, at) for v in others), max(network.distance(v, at) for v in others)
-    if kind == "near":
-        return [v for v in others if network.distance(v, at) <= max(least, most / 8)]
-    return [v for v in others if kind == "mixed" or network.distance(v, at) >= most / 2]
 
 
 class Load:
