@@ -20,6 +20,7 @@ sys.dont_write_bytecode = True
 from networks import KINDS, edges  # noqa: E402
 
 KINDS = KINDS + ["random"]
+os.environ.setdefault("TRACK_PROVED", "1")
 OURS = os.environ.get("TRACK", "./track")
 SUBS, CALLERS, MOVES, FINDS = 8, 8, 32, 512
 NEAR = 4
