@@ -26,6 +26,7 @@ class Wishes:
     stay: float  # how long a subscriber stays on average
     move_to: str  # 'neighbours' or 'anywhere'
     find_from: str  # 'near', 'far' or 'anywhere'
+    pace: int  # how many times its weight a message of a find takes
     zipf: float  # of the subscribers that are found: 0 where all are alike
     seed: int
 

@@ -5,7 +5,7 @@ import subprocess
 from dataclasses import dataclass, field
 
 import directory
-from lab_load import Part
+from lab_load import Part, Wishes
 from lab_networks import Site
 from texts import BadText, Plan, read_plan
 from timed import Found, Moved, TimedMachine
@@ -39,7 +39,6 @@ class Outcome:
     visits: list[int] = field(default_factory=list)  # by node
     cells: list[int] = field(default_factory=list)  # by node, how many words stood there at once at most
     inputs: list[str] = field(default_factory=list)
-    made_moves: bool = True  # whether moves have a weight by `costs`
     busy: float = 0.0  # the share of their time in which subscribers were in a move
     late: float = 0.0  # by how much of its planned time the load ended after it
 
@@ -71,8 +70,8 @@ def head_of(site: Site, words: str) -> list[str]:
 class Runner:
     """Plays the parts of a load over one plan after another."""
 
-    def __init__(self, program: str, site: Site, network: directory.Network, callers: int, words: str):
-        self.program, self.site, self.network, self.callers = program, site, network, callers
+    def __init__(self, program: str, site: Site, network: directory.Network, wishes: Wishes, words: str):
+        self.program, self.site, self.network, self.wishes = program, site, network, wishes
         self.head = head_of(site, words)
 
     def run(self, kind: Kind, plan: Plan, parts: list[Part], tell) -> Outcome:
@@ -81,7 +80,7 @@ class Runner:
         outcome = Outcome(kind.name(), kind, plan, visits=[0] * nodes, cells=[0] * nodes)
         spent = planned = last = 0
         for at, part in enumerate(parts, 1):
-            machine = TimedMachine(setting, part, self.callers)
+            machine = TimedMachine(setting, part, self.wishes)
             machine.play(tell)
             text = machine.text(self.head + [f"{kind.name()}, part {at} of {len(parts)}"], self.site.edges, kind.k)
             self.hold(kind, machine, text)

@@ -1,11 +1,12 @@
 """Calls in time: the directory's movers and callers, where a message takes as long as its weight.
 
-A visit is made when its message comes to the node. A find goes to a leader and back, or on from there, so that its weight is the time
-from its first look to its last. A move begins when its subscriber has come to the new node. It makes its writes one after another,
+A visit is made when its message comes to the node. A find goes to a leader and back, or on from there, so that its weight is the time from
+its first look to its last. A move begins when its subscriber has come to the new node. It makes its writes one after another,
 each a message from there and an answer; the next message goes out when the answer is back. An actor makes one call after another: a
 call that falls due before the actor's last one is done waits for it. A caller is free again once the answer has come back to it, by
 the least way; a find that is to be made again is made at that moment. Visits that come at the same time are made in the order in
-which their messages were sent.
+which their messages were sent. Where a pace is wished, each message of a find takes that many times its weight: slow callers meet more
+moves.
 
 All of it runs over the plain Python directory of scripts/directory.py, and gives the input, with its order lines, of which the program
 then has to write the same report."""
@@ -17,7 +18,7 @@ from dataclasses import dataclass
 
 import directory
 import texts
-from lab_load import Ask, Move, Part
+from lab_load import Ask, Move, Part, Wishes
 
 
 class TooLong(Exception):
@@ -96,10 +97,10 @@ class CountedCells(directory.Cells):
 class TimedMachine(directory.Machine):
     """The actors of one part, whose visits are made at their times."""
 
-    def __init__(self, setting: directory.Setting, part: Part, callers: int):
-        super().__init__(setting, part.homes, [[] for _ in range(len(part.homes) + callers)])
+    def __init__(self, setting: directory.Setting, part: Part, wishes: Wishes):
+        super().__init__(setting, part.homes, [[] for _ in range(wishes.subs + wishes.callers)])
         self.cells = CountedCells(setting, part.homes)
-        self.part, self.far = part, setting.network.distance
+        self.part, self.pace, self.far = part, wishes.pace, setting.network.distance
         self.lines: list[str] = []
         self.found: list[Found] = []
         self.moved: list[Moved] = []
@@ -202,10 +203,10 @@ class TimedMachine(directory.Machine):
         node = walk.looks[-1].node
         self.visits[node] += 1
         if walk.answer is None:
-            self.free[number] = self.now + walk.weight - before - inside + self.inside_of(walk)
+            self.free[number] = self.now + self.pace * (walk.weight - before - inside + self.inside_of(walk))
             return
         back = inside if walk.answer == ("again", "none") else self.far(node, walk.start)
-        self.free[number] = self.now + back
+        self.free[number] = self.now + self.pace * back
         self.account(find, walk, actor.tickets[0])
         if walk.answer[0] == "again":
             self.give(number, f"find {number} {walk.start} {walk.sub}", texts.Find(walk.start, walk.sub))
