@@ -23,7 +23,7 @@ def weight_of(field_text: str, where: str) -> float:
     except ValueError:
         raise BadText(f"{where}: the weight '{field_text[:40]}' is no number") from None
     if not math.isfinite(weight) or weight <= 0:
-        raise BadText(f"{where}: the weight {field_text[:40]} isn't above 0")
+        raise BadText(f"{where}: the weight {field_text[:40]} isn't a finite number above 0")
     return weight
 
 
@@ -54,7 +54,7 @@ def read_edge_list(text: str) -> Graph:
 def in_order(names: list[str], edges: list[tuple[int, int, float | None]]) -> Graph:
     """The nodes by number where all names are whole numbers, and else as they come."""
     if all(name.isascii() and name.isdigit() for name in names):
-        ordered = sorted(range(len(names)), key=lambda v: int(names[v]))
+        ordered = sorted(range(len(names)), key=lambda v: (len(names[v].lstrip("0")), names[v].lstrip("0"), names[v]))
         place = {v: at for at, v in enumerate(ordered)}
         return Graph([names[v] for v in ordered], [(place[a], place[b], weight) for a, b, weight in edges])
     return Graph(names, edges)

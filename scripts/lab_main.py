@@ -16,7 +16,7 @@ import lab_table
 from lab_load import Part, Wishes, draw_load, parts_needed
 from lab_measure import Row, row_of
 from lab_networks import Site, load_network
-from lab_rivals import Comparison
+from lab_rivals import TOLD, Comparison
 from lab_run import Kind, Outcome, Runner, plan_of
 from texts import BadText
 from timed import TooLong
@@ -34,6 +34,7 @@ class Progress:
         self.ready: list[str] = []
         self.doing, self.done, self.of = "reading the network", 0, 0
         self.screen, self.open_line = sys.stderr.isatty(), False
+        self.left = "nothing was written"
 
     def begin(self, doing: str, of: int = 0) -> None:
         self.doing, self.done, self.of = doing, 0, of
@@ -68,12 +69,13 @@ class Progress:
 
     def stopped(self) -> str:
         whole = ", ".join(self.ready) if self.ready else "nothing"
-        return f"lab: stopped while {self.words()}; done before: {whole}; nothing was written"
+        return f"lab: stopped while {self.words()}; done before: {whole}; {self.left}"
 
 
 def run(words: argparse.Namespace, program: str) -> None:
     """The lab; ends with status 130 at Ctrl-C."""
     progress = Progress()
+    sys.stdout.reconfigure(errors="replace")
     try:
         answer(words, program, progress)
     except KeyboardInterrupt:
@@ -103,6 +105,9 @@ def answer(words: argparse.Namespace, program: str, progress: Progress) -> None:
     progress.close()
     sys.stdout.write("\n".join([*head, *("note: " + note for note in notes), ""]) + "\n")
     sys.stdout.write(lab_table.table_text(rows) + "\n" + lab_table.nodes_text(rows, site.names))
+    sys.stdout.write("\n" + "".join(f"{name}: {told}\n" for name, told in TOLD.items()))
+    sys.stdout.flush()
+    progress.left = f"the table was written, and {folder} may lack files"
     if folder:
         progress.begin(f"writing {folder}")
         lab_files.write_all(folder, lab_files.Answer(site, network, wishes, head, notes, rows, outcomes))

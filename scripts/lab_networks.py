@@ -77,10 +77,15 @@ def site_of_input(text: bytes, unit: float) -> Site:
         raise BadText(f"an input has {MOST_BYTES} bytes at most")
     given = read_input(text)
     places, names = places_and_names(text)
-    graph = Graph([names.get(v, str(v)) for v in range(given.nodes)], [(a, b, float(w)) for a, b, w in given.edges])
+    graph = Graph([utf_8(names.get(v, str(v))) for v in range(given.nodes)], [(a, b, float(w)) for a, b, w in given.edges])
     site = made_site(graph, unit)
     site.places = places
     return site
+
+
+def utf_8(name: str) -> str:
+    """A name of a comment, whose bytes were read one by one."""
+    return name.encode("latin-1").decode("utf-8", errors="replace")
 
 
 def made_site(graph: Graph, unit: float) -> Site:

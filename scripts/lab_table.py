@@ -22,7 +22,7 @@ def count(value: float | None) -> str:
 def share(part: float | None) -> str:
     if part is None:
         return NONE
-    return f"{100 * part:.0f} %" if part == 0 or part >= 0.1 else f"{100 * part:.2g} %"
+    return f"{100 * part:.0f} %" if part == 0 or part >= 0.0995 else f"{100 * part:.1f} %" if part >= 0.01 else f"{100 * part:.2f} %"
 
 
 def from_finds(value: float | None) -> str:
@@ -70,6 +70,7 @@ def table_lines(rivals: dict[str, Row]) -> list[tuple[str, list[Line]]]:
             ("  by the word `costs`", lambda row: ratio(row.costs_ratio())),
             ("  by messages there and back", lambda row: ratio(row.messages_ratio())),
             ("  a move weighs on average (messages)", lambda row: count(row.move_mean())),
+            ("  subscribers in a move, of their time", lambda row: share(row.busy)),
         ]),
         ("in all, moves by messages", [
             ("  over the home register", lambda row: ratio(over(row, home))),

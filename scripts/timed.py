@@ -239,6 +239,6 @@ class TimedMachine(directory.Machine):
         lines += [f"sub {home}" for home in self.homes] + [f"callers {callers}"] + self.lines
         lines += ["order " + " ".join(map(str, self.order[at:at + 64])) for at in range(0, len(self.order), 64)]
         text = "\n".join(lines) + "\n"
-        if len(text) > texts.MOST_BYTES:
+        if len(text.encode()) > texts.MOST_BYTES:
             raise TooLong
         return text
