@@ -102,7 +102,7 @@ def medians_by_distance(outcome: Outcome, network: directory.Network) -> Points:
 
 def number_or_none(value: float | None) -> float | None:
     """Where JSON has no infinity, and a table no long fractions."""
-    return None if value is None or math.isinf(value) else round(value, 4)
+    return None if value is None or math.isinf(value) else round(value, 9)
 
 
 def records_of_rows(answer: Answer) -> list[dict]:

@@ -50,7 +50,7 @@ def load_network(path: str, unit: float, weight: str | None) -> Site:
 
 def site_of(text: bytes, unit: float, weight: str | None) -> Site:
     start = text.removeprefix(b"\xef\xbb\xbf").lstrip()
-    if start.startswith(b"<"):
+    if start.startswith((b"<", b"\xff\xfe<", b"\xfe\xff\x00<")):  # also in UTF-16
         return made_site(read_graphml(start, weight), unit)
     if start.startswith(b"{"):
         raise BadText("this looks like JSON; './track fromjson' makes the input of it, which is read here")
@@ -91,8 +91,10 @@ def utf_8(name: str) -> str:
 def made_site(graph: Graph, unit: float) -> Site:
     """The network with whole weights, once it keeps the limits."""
     nodes = len(graph.names)
-    if nodes < 2:
-        raise BadText("it has no two nodes, so that nothing moves and nothing is found")
+    if nodes == 0:
+        raise BadText("it has no node and no edge")
+    if nodes == 1:
+        raise BadText("it has one node alone, so that nothing moves and nothing is found")
     if nodes > MOST_NODES:
         raise BadText(f"{nodes} nodes, and the program takes {MOST_NODES} at most")
     notes: list[str] = []
@@ -138,7 +140,7 @@ def whole(links: list[tuple[int, int, float]], unit: float, notes: list[str]) ->
     rounded = 0
     for a, b, weight in links:
         if weight / unit > MOST["weight"]:
-            raise BadText(f"an edge weighs {weight / unit:g}, and may weigh {MOST['weight']} at most; --unit measures in larger units")
+            raise BadText(f"an edge weighs {weight / unit:,.10g}, and may weigh {MOST['weight']:,} at most; --unit measures in larger units")
         units = max(1, math.floor(weight / unit + 0.5))
         rounded += abs(units - weight / unit) > 0.05 * units
         pair = (min(a, b), max(a, b))
