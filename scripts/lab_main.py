@@ -23,6 +23,7 @@ from timed import TooLong
 
 STAY = 50  # diameters that a subscriber stays on average, where nothing else is asked for
 BETWEEN = 16  # diameters between two finds of a caller, where the callers aren't told
+LARGE = 500  # nodes, from which on distances take more than a second
 LATE = 0.1  # of the planned time: a load that ends so much after it is said to be crowded
 
 
@@ -36,9 +37,10 @@ class Progress:
         self.screen, self.open_line = sys.stderr.isatty(), False
         self.left = "nothing was written"
 
-    def begin(self, doing: str, of: int = 0) -> None:
+    def begin(self, doing: str, of: int = 0, is_long: bool = False) -> None:
+        """What comes next; where it is known to be long and has no steps, it is said at once."""
         self.doing, self.done, self.of = doing, 0, of
-        self.say()
+        self.say(is_long)
 
     def step(self) -> None:
         self.done += 1
@@ -51,9 +53,9 @@ class Progress:
     def words(self) -> str:
         return self.doing + (f", {self.done:,} of {self.of:,} calls" if self.of else "")
 
-    def say(self) -> None:
+    def say(self, at_once: bool = False) -> None:
         now = time.monotonic()
-        if now - self.began < 1 or now - self.told < (0.2 if self.screen else 5):
+        if not at_once and (now - self.began < 1 or now - self.told < (0.2 if self.screen else 5)):
             return
         self.told = now
         if self.screen:
@@ -93,7 +95,7 @@ def answer(words: argparse.Namespace, program: str, progress: Progress) -> None:
     if 1 in words.k and site.nodes > 256:
         raise BadText(f"k of 1 is taken up to 256 nodes, and this network has {site.nodes}")
     folder = lab_files.folder_for(words.out) if words.out else None
-    progress.begin("measuring distances")
+    progress.begin(f"measuring the distances of {site.nodes} nodes", is_long=site.nodes > LARGE)
     network = directory.Network(site.nodes, site.edges)
     wishes = wishes_of(words, network.diameter())
     study = Study(site, network, wishes, program, told_words(words), progress)
