@@ -38,7 +38,7 @@ def read_edge_list(text: str) -> Graph:
     """The network of an edge list. Lines without a field, and those that begin with # or %, say nothing."""
     numbers: dict[str, int] = {}
     edges: list[tuple[int, int, float | None]] = []
-    for at, line in enumerate(text.splitlines(), 1):
+    for at, line in enumerate(text.split("\n"), 1):
         fields = fields_of_line(line)
         if not fields:
             continue

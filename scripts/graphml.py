@@ -3,6 +3,7 @@ stand behind keys; edges that are undirected, often several between two nodes, a
 from __future__ import annotations
 
 import xml.etree.ElementTree as Xml
+from collections import Counter
 
 from edge_lists import Graph, weight_of
 from texts import BadText
@@ -76,7 +77,8 @@ def chosen_weight(told: list[dict[str, str]], asked: str | None) -> str | None:
 def names_of(nodes: list[Xml.Element], told: list[dict[str, str]]) -> list[str]:
     """Each node's label, with its id beside it where several have the same."""
     labels = [one.get("label") or node.get("id") or "" for node, one in zip(nodes, told)]
-    return [label if labels.count(label) == 1 else f"{label} ({node.get('id')})" for node, label in zip(nodes, labels)]
+    often = Counter(labels)
+    return [label if often[label] == 1 else f"{label} ({node.get('id')})" for node, label in zip(nodes, labels)]
 
 
 def read_graphml(text: bytes, weight: str | None = None) -> Graph:

@@ -12,6 +12,7 @@ from known_networks import EARTH_KM, kilometres
 from texts import LIMITS, MOST, MOST_BYTES, BadText, Fault, least_apart, places_and_names, read_input
 
 MOST_FILE = 4 * MOST_BYTES  # an edge list or GraphML is longer than the input that it gives
+MARK = b"\xef\xbb\xbf"  # that of UTF-8, which some editors put before a text
 MOST_NODES = LIMITS[2].nodes
 EARTHLY = {True: "kilometres of the great circle", False: "1 for each edge"}
 
@@ -49,7 +50,7 @@ def load_network(path: str, unit: float, weight: str | None) -> Site:
 
 
 def site_of(text: bytes, unit: float, weight: str | None) -> Site:
-    start = text.removeprefix(b"\xef\xbb\xbf").lstrip()
+    start = text.removeprefix(MARK).lstrip()
     if start.startswith((b"<", b"\xff\xfe<", b"\xfe\xff\x00<")):  # also in UTF-16
         return made_site(read_graphml(start, weight), unit)
     if start.startswith(b"{"):
@@ -64,7 +65,7 @@ def site_of(text: bytes, unit: float, weight: str | None) -> Site:
 
 def is_input(text: bytes) -> bool:
     """Whether the first line that isn't a comment is that of an input's format."""
-    for line in text.split(b"\n"):
+    for line in text.removeprefix(MARK).split(b"\n"):
         fields = line.split()
         if fields and not fields[0].startswith(b"#"):
             return fields[0] == b"track"
