@@ -53,10 +53,10 @@ def write_all(folder: pathlib.Path, answer: Answer) -> None:
     rows, nodes = records_of_rows(answer), records_of_nodes(answer)
     finds, moves = records_of_finds(answer), records_of_moves(answer)
     files |= {"rows.csv": csv_text(rows), "nodes.csv": csv_text(nodes), "finds.csv": csv_text(finds), "moves.csv": csv_text(moves)}
-    files["lab.json"] = json.dumps({"network": {"nodes": answer.site.names, "edges": answer.site.edges, "weights": answer.site.weights},
-                                    "asked": asdict(answer.wishes), "notes": answer.notes, "rows": rows, "nodes": columns(nodes),
-                                    "finds": columns(finds), "moves": columns(moves)}, ensure_ascii=False,
-                                   separators=(",", ":")) + "\n"
+    network = {"nodes": answer.site.names, "edges": answer.site.edges, "weights": answer.site.weights}
+    told = {"network": network, "asked": asdict(answer.wishes), "notes": answer.notes, "rows": rows, "nodes": columns(nodes),
+            "finds": columns(finds), "moves": columns(moves)}
+    files["lab.json"] = json.dumps(told, ensure_ascii=False, separators=(",", ":")) + "\n"
     for outcome in answer.outcomes:
         for at, text in enumerate(outcome.inputs, 1):
             part = "" if len(outcome.inputs) == 1 else f"-part{at}"
@@ -119,7 +119,8 @@ def records_of_rows(answer: Answer) -> list[dict]:
                                                          "moved", "costs", "messages", "busy", "late")}
         for name in ("home", "away"):
             from_finds = pays_from(row, rivals[name])
-            record |= {f"over_{name}": number_or_none(over(row, rivals[name])), f"less_than_{name}_from": number_or_none(from_finds),
+            record |= {f"over_{name}": number_or_none(over(row, rivals[name])),
+                       f"less_than_{name}_from": number_or_none(from_finds),
                        f"never_less_than_{name}": from_finds == math.inf}
         records.append(record)
     return records

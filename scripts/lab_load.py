@@ -102,7 +102,7 @@ class Drawing:
         if moves:
             self.warm_up(part)
         part.time = self.time_of(moves, finds)
-        drawn = [(self.chance.below(part.time), 0) for _ in range(moves)] + [(self.chance.below(part.time), 1) for _ in range(finds)]
+        drawn = [(self.chance.below(part.time), at >= moves) for at in range(moves + finds)]
         for due, is_find in sorted(drawn):
             part.calls.append(self.ask(due) if is_find else self.move(due))
         return part

@@ -122,7 +122,8 @@ def wishes_of(words: argparse.Namespace, diameter: int) -> Wishes:
     if callers is None:
         time_of_all = stay * words.moves / words.subs if words.moves else math.inf
         callers = min(64, max(8, math.ceil(words.finds * BETWEEN * diameter * words.pace / time_of_all)))
-    return Wishes(words.moves, words.finds, words.subs, callers, stay, words.move_to, words.find_from, words.pace, words.zipf, words.seed)
+    return Wishes(words.moves, words.finds, words.subs, callers, stay, words.move_to, words.find_from, words.pace, words.zipf,
+                  words.seed)
 
 
 def told_words(words: argparse.Namespace) -> str:
@@ -174,20 +175,21 @@ def crowded(rows: list[Row]) -> list[str]:
     if not late:
         return []
     worst = max(late, key=lambda row: row.late)
-    return [f"calls were too many for their time: over {worst.name} the load ended {100 * worst.late:.0f} % later than planned, so that "
-            "calls waited for their actors; a longer --stay, more --callers or a lower --pace gives them room"]
+    return [f"calls were too many for their time: over {worst.name} the load ended {100 * worst.late:.0f} % later than planned, "
+            "so that calls waited for their actors; a longer --stay, more --callers or a lower --pace gives them room"]
 
 
 def head_of(words: argparse.Namespace, site: Site, network: directory.Network, wishes: Wishes, count: int) -> list[str]:
     """What was asked, in a few lines."""
-    load = (f"{wishes.moves:,} moves of {wishes.subs} subscribers to {'neighbours' if wishes.move_to == 'neighbours' else 'anywhere'}, "
-            f"{wishes.finds:,} finds by {wishes.callers} callers from {wishes.find_from}")
+    load = f"{wishes.moves:,} moves of {wishes.subs} subscribers to {wishes.move_to}, "
+    load += f"{wishes.finds:,} finds by {wishes.callers} callers from {wishes.find_from}"
     load += f", zipf {wishes.zipf:g}" if wishes.zipf else ""
     load += f", pace {wishes.pace}" if wishes.pace != 1 else ""
     parts = "one input" if count == 1 else f"{count} inputs, each of which begins where the one before ended"
+    edges = "1 edge" if len(site.edges) == 1 else f"{len(site.edges):,} edges"
+    diameter = network.diameter()
     return [
-        f"{pathlib.Path(words.network).name}: {site.nodes} nodes, {len(site.edges):,} edges, diameter {network.diameter():,}; "
-        f"weights: {site.weights}",
+        f"{pathlib.Path(words.network).name}: {site.nodes} nodes, {edges}, diameter {diameter:,}; weights: {site.weights}",
         load,
-        f"a subscriber stays {wishes.stay:,.0f} on average ({wishes.stay / network.diameter():.3g} diameters); seed {wishes.seed}; {parts}",
+        f"a subscriber stays {wishes.stay:,.0f} on average ({wishes.stay / diameter:.3g} diameters); seed {wishes.seed}; {parts}",
     ]

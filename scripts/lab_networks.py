@@ -123,7 +123,8 @@ def weighed(graph: Graph, notes: list[str]) -> tuple[list[tuple[int, int, float]
     unknown = len(far) - len(known)
     middle = float(round(statistics.median(known)))
     if unknown:
-        notes.append(f"{unknown} of {len(far)} edges have an end without coordinates; they weigh the median of the others, {middle:g}")
+        notes.append(f"{unknown} of {len(far)} edges have an end without coordinates; they weigh the median of the others, "
+                     f"{middle:,.0f}")
     return [(a, b, middle if weight is None else weight) for (a, b, _), weight in zip(links, far)], EARTHLY[True]
 
 
@@ -141,7 +142,8 @@ def whole(links: list[tuple[int, int, float]], unit: float, notes: list[str]) ->
     rounded = 0
     for a, b, weight in links:
         if weight / unit > MOST["weight"]:
-            raise BadText(f"an edge weighs {weight / unit:,.10g}, and may weigh {MOST['weight']:,} at most; --unit measures in larger units")
+            raise BadText(f"an edge weighs {weight / unit:,.10g}, and may weigh {MOST['weight']:,} at most; "
+                          "--unit measures in larger units")
         units = max(1, math.floor(weight / unit + 0.5))
         rounded += abs(units - weight / unit) > 0.05 * units
         pair = (min(a, b), max(a, b))

@@ -178,7 +178,7 @@ def in_all_plot(rows: list[Row], other: Row) -> str | None:
         often = [10 ** (power / 10) for power in range(-10, 31)]
         points = [(f, (move + f * find) / (means[other.name][1] + f * means[other.name][0])) for f in often]
         lines.append((full_name(row), style_of(row, ks), points))
-    return lines_plot("Moves and finds in all, over the home register that is away (below 1: better than that)", "finds a move", lines, True)
+    return lines_plot("Moves and finds in all, over the home register that is away (below 1: better)", "finds a move", lines, True)
 
 
 def distance_plot(rows: list[Row], medians: dict[str, Points]) -> str:
@@ -219,7 +219,8 @@ def map_plot(row: Row, places: list[tuple[float, float]], edges: list[tuple[int,
     most, largest = max(row.visits) or 1, 13 if len(places) <= 60 else 9
     ordered = sorted(range(len(places)), key=lambda v: (-row.visits[v], v))
     for v in ordered:
-        picture.circle(places[v], round(1.2 + largest * math.sqrt(row.visits[v] / most), 1), COLOURS[0], "none", 1.0, ' fill-opacity="0.45"')
+        radius = round(1.2 + largest * math.sqrt(row.visits[v] / most), 1)
+        picture.circle(places[v], radius, COLOURS[0], "none", 1.0, ' fill-opacity="0.45"')
     for v in ordered[:4]:
         x, y = places[v]
         middle = "start" if x < 120 else "end" if x > 310 else "middle"

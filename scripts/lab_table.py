@@ -22,7 +22,8 @@ def count(value: float | None) -> str:
 def share(part: float | None) -> str:
     if part is None:
         return NONE
-    return f"{100 * part:.0f} %" if part == 0 or part >= 0.0995 else f"{100 * part:.1f} %" if part >= 0.01 else f"{100 * part:.2f} %"
+    decimals = 0 if part == 0 or part >= 0.0995 else 1 if part >= 0.01 else 2
+    return f"{100 * part:.{decimals}f} %"
 
 
 def from_finds(value: float | None) -> str:
@@ -67,7 +68,7 @@ def table_lines(rivals: dict[str, Row]) -> list[tuple[str, list[Line]]]:
             ("  a find weighs on average", lambda row: count(row.find_mean())),
         ]),
         ("moves: weight over distance moved", [
-            ("  by the word `costs`", lambda row: ratio(row.costs_ratio())),
+            ("  by the word costs", lambda row: ratio(row.costs_ratio())),
             ("  by messages there and back", lambda row: ratio(row.messages_ratio())),
             ("  a move weighs on average (messages)", lambda row: count(row.move_mean())),
             ("  subscribers in a move, of their time", lambda row: share(row.busy)),

@@ -1,15 +1,15 @@
 """Calls in time: the directory's movers and callers, where a message takes as long as its weight.
 
-A visit is made when its message comes to the node. A find goes to a leader and back, or on from there, so that its weight is the time from
-its first look to its last. A move begins when its subscriber has come to the new node. It makes its writes one after another,
-each a message from there and an answer; the next message goes out when the answer is back. An actor makes one call after another: a
-call that falls due before the actor's last one is done waits for it. A caller is free again once the answer has come back to it, by
-the least way; a find that is to be made again is made at that moment. Visits that come at the same time are made in the order in
-which their messages were sent. Where a pace is wished, each message of a find takes that many times its weight: slow callers meet more
-moves.
+A visit is made when its message comes to the node. A find goes to a leader and back, or on from there, so that its weight is the
+time from its first look to its last. A move begins when its subscriber has come to the new node. It makes its writes one after
+another, each a message from there and an answer; the next message goes out when the answer is back. An actor makes one call after
+another: a call that falls due before the actor's last one is done waits for it. A caller is free again once the answer has come
+back to it, by the least way; a find that is to be made again is made at that moment. Visits that come at the same time are made in
+the order in which their messages were sent. Where a pace is wished, each message of a find takes that many times its weight: slow
+callers meet more moves.
 
-All of it runs over the plain Python directory of scripts/directory.py, and gives the input, with its order lines, of which the program
-then has to write the same report."""
+All of it runs over the plain Python directory of scripts/directory.py, and gives the input, with its order lines, of which the
+program then has to write the same report."""
 from __future__ import annotations
 
 import heapq
