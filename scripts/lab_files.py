@@ -132,16 +132,18 @@ def records_of_nodes(answer: Answer) -> list[dict]:
 
 
 def records_of_finds(answer: Answer) -> list[dict]:
-    """A record for each find over each plan, and by each rival."""
-    return [{"row": outcome.name, "caller": find.caller, "from": find.start, "sub": find.sub, "due": find.due, "began": find.began,
-             "ended": find.ended, "at": find.node, "distance": answer.network.distance(find.start, find.node), "level": find.level,
+    """A record for each find over each plan, and by each rival, which knows no times but when a call falls due."""
+    return [{"row": outcome.name, "caller": find.caller, "from": find.start, "sub": find.sub, "due": find.due,
+             "began": find.began if outcome.kind else None, "ended": find.ended if outcome.kind else None, "at": find.node,
+             "distance": answer.network.distance(find.start, find.node), "level": find.level,
              "weight": find.weight, "met": find.met, "again": find.again, "again_weight": find.again_weight, "looks": find.looks}
             for outcome in answer.outcomes for find in outcome.found]
 
 
 def records_of_moves(answer: Answer) -> list[dict]:
     return [{"row": outcome.name, "sub": move.sub, "from": move.start, "to": move.to, "distance": move.distance, "due": move.due,
-             "began": move.began, "ended": move.ended, "costs": move.costs if outcome.kind else None, "messages": move.messages}
+             "began": move.began if outcome.kind else None, "ended": move.ended if outcome.kind else None,
+             "costs": move.costs if outcome.kind else None, "messages": move.messages}
             for outcome in answer.outcomes for move in outcome.moved]
 
 

@@ -8,14 +8,14 @@ import pathlib
 import shlex
 import signal
 import sys
-import time
 
 import directory
 import lab_files
 import lab_table
 from lab_load import Part, Wishes, draw_load, parts_needed
 from lab_measure import Row, row_of
-from lab_networks import Site, load_network
+from lab_networks import Site, load_network, printable
+from lab_progress import Progress
 from lab_rivals import TOLD, Comparison
 from lab_run import Kind, Outcome, Runner, plan_of
 from texts import BadText
@@ -25,53 +25,6 @@ STAY = 50  # diameters that a subscriber stays on average, where nothing else is
 BETWEEN = 16  # diameters between two finds of a caller, where the callers aren't told
 LARGE = 500  # nodes, from which on distances take more than a second
 LATE = 0.1  # of the planned time: a load that ends so much after it is said to be crowded
-
-
-class Progress:
-    """Says on standard error what is done, once a second has passed; and what was done at an end by Ctrl-C."""
-
-    def __init__(self):
-        self.began = self.told = time.monotonic()
-        self.ready: list[str] = []
-        self.doing, self.done, self.of = "reading the network", 0, 0
-        self.screen, self.open_line = sys.stderr.isatty(), False
-        self.left = "nothing was written"
-
-    def begin(self, doing: str, of: int = 0, is_long: bool = False) -> None:
-        """What comes next; where it is known to be long and has no steps, it is said at once."""
-        self.doing, self.done, self.of = doing, 0, of
-        self.say(is_long)
-
-    def step(self) -> None:
-        self.done += 1
-        if self.done % 256 == 0:
-            self.say()
-
-    def finish(self) -> None:
-        self.ready.append(self.doing)
-
-    def words(self) -> str:
-        return self.doing + (f", {self.done:,} of {self.of:,} calls" if self.of else "")
-
-    def say(self, at_once: bool = False) -> None:
-        now = time.monotonic()
-        if not at_once and (now - self.began < 1 or now - self.told < (0.2 if self.screen else 5)):
-            return
-        self.told = now
-        if self.screen:
-            print(f"\r\x1b[Klab: {self.words()}", end="", file=sys.stderr, flush=True)
-            self.open_line = True
-        else:
-            print(f"lab: {self.words()}", file=sys.stderr, flush=True)
-
-    def close(self) -> None:
-        if self.open_line:
-            print("\r\x1b[K", end="", file=sys.stderr, flush=True)
-            self.open_line = False
-
-    def stopped(self) -> str:
-        whole = ", ".join(self.ready) if self.ready else "nothing"
-        return f"lab: stopped while {self.words()}; done before: {whole}; {self.left}"
 
 
 def run(words: argparse.Namespace, program: str) -> None:
@@ -109,8 +62,8 @@ def answer(words: argparse.Namespace, program: str, progress: Progress) -> None:
     sys.stdout.write(lab_table.table_text(rows) + "\n" + lab_table.nodes_text(rows, site.names))
     sys.stdout.write("\n" + "".join(f"{name}: {told}\n" for name, told in TOLD.items()))
     sys.stdout.flush()
-    progress.left = f"the table was written, and {folder} may lack files"
     if folder:
+        progress.left = f"the table was written, and {folder} may lack files"
         progress.begin(f"writing {folder}")
         lab_files.write_all(folder, lab_files.Answer(site, network, wishes, head, notes, rows, outcomes))
         print(f"\nthe page is {folder / 'lab.html'}")
@@ -128,11 +81,15 @@ def wishes_of(words: argparse.Namespace, diameter: int) -> Wishes:
 
 def told_words(words: argparse.Namespace) -> str:
     """The words that make the same inputs, without the folder and the network's place on this machine."""
-    told = [pathlib.Path(words.network).name]
+    told = [shlex.quote(file_name(words))]
     for name, value in sorted(vars(words).items()):
         if name not in ("network", "out") and value is not None:
             told.append(f"--{name.replace('_', '-')} {','.join(map(str, value)) if isinstance(value, list) else value}")
-    return " ".join(shlex.quote(told[0]).splitlines() + told[1:])
+    return " ".join(told)
+
+
+def file_name(words: argparse.Namespace) -> str:
+    return printable(pathlib.Path(words.network).name, 0)
 
 
 class Study:
@@ -187,9 +144,9 @@ def head_of(words: argparse.Namespace, site: Site, network: directory.Network, w
     load += f", pace {wishes.pace}" if wishes.pace != 1 else ""
     parts = "one input" if count == 1 else f"{count} inputs, each of which begins where the one before ended"
     edges = "1 edge" if len(site.edges) == 1 else f"{len(site.edges):,} edges"
-    diameter = network.diameter()
+    diameter, stay = network.diameter(), f"{wishes.stay:,.0f}" if wishes.stay >= 10 else f"{wishes.stay:g}"
     return [
-        f"{pathlib.Path(words.network).name}: {site.nodes} nodes, {edges}, diameter {diameter:,}; weights: {site.weights}",
+        f"{file_name(words)}: {site.nodes} nodes, {edges}, diameter {diameter:,}; weights: {site.weights}",
         load,
-        f"a subscriber stays {wishes.stay:,.0f} on average ({wishes.stay / diameter:.3g} diameters); seed {wishes.seed}; {parts}",
+        f"a subscriber stays {stay} on average ({wishes.stay / diameter:.3g} diameters); seed {wishes.seed}; {parts}",
     ]

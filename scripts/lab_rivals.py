@@ -30,7 +30,8 @@ class Comparison:
         for name, at in self.homes.items():
             for node in at:
                 self.outcomes[name].cells[node] += 1
-        self.kept = [0] * nodes
+        self.kept = [0] * nodes  # pointers at each node
+        self.told = 0  # moves of which everybody was told
 
     def play(self, parts: list[Part]) -> list[Outcome]:
         for part in parts:
@@ -41,6 +42,8 @@ class Comparison:
                     self.move(call, True)
                 else:
                     self.find(call)
+        everybody = self.outcomes["everybody"]
+        everybody.visits = [visits + self.told for visits in everybody.visits]
         return list(self.outcomes.values())
 
     def move(self, call: Move, counted: bool) -> None:
@@ -59,7 +62,7 @@ class Comparison:
         for name, home in self.homes.items():
             self.outcomes[name].visits[home[sub]] += 1
         self.outcomes["pointers"].visits[start] += 1
-        self.outcomes["everybody"].visits = [count + 1 for count in self.outcomes["everybody"].visits]
+        self.told += 1
 
     def find(self, call: Ask) -> None:
         to, far = self.settled.at[call.sub], self.network.distance
