@@ -120,6 +120,6 @@ def over(row: Row, other: Row) -> float | None:
 
 
 def largest(counts: list[int], names: list[str], few: int) -> list[tuple[str, int]]:
-    """The nodes with the largest counts, by name."""
+    """The nodes with the largest counts, by name, or as `node 7` where their names are numbers."""
     ordered = sorted(range(len(counts)), key=lambda v: (-counts[v], v))
-    return [(names[v], counts[v]) for v in ordered[:few]]
+    return [(f"node {names[v]}" if names[v].isdigit() else names[v], counts[v]) for v in ordered[:few]]

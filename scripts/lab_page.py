@@ -95,7 +95,7 @@ def nodes_of(rows: list[Row], names: list[str]) -> list[str]:
     """The five most loaded nodes of each row."""
     lines = ["<table>", "<thead><tr><th></th><th>most visits</th><th>most cells at once</th></tr></thead>", "<tbody>"]
     for row in rows:
-        told = ["; ".join(f"{escape(name)} {number:,}" for name, number in largest(counts, names, 5))
+        told = ["; ".join(f"{escape(name)}: {number:,}" for name, number in largest(counts, names, 5))
                 for counts in (row.visits, row.cells)]
         lines.append(f"<tr><td>{escape(full_name(row))}</td><td>{told[0]}</td><td>{told[1]}</td></tr>")
     return lines + ["</tbody>", "</table>"]

@@ -49,4 +49,4 @@ class Progress:
 
     def stopped(self) -> str:
         whole = ", ".join(self.ready) if self.ready else "nothing"
-        return f"lab: stopped while {self.words()}; done before: {whole}; {self.left}"
+        return f"lab: stopped; under way: {self.words()}; done: {whole}; {self.left}"

@@ -126,9 +126,9 @@ def nodes_text(rows: list[Row], names: list[str]) -> str:
     """The most loaded nodes of each row, by name."""
     lines = ["the most loaded nodes: visits, and cells at once at most"]
     for row in rows:
-        named = "; ".join(f"{name} {number:,}" for name, number in largest(row.visits, names, 3))
-        kept = "; ".join(f"{name} {number:,}" for name, number in largest(row.cells, names, 3))
-        lines.append(f"  {full_name(row)}: {named} | {kept}")
+        named = "; ".join(f"{name}: {number:,}" for name, number in largest(row.visits, names, 3))
+        kept = "; ".join(f"{name}: {number:,}" for name, number in largest(row.cells, names, 3))
+        lines.append(f"  {full_name(row)} - {named} | {kept}")
     return "\n".join(lines) + "\n"
 
 
