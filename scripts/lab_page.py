@@ -14,7 +14,7 @@ h1 { font-size: 1.5rem } h2 { font-size: 1.15rem; margin-top: 2.2rem }
 .wide { overflow-x: auto } table { border-collapse: collapse; font-size: .82rem; font-variant-numeric: tabular-nums }
 th, td { padding: .18rem .55rem; text-align: right; white-space: nowrap } th:first-child, td:first-child { text-align: left }
 thead th { border-bottom: 1px solid #999 } tr.group th { padding-top: .8rem; text-align: left; color: #0072b2 }
-td.inner { padding-left: 1.6rem } th.first, td.first { border-left: 1px solid #ccc }
+.names th, .names td { text-align: left } td.inner { padding-left: 1.6rem } th.first, td.first { border-left: 1px solid #ccc }
 svg { max-width: 100%; height: auto } .maps { display: flex; flex-wrap: wrap; gap: .6rem }
 .note { background: #fff3d6; padding: .5rem .8rem }
 """
@@ -63,7 +63,7 @@ def page_of(head: list[str], notes: list[str], rows: list[Row], names: list[str]
               '<div class="maps">', *[text.rstrip("\n") for name, text in plots.items() if name.startswith("map-")], "</div>",
               '<div class="wide">', *nodes_of(rows, names), "</div>", "<h2>The model</h2>"]
     parts += [f"<p>{words}</p>" for words in MODEL[:-1]]
-    parts += [f"<p>{MODEL[-1]}</p>", "<ul>", *[f"<li><em>{name}</em>: {words};</li>" for name, words in TOLD.items()], "</ul>"]
+    parts += [f"<p>{MODEL[-1]}</p>", "<ul>", *[f"<li><em>{name}</em>: {words}</li>" for name, words in TOLD.items()], "</ul>"]
     parts += ["<p>All rows stand beside this page: <code>rows.csv</code>, <code>nodes.csv</code>, <code>finds.csv</code>, "
               "<code>moves.csv</code>, and all of them in <code>lab.json</code>.</p>", "</body>", "</html>"]
     return "\n".join(parts) + "\n"
@@ -93,7 +93,7 @@ def table_of(rows: list[Row]) -> list[str]:
 
 def nodes_of(rows: list[Row], names: list[str]) -> list[str]:
     """The five most loaded nodes of each row."""
-    lines = ["<table>", "<thead><tr><th></th><th>most visits</th><th>most cells at once</th></tr></thead>", "<tbody>"]
+    lines = ['<table class="names">', "<thead><tr><th></th><th>most visits</th><th>most cells at once</th></tr></thead>", "<tbody>"]
     for row in rows:
         told = ["; ".join(f"{escape(name)}: {number:,}" for name, number in largest(counts, names, 5))
                 for counts in (row.visits, row.cells)]
