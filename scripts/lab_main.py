@@ -17,7 +17,7 @@ from lab_measure import Row, row_of
 from lab_networks import Site, load_network, printable
 from lab_progress import Progress
 from lab_rivals import TOLD, Comparison
-from lab_run import Kind, Outcome, Runner, plan_of
+from lab_run import Kind, Outcome, Program, Runner, plan_of
 from texts import BadText
 from timed import TooLong
 
@@ -51,7 +51,7 @@ def answer(words: argparse.Namespace, program: str, progress: Progress) -> None:
     progress.begin(f"measuring the distances of {site.nodes} nodes", is_long=site.nodes > LARGE)
     network = directory.Network(site.nodes, site.edges)
     wishes = wishes_of(words, network.diameter())
-    study = Study(site, network, wishes, program, told_words(words), progress)
+    study = Study(site, network, wishes, Program(program), told_words(words), progress)
     kinds = [Kind(covers, k) for covers in ("cover", "mean") if words.covers in ("both", covers) for k in words.k]
     outcomes = study.outcomes(kinds)
     rows = [row_of(outcome, network) for outcome in outcomes]
@@ -95,7 +95,7 @@ def file_name(words: argparse.Namespace) -> str:
 class Study:
     """All plans on one load: in one input, or in several where it is too long for one."""
 
-    def __init__(self, site: Site, network: directory.Network, wishes: Wishes, program: str, words: str, progress: Progress):
+    def __init__(self, site: Site, network: directory.Network, wishes: Wishes, program: Program, words: str, progress: Progress):
         self.site, self.network, self.wishes, self.program, self.progress = site, network, wishes, program, progress
         self.runner = Runner(program, site, network, wishes, words)
         self.count = 0

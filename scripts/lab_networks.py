@@ -14,7 +14,7 @@ from texts import LIMITS, MOST, MOST_BYTES, BadText, Fault, least_apart, places_
 MOST_FILE = 4 * MOST_BYTES  # an edge list or GraphML is longer than the input that it gives
 MARK = b"\xef\xbb\xbf"  # that of UTF-8, which some editors put before a text
 MOST_NODES = LIMITS[2].nodes
-EARTHLY = {True: "kilometres of the great circle", False: "1 for each edge"}
+KILOMETRES, ONES = "kilometres of the great circle", "1 for each edge"
 
 
 @dataclass
@@ -119,13 +119,13 @@ def weighed(graph: Graph, notes: list[str]) -> tuple[list[tuple[int, int, float]
     far = [apart_on_earth(graph.places[a], graph.places[b]) if {a, b} <= graph.places.keys() else None for a, b, _ in links]
     known = [weight for weight in far if weight is not None]
     if not known:
-        return [(a, b, 1.0) for a, b, _ in links], EARTHLY[False]
+        return [(a, b, 1.0) for a, b, _ in links], ONES
     unknown = len(far) - len(known)
     middle = float(round(statistics.median(known)))
     if unknown:
         notes.append(f"{unknown} of {len(far)} edges have an end without coordinates; they weigh the median of the others, "
                      f"{middle:,.0f}")
-    return [(a, b, middle if weight is None else weight) for (a, b, _), weight in zip(links, far)], EARTHLY[True]
+    return [(a, b, middle if weight is None else weight) for (a, b, _), weight in zip(links, far)], KILOMETRES
 
 
 def apart_on_earth(one: tuple[float, float], other: tuple[float, float]) -> float:

@@ -43,21 +43,30 @@ class Outcome:
     late: float = 0.0  # by how much of its planned time the load ended after it
 
 
-def ask(program: str, word: str, text: str) -> str:
-    """What the program writes to an input."""
-    try:
-        ran = subprocess.run([program, word], input=text.encode(), stdout=subprocess.PIPE, check=False)
-    except OSError as bad:
-        raise BadText(f"the program {program} doesn't run: {bad.strerror}") from None
-    if ran.returncode != 0:
-        raise BadText(f"{program} {word} ended with status {ran.returncode}")
-    return ran.stdout.decode()
+class Program:
+    """The program by its path. What it says on standard error is shown at its first call: a build that it makes first takes long,
+    and later calls say the same once more."""
+
+    def __init__(self, path: str):
+        self.path, self.called = path, False
+
+    def ask(self, word: str, text: str) -> str:
+        """What the program writes to an input."""
+        shown = subprocess.PIPE if self.called else None
+        try:
+            ran = subprocess.run([self.path, word], input=text.encode(), stdout=subprocess.PIPE, stderr=shown, check=False)
+        except OSError as bad:
+            raise BadText(f"the program {self.path} doesn't run: {bad.strerror}") from None
+        self.called = True
+        if ran.returncode != 0:
+            raise BadText(f"{self.path} {word} ended with status {ran.returncode}")
+        return ran.stdout.decode("latin-1")
 
 
-def plan_of(program: str, site: Site, kind: Kind) -> Plan:
+def plan_of(program: Program, site: Site, kind: Kind) -> Plan:
     """The plan that the program makes for the network."""
     lines = ["track 2", f"nodes {site.nodes}", f"k {kind.k}"] + [f"edge {a} {b} {weight}" for a, b, weight in site.edges]
-    return read_plan(ask(program, WORDS[kind.covers][0], "\n".join(lines + ["sub 0", "callers 0"]) + "\n"))
+    return read_plan(program.ask(WORDS[kind.covers][0], "\n".join(lines + ["sub 0", "callers 0"]) + "\n"))
 
 
 def head_of(site: Site, words: str) -> list[str]:
@@ -70,7 +79,7 @@ def head_of(site: Site, words: str) -> list[str]:
 class Runner:
     """Plays the parts of a load over one plan after another."""
 
-    def __init__(self, program: str, site: Site, network: directory.Network, wishes: Wishes, words: str):
+    def __init__(self, program: Program, site: Site, network: directory.Network, wishes: Wishes, words: str):
         self.program, self.site, self.network, self.wishes = program, site, network, wishes
         self.head = head_of(site, words)
 
@@ -98,11 +107,11 @@ class Runner:
 
     def hold(self, kind: Kind, machine: TimedMachine, text: str) -> None:
         """The program's replay has to be what the lab saw; its costs, which are those of `cover`, too."""
-        word = WORDS[kind.covers][1]
-        if ask(self.program, word, text) != machine.report():
-            raise BadText(f"{self.program} {word} writes another report of {kind.name()} than the lab saw; the two don't agree")
-        if kind.covers == "cover" and ask(self.program, "costs", text) != costs_text(machine):
-            raise BadText(f"{self.program} costs writes another text of {kind.name()} than the lab reckoned; the two don't agree")
+        word, path = WORDS[kind.covers][1], self.program.path
+        if self.program.ask(word, text) != machine.report():
+            raise BadText(f"{path} {word} writes another report of {kind.name()} than the lab saw; the two don't agree")
+        if kind.covers == "cover" and self.program.ask("costs", text) != costs_text(machine):
+            raise BadText(f"{path} costs writes another text of {kind.name()} than the lab reckoned; the two don't agree")
 
 
 def costs_text(machine: TimedMachine) -> str:
