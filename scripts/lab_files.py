@@ -63,7 +63,7 @@ def write_all(folder: pathlib.Path, answer: Answer) -> None:
             files[f"inputs/{outcome.kind.file_name()}{part}.txt"] = text
     files["lab.html"] = lab_page.page_of(answer.head, answer.notes, answer.rows, answer.site.names, plots)
     for name, text in files.items():
-        (folder / name).write_text(text, encoding="utf-8", newline="\n")
+        (folder / name).write_bytes(text.encode())
 
 
 def plots_of(answer: Answer) -> dict[str, str]:
