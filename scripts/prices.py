@@ -255,9 +255,11 @@ def rows_text(rows):
 
 def read_rows(text):
     """The rows of such a text."""
-    head, *lines = text.splitlines()
+    head, *lines = text.splitlines() or [""]
     if head != ",".join(Row._fields):
-        raise BadText("the rows of docs/pictures/price.csv have another head")
-    values = [dict(zip(Row._fields, line.split(","))) for line in lines]
-    return [Row(**{name: value if name in TEXTS else float(value) if "." in value else int(value)
-                   for name, value in one.items()}) for one in values]
+        raise BadText("the rows of prices have another head")
+    try:
+        return [Row(*(field if name in TEXTS else float(field) if "." in field else int(field)
+                      for name, field in zip(Row._fields, line.split(","), strict=True))) for line in lines]
+    except ValueError:
+        raise BadText("a row of prices isn't whole") from None
