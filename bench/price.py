@@ -1,236 +1,214 @@
 #!/usr/bin/env python3
-"""What finds and moves cost with the directory, and with what people use in its place: a home register, forwarding pointers
-alone, and telling everybody. On the networks of examples/networks/, over made loads of near, far and mixed finds and of slow
-and fast movers.
-
-Usage, at the top of the repository:
-    bench/price.py INPUT            prints the table of the network and k of an input of yours, over the same made loads: its own
-                                    subscribers and calls aren't used
-    bench/price.py --write          writes the tables of docs/PRICE.md and the plots of docs/pictures/ anew
-    bench/price.py --check          ends with status 1 where they are others
-
-The weights of the directory's finds are those of `replay`: each load is an input, and TRACK names the program that runs it, ./track
-where it isn't set. Moves are weighed here, since a report doesn't tell what they cost: docs/PRICE.md says how."""
-import math
+"""What moves and finds cost with the directory, and with what people use in its place: a home register, forwarding pointers alone,
+and telling everybody. docs/PRICE.md says on which networks and loads, and how all is weighed."""
+import argparse
 import os
-import subprocess
 import sys
+from concurrent.futures import ProcessPoolExecutor
 
 sys.dont_write_bytecode = True
 TOP = os.path.join(os.path.dirname(os.path.realpath(__file__)), "..")
 sys.path.insert(0, os.path.join(TOP, "scripts"))
-from loads import Draw, Story, story_on  # noqa: E402
-from known_networks import NETWORKS  # noqa: E402
-from pictures import INK, PALE, Picture, colour  # noqa: E402
-from rivals import Rivals, origins  # noqa: E402
-from texts import BadText, Found, ends_clearly, load_input, read_report  # noqa: E402
+import price_plots as plots  # noqa: E402
+import price_tables as tables  # noqa: E402
+from price_networks import BLOCK, PRICED, UNITS  # noqa: E402
+from prices import KINDS, MOVERS, RIVALS, Cover, Ground, cover_name, covers_of, read_rows, row_of, rows_of, rows_text  # noqa: E402
+from prices import Load, Weighed  # noqa: E402
+from texts import BadText, ends_clearly, load_input, number  # noqa: E402
 
-NAMES = {"nsfnet": "NSFNET, 14 nodes", "geant": "GEANT, 21 nodes", "grid": "streets, 256 nodes", "ring": "ring, 32 nodes"}
-FINDS, MOVERS = ("near", "far", "mixed"), ("slow", "fast")
-SUBS, CALLERS, MOVES, FINDS_A_MOVE = 8, 4, 160, 2
-RIVALS = ("directory", "home register", "pointers", "everybody")
-K = 2
+HELP = """\
+  bench/price.py INPUT [--k K,..]   prints tables of the network of an input of yours, over loads that are made for it: its own
+                                    subscribers and calls aren't used. About two seconds a cover and kind of subscribers.
+  bench/price.py --check            the short form, which the gate runs: the tables of docs/PRICE.md and the plots of docs/pictures/
+                                    are those of the rows of docs/pictures/price.csv, no row is missing, and the rows of a sample of
+                                    loads are weighed anew. About half a minute of one processor.
+  bench/price.py --check-all        the same with all rows weighed anew: as long as --write
+  bench/price.py --write            weighs all rows and makes the tables and the plots. About a quarter of an hour of one processor;
+                                    --jobs shares it among several.
+  bench/price.py --draw             makes the tables and the plots of the rows that are stored
 
+It ends with status 1 and one line where something isn't as it should be. The variable TRACK names the program that plans, replays
+and tells costs, ./track where it isn't set."""
 
-class Load:
-    """One load on one network: all its weights."""
-
-    def __init__(self, setting, edges, finds, movers):
-        draw = Draw(1)
-        self.finds, self.movers, self.network = finds, movers, setting.network
-        self.story = Story(setting, edges, [draw.below(setting.network.nodes) for _ in range(SUBS)], CALLERS)
-        self.rivals = Rivals(setting.network, self.story.homes)
-        self.found = []  # (distance, weight of the home register, of the pointers)
-        self.moved = []  # (distance, weight of the home register, of the pointers, of telling everybody)
-        for _ in range(MOVES):
-            self.move(draw)
-            for _ in range(FINDS_A_MOVE):
-                self.find(draw)
-
-    def move(self, draw):
-        sub = draw.below(SUBS)
-        at = self.story.place(sub)
-        near = sorted(self.network.arcs[at])
-        to = draw.pick(near if self.movers == "slow" else [v for v in range(self.network.nodes) if v != at])
-        self.story.tell(f"move {sub} {to}")
-        self.moved.append((self.network.distance(at, to), *self.rivals.move(sub, to)))
-
-    def find(self, draw):
-        sub, caller = draw.below(SUBS), SUBS + draw.below(CALLERS)
-        start = draw.pick(origins(self.network, self.story.place(sub), self.finds))
-        self.story.tell(f"find {caller} {start} {sub}")
-        by_home, by_pointers, distance = self.rivals.find(start, sub)
-        self.found.append((caller, distance, by_home, by_pointers))
-
-    def ratios(self, program, k):
-        """For each rival the weight of each find over its distance; the directory's are the program's."""
-        text = self.story.text([], 2, k)
-        report = replay(program, text)
-        if report != self.story.machine.report():
-            raise BadText(f"{program} writes another report than scripts/directory.py")
-        weights = {}
-        for call in read_report(report).calls:
-            if isinstance(call, Found):
-                weights.setdefault(call.actor, []).append(call.weight)
-        own = [weights[caller].pop(0) / distance for caller, distance, _, _ in self.found]
-        return {"directory": own, "home register": [home / d for _, d, home, _ in self.found],
-                "pointers": [chain / d for _, d, _, chain in self.found], "everybody": [1.0 for _ in self.found]}
-
-    def costs(self):
-        """For each rival the weight of all moves over the distance moved."""
-        network, distance = self.network, sum(moved[0] for moved in self.moved)
-        own = 0
-        for _, _, nodes in self.story.machine.moves:
-            own += sum(2 * network.distance(nodes[0], node) for node in nodes)
-        return dict(zip(RIVALS, [own / distance] + [sum(moved[i] for moved in self.moved) / distance for i in (1, 2, 3)]))
-
-    def totals(self, ratios, costs):
-        """All weights of the load, over those of the directory."""
-        moved = sum(one[0] for one in self.moved)
-        all_of = {rival: costs[rival] * moved + sum(r * found[1] for r, found in zip(ratios[rival], self.found))
-                  for rival in RIVALS}
-        return {rival: all_of[rival] / all_of["directory"] for rival in RIVALS}
+ROWS, PAGE = "docs/pictures/price.csv", "docs/PRICE.md"
+SIZES = {"grid": [f"grid-{n}" for n in (16, 64, 256, 1024)], "geometric": [f"geometric-{n}" for n in (16, 64, 256, 1024)]}
+LARGE = ("grid-1024", "uneven-1024", "geometric-1024")
+CURVES = ("nsfnet", "geant", "ring", "streets", *LARGE)
+TABLED = [name for name in PRICED if not name.startswith("unit")]
+SMALL = ("nsfnet", "geant", "ring", "grid-16", "grid-64", "geometric-16", "geometric-64")
+UNIT_COVERS = [Cover(2, False), Cover(4, True)]
+CHOICE = ("k 2", "k 3", "k 4", "k 8", "mean 2", "mean 4", "mean 8")
+# What the short form weighs anew.
+SAMPLE = [("nsfnet", "away", [Cover(2, False), Cover(1, True)]), ("ring", "settled", [Cover(3, False), Cover(8, True)]),
+          ("geometric-64", "anywhere", [Cover(4, False)]), ("unit-50", "away", [Cover(2, False)]),
+          ("geometric-1024", "settled", [Cover(4, True)])]
 
 
-def replay(program, text):
-    ran = subprocess.run([program, "replay"], input=text.encode(), stdout=subprocess.PIPE, check=False)
-    if ran.returncode != 0:
-        raise BadText(f"{program} replay ended with status {ran.returncode}")
-    return ran.stdout.decode()
+def loads():
+    """All that is priced: network, movers and covers, the longest first."""
+    wanted = []
+    for name, make in PRICED.items():
+        unit = name.startswith("unit")
+        nodes = make()[0]
+        wanted += [(nodes, name, movers, UNIT_COVERS if unit else covers_of(nodes)) for movers in (("away",) if unit else MOVERS)]
+    return [load[1:] for load in sorted(wanted, key=lambda load: -load[0])]
 
 
-def at_share(values, share):
-    ordered = sorted(values)
-    return ordered[max(0, math.ceil(share * len(ordered)) - 1)]
+def weigh(name, movers, covers, program):
+    return rows_of(Ground(name, *PRICED[name]()), movers, covers, program)
 
 
-def shares(values):
-    return [at_share(values, share) for share in (0.5, 0.9, 1)]
+def weigh_all(program, jobs):
+    """All rows, in the order of the networks."""
+    with ProcessPoolExecutor(jobs) as pool:
+        waiting = {load[:2]: pool.submit(weigh, *load, program) for load in loads()}
+        try:
+            for count, (load, rows) in enumerate(waiting.items(), 1):
+                rows.result()
+                print(f"{count} of {len(waiting)}: {' '.join(load)}", file=sys.stderr, flush=True)
+        except BaseException:
+            pool.shutdown(cancel_futures=True)
+            raise
+    return [row for name in PRICED for movers in MOVERS if (name, movers) in waiting for row in waiting[name, movers].result()]
 
 
-def short(value):
-    return f"{value:.1f}" if value < 100 else f"{value:.0f}"
+def blocks_of(prices):
+    """The tables of the page, by the names of their marks."""
+    below = {unit: (BLOCK // unit - 1).bit_length() for unit in (*UNITS, BLOCK)}
+    units = [(unit, f"unit-{unit}" if unit != BLOCK else "grid-256", below[unit]) for unit in (*UNITS, BLOCK)]
+    blocks = {"cheapest": tables.cheapest_table(prices, TABLED), "break-even": tables.break_even_table(prices, TABLED), "choosing": tables.choosing_table(prices, TABLED),
+              "bounds": tables.bounds_table(prices, TABLED), "units": tables.units_table(prices, units),
+              "halves": tables.halves_words(prices.rows),
+              "choice": tables.choice_table(prices, CHOICE, SMALL, [name for name in TABLED if name not in SMALL])}
+    for kind in KINDS:
+        blocks[f"away-{kind}"] = tables.ratio_table(prices, TABLED, "away", kind)
+    for name in ("nsfnet", *LARGE):
+        blocks[f"weights-{name}"] = tables.weights_table(prices, name, "away")
+    return blocks
 
 
-def rows_of(nodes, edges, k, program):
-    """The loads of a network, each with its numbers; and the bound of its plan."""
-    setting = story_on(nodes, edges, k, [0], 0).setting
-    rows = []
-    for movers in MOVERS:
-        for finds in FINDS:
-            load = Load(setting, edges, finds, movers)
-            ratios, costs = load.ratios(program, k), load.costs()
-            rows.append((finds, movers, ratios, costs, load.totals(ratios, costs)))
-    return rows, setting.plan.stretch
+def page_with(page, blocks):
+    """The page, with each table between its marks."""
+    for name, text in blocks.items():
+        begin, end = f"<!-- made by bench/price.py: {name} -->\n", f"<!-- end of {name} -->\n"
+        if page.count(begin) != 1 or page.count(end) != 1:
+            raise BadText(f"{PAGE} has lost the two comments between which the table '{name}' stands")
+        page = page[:page.index(begin) + len(begin)] + "\n" + text + "\n\n" + page[page.index(end):]
+    return page
 
 
-def table_of(title, rows, bound):
-    """A table in Markdown."""
-    lines = [f"### {title}", "", f"A find is proved to weigh at most {bound} times its distance (quiet, without an open passage).", "",
-             "| finds | movers | directory | home register | pointers | moves: directory | home register | pointers | everybody "
-             "| in all: home register | pointers | everybody |", "|---" * 12 + "|"]
-    for finds, movers, ratios, costs, totals in rows:
-        cells = [finds, movers] + [" / ".join(map(short, shares(ratios[rival]))) for rival in RIVALS[:3]]
-        cells += [short(costs[rival]) for rival in RIVALS] + [f"{totals[rival]:.2f}" for rival in RIVALS[1:]]
-        lines.append("| " + " | ".join(cells) + " |")
-    return "\n".join(lines)
+def texts_of(rows):
+    """What is made of the rows: the page and the plots, by their paths."""
+    prices = tables.Prices(rows)
+    with open(PAGE, encoding="utf-8") as page:
+        texts = {PAGE: page_with(page.read(), blocks_of(prices))}
+    for name in CURVES:
+        texts[f"docs/pictures/price-{name}.svg"] = plots.break_even_plot(prices, name)
+    texts["docs/pictures/price-covers.svg"] = plots.covers_plot(prices, LARGE, CHOICE)
+    texts["docs/pictures/price-sizes.svg"] = plots.sizes_plot(prices, SIZES, CHOICE)
+    return texts
 
 
-class Axis:
-    """A scale of powers, from the foot of a plot to its head."""
-
-    def __init__(self, picture, left, right, most):
-        self.picture, self.left, self.right = picture, left, right
-        self.foot, self.head = 330, 50
-        self.powers = max(1, math.ceil(math.log10(most)))
-        for power in range(self.powers + 1):
-            y = self.y(10**power)
-            picture.line((left, y), (right, y), "#dddddd")
-            picture.words((left - 6, y + 4), f"{10**power:,}", 10, PALE, "end")
-
-    def y(self, value):
-        return self.foot - (self.foot - self.head) * max(0.0, math.log10(max(value, 0.5)) / self.powers)
+def stored_rows():
+    with open(ROWS, encoding="utf-8") as file:
+        return read_rows(file.read())
 
 
-def plot_of(name, rows, bound):
-    """Finds on the left, moves on the right."""
-    picture = Picture(900, 410, f"what finds and moves cost on {name}")
-    finds = Axis(picture, 60, 560, max(bound, *(max(row[2][rival]) for row in rows for rival in RIVALS[:3])))
-    moves = Axis(picture, 640, 880, max(row[3][rival] for row in rows for rival in RIVALS))
-    picture.words((60, 22), f"{NAMES[name]}: weight of finds over distance", 13)
-    picture.words((640, 22), "weight of moves over distance moved", 13)
-    picture.line((60, finds.y(bound)), (560, finds.y(bound)), INK, 1.5, ' stroke-dasharray="6 4"')
-    picture.words((560, finds.y(bound) - 5), f"the directory, proved: at most {bound}", 11, INK, "end")
-    for place, (kind, movers, ratios, costs, _) in enumerate(rows):
-        middle = 60 + 500 * (place + 0.5) / len(rows)
-        picture.words((middle, 348), kind, 11, INK, "middle")
-        for which, rival in enumerate(RIVALS[:3]):
-            draw_spread(picture, finds, middle + 20 * (which - 1), ratios[rival], colour(which))
-        for which, rival in enumerate(RIVALS):
-            x = 640 + 240 * (place + 0.5) / len(rows) + 7 * (which - 1.5)
-            top = moves.y(costs[rival])
-            picture.box(x - 3, top, 6, max(1.0, 330 - top), colour(which))
-        picture.words((640 + 240 * (place + 0.5) / len(rows), 348), kind, 9, INK, "middle")
-    for half, movers in enumerate(MOVERS):
-        picture.words((60 + 250 * half + 125, 364), f"{movers} movers", 11, PALE, "middle")
-        picture.words((640 + 120 * half + 60, 364), f"{movers} movers", 11, PALE, "middle")
-    for which, rival in enumerate(RIVALS):
-        picture.box(60 + 130 * which, 384, 10, 10, colour(which))
-        picture.words((76 + 130 * which, 393), rival, 11)
-    picture.words((600, 393), "dot: median; tick: 90 %; line to the most", 11, PALE)
-    return picture.text()
+def store(path, text):
+    with open(path, "w", encoding="utf-8") as file:
+        file.write(text)
 
 
-def draw_spread(picture, axis, x, values, stroke):
-    median, most_of, most = shares(values)
-    picture.line((x, axis.y(median)), (x, axis.y(most)), stroke, 2)
-    picture.line((x - 5, axis.y(most_of)), (x + 5, axis.y(most_of)), stroke, 2)
-    picture.circle((x, axis.y(median)), 4, stroke)
+def check(rows):
+    """That the page and the plots are made of the rows, and that no row is missing."""
+    wanted = [(name, movers, way) for name, movers, covers in loads() for way in [*map(cover_name, covers), *RIVALS]]
+    if sorted(wanted) != sorted((row.network, row.movers, row.way) for row in rows):
+        raise BadText(f"{ROWS} hasn't the rows of all loads, each once")
+    for path, text in texts_of(rows).items():
+        with open(path, encoding="utf-8") as file:
+            if file.read() != text:
+                raise BadText(f"{path} isn't what the script makes")
 
 
-BEGIN, END = "<!-- made by bench/price.py: begin -->\n", "<!-- made by bench/price.py: end -->\n"
+def check_weights(rows, weighed):
+    """That rows are as they are weighed."""
+    stored = set(rows)
+    for row in weighed:
+        if row not in stored:
+            raise BadText(f"{ROWS}: {row.way} for {row.movers} subscribers on {row.network} isn't what is weighed")
+    print(f"prices: {len(rows)} rows, {len(weighed)} of them weighed anew")
 
 
-def page_with(page, tables):
-    """The page, with these tables between its two marks."""
-    if BEGIN not in page or END not in page:
-        raise BadText("docs/PRICE.md has lost the two comments between which its tables stand")
-    return page[:page.index(BEGIN) + len(BEGIN)] + "\n" + "\n\n".join(tables) + "\n\n" + page[page.index(END):]
+def sample(program):
+    return [row for name, movers, covers in SAMPLE for row in weigh(name, movers, covers, program)]
 
 
-def price_input(path, program):
-    """Prints the table of an input's network."""
+def price_input(path, ks, program):
+    """Prints the tables of an input's network."""
     given, _ = load_input(path)
     if given.nodes < 2:
         raise BadText("a network of one node has no moves and no finds to price")
-    rows, bound = rows_of(given.nodes, given.edges, given.k, program)
-    print(table_of(f"{os.path.basename(path)}, {given.nodes} nodes", rows, bound))
+    if 1 in ks and given.nodes > 256:
+        raise BadText("k is 1, and above 256 nodes it has to be 2 at least")
+    ground, rows = Ground(os.path.basename(path), given.nodes, given.edges), []
+    covers = [Cover(k, mean) for mean in (False, True) for k in sorted(ks or {given.k, 2, 4, 8})]
+    for movers in MOVERS:
+        load = Load(ground, movers)
+        for cover in covers:
+            print(f"{movers}, {cover_name(cover)} ..", file=sys.stderr, flush=True)
+            rows.append(row_of(load, cover_name(cover), Weighed(load, cover, program).price))
+        rows += [row_of(load, rival, load.prices[rival]) for rival in RIVALS]
+    prices = tables.Prices(rows)
+    print(f"From how many finds a move the directory costs less than each, over its best cover here:\n\n"
+          f"{tables.break_even_table(prices, [ground.name])}")
+    for movers in MOVERS:
+        print(f"\nSubscribers that are {movers}: weights over distances\n\n{tables.weights_table(prices, ground.name, movers)}")
+
+
+def numbers_of(words):
+    """The trade-offs that an option names."""
+    values = [number(word) for word in words.split(",")]
+    if not all(value is not None and 1 <= value <= 8 for value in values):
+        raise argparse.ArgumentTypeError(f"'{words}' isn't a list of numbers of 1 to 8, as 2,4")
+    return set(values)
+
+
+def count_of(word):
+    """How many processes an option names."""
+    if not number(word):
+        raise argparse.ArgumentTypeError(f"'{word}' isn't a number of processes")
+    return number(word)
+
+
+def words():
+    reader = argparse.ArgumentParser(usage=argparse.SUPPRESS, description=__doc__, epilog=HELP,
+                                     formatter_class=argparse.RawDescriptionHelpFormatter)
+    task = reader.add_mutually_exclusive_group(required=True)
+    task.add_argument("input", nargs="?", metavar="INPUT", help="an input whose network and k are priced")
+    for name, told in (("check", "the short form"), ("check-all", "all rows"), ("write", "rows, tables and plots"),
+                       ("draw", "tables and plots")):
+        task.add_argument(f"--{name}", action="store_true", help=told)
+    reader.add_argument("--k", type=numbers_of, metavar="K,..", help="with INPUT: the trade-offs, else its own and 2, 4 and 8")
+    reader.add_argument("--jobs", type=count_of, default=1, metavar="N", help="with --write and --check-all: so many processes")
+    return reader.parse_args()
 
 
 def main():
-    words = sys.argv[1:]
-    if len(words) != 1:
-        raise BadText("there is one word: an input, --write or --check (the head of this script tells more)")
-    program = os.environ.get("TRACK", os.path.join(TOP, "track"))
-    if words[0] not in ("--write", "--check"):
-        price_input(words[0], program)
+    asked = words()
+    program = os.path.abspath(os.environ["TRACK"]) if "TRACK" in os.environ else os.path.join(TOP, "track")
+    if asked.input is not None:
+        price_input(asked.input, asked.k, program)
         return
     os.chdir(TOP)
-    texts, tables = {}, []
-    for name in NETWORKS:
-        rows, bound = rows_of(*NETWORKS[name](), K, program)
-        tables.append(table_of(NAMES[name], rows, bound))
-        texts[f"docs/pictures/price-{name}.svg"] = plot_of(name, rows, bound)
-    with open("docs/PRICE.md", encoding="utf-8") as page:
-        texts["docs/PRICE.md"] = page_with(page.read(), tables)
-    for path, text in texts.items():
-        if words[0] == "--check":
-            with open(path, encoding="utf-8") as file:
-                if file.read() != text:
-                    raise BadText(f"{path} isn't what the script makes")
-        else:
-            with open(path, "w", encoding="utf-8") as file:
-                file.write(text)
+    if asked.check or asked.check_all:
+        rows = stored_rows()
+        check(rows)
+        check_weights(rows, sample(program) if asked.check else weigh_all(program, asked.jobs))
+        return
+    if asked.write:
+        store(ROWS, rows_text(weigh_all(program, asked.jobs)))
+    for path, text in texts_of(stored_rows()).items():
+        store(path, text)
 
 
 if __name__ == "__main__":

@@ -19,6 +19,15 @@ class Rivals:
         far = self.network.distance
         return 2 * far(to, self.homes[sub]), 2 * far(to, start), self.everybody
 
+    def walk(self, sub, nodes):
+        """Moves to one of these nodes after another, which nobody weighs."""
+        at, pointers = self.at[sub], self.pointers[sub]
+        for to in nodes:
+            pointers[at] = to
+            at = to
+        pointers.pop(at, None)
+        self.at[sub] = at
+
     def find(self, start, sub):
         """The weights of a find by the home register, along the pointers, and where everybody knows."""
         far, home, to = self.network.distance, self.homes[sub], self.at[sub]
