@@ -1,5 +1,7 @@
 // The page: what it says of a moment, and how one goes from ticket to ticket.
 
+const LINE_HEIGHT = 20; // of the list of calls, as the style has it
+
 const part = (id) => document.getElementById(id);
 
 function make(name, text, attributes = {}) {
@@ -41,6 +43,7 @@ class Panel {
       return button;
     });
     part("calls").append(...this.lines);
+    part("calls").style.setProperty("--calls", this.lines.length);
     part("calls").addEventListener("click", ({ target }) => {
       if (target.dataset.call) go(replay.data.calls[target.dataset.call].first);
     });
@@ -145,9 +148,16 @@ class Panel {
     this.current = now;
     if (!now) return;
     now.setAttribute("aria-current", "true");
+    cancelAnimationFrame(this.scrolling);
+    this.scrolling = requestAnimationFrame(() => this.scrollTo(this.replay.visits.call[ticket]));
+  }
+
+  /** Brings the line of a call into sight, after the frame's other work. */
+  scrollTo(call) {
     const list = part("calls");
-    const top = now.offsetTop - list.offsetTop;
-    if (top < list.scrollTop || top + now.offsetHeight > list.scrollTop + list.clientHeight) list.scrollTop = top - list.clientHeight / 2;
+    const top = call * LINE_HEIGHT;
+    const seen = top >= list.scrollTop && top + LINE_HEIGHT <= list.scrollTop + list.clientHeight;
+    if (!seen) list.scrollTop = top - (list.clientHeight - LINE_HEIGHT) / 2;
   }
 
   showLevel(level) {
