@@ -1,0 +1,191 @@
+"""The lab from its words to its answer: examples/lab is its front."""
+from __future__ import annotations
+
+import argparse
+import math
+import os
+import pathlib
+import shlex
+import signal
+import sys
+import time
+
+import directory
+import lab_files
+import lab_table
+from lab_load import Part, Wishes, draw_load, parts_needed
+from lab_measure import Row, row_of
+from lab_networks import Site, load_network
+from lab_rivals import TOLD, Comparison
+from lab_run import Kind, Outcome, Runner, plan_of
+from texts import BadText
+from timed import TooLong
+
+STAY = 50  # diameters that a subscriber stays on average, where nothing else is asked for
+BETWEEN = 16  # diameters between two finds of a caller, where the callers aren't told
+LATE = 0.1  # of the planned time: a load that ends so much after it is said to be crowded
+
+
+class Progress:
+    """Says on standard error what is done, once a second has passed; and what was done at an end by Ctrl-C."""
+
+    def __init__(self):
+        self.began = self.told = time.monotonic()
+        self.ready: list[str] = []
+        self.doing, self.done, self.of = "reading the network", 0, 0
+        self.screen, self.open_line = sys.stderr.isatty(), False
+        self.left = "nothing was written"
+
+    def begin(self, doing: str, of: int = 0) -> None:
+        self.doing, self.done, self.of = doing, 0, of
+        self.say()
+
+    def step(self) -> None:
+        self.done += 1
+        if self.done % 256 == 0:
+            self.say()
+
+    def finish(self) -> None:
+        self.ready.append(self.doing)
+
+    def words(self) -> str:
+        return self.doing + (f", {self.done:,} of {self.of:,} calls" if self.of else "")
+
+    def say(self) -> None:
+        now = time.monotonic()
+        if now - self.began < 1 or now - self.told < (0.2 if self.screen else 5):
+            return
+        self.told = now
+        if self.screen:
+            print(f"\r\x1b[Klab: {self.words()}", end="", file=sys.stderr, flush=True)
+            self.open_line = True
+        else:
+            print(f"lab: {self.words()}", file=sys.stderr, flush=True)
+
+    def close(self) -> None:
+        if self.open_line:
+            print("\r\x1b[K", end="", file=sys.stderr, flush=True)
+            self.open_line = False
+
+    def stopped(self) -> str:
+        whole = ", ".join(self.ready) if self.ready else "nothing"
+        return f"lab: stopped while {self.words()}; done before: {whole}; {self.left}"
+
+
+def run(words: argparse.Namespace, program: str) -> None:
+    """The lab; ends with status 130 at Ctrl-C."""
+    progress = Progress()
+    sys.stdout.reconfigure(errors="replace")
+    try:
+        answer(words, program, progress)
+    except KeyboardInterrupt:
+        signal.signal(signal.SIGINT, signal.SIG_IGN)
+        progress.close()
+        print(progress.stopped(), file=sys.stderr, flush=True)
+        os._exit(130)
+    except BaseException:
+        progress.close()
+        raise
+
+
+def answer(words: argparse.Namespace, program: str, progress: Progress) -> None:
+    site = load_network(words.network, words.unit, words.weight)
+    if 1 in words.k and site.nodes > 256:
+        raise BadText(f"k of 1 is taken up to 256 nodes, and this network has {site.nodes}")
+    folder = lab_files.folder_for(words.out) if words.out else None
+    progress.begin("measuring distances")
+    network = directory.Network(site.nodes, site.edges)
+    wishes = wishes_of(words, network.diameter())
+    study = Study(site, network, wishes, program, told_words(words), progress)
+    kinds = [Kind(covers, k) for covers in ("cover", "mean") if words.covers in ("both", covers) for k in words.k]
+    outcomes = study.outcomes(kinds)
+    rows = [row_of(outcome, network) for outcome in outcomes]
+    head = head_of(words, site, network, wishes, study.count)
+    notes = site.notes + crowded(rows)
+    progress.close()
+    sys.stdout.write("\n".join([*head, *("note: " + note for note in notes), ""]) + "\n")
+    sys.stdout.write(lab_table.table_text(rows) + "\n" + lab_table.nodes_text(rows, site.names))
+    sys.stdout.write("\n" + "".join(f"{name}: {told}\n" for name, told in TOLD.items()))
+    sys.stdout.flush()
+    progress.left = f"the table was written, and {folder} may lack files"
+    if folder:
+        progress.begin(f"writing {folder}")
+        lab_files.write_all(folder, lab_files.Answer(site, network, wishes, head, notes, rows, outcomes))
+        print(f"\nthe page is {folder / 'lab.html'}")
+
+
+def wishes_of(words: argparse.Namespace, diameter: int) -> Wishes:
+    stay = words.stay if words.stay is not None else float(STAY * diameter)
+    callers = words.callers
+    if callers is None:
+        time_of_all = stay * words.moves / words.subs if words.moves else math.inf
+        callers = min(64, max(8, math.ceil(words.finds * BETWEEN * diameter * words.pace / time_of_all)))
+    return Wishes(words.moves, words.finds, words.subs, callers, stay, words.move_to, words.find_from, words.pace, words.zipf, words.seed)
+
+
+def told_words(words: argparse.Namespace) -> str:
+    """The words that make the same inputs, without the folder and the network's place on this machine."""
+    told = [pathlib.Path(words.network).name]
+    for name, value in sorted(vars(words).items()):
+        if name not in ("network", "out") and value is not None:
+            told.append(f"--{name.replace('_', '-')} {','.join(map(str, value)) if isinstance(value, list) else value}")
+    return " ".join(shlex.quote(told[0]).splitlines() + told[1:])
+
+
+class Study:
+    """All plans on one load: in one input, or in several where it is too long for one."""
+
+    def __init__(self, site: Site, network: directory.Network, wishes: Wishes, program: str, words: str, progress: Progress):
+        self.site, self.network, self.wishes, self.program, self.progress = site, network, wishes, program, progress
+        self.runner = Runner(program, site, network, wishes, words)
+        self.count = 0
+
+    def outcomes(self, kinds: list[Kind]) -> list[Outcome]:
+        """An outcome for each kind of plan and for each rival."""
+        plans = []
+        for kind in kinds:
+            self.progress.begin(f"making the plan of {kind.name()}")
+            plans.append(plan_of(self.program, self.site, kind))
+        self.count = parts_needed(self.wishes, plans)
+        while True:
+            parts, away = draw_load(self.network, self.wishes, self.count)
+            try:
+                return self.over_plans(kinds, plans, parts) + Comparison(self.network, parts[0].homes, away).play(parts)
+            except TooLong:
+                self.count *= 2
+                if self.count > self.wishes.moves + self.wishes.finds:
+                    raise BadText("the load finds no room in inputs, however many it is cut into") from None
+
+    def over_plans(self, kinds: list[Kind], plans: list, parts: list[Part]) -> list[Outcome]:
+        outcomes = []
+        for kind, plan in zip(kinds, plans):
+            self.progress.begin(kind.name(), self.wishes.moves + self.wishes.finds)
+            outcomes.append(self.runner.run(kind, plan, parts, self.progress.step))
+            self.progress.finish()
+        self.progress.begin("weighing the others")
+        return outcomes
+
+
+def crowded(rows: list[Row]) -> list[str]:
+    """What is to be said of a load that had no time."""
+    late = [row for row in rows if row.late is not None and row.late > LATE]
+    if not late:
+        return []
+    worst = max(late, key=lambda row: row.late)
+    return [f"calls were too many for their time: over {worst.name} the load ended {100 * worst.late:.0f} % later than planned, so that "
+            "calls waited for their actors; a longer --stay, more --callers or a lower --pace gives them room"]
+
+
+def head_of(words: argparse.Namespace, site: Site, network: directory.Network, wishes: Wishes, count: int) -> list[str]:
+    """What was asked, in a few lines."""
+    load = (f"{wishes.moves:,} moves of {wishes.subs} subscribers to {'neighbours' if wishes.move_to == 'neighbours' else 'anywhere'}, "
+            f"{wishes.finds:,} finds by {wishes.callers} callers from {wishes.find_from}")
+    load += f", zipf {wishes.zipf:g}" if wishes.zipf else ""
+    load += f", pace {wishes.pace}" if wishes.pace != 1 else ""
+    parts = "one input" if count == 1 else f"{count} inputs, each of which begins where the one before ended"
+    return [
+        f"{pathlib.Path(words.network).name}: {site.nodes} nodes, {len(site.edges):,} edges, diameter {network.diameter():,}; "
+        f"weights: {site.weights}",
+        load,
+        f"a subscriber stays {wishes.stay:,.0f} on average ({wishes.stay / network.diameter():.3g} diameters); seed {wishes.seed}; {parts}",
+    ]

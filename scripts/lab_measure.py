@@ -1,0 +1,125 @@
+"""What the lab tells of an outcome: finds over distance, moves over the distance moved, and what falls to each node."""
+from __future__ import annotations
+
+import math
+from dataclasses import dataclass
+
+import directory
+from lab_run import Outcome
+from timed import Found
+
+
+@dataclass(frozen=True)
+class Spread:
+    """How ratios are spread: the least that half of them, 95 % and all don't pass; none of no ratio."""
+
+    number: int
+    median: float | None = None
+    most_of: float | None = None
+    most: float | None = None
+
+
+@dataclass(frozen=True)
+class Row:
+    """One plan, or one of what people use in its place."""
+
+    name: str
+    covers: str | None
+    k: int | None
+    levels: int | None
+    degree: int | None
+    stretch: int | None
+    quiet: Spread
+    met: Spread
+    all_finds: Spread
+    at_no_distance: int
+    again: int
+    again_weight: int
+    finds: int
+    find_weight: int
+    moves: int
+    moved: int
+    costs: int | None
+    messages: int
+    visits: list[int]
+    cells: list[int]
+    busy: float | None
+    late: float | None
+
+    def find_mean(self) -> float | None:
+        return self.find_weight / self.finds if self.finds else None
+
+    def move_mean(self) -> float | None:
+        return self.messages / self.moves if self.moves else None
+
+    def costs_ratio(self) -> float | None:
+        return self.costs / self.moved if self.moved and self.costs is not None else None
+
+    def messages_ratio(self) -> float | None:
+        return self.messages / self.moved if self.moved else None
+
+    def total(self) -> int:
+        return self.find_weight + self.messages
+
+
+def at_share(ordered: list[float], share: float) -> float:
+    return ordered[max(0, math.ceil(share * len(ordered)) - 1)]
+
+
+def spread_of(finds: list[Found], network: directory.Network) -> Spread:
+    """The weights of finds over the distance from where each began to where it was answered, where that isn't 0."""
+    ratios = sorted(find.weight / distance for find in finds if (distance := network.distance(find.start, find.node)))
+    if not ratios:
+        return Spread(len(finds))
+    return Spread(len(finds), *(at_share(ratios, share) for share in (0.5, 0.95, 1)))
+
+
+def row_of(outcome: Outcome, network: directory.Network) -> Row:
+    """What an outcome comes to. Nothing is quiet or met, and nothing weighs by `costs`, where there is no directory."""
+    found, moved, own = outcome.found, outcome.moved, outcome.kind is not None
+    return Row(
+        name=outcome.name,
+        covers=outcome.kind.covers if outcome.kind else None,
+        k=outcome.kind.k if outcome.kind else None,
+        levels=len(outcome.plan.levels) if outcome.plan else None,
+        degree=outcome.plan.degree if outcome.plan else None,
+        stretch=outcome.plan.stretch if outcome.plan else None,
+        quiet=spread_of([find for find in found if own and not find.met], network),
+        met=spread_of([find for find in found if find.met], network),
+        all_finds=spread_of(found, network),
+        at_no_distance=sum(find.start == find.node for find in found),
+        again=sum(find.again for find in found),
+        again_weight=sum(find.again_weight for find in found),
+        finds=len(found),
+        find_weight=sum(find.weight for find in found),
+        moves=len(moved),
+        moved=sum(move.distance for move in moved),
+        costs=sum(move.costs for move in moved) if own else None,
+        messages=sum(move.messages for move in moved),
+        visits=outcome.visits,
+        cells=outcome.cells,
+        busy=outcome.busy if own else None,
+        late=outcome.late if own else None,
+    )
+
+
+def pays_from(row: Row, other: Row) -> float | None:
+    """From how many finds a move on the row weighs less in all than the other, by the means of both: infinite where it never
+    does, 0 where it always does; nothing where finds or moves are missing."""
+    weights = row.find_mean(), row.move_mean(), other.find_mean(), other.move_mean()
+    if None in weights:
+        return None
+    find, move, other_find, other_move = weights
+    if find < other_find:
+        return max(0.0, (move - other_move) / (other_find - find))
+    return 0.0 if find == other_find and move < other_move else math.inf
+
+
+def over(row: Row, other: Row) -> float | None:
+    return row.total() / other.total() if other.total() else None
+
+
+def largest(counts: list[int], names: list[str], few: int) -> list[tuple[str, int]]:
+    """The nodes with the largest counts, by name."""
+    ordered = sorted(range(len(counts)), key=lambda v: (-counts[v], v))
+    return [(names[v], counts[v]) for v in ordered[:few]]

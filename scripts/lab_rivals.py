@@ -1,0 +1,79 @@
+"""The calls of a load by what people use in place of a directory: a home register whose subscribers began at home, one whose homes
+lie anywhere, forwarding pointers alone, and telling everybody. Calls are weighed one after another, in the order in which they fall
+due: these have no races here, and none of them is simulated in time."""
+from __future__ import annotations
+
+import directory
+from lab_load import Ask, Move, Part
+from lab_run import Outcome
+from rivals import Rivals
+from timed import Found, Moved
+
+NAMES = ("home", "away", "pointers", "everybody")
+TOLD = {
+    "home": "a home register at the node where the subscriber began",
+    "away": "a home register anywhere, as of a subscriber that is away from home",
+    "pointers": "forwarding pointers alone, from the node where the subscriber began",
+    "everybody": "telling everybody, along a lightest spanning tree",
+}
+
+
+class Comparison:
+    """The same calls by each of the four, with what they visit and keep at each node."""
+
+    def __init__(self, network: directory.Network, homes: list[int], away: list[int]):
+        self.network, nodes = network, network.nodes
+        self.homes = {"home": homes, "away": away}
+        self.settled = Rivals(network, homes)
+        self.outcomes = {name: Outcome(name, visits=[0] * nodes, cells=[0] * nodes) for name in NAMES}
+        self.outcomes["everybody"].cells = [len(homes)] * nodes
+        for name, at in self.homes.items():
+            for node in at:
+                self.outcomes[name].cells[node] += 1
+        self.kept = [0] * nodes
+
+    def play(self, parts: list[Part]) -> list[Outcome]:
+        for part in parts:
+            for sub, to in part.warm:
+                self.move(Move(0, sub, to), False)
+            for call in part.calls:
+                if isinstance(call, Move):
+                    self.move(call, True)
+                else:
+                    self.find(call)
+        return list(self.outcomes.values())
+
+    def move(self, call: Move, counted: bool) -> None:
+        start, sub = self.settled.at[call.sub], call.sub
+        distance, had = self.network.distance(start, call.to), set(self.settled.pointers[sub])
+        by_home, by_pointer, by_all = self.settled.move(sub, call.to)
+        by_away = 2 * self.network.distance(call.to, self.homes["away"][sub])
+        for node in had ^ set(self.settled.pointers[sub]):
+            self.kept[node] += 1 if node in self.settled.pointers[sub] else -1
+            self.outcomes["pointers"].cells[node] = max(self.outcomes["pointers"].cells[node], self.kept[node])
+        if not counted:
+            return
+        for name, weight in zip(NAMES, (by_home, by_away, by_pointer, by_all)):
+            moved = Moved(sub, start, call.to, distance, call.due, call.due, call.due, messages=weight)
+            self.outcomes[name].moved.append(moved)
+        for name, home in self.homes.items():
+            self.outcomes[name].visits[home[sub]] += 1
+        self.outcomes["pointers"].visits[start] += 1
+        self.outcomes["everybody"].visits = [count + 1 for count in self.outcomes["everybody"].visits]
+
+    def find(self, call: Ask) -> None:
+        to, far = self.settled.at[call.sub], self.network.distance
+        by_home, by_pointers, straight = self.settled.find(call.start, call.sub)
+        home = self.homes["away"][call.sub]
+        weights = (by_home, far(call.start, home) + far(home, to), by_pointers, straight)
+        for name, weight in zip(NAMES, weights):
+            found = Found(call.caller, call.start, call.sub, call.due, call.due, call.due + weight, to, weight=weight)
+            self.outcomes[name].found.append(found)
+            self.outcomes[name].visits[to] += 1
+        for name, homes in self.homes.items():
+            if homes[call.sub] != to:
+                self.outcomes[name].visits[homes[call.sub]] += 1
+        node = self.settled.homes[call.sub]
+        while node != to:
+            self.outcomes["pointers"].visits[node] += 1
+            node = self.settled.pointers[call.sub][node]

@@ -1,0 +1,114 @@
+"""Runs a load over plans that the program makes, and holds what the lab saw to what the program replays, byte for byte."""
+from __future__ import annotations
+
+import subprocess
+from dataclasses import dataclass, field
+
+import directory
+from lab_load import Part, Wishes
+from lab_networks import Site
+from texts import BadText, Plan, read_plan
+from timed import Found, Moved, TimedMachine
+
+WORDS = {"cover": ("cover", "replay"), "mean": ("meancover", "meanreplay")}
+
+
+@dataclass(frozen=True)
+class Kind:
+    """Which covers a plan has: `cover` or `mean`, and its k."""
+
+    covers: str
+    k: int
+
+    def name(self) -> str:
+        return f"{'mean ' if self.covers == 'mean' else ''}k {self.k}"
+
+    def file_name(self) -> str:
+        return f"{self.covers}-k{self.k}"
+
+
+@dataclass
+class Outcome:
+    """What one plan, or one of what people use in its place, made of the load."""
+
+    name: str
+    kind: Kind | None = None
+    plan: Plan | None = None
+    found: list[Found] = field(default_factory=list)
+    moved: list[Moved] = field(default_factory=list)
+    visits: list[int] = field(default_factory=list)  # by node
+    cells: list[int] = field(default_factory=list)  # by node, how many words stood there at once at most
+    inputs: list[str] = field(default_factory=list)
+    busy: float = 0.0  # the share of their time in which subscribers were in a move
+    late: float = 0.0  # by how much of its planned time the load ended after it
+
+
+def ask(program: str, word: str, text: str) -> str:
+    """What the program writes to an input."""
+    try:
+        ran = subprocess.run([program, word], input=text.encode(), stdout=subprocess.PIPE, check=False)
+    except OSError as bad:
+        raise BadText(f"the program {program} doesn't run: {bad.strerror}") from None
+    if ran.returncode != 0:
+        raise BadText(f"{program} {word} ended with status {ran.returncode}")
+    return ran.stdout.decode()
+
+
+def plan_of(program: str, site: Site, kind: Kind) -> Plan:
+    """The plan that the program makes for the network."""
+    lines = ["track 2", f"nodes {site.nodes}", f"k {kind.k}"] + [f"edge {a} {b} {weight}" for a, b, weight in site.edges]
+    return read_plan(ask(program, WORDS[kind.covers][0], "\n".join(lines + ["sub 0", "callers 0"]) + "\n"))
+
+
+def head_of(site: Site, words: str) -> list[str]:
+    """The comments of an input of the lab: how it was made, and where its nodes lie."""
+    lines = [f"Made by examples/lab {words}", "Its order is that of visits whose messages took as long as their weights."]
+    lines += [f"at {v} {x} {y}" for v, (x, y) in sorted(site.places.items())]
+    return lines + [f"name {v} {name}" for v, name in enumerate(site.names) if name != str(v)]
+
+
+class Runner:
+    """Plays the parts of a load over one plan after another."""
+
+    def __init__(self, program: str, site: Site, network: directory.Network, wishes: Wishes, words: str):
+        self.program, self.site, self.network, self.wishes = program, site, network, wishes
+        self.head = head_of(site, words)
+
+    def run(self, kind: Kind, plan: Plan, parts: list[Part], tell) -> Outcome:
+        """The load over a plan; ends the lab where the program replays it otherwise."""
+        setting, nodes = directory.Setting(self.network, plan), self.site.nodes
+        outcome = Outcome(kind.name(), kind, plan, visits=[0] * nodes, cells=[0] * nodes)
+        spent = planned = last = 0
+        for at, part in enumerate(parts, 1):
+            machine = TimedMachine(setting, part, self.wishes)
+            machine.play(tell)
+            text = machine.text(self.head + [f"{kind.name()}, part {at} of {len(parts)}"], self.site.edges, kind.k)
+            self.hold(kind, machine, text)
+            outcome.inputs.append(text)
+            outcome.found += machine.found
+            outcome.moved += machine.moved
+            outcome.visits = [a + b for a, b in zip(outcome.visits, machine.visits)]
+            outcome.cells = [max(pair) for pair in zip(outcome.cells, machine.cells.most)]
+            spent += sum(move.ended - move.began for move in machine.moved)
+            planned += part.time
+            last += max(machine.now, part.time)
+        outcome.busy = spent / (last * len(parts[0].homes))
+        outcome.late = last / planned - 1
+        return outcome
+
+    def hold(self, kind: Kind, machine: TimedMachine, text: str) -> None:
+        """The program's replay has to be what the lab saw; its costs, which are those of `cover`, too."""
+        word = WORDS[kind.covers][1]
+        if ask(self.program, word, text) != machine.report():
+            raise BadText(f"{self.program} {word} writes another report of {kind.name()} than the lab saw; the two don't agree")
+        if kind.covers == "cover" and ask(self.program, "costs", text) != costs_text(machine):
+            raise BadText(f"{self.program} costs writes another text of {kind.name()} than the lab reckoned; the two don't agree")
+
+
+def costs_text(machine: TimedMachine) -> str:
+    """The text that `costs` writes, of all moves of the part: those before anything was counted are among them."""
+    lines = []
+    for sub in range(len(machine.homes)):
+        own = machine.accounts[sub]
+        lines.append(f"cost {sub} moves {own.moves} moved {own.moved} written {own.written} purged {own.purged}")
+    return "\n".join(lines + ["end"]) + "\n"
