@@ -1,6 +1,18 @@
 """How the clusters of a level are drawn: along which edges, and in colours that neighbours don't share."""
+from collections import Counter
+
 import directory
 from pictures import COLOURS
+
+
+def mixed(colour, other, share):
+    """A colour with a share of another."""
+    parts = [[int(each[at:at + 2], 16) for at in (1, 3, 5)] for each in (colour, other)]
+    return "#" + "".join(f"{round(one + share * (two - one)):02x}" for one, two in zip(*parts))
+
+
+# The eight colours, and then lighter and darker ones, for clusters with many neighbours.
+PALETTE = COLOURS + [mixed(colour, other, 0.45) for other in ("#ffffff", "#000000") for colour in COLOURS]
 
 
 def tree_of(network, cluster):
@@ -28,10 +40,14 @@ def neighbours_of(level, network):
 
 
 def colours_of(level, network):
-    """The number of each cluster's colour: the least one that no neighbour has, and where all are taken, the one that fewest
-    have."""
-    near, colours = neighbours_of(level, network), {}
+    """The number of each cluster's colour: one of its own where the clusters are few. Else those with most neighbours choose first:
+    of the colours that fewest neighbours have, the one that fewest clusters have."""
+    near = neighbours_of(level, network)
+    if len(near) <= len(COLOURS):
+        return list(range(len(near)))
+    colours = {}
     for c in sorted(range(len(near)), key=lambda c: (-len(near[c]), c)):
-        taken = [colours[other] for other in near[c] if other in colours]
-        colours[c] = min(range(len(COLOURS)), key=lambda number: (taken.count(number), number))
+        beside = Counter(colours[other] for other in near[c] if other in colours)
+        used = Counter(colours.values())
+        colours[c] = min(range(len(PALETTE)), key=lambda number: (beside[number], number // len(COLOURS), used[number], number))
     return [colours[c] for c in range(len(near))]

@@ -18,6 +18,7 @@ function say(element, text) {
   if (element.textContent !== text) element.textContent = text;
 }
 
+/** The colour of a subscriber. Clusters have more colours than these eight. */
 function colourOf(number) {
   return `var(--colour-${number % 8})`;
 }
@@ -135,7 +136,7 @@ class NetworkMap {
     if (level === null) return;
     this.replay.data.levels[level].clusters.forEach((cluster, number) => {
       const shade = shape(this.layers.shades, "g", { class: "cluster" });
-      const stroke = colourOf(cluster.colour);
+      const stroke = `var(--colour-${cluster.colour})`;
       const width = Math.max(this.radius * 2, this.radius * 5 - 8 * cluster.phase);
       shape(shade, "title").textContent = `cluster ${number}, led by ${cluster.leader}`;
       for (const [a, b] of cluster.tree) {
@@ -148,7 +149,7 @@ class NetworkMap {
     });
     for (const { leader, colour } of this.replay.data.levels[level].clusters) {
       const { x, y } = this.places[leader];
-      shape(this.layers.shades, "circle", { cx: x, cy: y, r: this.radius + 4, class: "leader", stroke: colourOf(colour) });
+      shape(this.layers.shades, "circle", { cx: x, cy: y, r: this.radius + 4, class: "leader", stroke: `var(--colour-${colour})` });
     }
   }
 
