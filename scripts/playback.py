@@ -5,13 +5,17 @@ from itertools import accumulate
 
 import directory
 from clusters import colours_of, tree_of
+from lab_networks import utf_8
 from pictures import spread
-from texts import BadText, Found, Moved, places_and_names, read_report
+from texts import Again, BadText, Found, Moved, Switched, places_and_names, read_report
 
 WIDTH, EDGE = 1000, 70
 
 Visit = namedtuple("Visit", "actor call cell word progress")
-Progress = namedtuple("Progress", "known weight level part")  # of a find, after one of its looks; part is where it looked
+# How far a find is after one of its looks; part is where it looked.
+Progress = namedtuple("Progress", "known weight level part")
+NO_PROGRESS = Progress(None, None, None, None)
+PARTS = (None, "origin", "climb", "chase")
 
 
 class Recorder(directory.Machine):
@@ -83,7 +87,7 @@ def map_of(said, text):
     elif said.nodes <= 8:
         height = 620
     at = spread(places, said.nodes, WIDTH, height, EDGE)
-    nodes = [{"x": round(x, 1), "y": round(y, 1), "name": names.get(v)} for v, (x, y) in enumerate(at)]
+    nodes = [{"x": round(x, 1), "y": round(y, 1), "name": utf_8(names[v]) if v in names else None} for v, (x, y) in enumerate(at)]
     lightest = {}
     for a, b, weight in said.edges:
         if a != b:
@@ -107,15 +111,14 @@ def calls_of(report, network):
     calls = []
     for line, call in zip(report.split("\n"), read_report(report).calls):
         told = {"line": line, "actor": call.actor}
-        told["first"], told["last"] = getattr(call, "first", getattr(call, "ticket", None)), getattr(call, "last", getattr(call, "ticket", None))
-        if isinstance(call, Moved):
-            told.update(kind="move", number=call.number, start=call.start, to=call.to, weight=call.weight, commit=call.commit)
-        elif hasattr(call, "sub"):
-            told.update(kind="find", start=call.start, sub=call.sub, again=not isinstance(call, Found))
-            if isinstance(call, Found):
-                told.update(at=call.node, distance=network.distance(call.start, call.node))
+        if isinstance(call, Switched):
+            told.update(kind="switch", first=call.ticket, last=call.ticket)
+        elif isinstance(call, Moved):
+            told.update(kind="move", first=call.first, last=call.last, start=call.start, to=call.to, weight=call.weight, commit=call.commit)
         else:
-            told.update(kind="switch")
+            told.update(kind="find", first=call.first, last=call.last, start=call.start, sub=call.sub, again=isinstance(call, Again))
+        if isinstance(call, Found):
+            told.update(at=call.node, distance=network.distance(call.start, call.node))
         calls.append(told)
     return calls
 
@@ -123,8 +126,7 @@ def calls_of(report, network):
 def visits_of(recorder, cells, words):
     """The visits column by column."""
     visits = recorder.visits
-    parts = {None: 0, "origin": 1, "climb": 2, "chase": 3}
-    progress = [visit.progress or Progress(None, None, None, None) for visit in visits]
+    progress = [visit.progress or NO_PROGRESS for visit in visits]
     return {
         "actor": [visit.actor for visit in visits],
         "call": [visit.call for visit in visits],
@@ -133,7 +135,7 @@ def visits_of(recorder, cells, words):
         "known": [each.known for each in progress],
         "weight": [each.weight for each in progress],
         "level": [each.level for each in progress],
-        "part": [parts[each.part] for each in progress],
+        "part": [PARTS.index(each.part) for each in progress],
     }
 
 

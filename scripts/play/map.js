@@ -44,7 +44,7 @@ function arrow(from, to, bend, gap) {
   return `M${point(from)}Q${point(middle)} ${point(tip)}M${wing(1)}L${point(tip)}L${wing(-1)}`;
 }
 
-/** As many shapes of one kind as are needed at a moment; the others are hidden. */
+/** As many shapes of one kind as are needed at a moment, each updated where its item is another; the others are hidden. */
 class Pool {
   constructor(layer, make) {
     this.layer = layer;
@@ -57,7 +57,10 @@ class Pool {
     this.shapes.forEach((one, at) => {
       const hidden = at >= items.length;
       if (one.hidden !== hidden) one.style.display = (one.hidden = hidden) ? "none" : "";
-      if (!hidden) update(one, items[at], at);
+      const key = hidden ? one.key : JSON.stringify(items[at]);
+      if (one.key === key) return;
+      one.key = key;
+      update(one, items[at], at);
     });
   }
 }
@@ -179,10 +182,11 @@ class NetworkMap {
     const trail = { Gone: [], Coming: [] };
     this.dots.forEach((dot, node) => {
       const [kind, , other] = marks.get(node) ?? ["Empty"];
-      const state = `node ${kind}`;
-      if (dot.state !== state || dot.of !== subscriber) {
-        dot.setAttribute("class", (dot.state = state));
-        dot.style.setProperty("--own", colourOf((dot.of = subscriber)));
+      const state = kind === "Empty" ? kind : `${kind} of ${subscriber}`;
+      if (dot.state !== state) {
+        dot.state = state;
+        dot.setAttribute("class", `node ${kind}`);
+        if (kind !== "Empty") dot.style.setProperty("--own", colourOf(subscriber));
       }
       if (trail[kind]) trail[kind].push(arrow(this.places[node], this.places[other], 10, this.radius + 4));
     });
@@ -219,17 +223,18 @@ class NetworkMap {
       const leader = this.replay.leader(...place);
       levels.set(leader, [...(levels.get(leader) ?? []), place[0]]);
     }
-    this.badges.show([...levels], (badge, [node, some]) => {
+    const items = [...levels].map(([node, some]) => [node, ranges(some), subscriber]);
+    this.badges.show(items, (badge, [node, some]) => {
       badge.setAttribute("x", this.places[node].x);
       badge.setAttribute("y", this.places[node].y + this.radius + 15);
       badge.style.setProperty("--own", colourOf(subscriber));
-      say(badge, `@ ${ranges(some)}`);
+      say(badge, `@ ${some}`);
     });
   }
 
   /** Where the other subscribers stand, as dots round the node. */
   showOthers(moment, subscriber) {
-    const standing = moment.subscribers.map((each, number) => ({ ...each, number, actor: number }));
+    const standing = moment.subscribers.map(({ node, off }, actor) => ({ node, off, actor }));
     const others = standing.filter(({ actor }) => actor !== subscriber);
     this.others.show(others, (dot, { actor, node, off }) => {
       const turn = 2.4 * actor;

@@ -161,10 +161,8 @@ class Panel {
   }
 
   showLevel(level) {
-    if (level === null) {
-      say(part("level-text"), "");
-      return;
-    }
+    part("level-card").hidden = level === null;
+    if (level === null) return;
     const { radius, clusters } = this.replay.data.levels[level];
     const leaders = [...new Set(clusters.map(({ leader }) => leader))].sort((a, b) => a - b);
     say(part("level-text"), `Level ${level}, radius ${radius}: ${clusters.length} cluster${clusters.length > 1 ? "s" : ""}, `
@@ -185,6 +183,7 @@ class Player {
     this.panel = new Panel(replay, (ticket) => this.go(ticket), (node) => this.map.called(node));
     this.strip = new Timeline({ canvas: part("strip"), mark: part("strip-mark"), rows: part("rows") }, replay, (ticket) => this.go(ticket));
     this.ticket = OPENING;
+    this.panel.showLevel(null);
     this.begins = replay.data.calls.map(({ first }) => first).sort((a, b) => a - b);
     this.setUp();
     this.listen();
@@ -217,12 +216,12 @@ class Player {
     part("level").addEventListener("change", ({ target }) => this.showLevel(target.value));
     part("node").addEventListener("change", ({ target }) => this.point(target.value || undefined, true));
     addEventListener("keydown", (event) => this.key(event));
-    addEventListener("hashchange", () => this.follow());
+    addEventListener("hashchange", ({ newURL }) => this.follow(new URL(newURL).hash));
   }
 
-  /** The ticket that the address of the page names. */
-  follow() {
-    const named = location.hash.slice(1);
+  /** Goes to the ticket that an address of the page names by its hash. */
+  follow(hash) {
+    const named = hash.slice(1);
     this.go(/^\d+$/.test(named) ? Number(named) : OPENING);
   }
 
@@ -319,4 +318,4 @@ class Player {
   }
 }
 
-new Player(new Replay(JSON.parse(part("data").textContent))).follow();
+new Player(new Replay(JSON.parse(part("data").textContent))).follow(location.hash);

@@ -1,6 +1,6 @@
 // Who did what at which ticket, all in one strip: a row for each actor, a dot for each visit, a bar for each call.
 
-const ROW = { least: 2, most: 14, named: 10, all: 150 };
+const ROW = { least: 1, most: 14, named: 10, all: 150 };
 
 class Timeline {
   constructor({ canvas, mark, rows }, replay, go) {
