@@ -131,11 +131,13 @@ class Panel {
 
   /** The cells at a node that aren't Empty and not nothing. */
   showNode(moment, node) {
-    const some = node !== undefined;
-    say(part("node-title"), some ? `Cells at ${this.called(node)}` : "Cells of a node");
-    say(part("node-rest"), some ? "All other cells here are Empty, or have nothing." : "");
-    const cells = some ? this.replay.cellsAt[node] : [];
-    const told = cells.map((cell) => [this.replay.data.cells[cell], moment.wordOf(cell, this.replay)]);
+    part("node-card").hidden = node === undefined;
+    if (node === undefined) return;
+    const { nodes, width } = this.replay.data.map;
+    part("node-card").classList.toggle("right", nodes[node].x < width / 2);
+    say(part("node-title"), `Cells at ${this.called(node)}`);
+    say(part("node-rest"), "All other cells here are Empty, or have nothing.");
+    const told = this.replay.cellsAt[node].map((cell) => [this.replay.data.cells[cell], moment.wordOf(cell, this.replay)]);
     const full = told.filter(([, word]) => word && word[0] !== "Empty" && word[0] !== "nothing");
     const rows = full.map(([cell, word]) => [cell[1], cellText(cell), wordText(word)]).sort(byPlaces);
     fill(part("node-cells"), rows, row);
