@@ -124,7 +124,8 @@ class Browser:
         """A key goes down and up."""
         text = {"text": key} if len(key) == 1 else {}
         for kind in ("keyDown", "keyUp"):
-            self.ask("Input.dispatchKeyEvent", type=kind, key=key, windowsVirtualKeyCode=KEYS[key], **(text if kind == "keyDown" else {}))
+            more = text if kind == "keyDown" else {}
+            self.ask("Input.dispatchKeyEvent", type=kind, key=key, windowsVirtualKeyCode=KEYS[key], **more)
 
     def point(self, x, y, click=False):
         self.ask("Input.dispatchMouseEvent", type="mouseMoved", x=x, y=y)
