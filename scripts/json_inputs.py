@@ -1,5 +1,5 @@
-"""Inputs as JSON: the text that `fromjson` makes of one, with the part of the JSON behind each line, and what is wrong with it. From
-docs/FORMATS.md, "JSON"."""
+"""Inputs as JSON: the text that `fromjson` makes of one, with the part of the JSON that each line says, and what is wrong with it.
+From docs/FORMATS.md, "JSON"."""
 import json
 import math
 
@@ -120,7 +120,8 @@ def lines_of(value):
     """The lines of the text that `fromjson` makes of a value, each with the part of the JSON that it says."""
     test_keys(value)
     lines = [(f"{key} {number_at(key, value[key])}", key) for key in ("track", "nodes", "k")]
-    lines += [("edge " + " ".join(numbers_at(f"edges[{at}]", edge, 3)), f"edges[{at}]") for at, edge in list_at("edges", value["edges"])]
+    for at, edge in list_at("edges", value["edges"]):
+        lines.append(("edge " + " ".join(numbers_at(f"edges[{at}]", edge, 3)), f"edges[{at}]"))
     lines += [(f"sub {number_at(f'subs[{at}]', node)}", f"subs[{at}]") for at, node in list_at("subs", value["subs"])]
     lines.append((f"callers {number_at('callers', value['callers'])}", "callers"))
     lines += [(call_line(f"calls[{at}]", call), f"calls[{at}]") for at, call in list_at("calls", value["calls"])]

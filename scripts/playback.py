@@ -114,9 +114,11 @@ def calls_of(report, network):
         if isinstance(call, Switched):
             told.update(kind="switch", first=call.ticket, last=call.ticket)
         elif isinstance(call, Moved):
-            told.update(kind="move", first=call.first, last=call.last, start=call.start, to=call.to, weight=call.weight, commit=call.commit)
+            told.update(kind="move", first=call.first, last=call.last, start=call.start, to=call.to)
+            told.update(weight=call.weight, commit=call.commit)
         else:
-            told.update(kind="find", first=call.first, last=call.last, start=call.start, sub=call.sub, again=isinstance(call, Again))
+            told.update(kind="find", first=call.first, last=call.last, start=call.start, sub=call.sub)
+            told.update(again=isinstance(call, Again))
         if isinstance(call, Found):
             told.update(at=call.node, distance=network.distance(call.start, call.node))
         calls.append(told)

@@ -3,13 +3,15 @@ import directory
 from texts import Find
 
 RULES = {
-    "form": "a report has a line for each call of the input, by actor and in the order of the text, then order lines of 64 numbers, and 'end'",
-    "tickets": "the run of a call is made of its actor's tickets after the call before it, up to its last; its line names the first and the "
-               "last of them, a move's commit lies between, and each ticket is in a run",
-    "place": "a find names where its subscriber stood at the find's last ticket, how many of its moves were committed by then, and 'off' where "
-             "it was off",
+    "form": "a report has a line for each call of the input, by actor and in the order of the text, then order lines of 64 "
+            "numbers, and 'end'",
+    "tickets": "the run of a call is made of its actor's tickets after the call before it, up to its last; its line names the "
+               "first and the last of them, a move's commit lies between, and each ticket is in a run",
+    "place": "a find names where its subscriber stood at the find's last ticket, how many of its moves were committed by then, "
+             "and 'off' where it was off",
     "again": "a find is to be made again only where a move of its subscriber has a ticket between its first and its last",
-    "weight": "a move weighs its distance; a find that no move met weighs at most the stretch times the distance, and twice an open passage",
+    "weight": "a move weighs its distance; a find that no move met weighs at most the stretch times the distance, and twice an "
+              "open passage",
 }
 MOST_NUMBER = 1 << 63
 
@@ -77,7 +79,8 @@ class Judge:
         self.at += 1
         if self.at > len(self.raw) - 1:
             left = self.raw[-1] if self.at == len(self.raw) else ""
-            raise Flaw(self.at, "form", "the last line has no LF at its end" if left else f"the report ends, and {wanted} is missing")
+            why = "the last line has no LF at its end" if left else f"the report ends, and {wanted} is missing"
+            raise Flaw(self.at, "form", why)
         return self.raw[self.at - 1].split(" ")
 
     def match(self, form, fields, wanted):
@@ -174,8 +177,8 @@ class Judge:
                 raise line.flaw("tickets", f"a switch has one ticket, and {told['ticket']} ends a run of {some(run)}")
             return
         if (run[0], run[-1]) != (told["first"], told["last"]):
-            raise line.flaw("tickets", f"the run of this call is {some(run)}; it begins at {run[0]} and ends at {run[-1]}, and the line "
-                                       f"says {told['first']} and {told['last']}")
+            raise line.flaw("tickets", f"the run of this call is {some(run)}; it begins at {run[0]} and ends at {run[-1]}, and the "
+                                       f"line says {told['first']} and {told['last']}")
         commit = told.get("commit")
         if commit is not None and (commit not in run[1:] or commit == run[-1]):
             raise line.flaw("tickets", f"the commit {commit} isn't among the tickets of the run between its first and its last")
@@ -187,7 +190,8 @@ class Judge:
         far = self.network.distance(line.told["start"], line.told["to"])
         self.moves[line.actor].append(line)
         if line.told["w"] != far:
-            raise line.flaw("weight", f"the distance from {line.told['start']} to {line.told['to']} is {far}, and the line says {line.told['w']}")
+            way = f"from {line.told['start']} to {line.told['to']}"
+            raise line.flaw("weight", f"the distance {way} is {far}, and the line says {line.told['w']}")
 
     def test_find(self, line):
         told, sub = line.told, line.call.sub
@@ -207,15 +211,15 @@ class Judge:
             passage = made[-1].told["w"] if confirm > told["last"] else 0
         most = self.plan.stretch * far + 2 * passage
         if told["w"] > most:
-            raise line.flaw("weight", f"it weighs {told['w']}, and may weigh {most}: {self.plan.stretch} times the distance {far}, and twice "
-                                      f"the open passage {passage}; no move of subscriber {sub} met it")
+            raise line.flaw("weight", f"it weighs {told['w']}, and may weigh {most}: {self.plan.stretch} times the distance {far}, and "
+                                      f"twice the open passage {passage}; no move of subscriber {sub} met it")
 
     def test_place(self, line, made):
         told, sub = line.told, line.call.sub
         node = made[-1].told["to"] if made else self.said.homes[sub]
         if (told["node"], told["q"]) != (node, len(made)):
-            raise line.flaw("place", f"at ticket {told['last']} subscriber {sub} stands at {node} with {len(made)} moves committed, and the "
-                                     f"line says {told['node']} and {told['q']}")
+            raise line.flaw("place", f"at ticket {told['last']} subscriber {sub} stands at {node} with {len(made)} moves committed, and "
+                                     f"the line says {told['node']} and {told['q']}")
         before = [switch for switch in self.switches[sub] if switch.told["ticket"] < told["last"]]
         off = bool(before) and before[-1].call.word == "off"
         if off != (told["word"] == "off"):
@@ -226,7 +230,8 @@ class Judge:
         callers = {line.actor for line in self.lines}
         strange = sorted(set(self.tickets) - callers)
         if strange:
-            raise Flaw(self.first_order, "tickets", f"actor {strange[0]} has no call, and has the tickets {some(self.tickets[strange[0]])}")
+            tickets = some(self.tickets[strange[0]])
+            raise Flaw(self.first_order, "tickets", f"actor {strange[0]} has no call, and has the tickets {tickets}")
 
 
 def cut_at_report(text):
