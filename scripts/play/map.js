@@ -1,0 +1,319 @@
+// The network as a picture, and what stands in it.
+
+const SVG = "http://www.w3.org/2000/svg";
+const FEW_NODES = 40; // with all of their names
+const FEW_EDGES = 40; // with their weights
+const SHORT = 90; // too short for a weight
+const LAYERS = ["shades", "passages", "edges", "trail", "ways", "nodes", "rings", "tokens", "labels", "words"];
+
+function shape(parent, name, attributes = {}) {
+  const made = document.createElementNS(SVG, name);
+  for (const [key, value] of Object.entries(attributes)) made.setAttribute(key, value);
+  parent.append(made);
+  return made;
+}
+
+/** Changes a text only where it is another one. */
+function say(element, text) {
+  if (element.textContent !== text) element.textContent = text;
+}
+
+/** The colour of a subscriber. Clusters have more colours than these eight. */
+function colourOf(number) {
+  return `var(--colour-${number % 8})`;
+}
+
+/** How a place beside the middle of a way is reached, so far to its left (to its right where that is negative). */
+function beside(from, to, aside) {
+  const [across, down] = [to.x - from.x, to.y - from.y];
+  const length = Math.hypot(across, down) || 1;
+  return { x: (from.x + to.x) / 2 - (down / length) * aside, y: (from.y + to.y) / 2 + (across / length) * aside };
+}
+
+/** A bent arrow between two places, as the text of a path; its head stops short of the place by a gap. */
+function arrow(from, to, bend, gap) {
+  const length = Math.hypot(to.x - from.x, to.y - from.y) || 1;
+  const head = Math.min(9, length / 5);
+  const middle = beside(from, to, Math.min(bend, length / 2));
+  const back = Math.hypot(to.x - middle.x, to.y - middle.y) || 1;
+  const [u, v] = [(to.x - middle.x) / back, (to.y - middle.y) / back];
+  const short = Math.min(gap, length / 3);
+  const tip = { x: to.x - u * short, y: to.y - v * short };
+  const point = ({ x, y }) => `${x.toFixed(1)} ${y.toFixed(1)}`;
+  const wing = (side) => point({ x: tip.x - head * (u + (side * v) / 2), y: tip.y - head * (v - (side * u) / 2) });
+  return `M${point(from)}Q${point(middle)} ${point(tip)}M${wing(1)}L${point(tip)}L${wing(-1)}`;
+}
+
+/** As many shapes of one kind as are needed at a moment, each updated where its item is another; the others are hidden. */
+class Pool {
+  constructor(layer, make) {
+    this.layer = layer;
+    this.make = make;
+    this.shapes = [];
+  }
+
+  show(items, update) {
+    while (this.shapes.length < items.length) this.shapes.push(this.make(this.layer));
+    this.shapes.forEach((one, at) => {
+      const hidden = at >= items.length;
+      if (one.hidden !== hidden) one.style.display = (one.hidden = hidden) ? "none" : "";
+      const key = hidden ? one.key : JSON.stringify(items[at]);
+      if (one.key === key) return;
+      one.key = key;
+      update(one, items[at], at);
+    });
+  }
+}
+
+class NetworkMap {
+  constructor(svg, replay, pointed) {
+    this.replay = replay;
+    this.places = replay.data.map.nodes;
+    svg.setAttribute("viewBox", `0 0 ${replay.data.map.width} ${replay.data.map.height}`);
+    this.radius = this.places.length > 300 ? 4 : this.places.length > FEW_NODES ? 5.5 : 9;
+    this.layers = {};
+    for (const name of LAYERS) this.layers[name] = shape(svg, "g", { class: name });
+    this.drawEdges();
+    this.drawNodes();
+    this.paths = {};
+    for (const [layer, kinds] of [["trail", ["gone", "coming"]], ["ways", ["miss", "hit", "hop"]], ["passages", ["passage"]]]) {
+      for (const kind of kinds) this.paths[kind] = shape(this.layers[layer], "path", { class: kind });
+    }
+    this.ring = shape(this.layers.rings, "circle", { class: "visited", r: this.radius + 6 });
+    this.callout = this.makeCallout();
+    this.badges = new Pool(this.layers.tokens, (layer) => shape(layer, "text", { class: "badge", "text-anchor": "middle" }));
+    this.others = new Pool(this.layers.tokens, (layer) => shape(layer, "circle", { class: "other", r: 4 }));
+    this.steps = new Pool(this.layers.words, (layer) => shape(layer, "text", { class: "step", "text-anchor": "middle" }));
+    this.weights = new Pool(this.layers.words, (layer) => shape(layer, "text", { class: "passage-weight", "text-anchor": "middle" }));
+    this.listen(svg, pointed);
+    this.level = null;
+  }
+
+  drawEdges() {
+    const { edges } = this.replay.data.map;
+    for (const [a, b, weight] of edges) {
+      const [one, other] = [this.places[a], this.places[b]];
+      shape(this.layers.edges, "line", { x1: one.x, y1: one.y, x2: other.x, y2: other.y });
+      const short = Math.hypot(one.x - other.x, one.y - other.y) < SHORT;
+      if (edges.length > FEW_EDGES || short) continue;
+      const at = { x: (one.x + other.x) / 2, y: (one.y + other.y) / 2 + 4, class: "edge-weight", "text-anchor": "middle" };
+      shape(this.layers.edges, "text", at).textContent = weight;
+    }
+  }
+
+  drawNodes() {
+    this.dots = this.places.map(({ x, y }, node) => {
+      const dot = shape(this.layers.nodes, "circle", { cx: x, cy: y, r: this.radius, class: "node" });
+      dot.dataset.node = node;
+      return dot;
+    });
+    this.names = this.places.map(({ x, y }, node) => {
+      const label = shape(this.layers.labels, "text", { x, y: y - this.radius - 6, "text-anchor": "middle" });
+      label.textContent = this.called(node);
+      return label;
+    });
+  }
+
+  makeCallout() {
+    const group = shape(this.layers.words, "g", { class: "callout" });
+    return { group, box: shape(group, "rect", { rx: 6, height: 24 }), text: shape(group, "text", { y: 17, x: 8 }) };
+  }
+
+  /** A node under the pointer, or a click on one, is told. */
+  listen(svg, pointed) {
+    const nodeOf = (event) => event.target.dataset?.node;
+    svg.addEventListener("pointerover", (event) => pointed(nodeOf(event), false));
+    svg.addEventListener("pointerleave", () => pointed(undefined, false));
+    svg.addEventListener("click", (event) => pointed(nodeOf(event), true));
+  }
+
+  called(node) {
+    const { name } = this.places[node];
+    return name ? `${node} ${name}` : `${node}`;
+  }
+
+  /** The clusters of a level as shades, or none. */
+  showLevel(level) {
+    this.level = level;
+    this.layers.shades.replaceChildren();
+    if (level === null) return;
+    this.replay.data.levels[level].clusters.forEach((cluster, number) => {
+      const shade = shape(this.layers.shades, "g", { class: "cluster" });
+      const stroke = `var(--colour-${cluster.colour})`;
+      const width = Math.max(this.radius * 2, this.radius * 5 - 8 * cluster.phase);
+      shape(shade, "title").textContent = `cluster ${number}, led by ${cluster.leader}`;
+      for (const [a, b] of cluster.tree) {
+        const [one, other] = [this.places[a], this.places[b]];
+        shape(shade, "line", { x1: one.x, y1: one.y, x2: other.x, y2: other.y, stroke, "stroke-width": width });
+      }
+      for (const node of cluster.members) {
+        shape(shade, "circle", { cx: this.places[node].x, cy: this.places[node].y, r: width / 2, fill: stroke });
+      }
+    });
+    for (const { leader, colour } of this.replay.data.levels[level].clusters) {
+      const { x, y } = this.places[leader];
+      shape(this.layers.shades, "circle", { cx: x, cy: y, r: this.radius + 4, class: "leader", stroke: `var(--colour-${colour})` });
+    }
+  }
+
+  /** Draws a moment: the cells of one subscriber, where all stand, and the visit. */
+  show(moment, subscriber, pointed) {
+    const marks = this.marksOf(moment, subscriber);
+    this.showMarks(marks, moment, subscriber);
+    this.showPassages(moment);
+    this.showAddresses(moment, subscriber);
+    this.showOthers(moment, subscriber);
+    this.showVisit(moment);
+    this.showNames(moment, subscriber, pointed);
+  }
+
+  /** The marks of a subscriber, by node, where they aren't Empty. */
+  marksOf(moment, subscriber) {
+    const marks = new Map();
+    for (const cell of this.replay.cellsOf[subscriber]) {
+      const [kind, , node] = this.replay.data.cells[cell];
+      const word = kind === "presence" ? moment.wordOf(cell, this.replay) : null;
+      if (word && word[0] !== "Empty") marks.set(node, word);
+    }
+    return marks;
+  }
+
+  showMarks(marks, moment, subscriber) {
+    const trail = { Gone: [], Coming: [] };
+    this.dots.forEach((dot, node) => {
+      const [kind, , other] = marks.get(node) ?? ["Empty"];
+      const state = kind === "Empty" ? kind : `${kind} of ${subscriber}`;
+      if (dot.state !== state) {
+        dot.state = state;
+        dot.setAttribute("class", `node ${kind}`);
+        if (kind !== "Empty") dot.style.setProperty("--own", colourOf(subscriber));
+      }
+      if (trail[kind]) trail[kind].push(arrow(this.places[node], this.places[other], 10, this.radius + 4));
+    });
+    this.draw("gone", trail.Gone.join(""), subscriber);
+    this.draw("coming", trail.Coming.join(""), subscriber);
+  }
+
+  draw(kind, path, subscriber) {
+    const drawn = this.paths[kind];
+    if (drawn.path !== path) drawn.setAttribute("d", (drawn.path = path));
+    if (subscriber !== undefined) drawn.style.setProperty("--own", colourOf(subscriber));
+  }
+
+  showPassages(moment) {
+    const open = moment.subscribers.map(({ passage }) => passage).filter(Boolean);
+    this.draw("passage", open.map(({ start, to }) => arrow(this.places[start], this.places[to], 0, this.radius + 8)).join(""));
+    this.weights.show(open, (text, { start, to, weight }) => {
+      this.put(text, beside(this.places[start], this.places[to], 34));
+      say(text, `passage ${weight}`);
+    });
+  }
+
+  put(text, { x, y }) {
+    text.setAttribute("x", x.toFixed(1));
+    text.setAttribute("y", (y + 4).toFixed(1));
+  }
+
+  /** At each leader the levels that have an address of the subscriber there. */
+  showAddresses(moment, subscriber) {
+    const levels = new Map();
+    for (const cell of this.replay.cellsOf[subscriber]) {
+      const [kind, , place] = this.replay.data.cells[cell];
+      if (kind !== "entry" || moment.wordOf(cell, this.replay)?.[0] !== "address") continue;
+      const leader = this.replay.leader(...place);
+      levels.set(leader, [...(levels.get(leader) ?? []), place[0]]);
+    }
+    const items = [...levels].map(([node, some]) => [node, ranges(some), subscriber]);
+    this.badges.show(items, (badge, [node, some]) => {
+      badge.setAttribute("x", this.places[node].x);
+      badge.setAttribute("y", this.places[node].y + this.radius + 15);
+      badge.style.setProperty("--own", colourOf(subscriber));
+      say(badge, `@ ${some}`);
+    });
+  }
+
+  /** Where the other subscribers stand, as dots round the node. */
+  showOthers(moment, subscriber) {
+    const standing = moment.subscribers.map(({ node, off }, actor) => ({ node, off, actor }));
+    const others = standing.filter(({ actor }) => actor !== subscriber);
+    this.others.show(others, (dot, { actor, node, off }) => {
+      const turn = 2.4 * actor;
+      dot.setAttribute("cx", this.places[node].x + (this.radius + 5) * Math.cos(turn));
+      dot.setAttribute("cy", this.places[node].y + (this.radius + 5) * Math.sin(turn));
+      dot.setAttribute("class", off ? "other off" : "other");
+      dot.style.setProperty("--own", colourOf(actor));
+    });
+  }
+
+  /** The visit's node and word, and the way of its find. */
+  showVisit({ ticket }) {
+    const some = ticket !== OPENING;
+    this.ring.style.display = this.callout.group.style.display = some ? "" : "none";
+    const finds = some && this.replay.visits.actor[ticket] >= this.replay.subscribers;
+    const ways = finds ? this.replay.ways(this.replay.visits.call[ticket], ticket) : [];
+    for (const kind of ["miss", "hit", "hop"]) {
+      const own = ways.map((way, at) => ({ ...way, at })).filter((way) => way.kind === kind);
+      this.draw(kind, own.map((way) => this.wayPath(way)).join(""));
+    }
+    this.steps.show(ways, (text, way, at) => this.labelWay(text, way, at));
+    if (!some) return;
+    const { x, y } = this.places[this.replay.nodeOf(this.replay.cell(ticket))];
+    this.ring.setAttribute("cx", x);
+    this.ring.setAttribute("cy", y);
+    this.sayAt(x, y, wordText(this.replay.word(ticket)), finds);
+  }
+
+  /** Ways of a find are bent by their turn, so that one there and back is two. */
+  wayPath({ from, to, at }) {
+    return arrow(this.places[from], this.places[to], 24 + 6 * (at % 4), this.radius + 5);
+  }
+
+  labelWay(text, { from, to, kind }, at) {
+    const [one, other] = [this.places[from], this.places[to]];
+    const bend = Math.min(24 + 6 * (at % 4), Math.hypot(other.x - one.x, other.y - one.y) / 2);
+    this.put(text, beside(one, other, bend / 2));
+    text.setAttribute("class", `step ${kind}`);
+    say(text, `${at + 1}`);
+  }
+
+  /** A box with the visit's word beside its node, inside the picture. */
+  sayAt(x, y, words, finds) {
+    const { group, box, text } = this.callout;
+    const width = 16 + 7.6 * words.length;
+    const { width: most, height } = this.replay.data.map;
+    const left = Math.min(Math.max(x - width / 2, 4), most - width - 4);
+    const top = y + this.radius + 20 + 24 < height ? y + this.radius + 20 : y - this.radius - 50;
+    group.setAttribute("transform", `translate(${left.toFixed(1)} ${top.toFixed(1)})`);
+    group.setAttribute("class", finds ? "callout look" : "callout put");
+    box.setAttribute("width", width.toFixed(1));
+    say(text, words);
+  }
+
+  /** All names where nodes are few; else those of the visit, of where the subscriber stands, of ends and of leaders. */
+  showNames(moment, subscriber, pointed) {
+    const few = this.places.length <= FEW_NODES;
+    const shown = new Set([moment.subscribers[subscriber].node, pointed]);
+    if (!few && moment.ticket !== OPENING) this.endsOf(moment.ticket).forEach((node) => shown.add(node));
+    if (!few && this.level !== null) this.replay.data.levels[this.level].clusters.forEach(({ leader }) => shown.add(leader));
+    this.names.forEach((label, node) => {
+      const hidden = !few && !shown.has(node);
+      if (label.hidden !== hidden) label.style.display = (label.hidden = hidden) ? "none" : "";
+    });
+  }
+
+  endsOf(ticket) {
+    const { start, to, at } = this.replay.call(ticket);
+    return [this.replay.nodeOf(this.replay.cell(ticket)), start, to, at].filter((node) => node !== undefined);
+  }
+}
+
+/** Ascending numbers with runs as ranges: 0-3, 5. */
+function ranges(numbers) {
+  const runs = [];
+  for (const number of [...new Set(numbers)].sort((a, b) => a - b)) {
+    const run = runs.at(-1);
+    if (run && run[1] + 1 === number) run[1] = number;
+    else runs.push([number, number]);
+  }
+  return runs.map(([first, last]) => (first === last ? `${first}` : `${first}-${last}`)).join(", ");
+}
