@@ -1,7 +1,7 @@
 -- The codes that C is told, and what a call leaves in the place of its answer: with the code 0 the
 -- answer, with any other what was there before. Key laws: `tell`, `done` and `TrackHandle::fill`,
 -- by their clauses.
-use Rattle.std.specs.Prelude.{◌≡◌, ◌⊎◌, ◌×◌, ℕ, Result, Ok, Err}
+use Rattle.std.specs.Prelude.{◌≡◌, ◌⊎◌, ℕ, Result, Ok, Err}
 use Rattle.track_c.specs.declared.fault.Fault.{Fault}
 use Rattle.track_c.specs.declared.fault.Fault.TheVariants.{NoMemory, EmptyHandle, OtherKind, FullHandle, BadNetwork, NoNode, NoSubscriber, SamePlace, UnderWay, IsOff, NumbersSpent, Already, AtRest, Ended, Looking, PastEnd, BadWord, BadFields, NoRoom, NoState, OtherPlan, BadState}
 

@@ -2,8 +2,8 @@
 -- fault, its cause and, where a node is apart, the node.
 -- Key laws: `track_plan_read`, `track_plan_share`, `track_plan_sizes` and `track_plan_start`, by
 -- their clauses.
-use Rattle.std.specs.Prelude.{◌≡◌, ◌⊎◌, ℕ, List, length, nat_lt, nat_le, if◌then◌else◌, slice_index, Result, Ok, Err}
-use Rattle.net_graph.specs.Network.{IsGraphOf, Network}
+use Rattle.std.specs.Prelude.{◌≡◌, ◌<◌, ◌≤◌, ℕ, List, length, nat_le, if◌then◌else◌, slice_index, Result, Ok, Err}
+use Rattle.net_graph.specs.Network.{IsGraphOf, Network as Graph}
 use Rattle.net_reader.specs.Input.{Contents, IsInput}
 use Rattle.net_reader.specs.Reading.{most_bytes}
 use Rattle.net_reader.specs.declared.fault.InputCause.{InputCause}
@@ -12,9 +12,10 @@ use Rattle.net_reader.specs.declared.fault.InputFault.{InputFault}
 use Rattle.region_plan.specs.Plan.{levels_of, nodes_of}
 use Rattle.region_plan.specs.Regions.{plan_of}
 use Rattle.track_c.specs.Faults.{Answer, code_of}
-use Rattle.track_c.specs.Held.{Held, PlanHeld, a_finder, a_mover, a_plan, nothing, seen_object}
+use Rattle.track_c.specs.Held.{Held, PlanHeld, a_finder, a_mover, a_plan, nothing, seen_network, seen_object}
 use Rattle.track_c.specs.declared.fault.Fault.{Fault}
 use Rattle.track_c.specs.declared.fault.Fault.TheVariants.{BadNetwork, EmptyHandle, FullHandle, NoMemory, NoSubscriber}
+use Rattle.track_c.specs.declared.object.Network.{Network}
 use Rattle.track_c.specs.declared.object.Object.{Object}
 use Rattle.track_c.specs.declared.plans.Unmade.{Unmade}
 use Rattle.track_c.specs.declared.plans.Unmade.TheVariants as unmade
@@ -56,9 +57,9 @@ too_long = record { cause = 9; line = 0; node = 0 }
 pub record IsPlanOfText (text : List ℕ) (held : PlanHeld) : Type 0 where
   pub contents : Contents
   pub input : IsInput text (Ok contents)
-  pub network : Network
-  pub graph : IsGraphOf contents.nodes contents.edges network
-  pub plan : held.plan ≡ plan_of network contents.k
+  pub graph : Graph
+  pub of : IsGraphOf contents.nodes contents.edges graph
+  pub plan : held.plan ≡ plan_of graph contents.k
   pub starts : held.starts ≡ contents.homes
 
 -- a text has this fault
@@ -68,9 +69,9 @@ pub record HasFault (text : List ℕ) (refusal : TrackRefusal) : Type 0 where
   pub told : refusal ≡ fault_told fault
 
 -- why a text is refused
-abbrev pub IsTextRefusal : List ℕ → TrackRefusal → Type 0
-IsTextRefusal text refusal =
-    if nat_lt most_bytes (length text) then refusal ≡ too_long else HasFault text refusal
+pub record IsTextRefusal (text : List ℕ) (refusal : TrackRefusal) : Type 0 where
+  pub long : most_bytes < length text → refusal ≡ too_long
+  pub wrong : length text ≤ most_bytes → HasFault text refusal
 
 -- what a call makes of a network: its plan; or a refusal, told beside; or nothing, for want of
 -- memory
@@ -122,9 +123,13 @@ IsUnmade IsRefusal unmade.NoMemory = Unit {0}
 IsUnmade IsRefusal (unmade.Refused refusal) = IsRefusal refusal
 
 -- what is to go into a handle, and the refusal where nothing is
-abbrev pub IsAlmostMade : (PlanHeld → Type 0) → (TrackRefusal → Type 0) → Result Object Fault
-    → TrackRefusal → TrackRefusal → Type 0
-IsAlmostMade IsPlan IsRefusal (Ok object) before after =
-    (held : PlanHeld) × (IsPlan held) × (seen_object object ≡ a_plan held) × (after ≡ before)
-IsAlmostMade IsPlan IsRefusal (Err fault) before after =
-    ((fault ≡ BadNetwork) × IsRefusal after) ⊎ ((fault ≡ NoMemory) × (after ≡ before))
+abbrev pub IsAlmostMade : Result Network Unmade → Result Object Fault → TrackRefusal → TrackRefusal
+    → Type 0
+IsAlmostMade (Ok network) (Ok object) before after =
+    (seen_object object ≡ a_plan (seen_network network)) × (after ≡ before)
+IsAlmostMade (Ok network) (Err fault) before after = (fault ≡ NoMemory) × (after ≡ before)
+IsAlmostMade (Err unmade.NoMemory) (Ok object) before after = ⊥
+IsAlmostMade (Err unmade.NoMemory) (Err fault) before after = (fault ≡ NoMemory) × (after ≡ before)
+IsAlmostMade (Err (unmade.Refused refusal)) (Ok object) before after = ⊥
+IsAlmostMade (Err (unmade.Refused refusal)) (Err fault) before after =
+    (fault ≡ BadNetwork) × (after ≡ refusal)

@@ -12,7 +12,7 @@ use region_plan::Plan;
 /// and level and cluster are 0; of kind 1 it is its entry at a cluster of a level, which the node
 /// leads.
 #[repr(C)]
-#[derive(Clone, Copy, PartialEq, Eq, Debug)]
+#[derive(Clone, Copy)]
 pub struct TrackCell {
     pub kind: u32,
     pub node: u32,
@@ -23,7 +23,7 @@ pub struct TrackCell {
 
 /// A put: the cell, and the word that it holds from now on.
 #[repr(C)]
-#[derive(Clone, Copy, PartialEq, Eq, Debug)]
+#[derive(Clone, Copy)]
 pub struct TrackPut {
     pub cell: TrackCell,
     pub word: u64,
@@ -34,7 +34,7 @@ pub struct TrackPut {
 /// a mark was empty at the node (why 1), no entry was found (2), or the chase was too long (3).
 /// Where the find climbed, `climbed` is 1 and the level is the one whose entry it found.
 #[repr(C)]
-#[derive(Clone, Copy, PartialEq, Eq, Debug)]
+#[derive(Clone, Copy)]
 pub struct TrackAnswer {
     pub kind: u32,
     pub why: u32,

@@ -6,7 +6,7 @@ ghost use Rattle.track_c.specs.Faults.{code_of};
 pub const DONE: u32 = 0;
 
 /// Why a call is refused.
-#[derive(Clone, Copy, PartialEq, Eq, Debug)]
+#[derive(Clone, Copy)]
 pub enum Fault {
     /// There was no memory; all is as before.
     NoMemory,

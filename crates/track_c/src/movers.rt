@@ -1,5 +1,5 @@
 //! Moves and switches, put by put.
-ghost use Rattle.std.specs.Prelude.{◌≡◌, ◌×◌, Err, MatchResult, Ok};
+ghost use Rattle.std.specs.Prelude.{◌≡◌, Err, MatchResult, Ok};
 ghost use Rattle.track_c.specs.Faults.{Tells, TellsWithMemory, and_then};
 ghost use Rattle.track_c.specs.Handles.{held};
 ghost use Rattle.track_c.specs.Held.{IsMade, a_mover, into, mover_in, plan_in, seen_mover, seen_object};
@@ -18,7 +18,7 @@ use std::alloc::Global;
 /// Where a mover stands, by the puts made: its subscriber, the node, the number of its moves, and 1
 /// where it is off.
 #[repr(C)]
-#[derive(Clone, Copy, PartialEq, Eq, Debug)]
+#[derive(Clone, Copy)]
 pub struct TrackPlace {
     pub sub: u32,
     pub node: u32,

@@ -1,12 +1,12 @@
 //! Plans, of the text of a network.
-ghost use Rattle.std.specs.Prelude.{◌≡◌, ◌×◌, ◌⊎◌, ◌≤◌, Err, IfOk, List, MatchResult, Ok, length, ℕ};
+ghost use Rattle.std.specs.Prelude.{◌≡◌, ◌⊎◌, ◌≤◌, Err, IfOk, List, MatchResult, Ok, length, ℕ};
 ghost use Rattle.std.specs.Arc.{arc_value};
 ghost use Rattle.net_reader.specs.Input.{IsInput};
 ghost use Rattle.net_reader.specs.Reading.{IsReadWithGraph, most_bytes};
 ghost use Rattle.region_plan.specs.Regions.{plan_of};
 ghost use Rattle.track_c.specs.Faults.{Tells, TellsWithMemory, and_then, code_of};
 ghost use Rattle.track_c.specs.Handles.{held};
-ghost use Rattle.track_c.specs.Held.{IsMade, PlanHeld, a_plan, into, nothing, plan_in, seen_network, seen_object};
+ghost use Rattle.track_c.specs.Held.{IsMade, a_plan, into, nothing, plan_in, seen_network, seen_object};
 ghost use Rattle.track_c.specs.Plans.{IsPlanOfText, IsTextRefusal, IsUnmade, Makes, cause_told, fault_told, closing_code, same_plan, sizes_told, start_told, IsAlmostMade, WasFull};
 ghost use Rattle.track_c.specs.declared.fault.Fault.TheVariants.{NoMemory};
 
@@ -24,7 +24,7 @@ use std::sync::Arc;
 /// Why a network is refused: the cause, the line of the text, and the node that is apart, 0 where
 /// none is.
 #[repr(C)]
-#[derive(Clone, Copy, PartialEq, Eq, Debug)]
+#[derive(Clone, Copy)]
 pub struct TrackRefusal {
     pub cause: u32,
     pub line: u32,
@@ -40,7 +40,7 @@ const TOO_LONG: TrackRefusal = TrackRefusal {
 
 /// How large a plan is: nodes, levels, its trade-off, and how many subscribers its text says.
 #[repr(C)]
-#[derive(Clone, Copy, PartialEq, Eq, Debug)]
+#[derive(Clone, Copy)]
 pub struct TrackSizes {
     pub nodes: u32,
     pub levels: u32,
@@ -130,9 +130,7 @@ fn plan_or_refusal(
     made: Result<Network, Unmade>,
     refusal: &mut TrackRefusal,
 ) -> Result<Object, Fault>
-    ensures { (IsPlan : PlanHeld → Type 0) (IsRefusal : TrackRefusal → Type 0)
-        → MatchResult made (λ network. IsPlan (seen_network network)) (IsUnmade IsRefusal)
-        → IsAlmostMade IsPlan IsRefusal result refusal.old refusal.new }
+    ensures { IsAlmostMade made result refusal.old refusal.new }
 {
     match made {
         Ok(network) => match Arc::new(alloc, network) {

@@ -12,7 +12,7 @@ use entry_word::{Address, PresenceMark, pack_address, pack_mark, unpack_address,
 /// (nothing) or 1 (an address: the node, and the number of the move there). A part that a kind
 /// doesn't use is 0.
 #[repr(C)]
-#[derive(Clone, Copy, PartialEq, Eq, Debug)]
+#[derive(Clone, Copy)]
 pub struct TrackFields {
     pub kind: u32,
     pub number: u32,
