@@ -1,2 +1,3 @@
 mod Boxed
 mod Pairs
+mod Reading

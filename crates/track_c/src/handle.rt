@@ -1,9 +1,10 @@
 //! Handles, which C keeps: a box behind a pointer that names no type.
-ghost use Rattle.std.specs.Prelude.{◌≡◌, Err, Ok, true, None, Some, Option, MatchResult, option_map};
+ghost use Rattle.std.specs.Prelude.{◌≡◌, Err, Ok, true, None, Some, Option, option_map};
 ghost use Rattle.std.specs.Option.{is_some};
+ghost use Rattle.track_c.specs.declared.fault.Fault.{Fault};
 ghost use Rattle.track_c.specs.declared.object.Object.{Object};
-ghost use Rattle.track_c.specs.Faults.{Answer, TellsWithMemory, and_then};
-ghost use Rattle.track_c.specs.Held.{Held, IsMade, into, seen};
+ghost use Rattle.track_c.specs.Faults.{Answer, TellsWithMemory, code_of};
+ghost use Rattle.track_c.specs.Held.{Held, IsMade, into, nothing, seen};
 ghost use Rattle.track_c.specs.Owned.{held_coded, owned_at};
 
 mod parts;
@@ -116,7 +117,9 @@ impl TrackHandle {
 
     // It holds what was made, in new memory; else it is as before.
     pub fn fill(&mut self, alloc: Global, made: Result<Object, Fault>) -> u32
-        ensures { (answer : Answer Held) → IsMade answer made → TellsWithMemory
+        ensures refused { (fault : Fault) → made ≡ Err fault → seen self.old.sealed.held ≡ nothing
+            → (result ≡ code_of fault) × (seen self.new.sealed.held ≡ nothing) }
+        ensures filled { (answer : Answer Held) → IsMade answer made → TellsWithMemory
             (into (seen self.old.sealed.held) answer) result
             (seen self.old.sealed.held) (seen self.new.sealed.held) }
     {

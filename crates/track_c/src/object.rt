@@ -1,5 +1,5 @@
 //! What a handle can hold.
-ghost use Rattle.std.specs.Prelude.{◌≡◌};
+ghost use Rattle.std.specs.Prelude.{◌≡◌, ◌≤◌, length};
 ghost use Rattle.std.specs.Arc.{arc_value};
 ghost use Rattle.handset.specs.Condition.{GoesWith};
 ghost use Rattle.walk.specs.Walks.{IsWalkOver};
@@ -19,6 +19,7 @@ pub struct Network {
     pub distances: Distances,
     pub starts: Vec<u32>,
     pub ghost belongs: { plan.distances ≡ distances },
+    pub ghost few: { length starts.items ≤ 64 },
 }
 
 /// A find under way, over the plan that it was made for.

@@ -90,6 +90,7 @@ fn read_graph(alloc: Global, text: &[u8]) -> Result<(Input, Graph), ReadRefusal>
 fn network_of(alloc: Global, graph: &Graph, k: u32, starts: Vec<u32>) -> Result<Network, AllocError>
     requires low { 1 ≤ k }
     requires high { k ≤ 8 }
+    requires few { length starts.items ≤ 64 }
     ensures plan { IfOk result (λ network. network.plan ≡ plan_of graph.now k) }
     ensures starts { IfOk result (λ network. network.starts ≡ starts) }
 {
