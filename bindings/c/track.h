@@ -54,11 +54,7 @@ enum track_code {
     TRACK_PAST_END = 16,     /* there are no more */
     TRACK_BAD_WORD = 17,     /* the cell can't hold this word: nothing packs to it, or it names a node that the
                                 plan hasn't */
-    TRACK_BAD_FIELDS = 18,   /* no word has these fields */
-    TRACK_NO_ROOM = 19,      /* the array is too short */
-    TRACK_NO_STATE = 20,     /* the words aren't those of a state: another version, or not so many */
-    TRACK_OTHER_PLAN = 21,   /* they are a state for a plan of other numbers of nodes and levels */
-    TRACK_BAD_STATE = 22     /* a number among them can't stand there */
+    TRACK_BAD_FIELDS = 18    /* no word has these fields */
 };
 
 /* A plan, a finder or a mover; TRACK_EMPTY before its first use. */

@@ -1,6 +1,6 @@
 -- How the parts of reading a network come together.
-use Rattle.std.proofs.Common.{◌≡◌, ◌⊎◌, ℕ, List, ap, refl, sym, subst, ◌∙◌, Result, Ok, Err}
-use Rattle.std.specs.Prelude.{MatchResult, left, right}
+use Rattle.std.proofs.Common.{◌≡◌, ℕ, ap, refl, sym, subst, ◌∙◌, inl, inr}
+use Rattle.std.specs.Prelude.{MatchResult, Result, Ok, Err}
 use Rattle.track_c.specs.Faults.{Answer, TellsWithMemory, code_of}
 use Rattle.track_c.specs.Held.{Held, IsMade, PlanHeld, into, nothing, seen_network, seen_object}
 use Rattle.track_c.specs.Plans.{IsAlmostMade, IsUnmade, Makes, made, no_memory, refused}
@@ -26,9 +26,9 @@ makes-read : (IsPlan : PlanHeld → Type 0) (IsRefusal : TrackRefusal → Type 0
     → IsAlmostMade read object before after → Fills object code now
     → Makes IsPlan IsRefusal code now before after
 makes-read IsPlan IsRefusal (Ok network) (Ok object) before after code now plan almost fills =
-    elim (fills.filled (Ok (seen_object object)) (left refl)) [
-      | left told ↦ made (seen_network network) plan told.0 (told.1 ∙ almost.0) almost.1
-      | right wanting ↦ no_memory wanting.0 wanting.1 almost.1
+    elim (fills.filled (Ok (seen_object object)) (inl refl)) [
+      | inl told ↦ made (seen_network network) plan told.0 (told.1 ∙ almost.0) almost.1
+      | inr wanting ↦ no_memory wanting.0 wanting.1 almost.1
     ]
 makes-read IsPlan IsRefusal (Ok network) (Err fault) before after code now plan almost fills =
     let told = fills.refused fault refl in

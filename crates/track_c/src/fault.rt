@@ -44,14 +44,6 @@ pub enum Fault {
     BadWord,
     /// No word has these fields.
     BadFields,
-    /// The array is too short.
-    NoRoom,
-    /// The words aren't those of a state.
-    NoState,
-    /// The state is one of a plan of another size.
-    OtherPlan,
-    /// A number of the state can't stand there.
-    BadState,
 }
 
 impl Fault {
@@ -78,10 +70,6 @@ impl Fault {
             Fault::PastEnd => 16,
             Fault::BadWord => 17,
             Fault::BadFields => 18,
-            Fault::NoRoom => 19,
-            Fault::NoState => 20,
-            Fault::OtherPlan => 21,
-            Fault::BadState => 22,
         }
     }
 }
