@@ -42,6 +42,29 @@ static const char *refused[] = {
     0,
 };
 
+static const char *built[] = {
+    "build p 4 2 line | 0",
+    "build p 4 2 line | 4",
+    "sizes p | 0 nodes 4 levels 4 k 2 subs 0",
+    "start p 0 | 7 77",
+    "build r 1 1 none | 0",
+    "sizes r | 0 nodes 1 levels 1 k 1 subs 0",
+    "build q 0 2 none | 5 cause 2 line 0 node 0",
+    "build q 1025 2 line | 5 cause 2 line 0 node 0",
+    "build q 4 0 line | 5 cause 2 line 0 node 0",
+    "build q 4 9 line | 5 cause 2 line 0 node 0",
+    "build q 257 1 line | 5 cause 2 line 0 node 0",
+    "build q 257 2 line | 5 cause 8 line 0 node 4",
+    "build q 4 2 far | 5 cause 4 line 2 node 0",
+    "build q 4 2 light | 5 cause 2 line 2 node 0",
+    "build q 4 2 heavy | 5 cause 2 line 3 node 0",
+    "build q 4 2 parted | 5 cause 8 line 0 node 2",
+    "sizes q | 2",
+    "open p 0 3 | 16 after 5",
+    "find p 0 0 | 0 at 3 number 0 level 2 weight 9",
+    0,
+};
+
 static const char *moves[] = {
     "read p line | 0",
     "open p 0 3 | 16 after 5",
@@ -147,5 +170,5 @@ static const struct {
     const char *name;
     const char **rows;
 } tables[] = {
-    {"plans", plans}, {"refused", refused}, {"moves", moves}, {"finds", finds}, {"words", words},
+    {"plans", plans}, {"refused", refused}, {"built", built}, {"moves", moves}, {"finds", finds}, {"words", words},
 };

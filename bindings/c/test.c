@@ -52,6 +52,26 @@ static const char *text(const char *name) {
     exit(2);
 }
 
+/* Edges by a name, and how many nodes they are for. */
+static const struct {
+    const char *name;
+    size_t count;
+    track_edge edges[4];
+} lists[] = {
+    {"none", 0, {{0, 0, 0}}},
+    {"line", 3, {{0, 1, 1}, {1, 2, 2}, {2, 3, 4}}},
+    {"far", 3, {{0, 1, 1}, {1, 4, 2}, {2, 3, 0}}},
+    {"light", 3, {{0, 1, 1}, {1, 2, 0}, {2, 9, 4}}},
+    {"heavy", 3, {{0, 1, 1048576}, {1, 2, 2}, {2, 3, 1048577}}},
+    {"parted", 2, {{0, 1, 1}, {2, 3, 1}}},
+};
+
+static size_t list(const char *name) {
+    for (size_t i = 0; i < sizeof lists / sizeof *lists; i++)
+        if (!strcmp(lists[i].name, name)) return i;
+    exit(2);
+}
+
 /* What the calls tell, as words. */
 static char told[512];
 
@@ -87,6 +107,12 @@ static bool play_plan(char **w) {
     if (!strcmp(w[0], "read")) {
         track_refusal why = {0, 0, 0};
         uint32_t code = track_plan_read((const uint8_t *)text(w[2]), strlen(text(w[2])), handle(w[1]), &why);
+        tell(code);
+        if (code == TRACK_BAD_NETWORK) snprintf(told, sizeof told, "%u cause %u line %u node %u", code, why.cause, why.line, why.node);
+    } else if (!strcmp(w[0], "build")) {
+        track_refusal why = {0, 0, 0};
+        size_t l = list(w[4]);
+        uint32_t code = track_plan_build(number(w[2]), number(w[3]), lists[l].edges, lists[l].count, handle(w[1]), &why);
         tell(code);
         if (code == TRACK_BAD_NETWORK) snprintf(told, sizeof told, "%u cause %u line %u node %u", code, why.cause, why.line, why.node);
     } else if (!strcmp(w[0], "share")) {

@@ -89,6 +89,12 @@ typedef struct {
     uint32_t nodes, levels, k, subs;
 } track_sizes;
 
+/* An edge of a network: it joins the nodes a and b in both directions. */
+typedef struct {
+    uint32_t a, b;
+    uint64_t weight; /* from 1 to 1,048,576 */
+} track_edge;
+
 /* A cell, and the node at which it lies. As bytes it is a key: it has no padding. */
 enum track_cell_kind {
     TRACK_PRESENCE = 0, /* the presence of sub at node; level and cluster are 0 */
@@ -157,6 +163,15 @@ typedef struct {
  * text make no difference to the plan; track_plan_start tells where the text's subscribers start.
  * TRACK_FULL_HANDLE; TRACK_BAD_NETWORK, and `refusal` says why; TRACK_NO_MEMORY. */
 uint32_t track_plan_read(const uint8_t *text, size_t length, track_handle *plan, track_refusal *refusal);
+
+/* The plan of a network of so many nodes with these edges, into `plan`, within the limits of texts: 1 to 1,024
+ * nodes, k from 1 to 8 (from 2 where there are more than 256 nodes), at most 32,768 edges. Of edges that join
+ * the same nodes the lightest counts, and an edge from a node to itself counts for nothing.
+ * TRACK_FULL_HANDLE; TRACK_BAD_NETWORK, and `refusal` says why, the first of: TRACK_TOO_LARGE with line 0 (nodes or k),
+ * TRACK_TOO_MANY (edges), the first edge with TRACK_UNKNOWN (its nodes) or TRACK_TOO_LARGE (its weight),
+ * TRACK_APART; TRACK_NO_MEMORY. */
+uint32_t track_plan_build(uint32_t nodes, uint32_t k, const track_edge *edges, size_t count, track_handle *plan,
+                          track_refusal *refusal);
 
 /* One more handle to the same plan, into `other`.
  * TRACK_FULL_HANDLE; TRACK_EMPTY_HANDLE, TRACK_OTHER_KIND of `plan`; TRACK_NO_MEMORY. */

@@ -1,18 +1,14 @@
 -- The machine value of a struct of two fields: what it owns is what its fields own.
-use Rattle.std.proofs.Common.{◌≡◌, List, [], ◌∷◌, ◌++◌, refl, subst}
+use Rattle.std.proofs.Common.{List, [], ◌∷◌, refl}
 use mathlib.Core.Bool.{Bool, true, false, ◌&&◌}
 use lib.Dec.{T}
 use seplogic.Ra.Ura.{Ura}
-use mir.Syntax.{impl, tnil, dnil}
-use mir.Val.{Val, vstruct, vcons, vnil, of_list}
+use mir.Val.{Val, vstruct, vcons, vnil}
 use types.Logic.{Logic}
-use types.Kit.{Item, Goal, Seq, Step, step, ‵, ◌$◌, move, drop, fsplit, fsplit3, fjoin, fjoin3, fpick, fpack, rewrite, feq_i, feq_l}
+use types.Kit.{Item, Goal, Step, step, ‵, ◌$◌, move, fjoin, fjoin3, fpack, feq_i}
 use denote.RattleType.{RattleType, Valss}
-use denote.Laws.{Is, Lawful, Typed, shows}
-use denote.Steps.{nothing, peeks}
-use denote.Param.{layout}
+use denote.Steps.{nothing}
 use denote.Struct.Struct.{Struct, within}
-use Rattle.core.proofs.cell.Inside.{Good, one}
 
 abbrev pub both : Val → Val → Val
 both v w = vstruct (vcons v (vcons w vnil))

@@ -5,7 +5,6 @@ use Rattle.track_c.specs.Faults.{Answer, TellsWithMemory, code_of}
 use Rattle.track_c.specs.Held.{Held, IsMade, PlanHeld, into, nothing, seen_network, seen_object}
 use Rattle.track_c.specs.Plans.{IsAlmostMade, IsUnmade, Makes, made, no_memory, refused}
 use Rattle.track_c.specs.declared.fault.Fault.{Fault}
-use Rattle.track_c.specs.declared.fault.Fault.TheVariants.{BadNetwork, NoMemory}
 use Rattle.track_c.specs.declared.object.Network.{Network}
 use Rattle.track_c.specs.declared.object.Object.{Object}
 use Rattle.track_c.specs.declared.plans.TrackRefusal.{TrackRefusal}

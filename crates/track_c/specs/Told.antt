@@ -6,7 +6,6 @@ use Rattle.entry_word.specs.declared.visit.Key.TheVariants.{Presence, Entry}
 use Rattle.directory.specs.Keys.{key_node}
 use Rattle.directory.specs.declared.answers.Found.{Found}
 use Rattle.directory.specs.declared.answers.Found.TheVariants.{At, Off, Again}
-use Rattle.directory.specs.declared.answers.Why.{Why}
 use Rattle.directory.specs.declared.answers.Why.TheVariants.{Empty, NoEntry, Chased}
 use Rattle.region_plan.specs.Plan.{PlanData}
 use Rattle.region_plan.specs.Settings.{setting_of}

@@ -1,5 +1,5 @@
 //! Finds, look by look.
-ghost use Rattle.std.specs.Prelude.{◌≡◌, Err, IsTrue, MatchResult, Ok};
+ghost use Rattle.std.specs.Prelude.{◌≡◌, Err, MatchResult, Ok};
 ghost use Rattle.entry_word.specs.Addresses.{address_of};
 ghost use Rattle.entry_word.specs.Marks.{mark_of};
 ghost use Rattle.track_c.specs.Faults.{Tells, TellsWithMemory, and_then};

@@ -3,6 +3,7 @@
 #![tactic(auto)]
 
 mod cells;
+mod edges;
 mod fault;
 mod finders;
 mod handle;

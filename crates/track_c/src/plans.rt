@@ -1,13 +1,12 @@
 //! Plans, of the text of a network.
-ghost use Rattle.std.specs.Prelude.{◌≡◌, ◌⊎◌, ◌≤◌, Err, IfOk, List, MatchResult, Ok, length, ℕ};
+ghost use Rattle.std.specs.Prelude.{◌≡◌, ◌⊎◌, ◌≤◌, Err, IfOk, MatchResult, Ok, length};
 ghost use Rattle.std.specs.Arc.{arc_value};
-ghost use Rattle.net_reader.specs.Input.{IsInput};
 ghost use Rattle.net_reader.specs.Reading.{IsReadWithGraph, most_bytes};
 ghost use Rattle.region_plan.specs.Regions.{plan_of};
-ghost use Rattle.track_c.specs.Faults.{Tells, TellsWithMemory, and_then, code_of};
+ghost use Rattle.track_c.specs.Faults.{Tells, TellsWithMemory, and_then};
 ghost use Rattle.track_c.specs.Handles.{held};
-ghost use Rattle.track_c.specs.Held.{IsMade, a_plan, into, nothing, plan_in, seen_network, seen_object};
-ghost use Rattle.track_c.specs.Plans.{IsPlanOfText, IsTextRefusal, IsUnmade, Makes, cause_told, fault_told, closing_code, same_plan, sizes_told, start_told, IsAlmostMade, WasFull};
+ghost use Rattle.track_c.specs.Held.{IsMade, into, nothing, plan_in, seen_network, seen_object};
+ghost use Rattle.track_c.specs.Plans.{IsPlanOfText, IsTextRefusal, IsUnmade, Makes, fault_told, closing_code, same_plan, sizes_told, start_told, IsAlmostMade, WasFull};
 ghost use Rattle.track_c.specs.declared.fault.Fault.TheVariants.{NoMemory};
 
 use crate::fault::{DONE, Fault};
@@ -50,7 +49,7 @@ pub struct TrackSizes {
 
 // Why no plan was made.
 #[derive(Clone, Copy)]
-enum Unmade {
+pub enum Unmade {
     NoMemory,
     Refused(TrackRefusal),
 }
@@ -87,7 +86,12 @@ fn read_graph(alloc: Global, text: &[u8]) -> Result<(Input, Graph), ReadRefusal>
 }
 
 // The plan of a graph, with its distances.
-fn network_of(alloc: Global, graph: &Graph, k: u32, starts: Vec<u32>) -> Result<Network, AllocError>
+pub fn network_of(
+    alloc: Global,
+    graph: &Graph,
+    k: u32,
+    starts: Vec<u32>,
+) -> Result<Network, AllocError>
     requires low { 1 ≤ k }
     requires high { k ≤ 8 }
     requires few { length starts.items ≤ 64 }
@@ -126,7 +130,7 @@ fn read_network(alloc: Global, text: &[u8]) -> Result<Network, Unmade>
 }
 
 // A plan for a handle, and the refusal where there is none.
-fn plan_or_refusal(
+pub fn plan_or_refusal(
     alloc: Global,
     made: Result<Network, Unmade>,
     refusal: &mut TrackRefusal,
