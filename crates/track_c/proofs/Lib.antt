@@ -1,0 +1,4 @@
+mod Boxed
+mod EdgeLaws
+mod Pairs
+mod Reading

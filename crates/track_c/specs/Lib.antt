@@ -1,0 +1,12 @@
+pub mod Edges
+pub mod Facts
+pub mod Faults
+pub mod Finds
+pub mod Handles
+pub mod Held
+pub mod Moves
+pub mod Openings
+pub mod Owned
+pub mod Plans
+pub mod Told
+pub mod Words
