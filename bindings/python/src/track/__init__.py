@@ -1,0 +1,14 @@
+"""The proved decisions of a directory of mobile subscribers: plans, finders and movers, over cells of one's own (docs/EMBEDDING.md)."""
+from .cells import (
+    Address, Cell, CellKind, Coming, Gone, Here, Mark, Put, pack_entry, pack_mark, read_entry, read_mark,
+)
+from .errors import *  # noqa: F401,F403
+from .errors import Cause, TrackError
+from .finders import Again, Finder, Found, Why
+from .movers import Mover, Place
+from .plans import Plan
+
+__all__ = [
+    "Address", "Again", "Cause", "Cell", "CellKind", "Coming", "Finder", "Found", "Gone", "Here", "Mark", "Mover", "Place", "Plan",
+    "Put", "TrackError", "Why", "pack_entry", "pack_mark", "read_entry", "read_mark",
+]

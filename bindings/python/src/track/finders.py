@@ -1,0 +1,80 @@
+"""Finds under way: which cell is looked at next, and what the answer is."""
+from __future__ import annotations
+
+from enum import IntEnum
+from typing import Callable, NamedTuple, Optional, Union
+
+from ._library import AnswerFields, CellFields, Owner, calls, must
+from .cells import Cell, cell_of
+from .errors import Ended
+from .plans import Plan
+
+UNCOUNTED = 2**32 - 1
+_AT, _OFF, _AGAIN = range(3)
+
+
+class Why(IntEnum):
+    """Why a find is to be made again: in each case a move of its subscriber fell within it."""
+
+    EMPTY_MARK = 1
+    NO_ENTRY = 2
+    CHASED = 3
+
+
+class Found(NamedTuple):
+    """The subscriber stood at the node at the find's last look, since the move of this number, and was off, or not. The find met
+    an address at `level`, or needed none; it travelled `weight`."""
+
+    node: int
+    number: int
+    off: bool
+    level: Optional[int]
+    weight: int
+
+
+class Again(NamedTuple):
+    """The find is to be made again. `node` is where the empty mark was, of that cause alone."""
+
+    why: Why
+    node: Optional[int]
+    level: Optional[int]
+    weight: int
+
+
+class Finder(Owner):
+    """A find of a subscriber from a node, step by step. It goes on after its plan is closed. Raises NoNode, NoSubscriber (`sub` isn't
+    below `subs`, where subscribers are counted), NoMemory."""
+
+    def __init__(self, plan: Plan, start: int, sub: int, subs: Optional[int] = None) -> None:
+        super().__init__()
+        must(calls.track_finder_new(plan._handle, start, sub, UNCOUNTED if subs is None else subs, self._handle))
+
+    def next(self) -> Optional[Cell]:
+        """The cell to look at, or None once the find has its answer."""
+        fields = CellFields()
+        try:
+            must(calls.track_finder_next(self._handle, fields))
+        except Ended:
+            return None
+        return cell_of(fields)
+
+    def saw(self, word: int) -> None:
+        """The look at that cell read this word. Raises BadWord, Ended."""
+        must(calls.track_finder_saw(self._handle, word))
+
+    def answer(self) -> Union[Found, Again]:
+        """The answer. Raises Looking while there is none."""
+        told = AnswerFields()
+        must(calls.track_finder_answer(self._handle, told))
+        level = told.level if told.climbed else None
+        if told.kind == _AGAIN:
+            why = Why(told.why)
+            return Again(why, told.node if why is Why.EMPTY_MARK else None, level, told.weight)
+        return Found(told.node, told.number, told.kind == _OFF, level, told.weight)
+
+    def run(self, look: Callable[[Cell], int]) -> Union[Found, Again]:
+        """All looks that are left, by `look`, which reads a cell; and the answer. If it raises, the find can go on: a look changes
+        nothing."""
+        while (cell := self.next()) is not None:
+            self.saw(look(cell))
+        return self.answer()

@@ -1,0 +1,49 @@
+"""The plan of a network: its levels, clusters and homes."""
+from __future__ import annotations
+
+from typing import Iterator, Union
+
+from ._library import Owner, PutFields, Refusal, Sizes, calls, long_calls, must, must_read, u32
+from .cells import Put, put_of
+
+
+class Plan(Owner):
+    """A plan. `nodes`, `levels`, `k`, and `subs`, how many subscribers its text says."""
+
+    def __init__(self) -> None:
+        super().__init__()
+        self.nodes = self.levels = self.k = self.subs = 0
+
+    @classmethod
+    def read(cls, text: Union[str, bytes]) -> Plan:
+        """The plan of the network that a text says (docs/FORMATS.md). Raises BadNetwork, NoMemory."""
+        plan, refusal = cls(), Refusal()
+        given = text.encode() if isinstance(text, str) else bytes(text)
+        must_read(long_calls.track_plan_read(given, len(given), plan._handle, refusal), refusal)
+        return plan._measured()
+
+    def share(self) -> Plan:
+        """One more object for the same plan, for another thread. Raises NoMemory."""
+        other = Plan()
+        must(calls.track_plan_share(self._handle, other._handle))
+        return other._measured()
+
+    def _measured(self) -> Plan:
+        sizes = Sizes()
+        must(calls.track_plan_sizes(self._handle, sizes))
+        self.nodes, self.levels, self.k, self.subs = sizes.nodes, sizes.levels, sizes.k, sizes.subs
+        return self
+
+    def start(self, sub: int) -> int:
+        """Where a subscriber of the plan's text starts. Raises NoSubscriber."""
+        node = u32()
+        must(calls.track_plan_start(self._handle, sub, node))
+        return node.value
+
+    def opening(self, sub: int, node: int) -> Iterator[Put]:
+        """The cells of a new subscriber at its start node that aren't 0. Write them, in any order, before its first find or move.
+        Raises NoNode."""
+        put = PutFields()
+        for index in range(1 + self.levels):
+            must(calls.track_plan_opening(self._handle, sub, node, index, put))
+            yield put_of(put)

@@ -1,0 +1,100 @@
+//! Finds under way: which cell is looked at next, and what the answer is.
+use crate::sys::{AnswerFields, Handle};
+use crate::{Cell, Error};
+
+/// A find under way. It goes on after its plan is dropped.
+pub struct Finder(Handle);
+
+/// Why a find is to be made again: in each case a move of its subscriber fell within it.
+#[derive(Clone, Copy, Debug, PartialEq, Eq, Hash)]
+pub enum Why {
+    /// The mark at this node was empty.
+    EmptyMark(u32),
+    /// No entry had an address.
+    NoEntry,
+    /// The chase had no hop left.
+    Chased,
+}
+
+/// What a find answers.
+#[derive(Clone, Copy, Debug, PartialEq, Eq, Hash)]
+pub enum Outcome {
+    /// The subscriber stood at the node at the find's last look, since the move of this number; off, or not.
+    At {
+        /// The node.
+        node: u32,
+        /// The move, 0 for the start.
+        number: u32,
+        /// Whether it was off.
+        off: bool,
+    },
+    /// Make the find again.
+    Again(Why),
+}
+
+/// The answer of a find.
+#[derive(Clone, Copy, Debug, PartialEq, Eq, Hash)]
+pub struct Answer {
+    /// What it says.
+    pub outcome: Outcome,
+    /// The level at which an address was met, if one was needed.
+    pub level: Option<u32>,
+    /// What the find travelled, in the unit of the edges.
+    pub weight: u64,
+}
+
+impl From<AnswerFields> for Answer {
+    fn from(it: AnswerFields) -> Self {
+        let outcome = match (it.kind, it.why) {
+            (0 | 1, _) => Outcome::At {
+                node: it.node,
+                number: it.number,
+                off: it.kind == 1,
+            },
+            (_, 1) => Outcome::Again(Why::EmptyMark(it.node)),
+            (_, 2) => Outcome::Again(Why::NoEntry),
+            _ => Outcome::Again(Why::Chased),
+        };
+        Answer {
+            outcome,
+            level: (it.climbed == 1).then_some(it.level),
+            weight: it.weight,
+        }
+    }
+}
+
+impl Finder {
+    pub(crate) fn new(handle: Handle) -> Self {
+        Self(handle)
+    }
+
+    /// The cell to look at, or None once the find has its answer.
+    pub fn next_cell(&self) -> Result<Option<Cell>, Error> {
+        match self.0.next_look() {
+            Err(Error::Ended) => Ok(None),
+            told => told.map(|cell| Some(cell.into())),
+        }
+    }
+
+    /// The look at that cell read this word. [`Error::BadWord`], [`Error::Ended`].
+    pub fn saw(&mut self, word: u64) -> Result<(), Error> {
+        self.0.saw(word)
+    }
+
+    /// The answer; [`Error::Looking`] while there is none.
+    pub fn answer(&self) -> Result<Answer, Error> {
+        Ok(self.0.answer()?.into())
+    }
+
+    /// All looks that are left, by `look`, which reads a cell; and the answer. Where `look` fails the find can go on: a look
+    /// changes nothing.
+    pub fn run<E: From<Error>>(
+        &mut self,
+        mut look: impl FnMut(Cell) -> Result<u64, E>,
+    ) -> Result<Answer, E> {
+        while let Some(cell) = self.next_cell()? {
+            self.saw(look(cell)?)?;
+        }
+        Ok(self.answer()?)
+    }
+}

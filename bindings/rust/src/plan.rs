@@ -1,0 +1,69 @@
+//! The plan of a network: its levels, clusters and homes.
+use crate::sys::{Handle, Sizes};
+use crate::{Error, Finder, Mover, Put};
+
+/// The plan of a network. `share` gives another owner of the same, for another thread.
+pub struct Plan {
+    handle: Handle,
+    sizes: Sizes,
+}
+
+impl Plan {
+    /// The plan of the network that a text says (docs/FORMATS.md); [`Error::BadNetwork`] tells where and why it says none.
+    pub fn read(text: &[u8]) -> Result<Self, Error> {
+        Self::of(Handle::read_plan(text)?)
+    }
+
+    /// One more owner of the plan.
+    pub fn share(&self) -> Result<Self, Error> {
+        Self::of(self.handle.share()?)
+    }
+
+    fn of(handle: Handle) -> Result<Self, Error> {
+        let sizes = handle.sizes()?;
+        Ok(Self { handle, sizes })
+    }
+
+    /// How many nodes there are: they are 0 to this, less 1.
+    pub fn nodes(&self) -> u32 {
+        self.sizes.nodes
+    }
+
+    /// How many levels there are.
+    pub fn levels(&self) -> u32 {
+        self.sizes.levels
+    }
+
+    /// The trade-off of the covers.
+    pub fn k(&self) -> u32 {
+        self.sizes.k
+    }
+
+    /// How many subscribers the plan's text says.
+    pub fn subs(&self) -> u32 {
+        self.sizes.subs
+    }
+
+    /// Where a subscriber of the plan's text starts; [`Error::NoSubscriber`] where the text says no such.
+    pub fn start(&self, sub: u32) -> Result<u32, Error> {
+        self.handle.start(sub)
+    }
+
+    /// The cells of a new subscriber at its start node that aren't 0. Write them, in any order, before its first find or
+    /// move. [`Error::NoNode`].
+    pub fn opening(&self, sub: u32, node: u32) -> Result<Vec<Put>, Error> {
+        (0..=self.sizes.levels)
+            .map(|index| Ok(self.handle.opening(sub, node, index)?.into()))
+            .collect()
+    }
+
+    /// A find of a subscriber from a node. [`Error::NoNode`].
+    pub fn find(&self, from: u32, sub: u32) -> Result<Finder, Error> {
+        Ok(Finder::new(self.handle.finder(from, sub, u32::MAX)?))
+    }
+
+    /// The one mover of a subscriber, at rest at its start node. [`Error::NoNode`].
+    pub fn mover(&self, sub: u32, node: u32) -> Result<Mover, Error> {
+        Ok(Mover::new(self.handle.mover(sub, node)?))
+    }
+}

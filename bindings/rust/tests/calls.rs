@@ -1,0 +1,177 @@
+//! What calls refuse, what stands after a refusal, and what words say: tables that one function plays.
+use std::collections::HashMap;
+
+use track::{Address, Cell, Error, Mark, Mover, Outcome, Place, Plan, Put};
+
+const LINE: &[u8] =
+    b"track 2\nnodes 4\nk 2\nedge 0 1 1\nedge 1 2 1\nedge 2 3 1\nsub 3\ncallers 1\n";
+
+type Cells = HashMap<Cell, u64>;
+
+fn opened() -> (Plan, Cells, Mover) {
+    let plan = Plan::read(LINE).expect("a plan");
+    let cells = plan
+        .opening(0, 3)
+        .expect("an opening")
+        .into_iter()
+        .map(|Put { cell, word }| (cell, word))
+        .collect();
+    let mover = plan.mover(0, 3).expect("a mover");
+    (plan, cells, mover)
+}
+
+fn make(mover: &mut Mover, cells: &mut Cells) {
+    mover
+        .run(|cell, word| {
+            cells.insert(cell, word);
+            Ok::<(), Error>(())
+        })
+        .expect("puts");
+}
+
+fn find(plan: &Plan, cells: &Cells, from: u32) -> Outcome {
+    let mut finder = plan.find(from, 0).expect("a find");
+    finder
+        .run(|cell| Ok::<u64, Error>(cells.get(&cell).copied().unwrap_or(0)))
+        .expect("an answer")
+        .outcome
+}
+
+#[test]
+fn refusals() {
+    let begun = || {
+        let (plan, cells, mut mover) = opened();
+        mover.move_to(1).expect("a move");
+        (plan, cells, mover)
+    };
+    let rows: [(&str, Option<Error>, Error); 9] = [
+        (
+            "a find from no node",
+            opened().0.find(4, 0).err(),
+            Error::NoNode,
+        ),
+        (
+            "a start of nobody",
+            opened().0.start(1).err(),
+            Error::NoSubscriber,
+        ),
+        (
+            "a mover at no node",
+            opened().0.mover(0, 4).err(),
+            Error::NoNode,
+        ),
+        (
+            "a move to nowhere",
+            opened().2.move_to(4).err(),
+            Error::NoNode,
+        ),
+        (
+            "a move to where it is",
+            opened().2.move_to(3).err(),
+            Error::SamePlace,
+        ),
+        ("a put too many", opened().2.made().err(), Error::AtRest),
+        ("on already", opened().2.switch(false).err(), Error::Already),
+        (
+            "a move within a move",
+            begun().2.move_to(2).err(),
+            Error::UnderWay,
+        ),
+        (
+            "a word of nothing",
+            opened()
+                .0
+                .find(0, 0)
+                .and_then(|mut it| it.saw(u64::MAX))
+                .err(),
+            Error::BadWord,
+        ),
+    ];
+    for (name, found, wanted) in rows {
+        assert_eq!(found, Some(wanted), "{name}");
+    }
+}
+
+#[test]
+fn moves_and_finds() {
+    let (plan, mut cells, mut mover) = opened();
+    for (number, to) in [0, 3, 1, 2].into_iter().enumerate() {
+        mover.move_to(to).expect("a move");
+        make(&mut mover, &mut cells);
+        let number = number as u32 + 1;
+        assert_eq!(
+            mover.place().expect("a place"),
+            Place {
+                sub: 0,
+                node: to,
+                number,
+                off: false
+            }
+        );
+        for from in 0..4 {
+            assert_eq!(
+                find(&plan, &cells, from),
+                Outcome::At {
+                    node: to,
+                    number,
+                    off: false
+                }
+            );
+        }
+    }
+    mover.switch(true).expect("off");
+    make(&mut mover, &mut cells);
+    assert_eq!(
+        find(&plan, &cells, 0),
+        Outcome::At {
+            node: 2,
+            number: 4,
+            off: true
+        }
+    );
+}
+
+#[test]
+fn a_put_that_fails_comes_again() {
+    let (_, _, mut mover) = opened();
+    mover.move_to(0).expect("a move");
+    let first = mover.next_put().expect("a put");
+    let failed = mover.run(|_, _| Err(Error::NoMemory));
+    assert_eq!(
+        (failed, mover.next_put().expect("a put")),
+        (Err(Error::NoMemory), first)
+    );
+}
+
+#[test]
+fn words() {
+    let marks = [
+        Mark::Nothing,
+        Mark::Here {
+            number: 0,
+            off: false,
+        },
+        Mark::Here {
+            number: 7,
+            off: true,
+        },
+        Mark::Gone { number: 3, to: 2 },
+        Mark::Coming {
+            number: u32::MAX,
+            from: 1023,
+        },
+    ];
+    for mark in marks {
+        assert_eq!(mark.pack().and_then(Mark::read), Ok(mark));
+    }
+    for address in [
+        None,
+        Some(Address { number: 0, node: 0 }),
+        Some(Address {
+            number: u32::MAX,
+            node: 1023,
+        }),
+    ] {
+        assert_eq!(Address::pack(address).and_then(Address::read), Ok(address));
+    }
+}
