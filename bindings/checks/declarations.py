@@ -20,6 +20,7 @@ STRUCTS = {
     "track_handle": ("TrackHandle", "Raw", "Handle"),
     "track_refusal": ("TrackRefusal", "Refusal", "Refusal"),
     "track_sizes": ("TrackSizes", "Sizes", "Sizes"),
+    "track_edge": ("TrackEdge", "EdgeFields", "Edge"),
     "track_cell": ("TrackCell", "CellFields", "CellFields"),
     "track_put": ("TrackPut", "PutFields", "PutFields"),
     "track_answer": ("TrackAnswer", "AnswerFields", "AnswerFields"),
@@ -67,13 +68,18 @@ def rust_type(words, names):
     return ("*" if pointer else "") + RUST_TYPES.get(name, names.get(name, name))
 
 
+def lent(kind, names):
+    """What an argument is lent as: a slice is a pointer and a count."""
+    of = re.fullmatch(r"&\[(\w+)\]", kind)
+    return [rust_type(f"&{of[1]}", names), "size"] if of else [rust_type(kind, names)]
+
+
 def rust_calls(text, names):
-    """Functions by name. The library's own argument, its allocator, is none of the caller's; a slice is a pointer and a length."""
+    """Functions by name. The library's own argument, its allocator, is none of the caller's."""
     found = {}
     for name, arguments in re.findall(r"\bfn (track_\w+)\s*\(([^)]*)\) -> u32", text):
         kinds = [it.split(":", 1)[1].strip() for it in arguments.split(",") if it.strip()]
-        found[name] = [told for kind in kinds if kind != "Global" for told in
-                       (["*u8", "size"] if kind == "&[u8]" else [rust_type(kind, names)])]
+        found[name] = [told for kind in kinds if kind != "Global" for told in lent(kind, names)]
     return found
 
 

@@ -67,6 +67,14 @@ class Calls(unittest.TestCase):
         error = caught.exception
         self.assertEqual((error.cause, error.node), (track.Cause.APART, 2))
 
+    def test_edges_make_the_same_plan(self):
+        edges = [(0, 1, 1), (1, 2, 1), (2, 3, 1)]
+        built, read = track.Plan.build(4, 2, edges), opened()[0]
+        self.assertEqual([list(built.opening(0, node)) for node in range(4)], [list(read.opening(0, node)) for node in range(4)])
+        with self.assertRaises(track.BadNetwork) as caught:
+            track.Plan.build(4, 2, [*edges, (3, 4, 1)])
+        self.assertEqual((caught.exception.cause, caught.exception.line), (track.Cause.UNKNOWN, 4))
+
     def test_words(self):
         for mark in MARKS:
             self.assertEqual(track.read_mark(track.pack_mark(mark)), mark)

@@ -107,6 +107,19 @@ LINES = [
 ]
 
 
+def wait_for_answer(port):
+    """Until clients that went away are gone for the server too: before that it may be full."""
+    deadline = time.monotonic() + 20
+    while time.monotonic() < deadline:
+        try:
+            if ask(port, b"find 0 0\n") in (b"at 5\n", b"at 6\n", b"at 1\n"):
+                return
+        except ConnectionError:
+            pass
+        time.sleep(0.05)
+    sys.exit("serve: after clients that went away the server doesn't answer")
+
+
 def meet_odd_clients():
     """Lines of all kinds; connections that are silent, broken off, or too many; and the server goes on, and ends by a signal."""
     with Server(NETWORKS[0]) as server:
@@ -123,11 +136,7 @@ def meet_odd_clients():
             with connect(server.port) as client:
                 client.sendall(b"move 0 5\nmove 0 6\nfind 1 0\n")
                 client.setsockopt(socket.SOL_SOCKET, socket.SO_LINGER, b"\x01\x00\x00\x00\x00\x00\x00\x00")
-        deadline = time.monotonic() + 20
-        while ask(server.port, b"find 0 0\n") not in (b"at 5\n", b"at 6\n", b"at 1\n"):
-            if time.monotonic() > deadline:
-                sys.exit("serve: after clients that went away the server doesn't answer")
-            time.sleep(0.05)
+        wait_for_answer(server.port)
         crowd = [connect(server.port) for _ in range(40)]
         crowd[-1].settimeout(20)
         if crowd[-1].recv(64) != b"refused full\n":

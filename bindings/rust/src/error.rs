@@ -66,14 +66,6 @@ pub enum Error {
     BadWord,
     /// No word says this.
     BadFields,
-    /// The array is too short.
-    NoRoom,
-    /// The words aren't those of a state: another version, or not so many.
-    NoState,
-    /// They are a state for a plan of other numbers of nodes and levels.
-    OtherPlan,
-    /// A number among them can't stand there.
-    BadState,
     /// A code that this package doesn't know, of another version of the library.
     Other(u32),
 }
@@ -113,10 +105,6 @@ impl fmt::Display for Error {
             Error::PastEnd => "there are no more",
             Error::BadWord => "the cell can't hold this word",
             Error::BadFields => "no word says this",
-            Error::NoRoom => "the array is too short",
-            Error::NoState => "the words aren't those of a state",
-            Error::OtherPlan => "the words are a state for another plan",
-            Error::BadState => "a number among the words of a state can't stand there",
         })
     }
 }
@@ -161,10 +149,6 @@ pub(crate) fn check(code: u32) -> Result<(), Error> {
         16 => Error::PastEnd,
         17 => Error::BadWord,
         18 => Error::BadFields,
-        19 => Error::NoRoom,
-        20 => Error::NoState,
-        21 => Error::OtherPlan,
-        22 => Error::BadState,
         other => Error::Other(other),
     })
 }

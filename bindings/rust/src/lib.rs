@@ -59,4 +59,4 @@ pub use cells::{Address, Cell, Mark, Put};
 pub use error::{Cause, Error};
 pub use finder::{Answer, Finder, Outcome, Why};
 pub use mover::{Mover, Place};
-pub use plan::Plan;
+pub use plan::{Edge, Plan};

@@ -1,6 +1,17 @@
 //! The plan of a network: its levels, clusters and homes.
-use crate::sys::{Handle, Sizes};
+use crate::sys::{EdgeFields, Handle, Sizes};
 use crate::{Error, Finder, Mover, Put};
+
+/// An edge of a network: it joins two nodes in both directions.
+#[derive(Clone, Copy, Debug, PartialEq, Eq, Hash)]
+pub struct Edge {
+    /// One node.
+    pub a: u32,
+    /// The other.
+    pub b: u32,
+    /// Its weight, 1 to 1,048,576.
+    pub weight: u64,
+}
 
 /// The plan of a network. `share` gives another owner of the same, for another thread.
 pub struct Plan {
@@ -12,6 +23,16 @@ impl Plan {
     /// The plan of the network that a text says (docs/FORMATS.md); [`Error::BadNetwork`] tells where and why it says none.
     pub fn read(text: &[u8]) -> Result<Self, Error> {
         Self::of(Handle::read_plan(text)?)
+    }
+
+    /// The plan of a network of so many nodes with these edges, within the limits of texts; the line of a
+    /// [`Error::BadNetwork`] is the place of an edge, from 1 on, or 0 where it is none.
+    pub fn build(nodes: u32, k: u32, edges: &[Edge]) -> Result<Self, Error> {
+        let edges: Vec<EdgeFields> = edges
+            .iter()
+            .map(|&Edge { a, b, weight }| EdgeFields { a, b, weight })
+            .collect();
+        Self::of(Handle::build_plan(nodes, k, &edges)?)
     }
 
     /// One more owner of the plan.

@@ -29,6 +29,14 @@ pub(crate) struct Sizes {
 
 #[repr(C)]
 #[derive(Clone, Copy, Default)]
+pub(crate) struct EdgeFields {
+    pub a: u32,
+    pub b: u32,
+    pub weight: u64,
+}
+
+#[repr(C)]
+#[derive(Clone, Copy, Default)]
 pub(crate) struct CellFields {
     pub kind: u32,
     pub node: u32,
@@ -77,6 +85,14 @@ extern "C" {
     fn track_plan_read(
         text: *const u8,
         length: usize,
+        plan: *mut Raw,
+        refusal: *mut Refusal,
+    ) -> u32;
+    fn track_plan_build(
+        nodes: u32,
+        k: u32,
+        edges: *const EdgeFields,
+        count: usize,
         plan: *mut Raw,
         refusal: *mut Refusal,
     ) -> u32;
@@ -134,6 +150,23 @@ impl Handle {
         // SAFETY: pointer and length are those of one slice, which is lent for the call; the handle is empty.
         let code =
             unsafe { track_plan_read(text.as_ptr(), text.len(), handle.0.get(), &mut refusal) };
+        check_read(code, refusal)?;
+        Ok(handle)
+    }
+
+    pub fn build_plan(nodes: u32, k: u32, edges: &[EdgeFields]) -> Result<Self, Error> {
+        let (handle, mut refusal) = (Self::empty(), Refusal::default());
+        // SAFETY: pointer and count are those of one slice, which is lent for the call; the handle is empty.
+        let code = unsafe {
+            track_plan_build(
+                nodes,
+                k,
+                edges.as_ptr(),
+                edges.len(),
+                handle.0.get(),
+                &mut refusal,
+            )
+        };
         check_read(code, refusal)?;
         Ok(handle)
     }

@@ -1,7 +1,7 @@
 //! What calls refuse, what stands after a refusal, and what words say: tables that one function plays.
 use std::collections::HashMap;
 
-use track::{Address, Cell, Error, Mark, Mover, Outcome, Place, Plan, Put};
+use track::{Address, Cause, Cell, Edge, Error, Mark, Mover, Outcome, Place, Plan, Put};
 
 const LINE: &[u8] =
     b"track 2\nnodes 4\nk 2\nedge 0 1 1\nedge 1 2 1\nedge 2 3 1\nsub 3\ncallers 1\n";
@@ -140,6 +140,37 @@ fn a_put_that_fails_comes_again() {
     assert_eq!(
         (failed, mover.next_put().expect("a put")),
         (Err(Error::NoMemory), first)
+    );
+}
+
+#[test]
+fn edges_make_the_same_plan() {
+    let edges: Vec<Edge> = (0..3)
+        .map(|a| Edge {
+            a,
+            b: a + 1,
+            weight: 1,
+        })
+        .collect();
+    let (built, read) = (Plan::build(4, 2, &edges).expect("a plan"), opened().0);
+    for node in 0..4 {
+        assert_eq!(built.opening(0, node), read.opening(0, node));
+    }
+    let beyond = [
+        edges.as_slice(),
+        &[Edge {
+            a: 3,
+            b: 4,
+            weight: 1,
+        }],
+    ]
+    .concat();
+    assert_eq!(
+        Plan::build(4, 2, &beyond).err(),
+        Some(Error::BadNetwork {
+            cause: Cause::Unknown,
+            line: 4
+        })
     );
 }
 

@@ -44,6 +44,10 @@ class Sizes(ctypes.Structure):
     _fields_ = _numbers("nodes levels k subs")
 
 
+class Edge(ctypes.Structure):
+    _fields_ = [*_numbers("a b"), ("weight", u64)]
+
+
 class CellFields(ctypes.Structure):
     _fields_ = _numbers("kind node level cluster sub")
 
@@ -68,6 +72,7 @@ _to = ctypes.POINTER
 _handle = _to(Handle)
 SIGNATURES: dict[str, list] = {
     "track_plan_read": [ctypes.c_char_p, size_t, _handle, _to(Refusal)],
+    "track_plan_build": [number, number, _to(Edge), size_t, _handle, _to(Refusal)],
     "track_plan_share": [_handle, _handle],
     "track_plan_sizes": [_handle, _to(Sizes)],
     "track_plan_start": [_handle, number, _to(u32)],

@@ -99,24 +99,7 @@ class BadFields(TrackError, ValueError):
     """No word has these fields."""
 
 
-class NoRoom(TrackError):
-    """The array is too short."""
-
-
-class NoState(TrackError, ValueError):
-    """The words aren't those of a state."""
-
-
-class OtherPlan(TrackError, ValueError):
-    """The words are a state for another plan."""
-
-
-class BadState(TrackError, ValueError):
-    """A number among the words of a state can't stand there."""
-
-
 BY_CODE: dict[int, type[TrackError]] = {
     1: NoMemory, 2: EmptyHandle, 3: OtherKind, 4: FullHandle, 6: NoNode, 7: NoSubscriber, 8: SamePlace, 9: UnderWay,
     10: IsOff, 11: NumbersSpent, 12: Already, 13: AtRest, 14: Ended, 15: Looking, 16: PastEnd, 17: BadWord, 18: BadFields,
-    19: NoRoom, 20: NoState, 21: OtherPlan, 22: BadState,
 }

@@ -1,10 +1,16 @@
 """The plan of a network: its levels, clusters and homes."""
 from __future__ import annotations
 
-from typing import Iterator, Union
+from typing import Iterable, Iterator, Union
 
-from ._library import Owner, PutFields, Refusal, Sizes, calls, long_calls, must, must_read, u32
+from ._library import Edge, Owner, PutFields, Refusal, Sizes, calls, long_calls, must, must_read, u32
 from .cells import Put, put_of
+
+
+def _checked(value: int, bits: int) -> int:
+    if not 0 <= value < 1 << bits:
+        raise OverflowError(f"{value} isn't a number of {bits} bits")
+    return value
 
 
 class Plan(Owner):
@@ -20,6 +26,16 @@ class Plan(Owner):
         plan, refusal = cls(), Refusal()
         given = text.encode() if isinstance(text, str) else bytes(text)
         must_read(long_calls.track_plan_read(given, len(given), plan._handle, refusal), refusal)
+        return plan._measured()
+
+    @classmethod
+    def build(cls, nodes: int, k: int, edges: Iterable[tuple[int, int, int]]) -> Plan:
+        """The plan of a network of so many nodes with edges (A, B, WEIGHT), within the limits of texts. Raises BadNetwork, whose line
+        is the place of an edge from 1 on; NoMemory; OverflowError, where a number has more than its 32 or 64 bits."""
+        plan, refusal = cls(), Refusal()
+        given = [Edge(*map(_checked, edge, (32, 32, 64))) for edge in edges]
+        array = (Edge * len(given))(*given)
+        must_read(long_calls.track_plan_build(nodes, k, array, len(given), plan._handle, refusal), refusal)
         return plan._measured()
 
     def share(self) -> Plan:
