@@ -1,0 +1,58 @@
+#!/usr/bin/env python3
+"""Runs the programs of docs/EMBEDDING.md: that of Python says what the page says, and that of C finds the same.
+Usage: bindings/checks/embedding.py FOLDER      which has libtrack.a and libtrack.so"""
+import os
+import pathlib
+import subprocess
+import sys
+import tempfile
+
+TOP = pathlib.Path(__file__).resolve().parents[2]
+# Cells for the program of C, whose page leaves them to the reader.
+CELLS = """
+#include <string.h>
+static struct { track_cell cell; uint64_t word; } kept[64];
+static int count;
+uint64_t read_cell(const track_cell *cell) {
+    for (int i = count - 1; i >= 0; i--)
+        if (memcmp(&kept[i].cell, cell, sizeof *cell) == 0)
+            return kept[i].word;
+    return 0;
+}
+void write_cell(const track_cell *cell, uint64_t word) {
+    kept[count].cell = *cell;
+    kept[count++].word = word;
+}
+"""
+
+
+def program(page, first, last):
+    """The indented lines between two texts of the page."""
+    part = page[page.index(first):page.index(last)]
+    return "\n".join(line[4:] for line in part.split("\n") if line.startswith("    ") or not line)
+
+
+def run(words, **more):
+    ran = subprocess.run(words, capture_output=True, text=True, check=False, **more)
+    if ran.returncode:
+        sys.exit(f"embedding: {words[0]} ended with {ran.returncode}: {ran.stderr.strip()}")
+    return ran.stdout
+
+
+def main():
+    library = pathlib.Path(sys.argv[1]).resolve()
+    page = (TOP / "docs/EMBEDDING.md").read_text(encoding="utf-8")
+    names = {"TRACK_LIBRARY": str(library / "libtrack.so"), "PYTHONPATH": str(TOP / "bindings/python/src")}
+    told = run([sys.executable, "-B", "-c", program(page, "**Python**", "It prints")], env={**os.environ, **names}).strip()
+    if f"`{told}`" not in page:
+        sys.exit(f"embedding: the program of Python prints {told}, and the page has something else")
+    with tempfile.TemporaryDirectory() as room:
+        source = pathlib.Path(room) / "finder.c"
+        source.write_text(program(page, "**C**", "Each call answers a code") + CELLS, encoding="utf-8")
+        run(["gcc", "-Wall", "-Wextra", "-Werror", "-I", TOP / "bindings/c", "-o", f"{room}/finder", source, library / "libtrack.a"])
+        told = run([f"{room}/finder"])
+    if told != "kind 0 node 1 number 1\n":
+        sys.exit(f"embedding: the program of C prints {told!r}")
+
+
+main()
