@@ -1,0 +1,181 @@
+/* Random calls over random handles, kinds, numbers, texts and words. Usage: hostile CALLS SEED
+ * No call may crash, answer a code that isn't in track.h, answer a code that it doesn't list, or change a handle that it
+ * refuses; and nothing may be left at the end (run it under valgrind or a leak checker). */
+#include "track.h"
+
+#include <stdio.h>
+#include <stdlib.h>
+#include <string.h>
+
+enum { HANDLES = 12, TEXTS = 4, MOST_TEXT = 512 };
+
+static track_handle handles[HANDLES];
+static uint64_t state;
+
+static uint64_t draw(uint64_t below) {
+    state = state * 6364136223846793005u + 1442695040888963407u;
+    return (state >> 33) % below;
+}
+
+/* Mostly small numbers, and sometimes those at the ends of what fits. */
+static uint32_t number(void) {
+    static const uint32_t ends[] = {255, 256, 1023, 1024, 65535, 65536, 2147483647, 2147483648u, 4294967294u, 4294967295u};
+    return draw(8) ? (uint32_t)draw(8) : ends[draw(sizeof ends / sizeof *ends)];
+}
+
+/* The word of the last cell that came with a put, a word of few bits, or any. */
+static uint64_t last_word;
+
+static uint64_t word(void) {
+    switch (draw(4)) {
+    case 0: return last_word;
+    case 1: return 0;
+    case 2: return (uint64_t)1 << draw(64) | (uint64_t)1 << draw(64);
+    default: return draw(1u << 31) << 33 ^ draw(1u << 31) << 12 ^ draw(1u << 31);
+    }
+}
+
+static const char *const sound[TEXTS] = {
+    "track 1\nnodes 4\nk 2\nedge 0 1 1\nedge 1 2 2\nedge 2 3 4\nsub 3\nsub 1\ncallers 1\nmove 0 1\nfind 2 0 1\n",
+    "track 2\nnodes 1\nk 1\nsub 0\ncallers 0\noff 0\non 0\n",
+    "# a comment\ntrack 1\nnodes 8\nk 3\nedge 0 1 9\nedge 1 2 9\nedge 2 3 9\nedge 3 4 9\nedge 4 5 9\nedge 5 6 9\nedge 6 7 9\nsub 7\ncallers 2\n",
+    "",
+};
+
+/* A text as it is, or with a few bytes changed, or cut off. */
+static size_t text(uint8_t *into) {
+    const char *from = sound[draw(TEXTS)];
+    size_t length = strlen(from);
+    memcpy(into, from, length);
+    if (draw(2)) return length;
+    for (uint64_t changes = draw(4); length && changes; changes--) into[draw(length)] = (uint8_t)draw(256);
+    return draw(3) ? length : (size_t)draw(length + 1);
+}
+
+/* What a call may answer, as bits. */
+#define CAN(code) (1u << (code))
+static const uint32_t of_handle = CAN(TRACK_OK) | CAN(TRACK_EMPTY_HANDLE) | CAN(TRACK_OTHER_KIND);
+
+static void fail(const char *call, uint32_t code) {
+    fprintf(stderr, "hostile: %s answered %u\n", call, code);
+    exit(1);
+}
+
+static uint32_t kinds[32];
+
+static void is_listed(const char *call, uint32_t code, uint32_t listed) {
+    if (code >= 32 || !(listed & CAN(code))) fail(call, code);
+    kinds[code]++;
+}
+
+static track_handle *any(void) { return &handles[draw(HANDLES)]; }
+
+static void make(void) {
+    uint8_t given[MOST_TEXT];
+    track_refusal refusal = {0, 0, 0};
+    track_edge edges[6];
+    track_handle *plan = any(), *to = any();
+    track_handle before = *to;
+    uint32_t code;
+    if (plan == to) return;
+    switch (draw(5)) {
+    case 0:
+        code = track_plan_read(given, text(given), to, &refusal);
+        is_listed("track_plan_read", code, CAN(TRACK_OK) | CAN(TRACK_FULL_HANDLE) | CAN(TRACK_BAD_NETWORK));
+        break;
+    case 1:
+        for (int i = 0; i < 6; i++) edges[i] = (track_edge){number(), number(), draw(4) ? draw(9) : word()};
+        code = track_plan_build(number(), number(), edges, (size_t)draw(7), to, &refusal);
+        is_listed("track_plan_build", code, CAN(TRACK_OK) | CAN(TRACK_FULL_HANDLE) | CAN(TRACK_BAD_NETWORK));
+        break;
+    case 2:
+        code = track_plan_share(plan, to);
+        is_listed("track_plan_share", code, of_handle | CAN(TRACK_FULL_HANDLE));
+        break;
+    case 3:
+        code = track_finder_new(plan, number(), number(), number(), to);
+        is_listed("track_finder_new", code, of_handle | CAN(TRACK_FULL_HANDLE) | CAN(TRACK_NO_NODE) | CAN(TRACK_NO_SUBSCRIBER));
+        break;
+    default:
+        code = track_mover_new(plan, number(), number(), to);
+        is_listed("track_mover_new", code, of_handle | CAN(TRACK_FULL_HANDLE) | CAN(TRACK_NO_NODE));
+    }
+    if (code != TRACK_OK && memcmp(&before, to, sizeof before)) fail("a call that wrote a handle which it refused", code);
+}
+
+static void ask(track_handle *at) {
+    track_sizes sizes;
+    track_put put = {{0, 0, 0, 0, 0}, 0};
+    track_cell cell;
+    track_answer answer;
+    track_place place;
+    uint32_t node;
+    switch (draw(6)) {
+    case 0: is_listed("track_plan_sizes", track_plan_sizes(at, &sizes), of_handle); break;
+    case 1: is_listed("track_plan_start", track_plan_start(at, number(), &node), of_handle | CAN(TRACK_NO_SUBSCRIBER)); break;
+    case 2:
+        is_listed("track_plan_opening", track_plan_opening(at, number(), number(), number(), &put),
+                  of_handle | CAN(TRACK_NO_NODE) | CAN(TRACK_PAST_END));
+        last_word = put.word;
+        break;
+    case 3: is_listed("track_finder_next", track_finder_next(at, &cell), of_handle | CAN(TRACK_ENDED)); break;
+    case 4: is_listed("track_finder_answer", track_finder_answer(at, &answer), of_handle | CAN(TRACK_LOOKING)); break;
+    default: is_listed("track_mover_place", track_mover_place(at, &place), of_handle);
+    }
+}
+
+static void step(track_handle *at) {
+    track_put put = {{0, 0, 0, 0, 0}, 0};
+    switch (draw(5)) {
+    case 0: is_listed("track_finder_saw", track_finder_saw(at, word()), of_handle | CAN(TRACK_ENDED) | CAN(TRACK_BAD_WORD)); break;
+    case 1:
+        is_listed("track_mover_move", track_mover_move(at, number()),
+                  of_handle | CAN(TRACK_NO_NODE) | CAN(TRACK_SAME_PLACE) | CAN(TRACK_UNDER_WAY) | CAN(TRACK_IS_OFF) | CAN(TRACK_NUMBERS_SPENT));
+        break;
+    case 2:
+        is_listed("track_mover_switch", track_mover_switch(at, draw(2)), of_handle | CAN(TRACK_UNDER_WAY) | CAN(TRACK_ALREADY));
+        break;
+    case 3:
+        is_listed("track_mover_next", track_mover_next(at, &put), of_handle | CAN(TRACK_AT_REST));
+        last_word = put.word;
+        break;
+    default: is_listed("track_mover_made", track_mover_made(at), of_handle | CAN(TRACK_AT_REST));
+    }
+}
+
+static void say(void) {
+    track_fields fields = {number(), number(), number()};
+    uint64_t packed = word(), again = 0;
+    bool mark = draw(2);
+    if (draw(2)) {
+        uint32_t code = mark ? track_mark_read(packed, &fields) : track_entry_read(packed, &fields);
+        is_listed("a word that is read", code, CAN(TRACK_OK) | CAN(TRACK_BAD_WORD));
+        if (code != TRACK_OK) return;
+        code = mark ? track_mark_pack(&fields, &again) : track_entry_pack(&fields, &again);
+        if (code != TRACK_OK || again != packed) fail("a word that is read and packed again", code);
+    } else {
+        is_listed("fields that are packed", mark ? track_mark_pack(&fields, &again) : track_entry_pack(&fields, &again),
+                  CAN(TRACK_OK) | CAN(TRACK_BAD_FIELDS));
+    }
+}
+
+int main(int count, char **words) {
+    unsigned long calls = count > 1 ? strtoul(words[1], 0, 10) : 1000000;
+    state = count > 2 ? strtoul(words[2], 0, 10) : 1;
+    for (unsigned long call = 0; call < calls; call++) {
+        uint64_t which = draw(32);
+        if (which < 4) make();
+        else if (which < 15) ask(any());
+        else if (which < 27) step(any());
+        else if (which < 30) say();
+        else is_listed("track_close", track_close(any()), CAN(TRACK_OK) | CAN(TRACK_EMPTY_HANDLE));
+    }
+    for (int i = 0; i < HANDLES; i++) {
+        track_close(&handles[i]);
+        if (handles[i].full) fail("track_close", 0);
+    }
+    int seen = 0;
+    for (int code = 0; code < 32; code++) seen += kinds[code] > 0;
+    printf("%lu calls, %d codes\n", calls, seen);
+    return 0;
+}
