@@ -1,7 +1,6 @@
 -- What the cells of a subscriber hold at the opening, by index: its presence at its start node, and
 -- then its entry at that node's home of each level, from 0 on. Every other cell holds 0.
--- Key laws: `track_plan_opening`, by its clause; `opening-told` and `opening-else` (these are the
--- cells of the directory's opening, and all others hold 0 there).
+-- Key law: `track_plan_opening`, by its clauses.
 use Rattle.std.specs.Prelude.{ℕ, zero, suc, nat_le, nat_lt, if◌then◌else◌, Option, Some, None, Ok, Err}
 use Rattle.entry_word.specs.declared.mark.PresenceMark.TheVariants.{Here}
 use Rattle.directory.specs.Writes.{Write, entry_at, mark_at}
