@@ -14,16 +14,16 @@ import rtlib  # noqa: E402  (the kit's own, which knows what a crate of crates.t
 
 
 def newest(crate):
-    """The time of the last change of a source of the crate, or of one below."""
+    """When a source of the crate, or of one below, was changed last. The time of a change can't be set back by a copy."""
     parts = [pathlib.Path(crate.folder, part) for part in rtlib.PARTS]
-    own = [it.stat().st_mtime for part in parts for it in [part, *part.rglob("*")] if it.exists()]
+    own = [it.stat().st_ctime for part in parts for it in [part, *part.rglob("*")] if it.exists()]
     return max([*own, *map(newest, crate.deps)])
 
 
 def mark(crate):
-    """Whether the crate's library is marked as built of its sources."""
+    """Whether the crate's library is marked as built of its sources: it was put here after their last change."""
     library = pathlib.Path(crate.rlib)
-    if not (library / "format").exists() or (library / "format").stat().st_mtime < newest(crate):
+    if not library.is_dir() or library.stat().st_ctime < newest(crate):
         return False
     if not all([mark(below) for below in crate.deps]):
         return False

@@ -67,6 +67,13 @@ class Ground:
     def edit(self, name="low", text="// edited\n"):
         write(self.top / f"crates/{name}/src/lib.rt", text)
 
+    def replace(self, name, text):
+        """Another text in the place of a source, with the times of years ago, as an archive or a copy has them."""
+        path = self.top / f"crates/{name}/src/lib.rt"
+        write(path.with_suffix(".new"), text)
+        os.utime(path.with_suffix(".new"), (10**9, 10**9))
+        path.with_suffix(".new").replace(path)
+
     def environment(self, **more):
         kept = {name: value for name, value in os.environ.items() if not name.startswith(("TRACK", "GIT_"))}
         path = f"{self.room}/kit/bin:{os.environ['PATH']}"
@@ -127,6 +134,13 @@ ROWS = [
     ("sources of a later commit", lambda it: (it.edit("low", "// later\n"), it.commit()), {}, "unproved", ["built"]),
     ("what the gate has built", lambda it: write(it.top / "crates/track_main/out/track_main", PROGRAM.format("proved").replace("\\n", "\n"), 0o755),
      {}, "proved", []),
+    ("an older source over one that was built", lambda it: it.replace("low", "// older\n"), {}, "proved", ["proved"]),
+    ("that source as before", lambda it: it.edit("low", "// later\n"), {}, "unproved", []),
+    ("a proved program again", lambda it: it.run("prove"), {}, "proved", ["proved"]),
+    ("a folder of sources that is gone", lambda it: shutil.rmtree(it.top / "crates/low/src"), {}, "proved", ["proved"]),
+    ("the folder as before", lambda it: it.edit("low", "// later\n"), {}, "unproved", []),
+    ("a name with a quote", lambda it: (write(it.top / "crates/low/src/o'clock.rt", "// 1\n"), it.commit()), {}, "unproved", ["built"]),
+    ("another text under it", lambda it: (write(it.top / "crates/low/src/o'clock.rt", "// 2\n"), it.commit()), {}, "unproved", ["built"]),
     ("another kit", lambda it: write(it.room / "kit/KIT-ID", "rattle-kit-99 logic other\n"), {}, "proved", ["proved"]),
     ("the kit as before", lambda it: write(it.room / "kit/KIT-ID", KIT_LINE + "\n"), {}, "unproved", []),
     ("no git", lambda it: (it.top / ".git").rename(it.room / "git"), {}, "proved", ["proved"]),
@@ -145,13 +159,15 @@ def play_rows(ground):
 
 
 def play_failures(ground):
-    """Builds that fail; and `prove`, which proves once."""
+    """Builds that fail; no kit; and `prove`, which proves once."""
     ground.edit("low", "// a build that fails\n")
     ground.commit()
     status, out, err = ground.run("cover", FAILS=1)
     wants("both builds fail", (status, out, ground.deeds()), (125, "", ["built", "proved"]))
     wants("both builds fail", "no such luck" in err and "the build failed" in err, True)
     wants("prove fails", (ground.run("prove", FAILS=1)[0], ground.deeds()), (125, ["proved"]))
+    status, out, err = ground.run("prove", PATH=os.environ["PATH"] if not shutil.which("rt") else "/usr/bin:/bin")
+    wants("no kit", (status, out, err.startswith("track: there is no rt")), (125, "", True))
     wants("prove", (ground.run("prove")[:2], ground.deeds()), ((0, ""), ["proved"]))
     wants("prove again", (ground.run("prove")[::2], ground.deeds()), ((0, "track: proved\n"), []))
 
@@ -183,7 +199,7 @@ def play_words(ground):
     """Words for which nothing is built, and what is said at a terminal."""
     ground.edit("low", "// words\n")
     ground.commit()
-    for words in ([], ["--help"], ["-h"], ["help"], ["--version"], ["covr"], ["prove", "all"]):
+    for words in ([], ["--help"], ["-h"], ["help"], ["--version"], ["covr"], ["prove", "all"], ["cover", "file"]):
         wants(words, ground.run(*words), (2, "", ""))
         status, out, err = at_terminal(ground, words)
         wants(words, (status, out, bool(err)), (2, "", True))
