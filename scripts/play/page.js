@@ -38,7 +38,9 @@ class Panel {
     this.called = called;
     this.lines = replay.data.calls.map(({ line, kind, again }, call) => {
       const button = make("button", line, { type: "button" });
-      button.style.setProperty("--own", colourOf(kind === "move" ? 1 : kind === "switch" ? 2 : again ? 5 : 0));
+      const words = line.split(" ");
+      button.style.setProperty("--own", colourOf(Number(words[kind === "move" || kind === "switch" ? 1 : 3])));
+      button.classList.toggle("again", Boolean(again));
       button.dataset.call = call;
       return button;
     });
