@@ -1,0 +1,6 @@
+mod Moves
+mod Kept
+mod Current
+mod Fronts
+mod Looks
+mod NoEntry

@@ -1,0 +1,8 @@
+//! The laws of finds that meet moves: what each find weighs, quiet or not and whatever it answers,
+//! and what has come within a find that is to be made again. Each public function is a law, and
+//! does nothing.
+#![tactic(auto)]
+
+mod again;
+
+pub use again::no_entry_meets_the_top;
