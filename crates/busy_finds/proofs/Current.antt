@@ -269,7 +269,7 @@ module _ (setting : Setting) (sub : ℕ) (before : List Step) where
       (more-leave [] done.moves (length done.moves) (omega arith) (at-rest script))
 
 -- the steps before may be made
-script-before : (setting : Setting) (sub : ℕ) (before under : List Step) → IsScript setting sub (before ++ under)
+pub script-before : (setting : Setting) (sub : ℕ) (before under : List Step) → IsScript setting sub (before ++ under)
     → IsScript setting sub before
 script-before setting sub before under script = record {
   known = script.known;

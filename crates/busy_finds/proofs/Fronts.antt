@@ -41,6 +41,14 @@ number-more sub t u history h =
     let more = more-commits sub t u history h in
     omega (arith, ap length more.1, length-append (commits sub (before t history)) more.0)
 
+pub more-puts : (sub t u : ℕ) (history : History) → t ≤ u
+    → (more : List Visit) × (puts_to sub (before u history) ≡ puts_to sub (before t history) ++ more)
+more-puts sub t u history h =
+    let rest = after-front t u history h in (
+      puts_to sub rest.0,
+      ap (puts_to sub) rest.1 ∙ filter-append (λ (v : Visit). is_put_for sub v.act) (before t history) rest.0,
+    )
+
 -- the moves that are begun by a ticket are the first of those begun later
 moves-of-puts : (setting : Setting) (sub : ℕ) (xs ys : List Visit)
     → (more : List Move)

@@ -4,3 +4,9 @@ mod Current
 mod Fronts
 mod Looks
 mod NoEntry
+mod Sums
+mod Only
+mod Tickets
+mod Chase
+mod Beyond
+mod Price

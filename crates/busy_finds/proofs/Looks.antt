@@ -17,35 +17,52 @@ use Rattle.directory.specs.declared.answers.Found.{Found}
 use Rattle.trail_laws.specs.Trail.{entry_seen}
 
 -- what holds behind a find's first look, and is kept by each later one, holds behind its last
-module _ (setting : Setting) (history : History) (actor : ℕ) (call : FindCall) (P : ℕ → Pursuit → Type 0)
-    (one : (t u : ℕ) (pursuit : Pursuit) (key : Key) → t < u → slice_get history u ≡ Some (look_by actor key)
-    → key_of call pursuit ≡ Some key → P t pursuit
+module _ (setting : Setting) (history : History) (actor : ℕ) (call : FindCall) (last : ℕ) (P : ℕ → Pursuit → Type 0)
+    (one : (t u : ℕ) (pursuit : Pursuit) (key : Key) → t < u → u ≤ last
+    → slice_get history u ≡ Some (look_by actor key) → key_of call pursuit ≡ Some key → P t pursuit
     → P u (after_word setting call pursuit (cell setting (before u history) key))) where
-  looks-on : (later : List ℕ) (t : ℕ) (pursuit : Pursuit) → P t pursuit
+  -- the last look is none earlier
+  first-early : (later : List ℕ) (u : ℕ) (pursuit : Pursuit)
+      → AreLooks setting history actor call (suc u) pursuit later → u ≤ last_of (u ∷ later)
+  unfolding AreLooks
+  first-early [] u pursuit looks = omega arith
+  first-early (v ∷ later) u pursuit (first, (key, wanted, is_look, rest)) =
+      let more : v ≤ last_of (v ∷ later) =
+      first-early later v (after_word setting call pursuit (cell setting (before v history) key)) rest in
+      let e : last_of (v ∷ later) ≡ last_of (u ∷ v ∷ later) = grind arith in
+      omega (arith, first, more, e)
+
+  looks-on : (later : List ℕ) (t : ℕ) (pursuit : Pursuit) → last_of (t ∷ later) ≤ last → P t pursuit
       → AreLooks setting history actor call (suc t) pursuit later
       → P (last_of (t ∷ later)) (fold (after_word setting call) pursuit (flat_map (words_at setting history) later))
   unfolding AreLooks
-  looks-on [] t pursuit now looks = now
-  looks-on (u ∷ later) t pursuit now (first, (key, wanted, is_look, rest)) =
+  looks-on [] t pursuit by now looks = now
+  looks-on (u ∷ later) t pursuit by now (first, (key, wanted, is_look, rest)) =
+      let e : last_of (u ∷ later) ≡ last_of (t ∷ u ∷ later) = grind arith in
+      let early : u ≤ last_of (u ∷ later) =
+      first-early later u (after_word setting call pursuit (cell setting (before u history) key)) rest in
       rw (pursuit-step setting history actor call pursuit u key later is_look)
       (subst (λ x. P x (fold (after_word setting call)
       (after_word setting call pursuit (cell setting (before u history) key)) (flat_map (words_at setting history) later)))
-      (let e : last_of (u ∷ later) ≡ last_of (t ∷ u ∷ later) = grind arith in e)
-      (looks-on later u (after_word setting call pursuit (cell setting (before u history) key))
-      (one t u pursuit key (omega (arith, first)) is_look wanted now) rest))
+      e
+      (looks-on later u (after_word setting call pursuit (cell setting (before u history) key)) (omega (arith, e, by))
+      (one t u pursuit key (omega (arith, first)) (omega (arith, early, e, by)) is_look wanted now) rest))
 
   pub looks-end : {found : Found} (tickets : List ℕ) → IsFind setting history actor call found tickets
-      → ((t : ℕ) (key : Key) → t ≡ first_of tickets → slice_get history t ≡ Some (look_by actor key)
+      → last_of tickets ≤ last
+      → ((t : ℕ) (key : Key) → t ≡ first_of tickets → t ≤ last → slice_get history t ≡ Some (look_by actor key)
       → key_of call at_origin ≡ Some key
       → P t (after_word setting call at_origin (cell setting (before t history) key)))
       → P (last_of tickets) (ended found)
   unfolding AreLooks
-  looks-end {found} [] find start = let clash : at_origin ≡ ended found = find.answer in cc
-  looks-end (t ∷ later) find start =
+  looks-end {found} [] find by start = let clash : at_origin ≡ ended found = find.answer in cc
+  looks-end (t ∷ later) find by start =
       let look = find.looks.1 in
+      let early : t ≤ last_of (t ∷ later) =
+      first-early later t (after_word setting call at_origin (cell setting (before t history) look.0)) look.3 in
       rw (sym (pursuit-step setting history actor call at_origin t look.0 later look.2) ∙ find.answer) at
-      (looks-on later t (after_word setting call at_origin (cell setting (before t history) look.0))
-      (start t look.0 refl look.2 look.1) look.3)
+      (looks-on later t (after_word setting call at_origin (cell setting (before t history) look.0)) by
+      (start t look.0 refl (omega (arith, early, by)) look.2 look.1) look.3)
 
 -- ---- the climb
 module _ (setting : Setting) (history : History) (call : FindCall) (first : ℕ) where

@@ -5,6 +5,7 @@ use Rattle.std.proofs.lemmas.Bool.Decides.{nat_tests}
 use Rattle.std.proofs.lemmas.List.{append-nil, get_or_append_left, length-map, map-append}
 use Rattle.std.proofs.lemmas.List.Sums.{fold-append}
 use Rattle.std.proofs.lemmas.Option.{slice_get_within}
+use Rattle.std.proofs.lemmas.Bool.{cases_eq}
 use Rattle.directory.specs.Settings.{Setting}
 use Rattle.directory.specs.Courses.{after_step, after_steps, base, Course, MayStep, MaySteps, Move, move_to, next_move, Step, switch_off, switch_on}
 use Rattle.directory.specs.StepLaws.{highest-low, slice_get-within, take-more}
@@ -189,3 +190,25 @@ stop-inside moves are zero low = are.begins
 stop-inside {setting} {begin} moves are (suc i) low =
     let found = slice_get-within moves i (omega arith) in
     rw (stop-after begin moves i found.0 found.1) ((are.each i found.0 found.1).inside)
+
+-- a base never falls
+pub base-grows : {setting : Setting} {begin : ℕ} (level : ℕ) (moves : List Move) → AreInPlace setting begin moves
+    → (m n : ℕ) → m ≤ n → n ≤ length moves → base level (take m moves) ≤ base level (take n moves)
+base-grows level moves are m zero h low = let e : m ≡ 0 = omega arith in rw e (omega arith)
+base-grows level moves are m (suc n) h low = elim (cases_eq m (suc n)) [
+  | inl same ↦ rw same (omega arith)
+  | inr apart ↦
+      let found = slice_get-within moves n (omega arith) in
+      let its = are.each n found.0 found.1 in
+      let before : base level (take m moves) ≤ base level (take n moves) =
+      base-grows level moves are m n (omega arith) (omega arith) in
+      let within : base level (take m moves) ≤ m = base-within level moves are m (omega arith) in
+      subst (λ x. base level (take m moves) ≤ x)
+      (sym (ap (base level) (take-more moves n found.0 found.1) ∙ base-more level (take n moves) found.0))
+      (at_test (base level (take m moves)) (nat_le level found.0.renewed)
+      (omega (arith, its.its_number, within)) before)
+]
+  where
+    at_test : {y z : ℕ} (x : ℕ) (b : Bool) → x ≤ y → x ≤ z → x ≤ cond b y z
+    at_test x true h g = h
+    at_test x false h g = g

@@ -98,13 +98,13 @@ no-entry facts setting history actor call weight tickets few reads inside legal 
     first = first_of tickets
 
     ends : (first ≤ last_of tickets) × Climbed setting history call first (last_of tickets) weight []
-    ends = looks-end setting history actor call
+    ends = looks-end setting history actor call (last_of tickets)
         (λ t pursuit. (first ≤ t) × Climbs setting history call first t pursuit)
-        (λ t u pursuit key later is_look wanted now. (
+        (λ t u pursuit key later by is_look wanted now. (
           omega (arith, now.0, later),
           look-so setting history call first t u pursuit key now.0 later wanted now.1,
         ))
-        tickets find (λ t key is_first is_look wanted. (
+        tickets find (omega arith) (λ t key is_first by is_look wanted. (
           omega (arith, is_first),
           origin-so setting history call first t _,
         ))

@@ -4,5 +4,7 @@
 #![tactic(auto)]
 
 mod again;
+mod prices;
 
 pub use again::no_entry_meets_the_top;
+pub use prices::{every_find_has_its_price, finds_between_commits};

@@ -1,0 +1,54 @@
+//! Laws of the weight of finds, quiet or not.
+ghost use Rattle.busy_finds.specs.Prices.{FindsBetweenCommits, FindsHaveTheirPrice};
+
+use directory::{
+    cell_after, commits_are_moves, legal_is_amid, read_of_legal, same_key_means, told_by_writes,
+};
+use stretch_laws::reading_is_bounded;
+use trail_laws::{
+    coming_stands, entries_tell, front_of_history_is_legal, levels_stay_near, marks_lead,
+    marks_tell, passage_is_open, phases_cover,
+};
+
+/// No find weighs more than its price, whatever falls within it and whatever it answers.
+pub fn every_find_has_its_price()
+    ensures { FindsHaveTheirPrice }
+{
+    legal_is_amid();
+    read_of_legal();
+    told_by_writes();
+    commits_are_moves();
+    cell_after();
+    same_key_means();
+    front_of_history_is_legal();
+    levels_stay_near();
+    marks_tell();
+    entries_tell();
+    coming_stands();
+    phases_cover();
+    marks_lead();
+    passage_is_open();
+    reading_is_bounded();
+}
+
+/// A find with no commit of its subscriber within it weighs at most the stretch times its distance,
+/// and twice the passage that was open before its first look.
+pub fn finds_between_commits()
+    ensures { FindsBetweenCommits }
+{
+    legal_is_amid();
+    read_of_legal();
+    told_by_writes();
+    commits_are_moves();
+    cell_after();
+    same_key_means();
+    front_of_history_is_legal();
+    levels_stay_near();
+    marks_tell();
+    entries_tell();
+    coming_stands();
+    phases_cover();
+    marks_lead();
+    passage_is_open();
+    reading_is_bounded();
+}
