@@ -51,7 +51,7 @@ pub record Terms (setting : Setting) (width most_readers : ℕ) (history : Histo
   pub pays : stretch width most_readers * reach + 2 * passage setting call.sub (before first history) + spent ≤ most
 
 -- the sum of what a find pays
-spread-out : (m w x : ℕ) → (16 * m * w + 12 * w + 5) * x ≡ 16 * (m * (w * x)) + 12 * (w * x) + 5 * x
+spread-out : (m w x : ℕ) → stretch w m * x ≡ 16 * (m * (w * x)) + 12 * (w * x) + 5 * x
 spread-out m w x = grind arith
 
 pub priced : (m w r x : ℕ) → r ≤ 4 * x → 4 * (m * (w * r)) + 3 * (w * r) + r + x ≤ stretch w m * x

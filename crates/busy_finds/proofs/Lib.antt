@@ -10,3 +10,5 @@ mod Tickets
 mod Chase
 mod Beyond
 mod Price
+mod Gathered
+mod Bounded

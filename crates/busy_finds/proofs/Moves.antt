@@ -121,9 +121,9 @@ moves-added setting course (switch_off ∷ steps) = moves-added setting (after_s
 moves-added setting course (switch_on ∷ steps) = moves-added setting (after_step setting course switch_on) steps
 
 -- the base of a level with one more move
-pub base-more : (level : ℕ) (moves : List Move) (move : Move)
-    → base level (moves ++ move ∷ []) ≡ cond (nat_le level move.renewed) move.number (base level moves)
-base-more level moves move = fold-append _ 0 moves (move ∷ [])
+module _ (level : ℕ) (moves : List Move) (move : Move) where
+  pub base-more : base level (moves ++ move ∷ []) ≡ cond (nat_le level move.renewed) move.number (base level moves)
+  base-more = fold-append _ 0 moves (move ∷ [])
 
 -- it is no later than the last move
 pub base-within : {setting : Setting} {begin : ℕ} (level : ℕ) (moves : List Move) → AreInPlace setting begin moves

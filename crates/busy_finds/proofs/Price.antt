@@ -389,7 +389,7 @@ module _ (laws : PriceLaws) (setting : Setting) (width most_readers : ℕ) (hist
           (origin-on (mark_seen setting call.sub (before first history) call.from) refl))
 
 -- ---- the terms of a find
-in-dropped : {A : Type 0} (xs : List A) (b i : ℕ) → slice_get (drop b xs) i ≡ slice_get xs (b + i)
+pub in-dropped : {A : Type 0} (xs : List A) (b i : ℕ) → slice_get (drop b xs) i ≡ slice_get xs (b + i)
 in-dropped xs zero i = let e : 0 + i ≡ i = omega arith in rw e refl
 in-dropped [] (suc b) i = refl
 in-dropped (x ∷ xs) (suc b) i = let e : suc b + i ≡ suc (b + i) = omega arith in rw e (in-dropped xs b i)

@@ -71,12 +71,12 @@ highest-reaches test (suc limit) level below h =
     grind (arith, cases_Bool (test limit), cases_eq level limit, highest-reaches test limit level)
 
 -- what the first moves come to stays
-travelled-front : (moves : List Move) (move : Move) (k : ℕ) → k ≤ length moves
+pub travelled-front : (moves : List Move) (move : Move) (k : ℕ) → k ≤ length moves
     → travelled (moves ++ move ∷ []) k ≡ travelled moves k
 travelled-front moves move k low =
     ap (sum_by (λ (m : Move). m.weight)) (take-append-le k moves (move ∷ []) low)
 
-gathered-is : (moves : List Move) (b : ℕ) → travelled moves (length moves)
+pub gathered-is : (moves : List Move) (b : ℕ) → travelled moves (length moves)
     ≡ travelled moves b + sum_by (λ (m : Move). m.weight) (drop b moves)
 gathered-is moves b =
     ap (sum_by (λ (m : Move). m.weight)) (take_all (length moves) moves (omega arith) ∙ sym (take-append-drop b moves))

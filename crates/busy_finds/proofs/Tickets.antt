@@ -47,7 +47,7 @@ pub record MarkLaws : Type 0 where
   pub keys : SameKey
 
 -- what stands in a front stands in the whole
-in-front : {A : Type 0} (n : ℕ) (xs : List A) (i : ℕ) (x : A) → slice_get (take n xs) i ≡ Some x
+pub in-front : {A : Type 0} (n : ℕ) (xs : List A) (i : ℕ) (x : A) → slice_get (take n xs) i ≡ Some x
     → slice_get xs i ≡ Some x
 in-front zero xs i x h = cc
 in-front (suc n) [] i x h = cc
@@ -55,11 +55,12 @@ in-front (suc n) (y ∷ xs) zero x h = h
 in-front (suc n) (y ∷ xs) (suc i) x h = in-front n xs i x h
 
 -- what has an image in a list
-mapped-at : {A B : Type 0} (f : A → B) (xs : List A) (i : ℕ) (y : B) → slice_get (map f xs) i ≡ Some y
-    → (x : A) × (slice_get xs i ≡ Some x) × (f x ≡ y)
-mapped-at f [] i y h = cc
-mapped-at f (x ∷ xs) zero y h = (x, refl, same_some h)
-mapped-at f (x ∷ xs) (suc i) y h = mapped-at f xs i y h
+module _ {A B : Type 0} (f : A → B) where
+  mapped-at : (xs : List A) (i : ℕ) (y : B) → slice_get (map f xs) i ≡ Some y
+      → (x : A) × (slice_get xs i ≡ Some x) × (f x ≡ y)
+  mapped-at [] i y h = cc
+  mapped-at (x ∷ xs) zero y h = (x, refl, same_some h)
+  mapped-at (x ∷ xs) (suc i) y h = mapped-at xs i y h
 
 -- the last one
 last-one : {A : Type 0} (xs : List A) (n : ℕ) (x : A) → slice_get xs n ≡ Some x → length xs ≡ suc n

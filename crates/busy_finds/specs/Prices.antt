@@ -1,10 +1,10 @@
 -- The price of every find, quiet or not and whatever it answers: what it may weigh, told by its
 -- first look and by the moves that are committed within it.
--- Key laws: `every_find_has_its_price`, `finds_between_commits`.
-use Rattle.std.specs.Prelude.{◌≡◌, ℕ, ◌+◌, ◌*◌, ◌<◌, ◌≤◌, ◌^◌, max, List, drop, fold, sum_by, take}
+-- Key laws: `every_find_has_its_price`.
+use Rattle.std.specs.Prelude.{◌≡◌, ℕ, ◌+◌, ◌-◌, ◌*◌, ◌<◌, ◌≤◌, ◌^◌, max, List, drop, fold, sum_by, take}
 use Rattle.directory.specs.Settings.{Setting}
 use Rattle.directory.specs.Histories.{before, History}
-use Rattle.directory.specs.Courses.{Move}
+use Rattle.directory.specs.Courses.{base, Move}
 use Rattle.directory.specs.Legal.{IsLegal}
 use Rattle.directory.specs.Finds.{FindCall, found_weight}
 use Rattle.directory.specs.Looks.{first_of, IsFind, last_of}
@@ -56,7 +56,7 @@ FindsHaveTheirPrice =
 
 -- a find with no commit of its subscriber within it, though other visits of a move may fall within
 -- it, weighs at most the stretch times its distance, and twice the passage that was open before its
--- first look, whatever it answers (`finds_between_commits`)
+-- first look, whatever it answers (`every_find_has_its_price`)
 abbrev pub FindsBetweenCommits : Type 0
 FindsBetweenCommits =
     (setting : Setting) (width most_readers : ℕ) (history : History) (actor : ℕ) (call : FindCall)
@@ -68,4 +68,31 @@ FindsBetweenCommits =
     → found_weight found ≤ stretch width most_readers
     * setting.distance call.from
     (standing setting call.sub (before (first_of tickets) history))
+    + 2 * passage setting call.sub (before (first_of tickets) history)
+
+-- what the highest level that a move renews had gathered, with this move's weight: that of the moves
+-- since the level was renewed before
+abbrev pub gathered_by : List Move → Move → ℕ
+gathered_by moves move =
+    sum_by (λ past. past.weight)
+    (drop (base move.renewed (take (move.number - 1) moves)) (take move.number moves))
+
+-- what the moves that are committed between two tickets had gathered
+abbrev pub gathered_within : Setting → ℕ → History → ℕ → ℕ → ℕ
+gathered_within setting sub history first last =
+    sum_by (gathered_by (moves_of setting sub history)) (moves_within setting sub history first last)
+
+-- no find weighs more than this many times its distance and what the moves within had gathered, and
+-- twice the passage that was open before its first look; the distance may be told at any ticket
+-- from its first look to its last (`every_find_has_its_price`)
+abbrev pub EveryFindIsBounded : Type 0
+EveryFindIsBounded =
+    (setting : Setting) (width most_readers : ℕ) (history : History) (actor : ℕ) (call : FindCall)
+    (found : Found) (tickets : List ℕ) (ticket : ℕ) → setting.nodes ≤ 2 ^ 16
+    → IsTracking setting width most_readers → GathersHalf setting → call.from < setting.nodes
+    → IsLegal setting call.sub history → IsFind setting history actor call found tickets
+    → first_of tickets ≤ ticket → ticket ≤ last_of tickets
+    → found_weight found ≤ (stretch width most_readers + 1)
+    * (setting.distance call.from (standing setting call.sub (before ticket history))
+    + gathered_within setting call.sub history (first_of tickets) (last_of tickets))
     + 2 * passage setting call.sub (before (first_of tickets) history)

@@ -4,7 +4,9 @@
 #![tactic(auto)]
 
 mod again;
+mod plans;
 mod prices;
 
 pub use again::no_entry_meets_the_top;
-pub use prices::{every_find_has_its_price, finds_between_commits};
+pub use plans::{plan_finds_are_bounded, plans_gather_half};
+pub use prices::every_find_has_its_price;

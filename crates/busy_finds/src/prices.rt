@@ -1,5 +1,5 @@
 //! Laws of the weight of finds, quiet or not.
-ghost use Rattle.busy_finds.specs.Prices.{FindsBetweenCommits, FindsHaveTheirPrice};
+ghost use Rattle.busy_finds.specs.Prices.{EveryFindIsBounded, FindsBetweenCommits, FindsHaveTheirPrice};
 
 use directory::{
     cell_after, commits_are_moves, legal_is_amid, read_of_legal, same_key_means, told_by_writes,
@@ -10,31 +10,16 @@ use trail_laws::{
     marks_tell, passage_is_open, phases_cover,
 };
 
-/// No find weighs more than its price, whatever falls within it and whatever it answers.
+/// No find weighs more than its price, whatever falls within it and whatever it answers: the
+/// stretch times its distance, or times the greatest threshold that a move within it reached; twice
+/// the passage that was open; and the weight of these moves. A find with no commit within weighs at
+/// most the stretch times its distance, and twice that passage. And no find weighs more than the
+/// stretch times its distance, told at any of its tickets, and what the moves within had gathered,
+/// and twice that passage.
 pub fn every_find_has_its_price()
-    ensures { FindsHaveTheirPrice }
-{
-    legal_is_amid();
-    read_of_legal();
-    told_by_writes();
-    commits_are_moves();
-    cell_after();
-    same_key_means();
-    front_of_history_is_legal();
-    levels_stay_near();
-    marks_tell();
-    entries_tell();
-    coming_stands();
-    phases_cover();
-    marks_lead();
-    passage_is_open();
-    reading_is_bounded();
-}
-
-/// A find with no commit of its subscriber within it weighs at most the stretch times its distance,
-/// and twice the passage that was open before its first look.
-pub fn finds_between_commits()
-    ensures { FindsBetweenCommits }
+    ensures price { FindsHaveTheirPrice }
+    ensures between { FindsBetweenCommits }
+    ensures bounded { EveryFindIsBounded }
 {
     legal_is_amid();
     read_of_legal();
