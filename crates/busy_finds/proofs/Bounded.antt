@@ -192,7 +192,7 @@ gather-half plan starts bounds level low = omega (
 at-most : (m w x : ℕ) → stretch w m * x ≤ (16 * m * w + 12 * w + 12) * x
 at-most m w x = grind arith
 
-and-one : (m w x : ℕ) → (stretch w m + 1) * x ≤ (16 * m * w + 12 * w + 12) * x
+pub and-one : (m w x : ℕ) → (stretch w m + 1) * x ≤ (16 * m * w + 12 * w + 12) * x
 and-one m w x = grind arith
 
 pub plan-bounded : PlansTrack → EveryFindIsBounded → PlanFindsAreBounded

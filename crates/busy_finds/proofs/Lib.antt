@@ -12,3 +12,4 @@ mod Beyond
 mod Price
 mod Gathered
 mod Bounded
+mod Altogether

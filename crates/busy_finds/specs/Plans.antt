@@ -1,8 +1,8 @@
 -- What is said of settings, said of plans: over a plan that bounds its finds every find, whatever
 -- falls within it, weighs at most the plan's own stretch times its distance and what the moves
 -- within had gathered, and twice the passage that was open before it.
--- Key laws: `plan_finds_are_bounded`, `plans_gather_half`.
-use Rattle.std.specs.Prelude.{◌≡◌, ℕ, ◌+◌, ◌<◌, ◌≤◌, ◌^◌, List}
+-- Key laws: `plan_finds_are_bounded`, `plan_finds_in_turn_are_bounded`, `plans_gather_half`.
+use Rattle.std.specs.Prelude.{◌≡◌, ℕ, ◌+◌, ◌*◌, ◌<◌, ◌≤◌, ◌^◌, List}
 use Rattle.directory.specs.Histories.{before, History}
 use Rattle.directory.specs.Legal.{IsLegal}
 use Rattle.directory.specs.Finds.{FindCall, found_weight}
@@ -10,10 +10,12 @@ use Rattle.directory.specs.Looks.{first_of, IsFind, last_of}
 use Rattle.directory.specs.Standing.{number, passage, standing}
 use Rattle.directory.specs.declared.answers.Found.{Found}
 use Rattle.region_plan.specs.Matched.{BoundsFinds}
-use Rattle.region_plan.specs.Plan.{nodes_of, PlanData}
+use Rattle.region_plan.specs.Plan.{levels_of, nodes_of, PlanData}
 use Rattle.region_plan.specs.Settings.{setting_of}
 use Rattle.stretch_laws.specs.Plans.{bound_of}
-use Rattle.busy_finds.specs.Prices.{gathered_within, GathersHalf}
+use Rattle.busy_finds.specs.Altogether.{AreInTurn, distance_in_all, MadeFind, passages_in_all, weigh_in_all}
+use Rattle.busy_finds.specs.Prices.{gathered_within, GathersHalf, weight_of}
+use Rattle.busy_finds.specs.Within.{moves_of}
 
 -- a plan that bounds its finds renews no level before it has gathered half of its radius
 -- (`plans_gather_half`)
@@ -56,3 +58,16 @@ PlanFindsBetweenCommits =
     → found_weight found ≤ bound_of plan
     (distance_at plan starts call history (first_of tickets))
     (passage (setting_of plan starts) call.sub (before (first_of tickets) history))
+
+-- finds of a subscriber in turn are in all within the plan's bound, on their distances and what the
+-- subscriber moved, once for each level, and on the passages that were open before them
+-- (`plan_finds_in_turn_are_bounded`)
+abbrev pub PlanFindsInTurnAreBounded : Type 0
+PlanFindsInTurnAreBounded =
+    (plan : PlanData) (starts : List ℕ) (history : History) (sub : ℕ) (finds : List MadeFind)
+    → nodes_of plan ≤ 2 ^ 16 → BoundsFinds plan → IsLegal (setting_of plan starts) sub history
+    → AreInTurn (setting_of plan starts) history sub 0 finds
+    → weigh_in_all finds ≤ bound_of plan
+    (distance_in_all (setting_of plan starts) history finds
+    + levels_of plan * weight_of (moves_of (setting_of plan starts) sub history))
+    (passages_in_all (setting_of plan starts) history finds)

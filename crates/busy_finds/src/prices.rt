@@ -1,4 +1,5 @@
 //! Laws of the weight of finds, quiet or not.
+ghost use Rattle.busy_finds.specs.Altogether.{FindsInTurnAreBounded};
 ghost use Rattle.busy_finds.specs.Prices.{EveryFindIsBounded, FindsBetweenCommits, FindsHaveTheirPrice};
 
 use directory::{
@@ -36,4 +37,13 @@ pub fn every_find_has_its_price()
     marks_lead();
     passage_is_open();
     reading_is_bounded();
+}
+
+/// Finds of a subscriber that follow one another, as those of one caller do, weigh in all at most
+/// so many times their distances and what the subscriber moved, once for each level, and twice the
+/// passages that were open before them.
+pub fn finds_in_turn_are_bounded()
+    ensures { FindsInTurnAreBounded }
+{
+    every_find_has_its_price();
 }
