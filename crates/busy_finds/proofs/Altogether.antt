@@ -1,6 +1,6 @@
 -- What finds that follow one another weigh in all.
-use Rattle.std.proofs.Common.{◌≡◌, inl, inr, ℕ, zero, suc, ◌+◌, ◌-◌, ◌*◌, ◌<◌, ◌≤◌, ◌^◌, Bool, true, false, cond, List, [], ◌∷◌, ◌++◌, Some, length, take, drop, refl, sym, ap, ◌∙◌, subst, arith}
-use Rattle.std.specs.Prelude.{nat_le, slice_get, sum_by}
+use Rattle.std.proofs.Common.{◌≡◌, inl, inr, ℕ, zero, suc, ◌+◌, ◌*◌, ◌<◌, ◌≤◌, ◌^◌, true, cond, List, [], ◌∷◌, ◌++◌, length, take, drop, sym, ap, ◌∙◌, subst, arith}
+use Rattle.std.specs.Prelude.{nat_le, sum_by}
 use Rattle.std.proofs.Math.Nat.{mul-le-mul_left}
 use Rattle.std.proofs.lemmas.Bool.{cases_eq}
 use Rattle.std.proofs.lemmas.Bool.Decides.{nat_tests}
@@ -21,14 +21,14 @@ use Rattle.stretch_laws.specs.Plans.{PlansTrack}
 use Rattle.stretch_laws.specs.Tracking.{IsTracking, stretch}
 use Rattle.busy_finds.specs.Altogether.{AreInTurn, distance_before, distance_in_all, FindsInTurnAreBounded, MadeFind, passage_before, passages_in_all, weigh_in_all}
 use Rattle.busy_finds.specs.Plans.{PlanFindsInTurnAreBounded}
-use Rattle.busy_finds.specs.Prices.{EveryFindIsBounded, gathered_by, gathered_within, GathersHalf, moves_within, weight_of}
+use Rattle.busy_finds.specs.Prices.{EveryFindIsBounded, gathered_by, gathered_within, GathersHalf, weight_of}
 use Rattle.busy_finds.specs.Within.{moves_of}
 use Rattle.busy_finds.proofs.Bounded.{and-one, gather-half}
 use Rattle.busy_finds.proofs.Fronts.{moves-in-place, number-more}
 use Rattle.busy_finds.proofs.Gathered.{gathered-is-way}
 use Rattle.busy_finds.proofs.Moves.{AreInPlace, base-grows, base-more, base-within}
 use Rattle.busy_finds.proofs.Price.{in-order}
-use Rattle.busy_finds.proofs.Sums.{travelled, travelled-more, travelled-step}
+use Rattle.busy_finds.proofs.Sums.{travelled, travelled-more}
 
 -- a sum over the numbers below one
 sum_below : (ℕ → ℕ) → ℕ → ℕ
@@ -48,17 +48,17 @@ unfolding sum_below
 sum-below-one f g zero k d each low more = absurd (omega (arith, low))
 sum-below-one f g (suc count) k d each low more = elim (cases_eq k count) [
   | inl same ↦ omega (
-      arith,
-      sum-below-more f g count (λ i below. each i (omega (arith, below))),
-      ap f same,
-      ap g same,
-      more,
-    )
+    arith,
+    sum-below-more f g count (λ i below. each i (omega (arith, below))),
+    ap f same,
+    ap g same,
+    more,
+  )
   | inr apart ↦ omega (
-      arith,
-      sum-below-one f g count k d (λ i below. each i (omega (arith, below))) (omega (arith, low, apart)) more,
-      each count (omega arith),
-    )
+    arith,
+    sum-below-one f g count k d (λ i below. each i (omega (arith, below))) (omega (arith, low, apart)) more,
+    each count (omega arith),
+  )
 ]
 
 sum-below-most : (f : ℕ → ℕ) (count most : ℕ) → ((i : ℕ) → i < count → f i ≤ most) → sum_below f count ≤ count * most

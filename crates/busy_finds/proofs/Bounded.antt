@@ -1,27 +1,23 @@
 -- No find weighs more than the stretch times its distance and what the moves within had gathered, and twice the passage.
-use Rattle.std.proofs.Common.{◌≡◌, ◌≢◌, ◌⊎◌, inl, inr, ℕ, zero, suc, ◌+◌, ◌-◌, ◌*◌, ◌<◌, ◌≤◌, ◌^◌, max, List, [], ◌∷◌, Some, length, take, drop, refl, sym, ap, ◌∙◌, subst, arith}
+use Rattle.std.proofs.Common.{◌≡◌, inl, inr, ℕ, zero, suc, ◌+◌, ◌*◌, ◌<◌, ◌≤◌, ◌^◌, max, List, Some, take, sym, ap, ◌∙◌, subst, arith}
 use Rattle.std.specs.Prelude.{slice_get, sum_by}
 use Rattle.std.proofs.Math.Nat.{mul-le-mul_left}
 use Rattle.std.proofs.lemmas.Option.{slice_get_within}
-use Rattle.std.proofs.lemmas.List.{length-drop, length-take}
 use Rattle.directory.specs.Settings.{Setting, start}
 use Rattle.directory.specs.Courses.{base, course_at, Move}
-use Rattle.directory.specs.Finds.{FindCall, found_weight}
 use Rattle.directory.specs.Histories.{before, History, puts_to}
 use Rattle.directory.specs.Legal.{IsLegal}
 use Rattle.directory.specs.Looks.{first_of, last_of}
 use Rattle.directory.specs.Puts.{steps_in}
 use Rattle.directory.specs.StepLaws.{start-kept}
-use Rattle.directory.specs.Standing.{number, passage, standing}
-use Rattle.region_plan.specs.Matched.{BoundsFinds}
-use Rattle.region_plan.specs.Measures.{degree_of, stretch_of}
-use Rattle.region_plan.specs.Plan.{PlanData, top_of}
+use Rattle.directory.specs.Standing.{number, standing}
+use Rattle.region_plan.specs.Measures.{degree_of}
 use Rattle.region_plan.specs.Regions.{threshold_of}
 use Rattle.region_plan.specs.Settings.{setting_of}
-use Rattle.stretch_laws.specs.Plans.{bound_of, PlansTrack}
+use Rattle.stretch_laws.specs.Plans.{PlansTrack}
 use Rattle.stretch_laws.specs.Tracking.{IsTracking, radius, stretch}
 use Rattle.busy_finds.specs.Plans.{distance_at, PlanFindsAreBounded, PlanFindsBetweenCommits, PlansGatherHalf}
-use Rattle.busy_finds.specs.Prices.{EveryFindIsBounded, FindsBetweenCommits, FindsHaveTheirPrice, gathered_by, gathered_within, GathersHalf, greatest_threshold, moves_within, price, weight_of}
+use Rattle.busy_finds.specs.Prices.{EveryFindIsBounded, FindsBetweenCommits, FindsHaveTheirPrice, gathered_by, gathered_within, greatest_threshold, moves_within, weight_of}
 use Rattle.busy_finds.specs.Within.{moves_of}
 use Rattle.busy_finds.proofs.Beyond.{PriceLaws}
 use Rattle.busy_finds.proofs.Fronts.{moves-in-place, number-more}

@@ -1,8 +1,6 @@
 -- What moves gather: each at least what it weighs, and the threshold of the highest level that it renews.
-use Rattle.std.proofs.Common.{◌≡◌, ◌≢◌, ◌⊎◌, inl, inr, ℕ, zero, suc, ◌+◌, ◌-◌, ◌*◌, ◌<◌, ◌≤◌, ◌^◌, max, Bool, true, false, cond, List, [], ◌∷◌, ◌++◌, Some, length, take, drop, fold, refl, sym, ap, ◌∙◌, subst, arith, length-append}
+use Rattle.std.proofs.Common.{◌≡◌, ◌≢◌, ◌⊎◌, inl, inr, ℕ, zero, suc, ◌+◌, ◌-◌, ◌≤◌, max, Bool, true, false, cond, List, [], ◌∷◌, ◌++◌, Some, length, take, drop, fold, refl, sym, ap, ◌∙◌, subst, arith}
 use Rattle.std.specs.Prelude.{nat_le, slice_get, sum_by}
-use Rattle.std.proofs.Math.Nat.{mul-le-mul_left}
-use Rattle.std.proofs.lemmas.Bool.{cases_Bool}
 use Rattle.std.proofs.lemmas.Bool.Decides.{nat_tests}
 use Rattle.std.proofs.lemmas.List.{take-append-drop, take-append-le, take-take, take_all, take_at}
 use Rattle.std.proofs.lemmas.List.Sums.{sum_by-append, sum_by-cons}
@@ -10,7 +8,7 @@ use Rattle.std.proofs.lemmas.Option.{slice_get_within}
 use Rattle.directory.specs.Settings.{levels, Setting}
 use Rattle.directory.specs.Courses.{after_step, after_steps, base, Course, gathered_weight, highest, MaySteps, Move, move_to, next_move, Step, switch_off, switch_on}
 use Rattle.directory.specs.ListLaws.{slice_get-right}
-use Rattle.busy_finds.specs.Prices.{gathered_by, greatest_threshold, weight_of}
+use Rattle.busy_finds.specs.Prices.{gathered_by}
 use Rattle.busy_finds.proofs.Moves.{AreInPlace, base-within, in-pushed, place-step, stop-kept, stop-whole, stop_of}
 use Rattle.busy_finds.proofs.Sums.{gathered-is, travelled, travelled-front, travelled-step}
 

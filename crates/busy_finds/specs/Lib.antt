@@ -2,3 +2,4 @@ pub mod Within
 pub mod Prices
 pub mod Plans
 pub mod Altogether
+pub mod Examples
