@@ -1,0 +1,15 @@
+mod Moves
+mod Kept
+mod Current
+mod Fronts
+mod Looks
+mod NoEntry
+mod Sums
+mod Only
+mod Tickets
+mod Chase
+mod Beyond
+mod Price
+mod Gathered
+mod Bounded
+mod Altogether

@@ -1,0 +1,5 @@
+pub mod Within
+pub mod Prices
+pub mod Plans
+pub mod Altogether
+pub mod Examples

@@ -1,0 +1,38 @@
+-- What falls within a find: the moves of its subscriber whose commits come between its first look
+-- and its last. A move renews the levels up to its highest.
+-- Key laws: `no_entry_meets_the_top`.
+use Rattle.std.specs.Prelude.{◌≡◌, ℕ, ◌-◌, ◌<◌, ◌≤◌, ◌^◌, List, Some, slice_get}
+use Rattle.directory.specs.Settings.{Setting}
+use Rattle.directory.specs.Histories.{before, History, puts_to}
+use Rattle.directory.specs.Courses.{Move}
+use Rattle.directory.specs.Puts.{course_in}
+use Rattle.directory.specs.Legal.{IsLegal}
+use Rattle.directory.specs.Finds.{FindCall}
+use Rattle.directory.specs.Looks.{first_of, IsFind, last_of}
+use Rattle.directory.specs.Standing.{number}
+use Rattle.directory.specs.declared.answers.Found.TheVariants.{Again}
+use Rattle.directory.specs.declared.answers.Why.TheVariants.{NoEntry}
+use Rattle.trail_laws.specs.Rightness.{ReadsTop}
+
+-- the moves that a subscriber has begun, in order
+abbrev pub moves_of : Setting → ℕ → History → List Move
+moves_of setting sub history = (course_in setting sub (puts_to sub history)).moves
+
+-- a move of a subscriber is committed between two tickets: its number is above the count of commits
+-- before the first, and at most that before the last
+pub record IsWithin (setting : Setting) (sub : ℕ) (history : History) (first last : ℕ) (move : Move)
+    : Type 0 where
+  pub after : number sub (before first history) < move.number
+  pub by : move.number ≤ number sub (before last history)
+  pub is : slice_get (moves_of setting sub history) (move.number - 1) ≡ Some move
+
+-- where a find met no address at all, a move that renews the top level was committed within it
+-- (`no_entry_meets_the_top`)
+abbrev pub NoEntryMeetsTop : Type 0
+NoEntryMeetsTop =
+    (setting : Setting) (history : History) (actor : ℕ) (call : FindCall) (weight : ℕ)
+    (tickets : List ℕ) → setting.nodes ≤ 2 ^ 16 → ReadsTop setting → call.from < setting.nodes
+    → IsLegal setting call.sub history
+    → IsFind setting history actor call (Again NoEntry weight) tickets
+    → (move : Move) × (move.renewed ≡ setting.top)
+    × IsWithin setting call.sub history (first_of tickets) (last_of tickets) move

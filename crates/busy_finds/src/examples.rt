@@ -1,0 +1,31 @@
+//! An example that meets what the laws ask.
+ghost use Rattle.std.specs.Prelude.{◌≡◌, ◌++◌, [], ◌∷◌, Some, replicate};
+ghost use Rattle.busy_finds.specs.Examples.{line_meeting, meeting_history, meeting_order};
+ghost use Rattle.busy_finds.specs.Prices.{GathersHalf, gathered_within, greatest_threshold, moves_within, price, weight_of};
+ghost use Rattle.directory.specs.Histories.{before};
+ghost use Rattle.directory.specs.Outcomes.{outcome_of};
+ghost use Rattle.directory.specs.declared.answers.Done.TheVariants.{Moved, Found as FoundBy};
+ghost use Rattle.plan_laws.specs.Examples.{line_setting};
+ghost use Rattle.stretch_laws.specs.Examples.{line_call};
+
+use crate::plans::plans_gather_half;
+use plan_laws::line_has_its_plan;
+
+/// A find on the line of four that meets a move: it weighs 4, at a distance of 3. Its price is 137
+/// times 3 and the move's weight of 1; the highest level that the move renews had gathered 1.
+pub fn line_price()
+    ensures half { GathersHalf line_setting }
+    ensures travels { outcome_of line_setting line_meeting meeting_order ≡ record {
+      calls = Moved 0 1 3 2 1 2 5 11 ∷ FoundBy 1 0 0 2 1 (Some 1) 4 0 9 ∷ [];
+      order = meeting_order ++ replicate 2 0;
+    } }
+    ensures weighs { weight_of (moves_within line_setting 0 meeting_history 0 9) ≡ 1 }
+    ensures reaches { greatest_threshold line_setting
+        (moves_within line_setting 0 meeting_history 0 9) ≡ 1 }
+    ensures gathers { gathered_within line_setting 0 meeting_history 0 9 ≡ 1 }
+    ensures costs { price line_setting 3 2 line_call (before 0 meeting_history)
+        (moves_within line_setting 0 meeting_history 0 9) ≡ 412 }
+{
+    line_has_its_plan();
+    plans_gather_half();
+}

@@ -1,0 +1,14 @@
+//! The laws of finds that meet moves: what each find weighs, quiet or not and whatever it answers,
+//! and what has come within a find that is to be made again. Each public function is a law, and
+//! does nothing.
+#![tactic(auto)]
+
+mod again;
+mod examples;
+mod plans;
+mod prices;
+
+pub use again::no_entry_meets_the_top;
+pub use examples::line_price;
+pub use plans::{plan_finds_are_bounded, plan_finds_in_turn_are_bounded, plans_gather_half};
+pub use prices::{every_find_has_its_price, finds_in_turn_are_bounded};

@@ -1,0 +1,49 @@
+//! Laws of the weight of finds, quiet or not.
+ghost use Rattle.busy_finds.specs.Altogether.{FindsInTurnAreBounded};
+ghost use Rattle.busy_finds.specs.Prices.{EveryFindIsBounded, FindsBetweenCommits, FindsHaveTheirPrice};
+
+use directory::{
+    cell_after, commits_are_moves, legal_is_amid, read_of_legal, same_key_means, told_by_writes,
+};
+use stretch_laws::reading_is_bounded;
+use trail_laws::{
+    coming_stands, entries_tell, front_of_history_is_legal, levels_stay_near, marks_lead,
+    marks_tell, passage_is_open, phases_cover,
+};
+
+/// No find weighs more than its price, whatever falls within it and whatever it answers: the
+/// stretch times its distance, or times the greatest threshold that a move within it reached; twice
+/// the passage that was open; and the weight of these moves. A find with no commit within weighs at
+/// most the stretch times its distance, and twice that passage. And no find weighs more than the
+/// stretch times its distance, told at any of its tickets, and what the moves within had gathered,
+/// and twice that passage.
+pub fn every_find_has_its_price()
+    ensures price { FindsHaveTheirPrice }
+    ensures between { FindsBetweenCommits }
+    ensures bounded { EveryFindIsBounded }
+{
+    legal_is_amid();
+    read_of_legal();
+    told_by_writes();
+    commits_are_moves();
+    cell_after();
+    same_key_means();
+    front_of_history_is_legal();
+    levels_stay_near();
+    marks_tell();
+    entries_tell();
+    coming_stands();
+    phases_cover();
+    marks_lead();
+    passage_is_open();
+    reading_is_bounded();
+}
+
+/// Finds of a subscriber that follow one another, as those of one caller do, weigh in all at most
+/// so many times their distances and what the subscriber moved, once for each level, and twice the
+/// passages that were open before them.
+pub fn finds_in_turn_are_bounded()
+    ensures { FindsInTurnAreBounded }
+{
+    every_find_has_its_price();
+}
