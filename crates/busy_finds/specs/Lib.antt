@@ -3,3 +3,4 @@ pub mod Prices
 pub mod Plans
 pub mod Altogether
 pub mod Examples
+pub mod PricedOutcomes

@@ -5,10 +5,12 @@
 
 mod again;
 mod examples;
+mod outcomes;
 mod plans;
 mod prices;
 
 pub use again::no_entry_meets_the_top;
 pub use examples::line_price;
+pub use outcomes::plan_outcomes_are_priced;
 pub use plans::{plan_finds_are_bounded, plan_finds_in_turn_are_bounded, plans_gather_half};
 pub use prices::{every_find_has_its_price, finds_in_turn_are_bounded};

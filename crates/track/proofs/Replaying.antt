@@ -30,6 +30,7 @@ use Rattle.track.proofs.Answering.{plan-nodes}
 use Rattle.scripts.specs.Laws.{ScriptsAreValid}
 use Rattle.scripts.specs.ScriptLaws.{few-nodes}
 use Rattle.stretch_laws.specs.Plans.{PlansTrack}
+use Rattle.busy_finds.specs.PricedOutcomes.{PlanOutcomesArePriced}
 use Rattle.directory.specs.Outcomes.{outcome_of}
 use Rattle.net_reader.specs.declared.input.Input.{Input}
 use Rattle.net_reader.specs.Seen.{seen_input}
@@ -46,10 +47,10 @@ sound-text own {contents} order valid text_is = ap (verdict_for contents) text_i
 
 pub report-says : {plan : PlanData} {contents : Contents} (order : List ℕ)
     → TellInTurn (outcome_over plan (in_order contents order)).calls → OutcomesAreRight → NumbersRise → PlansTrack
-    → PlanOutcomesAreNear → ScriptsAreValid → {text : List ℕ} → IsValid contents → nodes_of plan ≡ contents.nodes
+    → PlanOutcomesAreNear → PlanOutcomesArePriced → ScriptsAreValid → {text : List ℕ} → IsValid contents → nodes_of plan ≡ contents.nodes
     → BoundsFinds plan → text ≡ report_of (outcome_over plan (in_order contents order))
     → IsReportOver plan (in_order contents order) text
-report-says {plan} {contents} order turn right rise track near scripts valid nodes bounds text_is =
+report-says {plan} {contents} order turn right rise track near priced scripts valid nodes bounds text_is =
     let few : nodes_of plan ≤ 2 ^ 16 = omega (arith, nodes, few-nodes contents valid) in
     let valid_scripts = scripts contents (plan_setting plan contents) valid (record { nodes = nodes; starts = refl }) in
     record {
@@ -59,6 +60,7 @@ report-says {plan} {contents} order turn right rise track near scripts valid nod
       in_turn = turn;
       rising = rise (plan_setting plan contents) (scripts_of contents) order few valid_scripts;
       near = near plan contents.homes (scripts_of contents) order few bounds valid_scripts;
+      priced = priced plan contents.homes (scripts_of contents) order few bounds valid_scripts;
     }
 
 -- the census by the scripts of a valid input is that of its calls' history

@@ -10,6 +10,7 @@ use Rattle.net_reader.specs.declared.fault.InputFault.{InputFault}
 use Rattle.net_reader.specs.declared.fault.ReadRefusal.{ReadRefusal}
 use Rattle.net_reader.specs.declared.fault.ReadRefusal.TheVariants as refusals
 use Rattle.net_reader.specs.Input.{Contents, IsInput}
+use Rattle.busy_finds.specs.PricedOutcomes.{IsLinePriced}
 use Rattle.directory.specs.Census.{census}
 use Rattle.directory.specs.Histories.{History}
 use Rattle.directory.specs.Orders.{history_of}
@@ -93,6 +94,11 @@ pub record IsReportOver (plan : PlanData) (contents : Contents) (text : List ℕ
   -- a quiet find has its answer, and its weight is within the plan's bound: the stretch times the
   -- distance, and twice an open passage
   pub near : All (IsLineWithin (bound_of plan) (plan_setting plan contents)
+      (history_over plan contents)) (outcome_over plan contents).calls
+  -- every find, whatever it answers and whatever moves fall within it, weighs at most the plan's
+  -- bound on its distance, at any of its visits, with what the moves committed within it had
+  -- gathered, and on the passage that was open before it
+  pub priced : All (IsLinePriced (bound_of plan) (plan_setting plan contents)
       (history_over plan contents)) (outcome_over plan contents).calls
 
 -- the verdict on a report of an input, over the plan of its network

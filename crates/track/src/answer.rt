@@ -22,6 +22,7 @@ ghost use Rattle.track.specs.Results.{outcome_for, outcome_over};
 use crate::census::census;
 use crate::cost::cost_text;
 use crate::status::Status;
+use busy_finds::plan_outcomes_are_priced;
 use directory::{Outcome, all_scripts_done};
 use distances::Distances;
 use json_form::input_json;
@@ -135,6 +136,7 @@ pub(crate) fn replay(
     outcomes_are_right();
     plans_track();
     plan_outcomes_are_near();
+    plan_outcomes_are_priced();
     scripts_are_valid();
     covered_plan_means();
     covered_plan_of_same_walks();

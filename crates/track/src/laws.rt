@@ -1,5 +1,6 @@
 //! What holds of every call. Each public function is a law, and does nothing.
 ghost use Rattle.std.specs.Prelude.{◌≡◌, ◌<◌, ◌+◌, ◌-◌, ◌*◌, All, List, length, ℕ};
+ghost use Rattle.busy_finds.specs.PricedOutcomes.{IsLinePriced};
 ghost use Rattle.directory.specs.Census.{census};
 ghost use Rattle.move_cost.specs.Costs.{cost_lines};
 ghost use Rattle.move_cost.specs.Rate.{IsWithinRate};
@@ -49,8 +50,8 @@ pub fn runs_are_replayed()
 }
 
 /// What a report tells: its lines are right, of answers about one subscriber later ones tell no
-/// lower numbers, a caller's finds come in turn, quiet finds have near answers, and the checker of
-/// reports finds no flaw.
+/// lower numbers, a caller's finds come in turn, quiet finds have near answers, every find is
+/// within its price, and the checker of reports finds no flaw.
 pub fn reports_tell()
     ensures right { (contents : Contents) (text : List ℕ) → IsReport contents text
         → All (IsRightLine (setting_for contents) (history_for contents))
@@ -61,6 +62,9 @@ pub fn reports_tell()
         → TellInTurn (outcome_for contents).calls }
     ensures near { (contents : Contents) (text : List ℕ) → IsReport contents text
         → All (IsLineWithin (bound_of (plan_for contents)) (setting_for contents)
+        (history_for contents)) (outcome_for contents).calls }
+    ensures priced { (contents : Contents) (text : List ℕ) → IsReport contents text
+        → All (IsLinePriced (bound_of (plan_for contents)) (setting_for contents)
         (history_for contents)) (outcome_for contents).calls }
     ensures sound { (contents : Contents) (text : List ℕ) → IsReport contents text
         → verdict_for contents text ≡ Sound }

@@ -12,6 +12,7 @@ ghost use Rattle.track.specs.Results.{IsInputText, IsRightAnswer, IsRunReport};
 
 use crate::answer::{Answer, Body, answer_refused};
 use crate::status::Status;
+use busy_finds::plan_outcomes_are_priced;
 use directory::{Outcome, each_visit_is_next};
 use distances::Distances;
 use net_graph::Graph;
@@ -45,6 +46,7 @@ fn run<R: Threads + Sync, G: Gate>(
     outcomes_are_right();
     plans_track();
     plan_outcomes_are_near();
+    plan_outcomes_are_priced();
     own_reports_are_sound();
     scripts_are_valid();
     plan_means();

@@ -29,7 +29,8 @@ returns c =
           let is : result_of outcome ≡ outcome_over plan contents = told.0 ∙ now in
           let turn = subst (λ (o : Outcome). TellInTurn o.calls) is told.1 in
           report-says contents.order turn c.outcomes_are_right.ensures.lines c.outcomes_are_right.ensures.numbers
-          c.plans_track.ensures c.plan_outcomes_are_near.ensures c.scripts_are_valid.ensures c.requires.valid
+          c.plans_track.ensures c.plan_outcomes_are_near.ensures c.plan_outcomes_are_priced.ensures c.scripts_are_valid.ensures
+          c.requires.valid
           (covered-nodes c.covered_plan_means.ensures c.args.covering c.requires.valid low) bounds (ap report_of is))
           c.replay_over.ensures;
     }

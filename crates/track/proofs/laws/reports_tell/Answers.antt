@@ -6,5 +6,6 @@ returns c = record {
   rising = λ contents text report. report.over.rising;
   in_turn = λ contents text report. report.over.in_turn;
   near = λ contents text report. report.over.near;
+  priced = λ contents text report. report.over.priced;
   sound = λ contents text report. report.sound;
 }

@@ -31,7 +31,8 @@ returns g c =
       order = its.order;
       report = record {
         over = report-says its.order turn c.outcomes_are_right.ensures.lines c.outcomes_are_right.ensures.numbers
-            c.plans_track.ensures c.plan_outcomes_are_near.ensures c.scripts_are_valid.ensures c.requires.valid
+            c.plans_track.ensures c.plan_outcomes_are_near.ensures c.plan_outcomes_are_priced.ensures c.scripts_are_valid.ensures
+            c.requires.valid
             (plan-nodes c.plan_means.ensures c.requires.valid) bounds (ap report_of its.is);
         sound = sound-text c.own_reports_are_sound.ensures its.order c.requires.valid (ap report_of its.is);
       };
