@@ -185,9 +185,6 @@ gather-half plan starts bounds level low = omega (
   bounds.thresholds level (omega (arith, low, bounds.matched.some)),
 )
 
-at-most : (m w x : ℕ) → stretch w m * x ≤ (16 * m * w + 12 * w + 12) * x
-at-most m w x = grind arith
-
 pub and-one : (m w x : ℕ) → (stretch w m + 1) * x ≤ (16 * m * w + 12 * w + 12) * x
 and-one m w x = grind arith
 
@@ -206,5 +203,6 @@ plan-between tracks between plan starts history actor call found tickets few bou
   arith,
   between (setting_of plan starts) plan.reach (degree_of plan) history actor call found tickets few
       (tracks plan starts bounds) inside legal find same,
-  at-most (degree_of plan) plan.reach (distance_at plan starts call history (first_of tickets)),
+  and-one (degree_of plan) plan.reach (distance_at plan starts call history (first_of tickets)),
+  once-more (stretch plan.reach (degree_of plan)) (distance_at plan starts call history (first_of tickets)),
 )

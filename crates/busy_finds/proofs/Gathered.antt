@@ -22,15 +22,16 @@ abbrev pub AllReach : Setting → ℕ → List Move → Type 0
 AllReach setting begin moves =
     (i : ℕ) (move : Move) → slice_get moves i ≡ Some move → HasReached setting begin moves i move
 
-highest-or-none : (test : ℕ → Bool) (limit : ℕ) → (test (highest test limit) ≡ true) ⊎ (highest test limit ≡ 0)
-unfolding highest
-highest-or-none test zero = inr refl
-highest-or-none test (suc limit) = at_test (test limit) refl (highest-or-none test limit)
-  where
-    at_test : (b : Bool) → test limit ≡ b → (test (highest test limit) ≡ true) ⊎ (highest test limit ≡ 0)
-        → (test (cond b limit (highest test limit)) ≡ true) ⊎ (cond b limit (highest test limit) ≡ 0)
-    at_test true e more = inl e
-    at_test false e more = more
+module _ (test : ℕ → Bool) where
+  highest-or-none : (limit : ℕ) → (test (highest test limit) ≡ true) ⊎ (highest test limit ≡ 0)
+  unfolding highest
+  highest-or-none zero = inr refl
+  highest-or-none (suc limit) = at_test (test limit) refl (highest-or-none limit)
+    where
+      at_test : (b : Bool) → test limit ≡ b → (test (highest test limit) ≡ true) ⊎ (highest test limit ≡ 0)
+          → (test (cond b limit (highest test limit)) ≡ true) ⊎ (cond b limit (highest test limit) ≡ 0)
+      at_test true e more = inl e
+      at_test false e more = more
 
 module _ (setting : Setting) (course : Course) (node : ℕ) (are : AreInPlace setting course.start course.moves)
     (moving : node ≢ stop_of course.start course.moves (length course.moves))
