@@ -12,8 +12,7 @@ sys.path.insert(0, os.path.join(TOP, "scripts"))
 import price_plots as plots  # noqa: E402
 import price_tables as tables  # noqa: E402
 from price_networks import BLOCK, PRICED, UNITS  # noqa: E402
-from prices import KINDS, MOVERS, RIVALS, Cover, Ground, cover_name, covers_of, read_rows, row_of, rows_of, rows_text  # noqa: E402
-from prices import Load, Weighed  # noqa: E402
+from prices import KINDS, MOVERS, RIVALS, Cover, Ground, cover_name, covers_of, read_rows, rows_of, rows_text  # noqa: E402
 from texts import BadText, ends_clearly, load_input, number  # noqa: E402
 
 HELP = """\
@@ -65,7 +64,7 @@ def weigh_all(program, jobs):
         try:
             for count, (load, rows) in enumerate(waiting.items(), 1):
                 rows.result()
-                print(f"{count} of {len(waiting)}: {' '.join(load)}", file=sys.stderr, flush=True)
+                tell(f"{count} of {len(waiting)}: {' '.join(load)}")
         except BaseException:
             pool.shutdown(cancel_futures=True)
             raise
@@ -143,22 +142,22 @@ def sample(program):
     return [row for name, movers, covers in SAMPLE for row in weigh(name, movers, covers, program)]
 
 
+def tell(words):
+    """What comes next, on standard error."""
+    print(words, file=sys.stderr, flush=True)
+
+
 def price_input(path, ks, program):
     """Prints the tables of an input's network."""
     given, _ = load_input(path)
+    ks = ks or {given.k, 2, 4, 8}
     if given.nodes < 2:
         raise BadText("a network of one node has no moves and no finds to price")
     if 1 in ks and given.nodes > 256:
         raise BadText("k is 1, and above 256 nodes it has to be 2 at least")
-    ground, rows = Ground(os.path.basename(path), given.nodes, given.edges), []
-    covers = [Cover(k, mean) for mean in (False, True) for k in sorted(ks or {given.k, 2, 4, 8})]
-    for movers in MOVERS:
-        load = Load(ground, movers)
-        for cover in covers:
-            print(f"{movers}, {cover_name(cover)} ..", file=sys.stderr, flush=True)
-            rows.append(row_of(load, cover_name(cover), Weighed(load, cover, program).price))
-        rows += [row_of(load, rival, load.prices[rival]) for rival in RIVALS]
-    prices = tables.Prices(rows)
+    ground = Ground(os.path.basename(path), given.nodes, given.edges)
+    covers = [Cover(k, mean) for mean in (False, True) for k in sorted(ks)]
+    prices = tables.Prices([row for movers in MOVERS for row in rows_of(ground, movers, covers, program, tell)])
     print(f"From how many finds a move the directory costs less than each, over its best cover here:\n\n"
           f"{tables.break_even_table(prices, [ground.name])}")
     for movers in MOVERS:

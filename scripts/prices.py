@@ -241,10 +241,12 @@ def row_of(load, way, price):
                sum(price.messages), sum(price.written), sum(price.purged), round(halves_of(load, price), 3), *finds)
 
 
-def rows_of(ground, movers, covers, program):
-    """The rows of one kind of movers on a network: the directory over each cover, and the rivals."""
-    load = Load(ground, movers)
-    rows = [row_of(load, cover_name(cover), Weighed(load, cover, program).price) for cover in covers]
+def rows_of(ground, movers, covers, program, tell=lambda words: None):
+    """The rows of one kind of movers on a network: the directory over each cover, and the rivals. What comes next is told."""
+    load, rows = Load(ground, movers), []
+    for cover in covers:
+        tell(f"{movers}, {cover_name(cover)} ..")
+        rows.append(row_of(load, cover_name(cover), Weighed(load, cover, program).price))
     return rows + [row_of(load, rival, load.prices[rival]) for rival in RIVALS]
 
 
