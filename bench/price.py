@@ -13,6 +13,7 @@ import price_plots as plots  # noqa: E402
 import price_tables as tables  # noqa: E402
 from price_networks import BLOCK, PRICED, UNITS  # noqa: E402
 from prices import KINDS, MOVERS, RIVALS, Cover, Ground, cover_name, covers_of, read_rows, rows_of, rows_text  # noqa: E402
+from program import Program  # noqa: E402
 from texts import BadText, ends_clearly, load_input, number  # noqa: E402
 
 HELP = """\
@@ -194,10 +195,11 @@ def words():
 
 def main():
     asked = words()
-    program = os.path.abspath(os.environ["TRACK"]) if "TRACK" in os.environ else os.path.join(TOP, "track")
+    program = Program()
     if asked.input is not None:
         price_input(asked.input, asked.k, program)
         return
+    os.environ.setdefault("TRACK_PROVED", "1")
     os.chdir(TOP)
     if asked.check or asked.check_all:
         rows = stored_rows()

@@ -7,6 +7,7 @@ from dataclasses import dataclass
 import directory
 from lab_run import Outcome
 from timed import Found
+from weights import at_share
 
 
 @dataclass(frozen=True)
@@ -60,10 +61,6 @@ class Row:
 
     def total(self) -> int:
         return self.find_weight + self.messages
-
-
-def at_share(ordered: list[float], share: float) -> float:
-    return ordered[max(0, math.ceil(share * len(ordered)) - 1)]
 
 
 def spread_of(finds: list[Found], network: directory.Network) -> Spread:
