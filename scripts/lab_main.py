@@ -109,9 +109,10 @@ class Study:
             plans.append(plan_of(self.program, self.site, kind))
         self.count = parts_needed(self.wishes, plans)
         while True:
-            parts, away = draw_load(self.network, self.wishes, self.count)
+            self.progress.begin("drawing the load")
+            load = draw_load(self.network, self.wishes, self.count)
             try:
-                return self.over_plans(kinds, plans, parts) + Comparison(self.network, parts[0].homes, away).play(parts)
+                return self.over_plans(kinds, plans, load.parts) + Comparison(self.network, load).play()
             except TooLong:
                 self.count *= 2
                 if self.count > self.wishes.moves + self.wishes.finds:
