@@ -13,7 +13,8 @@ import directory
 import lab_page
 import lab_plots
 from lab_load import Wishes
-from lab_measure import Row, over, pays_from
+from break_even import Wins
+from lab_measure import Row, over, wins
 from lab_networks import Site
 from lab_plots import Points
 from lab_run import Outcome
@@ -118,10 +119,8 @@ def records_of_rows(answer: Answer) -> list[dict]:
         record |= {name: getattr(row, name) for name in ("at_no_distance", "again", "again_weight", "finds", "find_weight", "moves",
                                                          "moved", "costs", "messages", "busy", "late")}
         for name in ("home", "away"):
-            from_finds = pays_from(row, rivals[name])
-            record |= {f"over_{name}": number_or_none(over(row, rivals[name])),
-                       f"less_than_{name}_from": number_or_none(from_finds),
-                       f"never_less_than_{name}": from_finds == math.inf}
+            record[f"over_{name}"] = number_or_none(over(row, rivals[name]))
+            record |= record_of_wins(name, wins(row, rivals[name]))
         records.append(record)
     return records
 
@@ -143,6 +142,13 @@ def records_of_finds(answer: Answer) -> list[dict]:
 def records_of_moves(answer: Answer) -> list[dict]:
     return [{"row": outcome.name, "sub": move.sub, "from": move.start, "to": move.to, "distance": move.distance, "due": move.due,
              "began": move.began if outcome.kind else None, "ended": move.ended if outcome.kind else None,
+def record_of_wins(name: str, where: Wins | None) -> dict[str, float | None]:
+    """At how many finds a move a row weighs less than a rival: up to a number, and from one on, which is 0 where it always does."""
+    always = where is not None and where.always()
+    return {f"less_than_{name}_up_to": number_or_none(where.until or None) if where and not always else None,
+            f"less_than_{name}_from": 0.0 if always else number_or_none(where.since if where else None)}
+
+
              "costs": move.costs if outcome.kind else None, "messages": move.messages}
             for outcome in answer.outcomes for move in outcome.moved]
 

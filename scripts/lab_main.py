@@ -60,7 +60,7 @@ def answer(words: argparse.Namespace, program: Program, progress: Progress) -> N
     notes = site.notes + crowded(rows)
     progress.close()
     sys.stdout.write("\n".join([*head, *("note: " + note for note in notes), ""]) + "\n")
-    sys.stdout.write(lab_table.table_text(rows) + "\n" + lab_table.nodes_text(rows, site.names))
+    sys.stdout.write(lab_table.table_text(rows) + f"\n{lab_table.cheapest_words(rows)}\n\n" + lab_table.nodes_text(rows, site.names))
     sys.stdout.write("\n" + "".join(f"{name}: {told}\n" for name, told in TOLD.items()))
     sys.stdout.flush()
     if folder:
