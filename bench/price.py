@@ -28,7 +28,7 @@ HELP = """\
   bench/price.py --draw             makes the tables and the plots of the rows that are stored
 
 It ends with status 1 and one line where something isn't as it should be. The variable TRACK names the program that plans, replays
-and tells costs, ./track where it isn't set."""
+and tells costs, ./track where it isn't set; for --check, --check-all and --write that is one that was proved."""
 
 ROWS, PAGE = "docs/pictures/price.csv", "docs/PRICE.md"
 SIZES = {"grid": [f"grid-{n}" for n in (16, 64, 256, 1024)], "geometric": [f"geometric-{n}" for n in (16, 64, 256, 1024)]}
