@@ -12,8 +12,8 @@ sys.path.insert(0, os.path.join(TOP, "scripts"))
 import price_plots as plots  # noqa: E402
 import price_tables as tables  # noqa: E402
 from price_networks import BLOCK, PRICED, UNITS  # noqa: E402
-from prices import KINDS, MOVERS, RIVALS, Cover, Ground, cover_name, covers_of, read_rows, row_of, rows_of, rows_text  # noqa: E402
-from prices import Load, Weighed  # noqa: E402
+from prices import KINDS, MOVERS, RIVALS, Cover, Ground, cover_name, covers_of, read_rows, rows_of, rows_text  # noqa: E402
+from program import Program  # noqa: E402
 from texts import BadText, ends_clearly, load_input, number  # noqa: E402
 
 HELP = """\
@@ -28,7 +28,7 @@ HELP = """\
   bench/price.py --draw             makes the tables and the plots of the rows that are stored
 
 It ends with status 1 and one line where something isn't as it should be. The variable TRACK names the program that plans, replays
-and tells costs, ./track where it isn't set."""
+and tells costs, ./track where it isn't set; for --check, --check-all and --write that is one that was proved."""
 
 ROWS, PAGE = "docs/pictures/price.csv", "docs/PRICE.md"
 SIZES = {"grid": [f"grid-{n}" for n in (16, 64, 256, 1024)], "geometric": [f"geometric-{n}" for n in (16, 64, 256, 1024)]}
@@ -65,7 +65,7 @@ def weigh_all(program, jobs):
         try:
             for count, (load, rows) in enumerate(waiting.items(), 1):
                 rows.result()
-                print(f"{count} of {len(waiting)}: {' '.join(load)}", file=sys.stderr, flush=True)
+                tell(f"{count} of {len(waiting)}: {' '.join(load)}")
         except BaseException:
             pool.shutdown(cancel_futures=True)
             raise
@@ -143,22 +143,22 @@ def sample(program):
     return [row for name, movers, covers in SAMPLE for row in weigh(name, movers, covers, program)]
 
 
+def tell(words):
+    """What comes next, on standard error."""
+    print(words, file=sys.stderr, flush=True)
+
+
 def price_input(path, ks, program):
     """Prints the tables of an input's network."""
     given, _ = load_input(path)
+    ks = ks or {given.k, 2, 4, 8}
     if given.nodes < 2:
         raise BadText("a network of one node has no moves and no finds to price")
     if 1 in ks and given.nodes > 256:
         raise BadText("k is 1, and above 256 nodes it has to be 2 at least")
-    ground, rows = Ground(os.path.basename(path), given.nodes, given.edges), []
-    covers = [Cover(k, mean) for mean in (False, True) for k in sorted(ks or {given.k, 2, 4, 8})]
-    for movers in MOVERS:
-        load = Load(ground, movers)
-        for cover in covers:
-            print(f"{movers}, {cover_name(cover)} ..", file=sys.stderr, flush=True)
-            rows.append(row_of(load, cover_name(cover), Weighed(load, cover, program).price))
-        rows += [row_of(load, rival, load.prices[rival]) for rival in RIVALS]
-    prices = tables.Prices(rows)
+    ground = Ground(os.path.basename(path), given.nodes, given.edges)
+    covers = [Cover(k, mean) for mean in (False, True) for k in sorted(ks)]
+    prices = tables.Prices([row for movers in MOVERS for row in rows_of(ground, movers, covers, program, tell)])
     print(f"From how many finds a move the directory costs less than each, over its best cover here:\n\n"
           f"{tables.break_even_table(prices, [ground.name])}")
     for movers in MOVERS:
@@ -195,10 +195,11 @@ def words():
 
 def main():
     asked = words()
-    program = os.path.abspath(os.environ["TRACK"]) if "TRACK" in os.environ else os.path.join(TOP, "track")
+    program = Program()
     if asked.input is not None:
         price_input(asked.input, asked.k, program)
         return
+    os.environ.setdefault("TRACK_PROVED", "1")
     os.chdir(TOP)
     if asked.check or asked.check_all:
         rows = stored_rows()

@@ -6,20 +6,26 @@ import io
 import json
 import math
 import pathlib
+import re
 import statistics
 from dataclasses import asdict, dataclass
 
 import directory
 import lab_page
 import lab_plots
+from break_even import Wins
 from lab_load import Wishes
-from lab_measure import Row, over, pays_from
+from lab_measure import Row, over, wins
 from lab_networks import Site
 from lab_plots import Points
 from lab_run import Outcome
 from layout import layout
 from pictures import spread
 from texts import BadText
+
+
+LIST = "files.txt"  # the names of all that a lab leaves in a folder
+OWN_NAME = re.compile(r"(inputs/)?[a-z0-9-]+\.(html|svg|csv|json|txt)")
 
 
 @dataclass
@@ -46,8 +52,19 @@ def folder_for(name: str) -> pathlib.Path:
     return folder
 
 
+def remove_earlier(folder: pathlib.Path) -> None:
+    """What an earlier lab left there goes: it says nothing of this one."""
+    try:
+        names = (folder / LIST).read_text(encoding="utf-8", errors="replace").splitlines()
+    except FileNotFoundError:
+        return
+    for name in names:
+        if OWN_NAME.fullmatch(name):
+            (folder / name).unlink(missing_ok=True)
+
+
 def write_all(folder: pathlib.Path, answer: Answer) -> None:
-    """The page is written last."""
+    """The list of all files is written first, and the page last."""
     plots = plots_of(answer)
     files = {f"{name}.svg": text for name, text in plots.items()}
     rows, nodes = records_of_rows(answer), records_of_nodes(answer)
@@ -62,7 +79,8 @@ def write_all(folder: pathlib.Path, answer: Answer) -> None:
             part = "" if len(outcome.inputs) == 1 else f"-part{at}"
             files[f"inputs/{outcome.kind.file_name()}{part}.txt"] = text
     files["lab.html"] = lab_page.page_of(answer.head, answer.notes, answer.rows, answer.site.names, plots)
-    for name, text in files.items():
+    remove_earlier(folder)
+    for name, text in {LIST: "".join(f"{name}\n" for name in files), **files}.items():
         (folder / name).write_bytes(text.encode())
 
 
@@ -118,12 +136,17 @@ def records_of_rows(answer: Answer) -> list[dict]:
         record |= {name: getattr(row, name) for name in ("at_no_distance", "again", "again_weight", "finds", "find_weight", "moves",
                                                          "moved", "costs", "messages", "busy", "late")}
         for name in ("home", "away"):
-            from_finds = pays_from(row, rivals[name])
-            record |= {f"over_{name}": number_or_none(over(row, rivals[name])),
-                       f"less_than_{name}_from": number_or_none(from_finds),
-                       f"never_less_than_{name}": from_finds == math.inf}
+            record[f"over_{name}"] = number_or_none(over(row, rivals[name]))
+            record |= record_of_wins(name, wins(row, rivals[name]))
         records.append(record)
     return records
+
+
+def record_of_wins(name: str, where: Wins | None) -> dict[str, float | None]:
+    """At how many finds a move a row weighs less than a rival: up to a number, and from one on, which is 0 where it always does."""
+    always = where is not None and where.always()
+    return {f"less_than_{name}_up_to": number_or_none(where.until or None) if where and not always else None,
+            f"less_than_{name}_from": 0.0 if always else number_or_none(where.since if where else None)}
 
 
 def records_of_nodes(answer: Answer) -> list[dict]:

@@ -9,7 +9,8 @@ import directory
 import rivals
 import texts
 
-MOST_WARM_MOVES = 64  # of a subscriber, before calls are counted
+WANDERED = 32  # moves of each subscriber for each node of the network, before the first input begins
+MOST_WARM_MOVES = 64  # of a subscriber, before the calls of an input are counted
 CALLS_OF_A_PART = 12000  # so that finds which are made again find room
 BYTES_OF_A_PART = 3500000
 ORIGINS = {"near": "near", "far": "far", "anywhere": "mixed"}
@@ -52,12 +53,22 @@ class Ask:
 
 @dataclass
 class Part:
-    """What goes into one input: where subscribers begin, their moves before anything is counted, and the calls by time."""
+    """What goes into one input: where subscribers are, their moves before anything is counted, and the calls by time."""
 
     homes: list[int]
     warm: list[tuple[int, int]] = field(default_factory=list)
     calls: list[Move | Ask] = field(default_factory=list)
     time: int = 0  # over which the calls are spread
+
+
+@dataclass
+class Load:
+    """All that happens. A subscriber began at a node, and wandered to others; there the first part begins."""
+
+    began: list[int]
+    away: list[int]  # for each subscriber a node that has nothing to do with where it is
+    wandered: list[list[int]]  # the nodes to which each subscriber went, one after another
+    parts: list[Part]
 
 
 class Chance:
@@ -91,27 +102,22 @@ class Drawing:
     def __init__(self, network: directory.Network, wishes: Wishes):
         self.network, self.wishes, self.chance = network, wishes, Chance(wishes.seed)
         self.diameter = network.diameter()
-        self.at = [self.chance.below(network.nodes) for _ in range(wishes.subs)]
+        self.near = [sorted(arcs) for arcs in network.arcs]
+        self.began = [self.chance.below(network.nodes) for _ in range(wishes.subs)]
         self.away = [self.chance.below(network.nodes) for _ in range(wishes.subs)]
+        self.at = list(self.began)
+        self.wandered = [[self.next_node(sub) for _ in range(WANDERED * network.nodes)] for sub in range(wishes.subs)]
         self.popular = zipf_sums(wishes.subs, wishes.zipf)
         self.begins: dict[int, list[int]] = {}
 
-    def part(self, moves: int, finds: int) -> Part:
-        """The next part, of so many moves and finds."""
-        part = Part(list(self.at))
-        if moves:
-            self.warm_up(part)
-        part.time = self.time_of(moves, finds)
+    def part(self, moves: int, finds: int, time: int) -> Part:
+        """The next part, of so many moves and finds, which are spread over a time."""
+        part = Part(list(self.at), time=time)
+        self.warm_up(part)
         drawn = [(self.chance.below(part.time), at >= moves) for at in range(moves + finds)]
         for due, is_find in sorted(drawn):
             part.calls.append(self.ask(due) if is_find else self.move(due))
         return part
-
-    def time_of(self, moves: int, finds: int) -> int:
-        """The time over which these calls are spread: so long that each subscriber stays as is wished."""
-        wishes = self.wishes
-        each = moves / wishes.subs if moves else finds / max(1, wishes.callers)
-        return max(1, math.ceil(wishes.stay * each))
 
     def warm_up(self, part: Part) -> None:
         """Moves until each subscriber has gone as far as the network is wide, so that the addresses have all ages."""
@@ -126,7 +132,7 @@ class Drawing:
         """Where the subscriber goes; there it is from now on."""
         at = self.at[sub]
         if self.wishes.move_to == "neighbours":
-            to = self.chance.pick(sorted(self.network.arcs[at]))
+            to = self.chance.pick(self.near[at])
         else:
             to = self.chance.below(self.network.nodes - 1)
             to += to >= at
@@ -155,9 +161,16 @@ def parts_needed(wishes: Wishes, plans: list[texts.Plan]) -> int:
     return max(1, math.ceil((wishes.moves + wishes.finds) / CALLS_OF_A_PART), math.ceil(visits * digits / BYTES_OF_A_PART))
 
 
-def draw_load(network: directory.Network, wishes: Wishes, count: int) -> tuple[list[Part], list[int]]:
-    """The load in so many parts, and for each subscriber a node that is home of its register elsewhere."""
-    drawing = Drawing(network, wishes)
+def time_of(wishes: Wishes) -> float:
+    """The time over which all calls are spread: so long that each subscriber stays as is wished."""
+    each = wishes.moves / wishes.subs if wishes.moves else wishes.finds / wishes.callers
+    return wishes.stay * each
+
+
+def draw_load(network: directory.Network, wishes: Wishes, count: int) -> Load:
+    """The load in so many parts of one mixture, which take the same time."""
+    drawing, time = Drawing(network, wishes), max(1, math.ceil(time_of(wishes) / count))
     share = [((at + 1) * wishes.moves // count - at * wishes.moves // count,
               (at + 1) * wishes.finds // count - at * wishes.finds // count) for at in range(count)]
-    return [drawing.part(moves, finds) for moves, finds in share], drawing.away
+    parts = [drawing.part(moves, finds, time) for moves, finds in share]
+    return Load(drawing.began, drawing.away, drawing.wandered, parts)

@@ -17,7 +17,8 @@ from lab_measure import Row, row_of
 from lab_networks import Site, load_network, printable
 from lab_progress import Progress
 from lab_rivals import TOLD, Comparison
-from lab_run import Kind, Outcome, Program, Runner, plan_of
+from lab_run import Kind, Outcome, Runner, plan_of
+from program import Program
 from texts import BadText
 from timed import TooLong
 
@@ -27,7 +28,7 @@ LARGE = 500  # nodes, from which on distances take more than a second
 LATE = 0.1  # of the planned time: a load that ends so much after it is said to be crowded
 
 
-def run(words: argparse.Namespace, program: str) -> None:
+def run(words: argparse.Namespace, program: Program) -> None:
     """The lab; ends with status 130 at Ctrl-C."""
     progress = Progress()
     sys.stdout.reconfigure(errors="replace")
@@ -43,7 +44,7 @@ def run(words: argparse.Namespace, program: str) -> None:
         raise
 
 
-def answer(words: argparse.Namespace, program: str, progress: Progress) -> None:
+def answer(words: argparse.Namespace, program: Program, progress: Progress) -> None:
     site = load_network(words.network, words.unit, words.weight)
     if 1 in words.k and site.nodes > 256:
         raise BadText(f"k of 1 is taken up to 256 nodes, and this network has {site.nodes}")
@@ -51,7 +52,7 @@ def answer(words: argparse.Namespace, program: str, progress: Progress) -> None:
     progress.begin(f"measuring the distances of {site.nodes} nodes", is_long=site.nodes > LARGE)
     network = directory.Network(site.nodes, site.edges)
     wishes = wishes_of(words, network.diameter())
-    study = Study(site, network, wishes, Program(program), told_words(words), progress)
+    study = Study(site, network, wishes, program, told_words(words), progress)
     kinds = [Kind(covers, k) for covers in ("cover", "mean") if words.covers in ("both", covers) for k in words.k]
     outcomes = study.outcomes(kinds)
     rows = [row_of(outcome, network) for outcome in outcomes]
@@ -59,7 +60,7 @@ def answer(words: argparse.Namespace, program: str, progress: Progress) -> None:
     notes = site.notes + crowded(rows)
     progress.close()
     sys.stdout.write("\n".join([*head, *("note: " + note for note in notes), ""]) + "\n")
-    sys.stdout.write(lab_table.table_text(rows) + "\n" + lab_table.nodes_text(rows, site.names))
+    sys.stdout.write(lab_table.table_text(rows) + f"\n{lab_table.cheapest_words(rows)}\n\n" + lab_table.nodes_text(rows, site.names))
     sys.stdout.write("\n" + "".join(f"{name}: {told}\n" for name, told in TOLD.items()))
     sys.stdout.flush()
     if folder:
@@ -108,9 +109,10 @@ class Study:
             plans.append(plan_of(self.program, self.site, kind))
         self.count = parts_needed(self.wishes, plans)
         while True:
-            parts, away = draw_load(self.network, self.wishes, self.count)
+            self.progress.begin("drawing the load")
+            load = draw_load(self.network, self.wishes, self.count)
             try:
-                return self.over_plans(kinds, plans, parts) + Comparison(self.network, parts[0].homes, away).play(parts)
+                return self.over_plans(kinds, plans, load.parts) + Comparison(self.network, load).play()
             except TooLong:
                 self.count *= 2
                 if self.count > self.wishes.moves + self.wishes.finds:

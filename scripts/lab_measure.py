@@ -1,12 +1,13 @@
 """What the lab tells of an outcome: finds over distance, moves over the distance moved, and what falls to each node."""
 from __future__ import annotations
 
-import math
 from dataclasses import dataclass
 
 import directory
+from break_even import Means, Wins, wins_of
 from lab_run import Outcome
 from timed import Found
+from weights import at_share
 
 
 @dataclass(frozen=True)
@@ -58,12 +59,11 @@ class Row:
     def messages_ratio(self) -> float | None:
         return self.messages / self.moved if self.moved else None
 
+    def means(self) -> Means | None:
+        return Means(self.move_mean(), self.find_mean()) if self.moves and self.finds else None
+
     def total(self) -> int:
         return self.find_weight + self.messages
-
-
-def at_share(ordered: list[float], share: float) -> float:
-    return ordered[max(0, math.ceil(share * len(ordered)) - 1)]
 
 
 def spread_of(finds: list[Found], network: directory.Network) -> Spread:
@@ -103,20 +103,20 @@ def row_of(outcome: Outcome, network: directory.Network) -> Row:
     )
 
 
-def pays_from(row: Row, other: Row) -> float | None:
-    """From how many finds a move on the row weighs less in all than the other, by the means of both: infinite where it never
-    does, 0 where it always does; nothing where finds or moves are missing."""
-    weights = row.find_mean(), row.move_mean(), other.find_mean(), other.move_mean()
-    if None in weights:
-        return None
-    find, move, other_find, other_move = weights
-    if find < other_find:
-        return max(0.0, (move - other_move) / (other_find - find))
-    return 0.0 if find == other_find and move < other_move else math.inf
+def wins(row: Row, other: Row) -> Wins | None:
+    """At how many finds a move the row weighs less in all than the other, by the means of both; nothing where finds or moves are
+    missing."""
+    own, others = row.means(), other.means()
+    return wins_of([own], others) if own and others else None
 
 
 def over(row: Row, other: Row) -> float | None:
     return row.total() / other.total() if other.total() else None
+
+
+def cheapest(rows: list[Row]) -> Row:
+    """The row that weighs least in all."""
+    return min(rows, key=Row.total)
 
 
 def largest(counts: list[int], names: list[str], few: int) -> list[tuple[str, int]]:

@@ -5,7 +5,7 @@ from xml.sax.saxutils import escape
 
 from lab_measure import Row, largest
 from lab_rivals import TOLD
-from lab_table import full_name, group_of, table_lines, title_of
+from lab_table import cheapest_words, full_name, group_of, table_lines, title_of
 
 STYLE = """
 body { font-family: sans-serif; color: #222; background: #fff; line-height: 1.45 }
@@ -38,7 +38,7 @@ MODEL = [
 CAPTIONS = {
     "finds": "How far finds travelled for each unit of distance. The scale is of powers.",
     "finds-by-distance": "The same by distance: near finds on the left, far ones on the right. A directory is made for the left.",
-    "moves": "What moves weighed for each unit of distance moved, by two models.",
+    "moves": "What moves weighed for each unit of distance moved, by two models. The scale is of powers.",
     "in-all": "What moves and finds come to in all, for so many finds a move, by the means of this load. Where a line crosses 1 "
               "the two are even.",
     "visits": "How the visits fall to nodes: a line that is flat spreads its load, a steep one has few nodes do the work.",
@@ -55,7 +55,8 @@ def page_of(head: list[str], notes: list[str], rows: list[Row], names: list[str]
              f"<title>A directory on {escape(title)}</title>", f"<style>{STYLE}</style>", "</head>", "<body>",
              f"<h1>A directory on {escape(title)}</h1>", "<p>" + "<br>".join(map(escape, head)) + "</p>"]
     parts += [f'<p class="note">{escape(note)}</p>' for note in notes]
-    parts += ["<h2>The table</h2>", '<div class="wide">', *table_of(rows), "</div>"]
+    parts += ["<h2>The table</h2>", '<div class="wide">', *table_of(rows), "</div>",
+              f"<p>{escape(cheapest_words(rows))}</p>"]
     for name, caption in CAPTIONS.items():
         if name in plots:
             parts += [f'<h2 id="{name}">{HEADINGS[name]}</h2>', f"<p>{caption}</p>", plots[name].rstrip("\n")]

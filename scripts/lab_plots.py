@@ -114,19 +114,19 @@ def finds_plot(rows: list[Row]) -> str:
 
 
 def moves_plot(rows: list[Row]) -> str:
-    """Two bars for each plan, one for each of the two models."""
+    """Two dots for each plan, one for each of the two models."""
     ratios = [ratio for row in rows for ratio in (row.costs_ratio(), row.messages_ratio()) if ratio]
-    scale = scale_of(ratios, LEFT, 840, min([1.0, *ratios]))
+    scale = scale_of(ratios, LEFT + 10, 840, min([1.0, *ratios]))
     picture = frame_of(rows, "Moves: weight over distance moved", scale)
     for at, row in enumerate(rows):
         y = HEAD + ROW * at + ROW / 2
-        bars = [(row.messages_ratio(), MET)] if row.covers is None else [(row.costs_ratio(), QUIET), (row.messages_ratio(), MET)]
-        for which, (ratio, colour) in enumerate(bars):
+        dots = [(row.messages_ratio(), MET)] if row.covers is None else [(row.costs_ratio(), QUIET), (row.messages_ratio(), MET)]
+        for which, (ratio, colour) in enumerate(dots):
             if ratio:
-                top = y - 5 + 12 * which - 6 * (len(bars) - 1)
-                picture.box(LEFT, top, max(1.0, scale.at(ratio) - LEFT), 10, colour)
-                picture.words((max(LEFT + 1, scale.at(ratio)) + 5, top + 9), f"{ratio:.3g}", 10, PALE)
-    key(picture, [(QUIET, "by the word costs"), (MET, "messages there and back")], "")
+                middle = y + 12 * which - 6 * (len(dots) - 1)
+                picture.circle((scale.at(ratio), middle), 4, colour)
+                picture.words((scale.at(ratio) + 8, middle + 4), f"{ratio:.3g}", 10, PALE)
+    key(picture, [(QUIET, "by the word costs"), (MET, "messages there and back")], "the scale is of powers")
     return picture.text()
 
 

@@ -1,18 +1,18 @@
-"""The calls of a load by what people use in place of a directory: a home register whose subscribers began at home, one whose homes
-lie anywhere, forwarding pointers alone, and telling everybody. Calls are weighed one after another, in the order in which they fall
+"""The calls of a load by what people use in place of a directory: a home register where each subscriber began, one whose homes are
+drawn apart, forwarding pointers alone, and telling everybody. Calls are weighed one after another, in the order in which they fall
 due: these have no races here, and none of them is simulated in time."""
 from __future__ import annotations
 
 import directory
-from lab_load import Ask, Move, Part
+from lab_load import Ask, Load, Move
 from lab_run import Outcome
 from rivals import Rivals
 from timed import Found, Moved
 
 NAMES = ("home", "away", "pointers", "everybody")
 TOLD = {
-    "home": "a home register at the node where the subscriber began",
-    "away": "a home register anywhere, as of a subscriber that is away from home",
+    "home": "a home register at the node where the subscriber began, which it left long before the load",
+    "away": "a home register at a node that was drawn apart, where the subscriber needn't ever have been",
     "pointers": "forwarding pointers alone, from the node where the subscriber began",
     "everybody": "telling everybody, along a lightest spanning tree",
 }
@@ -21,20 +21,23 @@ TOLD = {
 class Comparison:
     """The same calls by each of the four, with what they visit and keep at each node."""
 
-    def __init__(self, network: directory.Network, homes: list[int], away: list[int]):
-        self.network, nodes = network, network.nodes
-        self.homes = {"home": homes, "away": away}
-        self.settled = Rivals(network, homes)
+    def __init__(self, network: directory.Network, load: Load):
+        self.network, self.parts, nodes = network, load.parts, network.nodes
+        self.homes = {"home": load.began, "away": load.away}
+        self.settled = Rivals(network, load.began)
+        for sub, way in enumerate(load.wandered):
+            self.settled.walk(sub, way)
         self.outcomes = {name: Outcome(name, visits=[0] * nodes, cells=[0] * nodes) for name in NAMES}
-        self.outcomes["everybody"].cells = [len(homes)] * nodes
+        self.outcomes["everybody"].cells = [len(load.began)] * nodes
         for name, at in self.homes.items():
             for node in at:
                 self.outcomes[name].cells[node] += 1
-        self.kept = [0] * nodes  # pointers at each node
+        self.kept = [sum(node in own for own in self.settled.pointers) for node in range(nodes)]  # pointers at each node
+        self.outcomes["pointers"].cells = list(self.kept)
         self.told = 0  # moves of which everybody was told
 
-    def play(self, parts: list[Part]) -> list[Outcome]:
-        for part in parts:
+    def play(self) -> list[Outcome]:
+        for part in self.parts:
             for sub, to in part.warm:
                 self.move(Move(0, sub, to), False)
             for call in part.calls:

@@ -1,14 +1,15 @@
 """Runs a load over plans that the program makes, and holds what the lab saw to what the program replays, byte for byte."""
 from __future__ import annotations
 
-import subprocess
 from dataclasses import dataclass, field
 
 import directory
 from lab_load import Part, Wishes
 from lab_networks import Site
+from program import Program
 from texts import BadText, Plan, read_plan
 from timed import Found, Moved, TimedMachine
+from weights import costs_text
 
 WORDS = {"cover": ("cover", "replay"), "mean": ("meancover", "meanreplay")}
 
@@ -41,26 +42,6 @@ class Outcome:
     inputs: list[str] = field(default_factory=list)
     busy: float = 0.0  # the share of their time in which subscribers were in a move
     late: float = 0.0  # by how much of its planned time the load ended after it
-
-
-class Program:
-    """The program by its path. What it says on standard error is shown at its first call: a build that it makes first takes long,
-    and later calls say the same once more."""
-
-    def __init__(self, path: str):
-        self.path, self.called = path, False
-
-    def ask(self, word: str, text: str) -> str:
-        """What the program writes to an input."""
-        shown = subprocess.PIPE if self.called else None
-        try:
-            ran = subprocess.run([self.path, word], input=text.encode(), stdout=subprocess.PIPE, stderr=shown, check=False)
-        except OSError as bad:
-            raise BadText(f"the program {self.path} doesn't run: {bad.strerror}") from None
-        self.called = True
-        if ran.returncode != 0:
-            raise BadText(f"{self.path} {word} ended with status {ran.returncode}")
-        return ran.stdout.decode("latin-1")
 
 
 def plan_of(program: Program, site: Site, kind: Kind) -> Plan:
@@ -110,14 +91,5 @@ class Runner:
         word, path = WORDS[kind.covers][1], self.program.path
         if self.program.ask(word, text) != machine.report():
             raise BadText(f"{path} {word} writes another report of {kind.name()} than the lab saw; the two don't agree")
-        if kind.covers == "cover" and self.program.ask("costs", text) != costs_text(machine):
+        if kind.covers == "cover" and self.program.ask("costs", text) != costs_text(machine.accounts):
             raise BadText(f"{path} costs writes another text of {kind.name()} than the lab reckoned; the two don't agree")
-
-
-def costs_text(machine: TimedMachine) -> str:
-    """The text that `costs` writes, of all moves of the part: those before anything was counted are among them."""
-    lines = []
-    for sub in range(len(machine.homes)):
-        own = machine.accounts[sub]
-        lines.append(f"cost {sub} moves {own.moves} moved {own.moved} written {own.written} purged {own.purged}")
-    return "\n".join(lines + ["end"]) + "\n"

@@ -1,10 +1,9 @@
 """The lab's answer as one table of text: a column for each plan and for each of what people use in its place."""
 from __future__ import annotations
 
-import math
 from collections.abc import Callable
 
-from lab_measure import Row, Spread, largest, over, pays_from
+from lab_measure import Row, Spread, cheapest, largest, over, wins
 
 NONE = "-"
 
@@ -26,10 +25,9 @@ def share(part: float | None) -> str:
     return f"{100 * part:.{decimals}f} %"
 
 
-def from_finds(value: float | None) -> str:
-    if value is None:
-        return NONE
-    return "never" if value == math.inf else "always" if value == 0 else ratio(value)
+def wins_words(row: Row, other: Row) -> str:
+    where = wins(row, other) if row is not other else None
+    return where.words(ratio) if where else NONE
 
 
 Line = tuple[str, Callable[[Row], str]]
@@ -76,8 +74,8 @@ def table_lines(rivals: dict[str, Row]) -> list[tuple[str, list[Line]]]:
         ("in all, moves by messages", [
             ("  over the home register", lambda row: ratio(over(row, home))),
             ("  over the one away", lambda row: ratio(over(row, away))),
-            ("  less than home from finds a move", lambda row: from_finds(pays_from(row, home)) if row is not home else NONE),
-            ("  less than away from finds a move", lambda row: from_finds(pays_from(row, away)) if row is not away else NONE),
+            ("  less than home, at finds a move", lambda row: wins_words(row, home)),
+            ("  less than away, at finds a move", lambda row: wins_words(row, away)),
         ]),
         ("nodes", [
             ("  visits in all", lambda row: count(sum(row.visits))),
@@ -120,6 +118,13 @@ def heads(rows: list[Row], wide: list[int], first: int) -> str:
         line += "  " + (f"{group:>{wide[at]}}" if group != last else " " * wide[at])
         last = group
     return line.rstrip()
+
+
+def cheapest_words(rows: list[Row]) -> str:
+    """Over which cover this load weighs least, and what the cheapest of the others weighs beside that."""
+    best, other = cheapest([row for row in rows if row.covers]), cheapest([row for row in rows if row.covers is None])
+    beside = f" ({other.name} weighs {ratio(over(other, best))} times that)" if best.total() else ""
+    return f"cheapest here: {full_name(best)}{beside}"
 
 
 def nodes_text(rows: list[Row], names: list[str]) -> str:

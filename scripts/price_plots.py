@@ -4,6 +4,7 @@ import math
 from pictures import INK, PALE, Picture, colour
 from price_tables import total
 from prices import KINDS, MOVERS, RIVALS
+from texts import BadText
 
 MOST_FINDS, STEPS = 100, 40
 GRID, WINS = "#e2e2e2", "#f3f8f0"
@@ -17,9 +18,11 @@ class Panel:
         self.across, self.up = [tuple(map(math.log10, span)) for span in (across, up)]
 
     def place(self, x, y):
-        """Where a point is drawn; one beyond the scale is drawn at its end."""
+        """Where a point is drawn, which has to be on the scale."""
         (low, high), (least, most) = self.across, self.up
-        share = min(1.0, max(0.0, (math.log10(y) - least) / (most - least)))
+        share = (math.log10(y) - least) / (most - least)
+        if not -0.001 < share < 1.001:
+            raise BadText(f"{y:.3g} is beyond the scale of its plot, {10**least:.3g} to {10**most:.3g}")
         return (self.left + self.width * (math.log10(x) - low) / (high - low), self.top + self.height * (1 - share))
 
     def shade(self):
@@ -55,7 +58,7 @@ def break_even_plot(prices, network):
     picture.words((50, 40), "by the number of finds a move, from 1 to 100; in the shaded part the directory is cheaper", 11, PALE)
     for row, kind in enumerate(KINDS):
         for column, movers in enumerate(MOVERS):
-            panel = Panel(picture, (50 + 275 * column, 75 + 190 * row, 240, 140), (1, MOST_FINDS), (0.05, 20))
+            panel = Panel(picture, (50 + 275 * column, 75 + 190 * row, 240, 140), (1, MOST_FINDS), (0.05, 40))
             panel.shade()
             panel.scale((1, 10, 100), (0.1, 1, 10))
             picture.words((panel.left, panel.top - 6), f"{movers}, {kind} finds", 12)

@@ -1,7 +1,6 @@
 """The tables of docs/PRICE.md, out of the rows of scripts/prices.py: what each way costs by the finds a move, from how many on the
 directory is the cheapest, which cover is the best, and what finds and moves weigh over each."""
-import math
-
+from break_even import Means, wins_of
 from price_networks import PRICED
 from prices import KINDS, MOVERS, RIVALS
 from texts import BadText
@@ -56,21 +55,13 @@ def short(value):
     return f"{value:.2f}" if value < 0.995 else f"{value:.1f}" if value < 9.95 else f"{value:,.0f}"
 
 
+def means(row, kind):
+    return Means(row.messages / row.moves, find_weight(row, kind))
+
+
 def break_even(covers, rival, kind):
     """At how many finds a move, from one on, the directory costs less than the rival over one of the covers."""
-    until, since = 0.0, math.inf
-    for row in covers:
-        moves = (row.messages - rival.messages) / row.moves
-        finds = find_weight(rival, kind) - find_weight(row, kind)
-        if moves < 0:
-            until = max(until, moves / finds if finds < 0 else math.inf)
-        elif finds > 0:
-            since = min(since, moves / finds)
-    if since <= max(1, until) or until == math.inf:
-        return "always"
-    words = [f"up to {short(until)}"] if until >= 1 else []
-    words += [f"from {short(since)}"] if since < math.inf else []
-    return ", ".join(words) or "never"
+    return wins_of([means(row, kind) for row in covers], means(rival, kind)).words(short, least=1)
 
 
 def table(head, rows):

@@ -1,13 +1,12 @@
 """What moves and finds weigh with the directory and with its rivals, on loads that are stationary: subscribers have wandered for
 long before anything is weighed. docs/PRICE.md tells the loads, and both ways of weighing a move, in words."""
-import math
-import subprocess
 from collections import namedtuple
 
 from directory import Cells, Course, Network, Setting, Walk
 from loads import Draw
 from rivals import Rivals, origins
 from texts import MOST_BYTES, BadText, read_plan
+from weights import Account, at_share, costs_text, write_weight
 
 KINDS, MOVERS = ("near", "far"), ("settled", "away", "anywhere")
 RIVALS = ("home register", "pointers", "everybody")
@@ -30,14 +29,6 @@ def covers_of(nodes):
     ks[:0] = [1] if nodes <= 64 else []
     means[:0] = [1] if nodes <= 256 else []
     return [Cover(k, False) for k in ks] + [Cover(k, True) for k in means]
-
-
-def written(program, word, text):
-    """What the program writes to an input."""
-    ran = subprocess.run([program, word], input=text.encode(), stdout=subprocess.PIPE, check=False)
-    if ran.returncode != 0:
-        raise BadText(f"{program} {word} ended with status {ran.returncode}")
-    return ran.stdout.decode()
 
 
 class Ground:
@@ -64,7 +55,7 @@ class Ground:
         """The setting of the plan that the program makes."""
         head = [f"track {1 if self.nodes <= 256 else 2}", f"nodes {self.nodes}", f"k {cover.k}"]
         lines = head + [f"edge {a} {b} {weight}" for a, b, weight in self.edges] + ["sub 0", "callers 0"]
-        return Setting(self.network, read_plan(written(program, "meancover" if cover.mean else "cover", "\n".join(lines) + "\n")))
+        return Setting(self.network, read_plan(program.ask("meancover" if cover.mean else "cover", "\n".join(lines) + "\n")))
 
 
 class Load:
@@ -127,16 +118,6 @@ class Price:
         self.written, self.purged = [], []  # of the directory alone
 
 
-def write_weight(setting, put, to):
-    """What a write of a move to a node weighs as `costs` weighs it: docs/DIRECTORY.md, "What moves cost"."""
-    if put.kind == "presence":
-        return 2 * setting.network.distance(put.place, to) if put.word[0] == "Gone" else 0
-    level, cluster = put.place
-    if put.word is None:
-        return 2 * setting.network.distance(to, setting.leader(level, cluster))
-    return 2 * setting.inside[level][cluster][put.word[1]]
-
-
 class Weighed:
     """The directory on a load. scripts/directory.py makes each call, which tells how many visits it takes; so the order can say
     that calls run one after another, and the program's `replay` of that order weighs the finds."""
@@ -145,14 +126,14 @@ class Weighed:
         self.load, self.cover, self.setting = load, cover, load.ground.setting(program, cover)
         self.cells = Cells(self.setting, load.starts)
         self.courses = [Course(self.setting, start) for start in load.starts]
-        self.sums = [[0] * 4 for _ in range(SUBS)]  # of all moves: how many, their weight, written, purged
+        self.accounts = [Account() for _ in range(SUBS)]
         self.walks, self.order = [], []
         self.price = Price(self.setting.plan.stretch, self.setting.plan.degree)
         for call in load.calls:
             (self.find if call.kind in KINDS else self.move)(call)
         text = self.text()
-        self.take_finds(written(program, "meanreplay" if cover.mean else "replay", text))
-        if not cover.mean and written(program, "costs", text) != self.costs():
+        self.take_finds(program.ask("meanreplay" if cover.mean else "replay", text))
+        if not cover.mean and program.ask("costs", text) != costs_text(self.accounts):
             raise BadText("the program tells other costs than scripts/prices.py")
 
     def move(self, call):
@@ -162,7 +143,9 @@ class Weighed:
             self.cells.put(call.sub, put)
         costs = sum(write_weight(self.setting, put, call.node) for put in puts)
         purged = sum(put.word == ("Empty",) for put in puts)
-        self.sums[call.sub] = [a + b for a, b in zip(self.sums[call.sub], (1, weight, costs, purged))]
+        own = self.accounts[call.sub]
+        own.moves, own.moved = own.moves + 1, own.moved + weight
+        own.written, own.purged = own.written + costs, own.purged + purged
         if call.kind == "move":
             row = self.setting.network.rows[call.node]
             self.price.messages.append(sum(2 * row[self.setting.node_of(put)] for put in puts))
@@ -201,12 +184,6 @@ class Weighed:
                 raise BadText("the program answers or weighs a find otherwise than scripts/directory.py")
             self.price.finds[kind].append(weight)
 
-    def costs(self):
-        """The text that `costs` writes."""
-        lines = [f"cost {sub} moves {moves} moved {moved} written {wrote} purged {purged}\n"
-                 for sub, (moves, moved, wrote, purged) in enumerate(self.sums)]
-        return "".join(lines) + "end\n"
-
 
 # Rows: what is kept of a load.
 
@@ -214,10 +191,6 @@ Row = namedtuple("Row", "network nodes movers way stretch degree moves moved mes
                         "near_finds near_distance near_weight near_median near_95 near_most "
                         "far_finds far_distance far_weight far_median far_95 far_most")
 TEXTS = ("network", "movers", "way")
-
-
-def at_share(ordered, share):
-    return ordered[max(0, math.ceil(share * len(ordered)) - 1)]
 
 
 def halves_of(load, price):
@@ -241,10 +214,12 @@ def row_of(load, way, price):
                sum(price.messages), sum(price.written), sum(price.purged), round(halves_of(load, price), 3), *finds)
 
 
-def rows_of(ground, movers, covers, program):
-    """The rows of one kind of movers on a network: the directory over each cover, and the rivals."""
-    load = Load(ground, movers)
-    rows = [row_of(load, cover_name(cover), Weighed(load, cover, program).price) for cover in covers]
+def rows_of(ground, movers, covers, program, tell=lambda words: None):
+    """The rows of one kind of movers on a network: the directory over each cover, and the rivals. What comes next is told."""
+    load, rows = Load(ground, movers), []
+    for cover in covers:
+        tell(f"{movers}, {cover_name(cover)} ..")
+        rows.append(row_of(load, cover_name(cover), Weighed(load, cover, program).price))
     return rows + [row_of(load, rival, load.prices[rival]) for rival in RIVALS]
 
 

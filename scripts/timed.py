@@ -19,6 +19,7 @@ from dataclasses import dataclass
 import directory
 import texts
 from lab_load import Ask, Move, Part, Wishes
+from weights import Account, write_weight
 
 
 class TooLong(Exception):
@@ -57,16 +58,6 @@ class Moved:
     ended: int = 0
     costs: int = 0  # as the word `costs` weighs
     messages: int = 0  # each write a message from the new node, there and back
-
-
-@dataclass
-class Account:
-    """What `costs` tells of a subscriber."""
-
-    moves: int = 0
-    moved: int = 0
-    written: int = 0
-    purged: int = 0
 
 
 class CountedCells(directory.Cells):
@@ -173,7 +164,7 @@ class TimedMachine(directory.Machine):
         self.last_put[number] = len(self.order) - 1
         back = self.far(move.to, node)
         move.messages += 2 * back
-        move.costs += self.cost(put, move)
+        move.costs += write_weight(self.setting, put, move.to)
         self.accounts[number].purged += put.word == ("Empty",)
         self.free[number] = self.now + back
         if actor.puts:
@@ -185,15 +176,6 @@ class TimedMachine(directory.Machine):
             self.accounts[number].moves += 1
             self.accounts[number].moved += move.distance
             self.accounts[number].written += move.costs
-
-    def cost(self, put: directory.Put, move: Moved) -> int:
-        """What a write weighs by the word `costs`: docs/DIRECTORY.md, "What moves cost"."""
-        if put.kind == "presence":
-            return 2 * move.distance if put.word[0] == "Gone" else 0
-        if put.word is None:
-            return 2 * self.far(move.to, self.setting.leader(*put.place))
-        level, cluster = put.place
-        return 2 * self.setting.inside[level][cluster][move.to]
 
     def look(self, number: int, actor: directory.Actor, ticket: int) -> None:
         walk, find = actor.walk, self.under_way[number]

@@ -1,0 +1,42 @@
+"""The program that scripts call: which one it is, and what it writes."""
+from __future__ import annotations
+
+import os
+import shutil
+import subprocess
+
+from texts import BadText
+
+OURS = os.path.realpath(os.path.join(os.path.dirname(os.path.realpath(__file__)), "..", "track"))
+
+
+def program_path() -> str:
+    """Where the program stands: as TRACK says, else ./track of the repository. A name without a slash is sought as the shell seeks
+    it, and then in the folder where the script was called; any other is a path from there."""
+    name = os.environ.get("TRACK")
+    if not name:
+        return OURS
+    found = shutil.which(name) or shutil.which(os.path.join(os.curdir, name))
+    if not found:
+        raise BadText(f"TRACK names {name}, which isn't a program that can be run")
+    return os.path.abspath(found)
+
+
+class Program:
+    """The program by its path. What it says on standard error is shown at its first call: a build that it makes first takes long,
+    and later calls say the same once more."""
+
+    def __init__(self, path: str | None = None):
+        self.path, self.called = path or program_path(), False
+
+    def ask(self, word: str, text: str) -> str:
+        """What the program writes to an input."""
+        shown = subprocess.PIPE if self.called else None
+        try:
+            ran = subprocess.run([self.path, word], input=text.encode(), stdout=subprocess.PIPE, stderr=shown, check=False)
+        except OSError as bad:
+            raise BadText(f"the program {self.path} doesn't run: {bad.strerror}") from None
+        self.called = True
+        if ran.returncode != 0:
+            raise BadText(f"{self.path} {word} ended with status {ran.returncode}")
+        return ran.stdout.decode("latin-1")
