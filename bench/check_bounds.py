@@ -20,6 +20,7 @@ import directory  # noqa: E402
 import loads  # noqa: E402
 import texts  # noqa: E402
 
+os.environ.setdefault("TRACK_PROVED", "1")
 PROGRAM = os.environ.get("TRACK", "./track")
 FALSE = pathlib.Path("examples/false-bounds")
 Move = namedtuple("Move", "start to weight level gathered commit confirm")
