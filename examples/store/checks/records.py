@@ -1,0 +1,183 @@
+"""Puts what the processes of a load saw into one order of visits, and holds it to `track replay`: the report has to be what they saw."""
+import collections
+import itertools
+import json
+import os
+import pathlib
+import re
+import subprocess
+
+TOP = pathlib.Path(__file__).resolve().parents[3]
+PROGRAM = os.environ.get("TRACK", str(TOP / "track"))
+
+Call = collections.namedtuple("Call", "line seen tickets")  # a line of the input; that of the report, of the places of its tickets
+
+
+class Differs(Exception):
+    """What was seen isn't what the replay tells."""
+
+
+def steps_of(sub, home, calls, puts):
+    """A subscriber's calls, from its puts by step: (call, number, node, ticket)."""
+    done = []
+    number, node = 0, home
+    for call, some in itertools.groupby(puts, key=lambda put: put[0]):
+        some = list(some)
+        tickets = [put[3] for put in some]
+        word = calls[call - 1]
+        if isinstance(word, int):
+            commit = next(place for place, put in enumerate(some) if put[1] != number)
+            start, number, node = node, some[-1][1], some[-1][2]
+            done.append(Call(f"move {sub} {word}", lambda at, line=f"move {sub} {number} {start} {node} weight - first", commit=commit:
+                             f"{line} {at[0]} commit {at[commit]} last {at[-1]}", tickets))
+        else:
+            done.append(Call(f"{word} {sub}", lambda at, line=f"switch {sub} {word} {node} number {number} ticket": f"{line} {at[0]}", tickets))
+    return done
+
+
+def read_mover(load, number):
+    """The subscribers of a mover's file, with their homes and calls."""
+    puts, joined, events = collections.defaultdict(dict), {}, collections.Counter()
+    with open(load.path("mover", number), encoding="ascii") as file:
+        for word, *fields in map(json.loads, file):
+            if word == "join":
+                joined[fields[1]] = (fields[0], fields[2])
+            elif word == "events":
+                events.update(fields[0])
+            else:
+                sub, step, call, count, node, *ticket = fields
+                if puts[sub].setdefault(step, (call, count, node, tuple(ticket))) != (call, count, node, tuple(ticket)):
+                    raise Differs(f"put {step} of {sub} was made twice, with {puts[sub][step]} and {fields}")
+    subs = {}
+    for sub, (life, home) in joined.items():
+        made = puts[sub]
+        if sorted(made) != list(range(1, len(made) + 1)):
+            raise Differs(f"puts of {sub} are missing: {sorted(set(range(1, len(made) + 1)) - set(made))}")
+        calls = load.life(number, life)[1] + ["off"]
+        steps = steps_of(sub, home, calls, [made[step] for step in sorted(made)])
+        if len(steps) != len(calls):
+            raise Differs(f"of {len(calls)} calls of {sub} {len(steps)} were made")
+        subs[sub] = (home, steps)
+    return subs, events
+
+
+def read_caller(load, number):
+    actor = load.subs() + number
+    with open(load.path("caller", number), encoding="ascii") as file:
+        said = json.load(file)
+    calls = [Call(f"find {actor} {start} {sub}", lambda at, line=f"{word} {actor} {start} {sub} {answer}": f"{line} first {at[0]} last {at[-1]}",
+                  [tuple(ticket) for ticket in tickets]) for start, sub, word, answer, tickets in said["finds"]]
+    return calls, said
+
+
+def order_of_counts(visits):
+    """An order of all visits that agrees with each actor's and with each node's; visits are lists of (node, count), by actor."""
+    by_node = collections.defaultdict(list)
+    for actor, tickets in enumerate(visits):
+        for place, (node, count) in enumerate(tickets):
+            by_node[node].append((count, actor, place))
+    waits, after = collections.Counter(), collections.defaultdict(list)
+    lines = [[(actor, place) for place in range(len(tickets))] for actor, tickets in enumerate(visits)]
+    lines += [[it[1:] for it in sorted(some)] for some in by_node.values()]
+    for line in lines:
+        for one, next_one in itertools.pairwise(line):
+            after[one].append(next_one)
+            waits[next_one] += 1
+    ready = collections.deque(line[0] for line in lines[:len(visits)] if line and not waits[line[0]])
+    order = []
+    while ready:
+        order.append(ready.popleft())
+        for it in after[order[-1]]:
+            waits[it] -= 1
+            if not waits[it]:
+                ready.append(it)
+    return order
+
+
+def order_of_revisions(visits):
+    """The order of the store's revisions."""
+    sorted_ = sorted((ticket, actor, place) for actor, tickets in enumerate(visits) for place, ticket in enumerate(tickets))
+    return [it[1:] for it in sorted_]
+
+
+def ordered(word, visits):
+    order = (order_of_counts if word == "redis" else order_of_revisions)(visits)
+    met = [0] * len(visits)
+    for actor, place in order:
+        if place != met[actor]:
+            raise Differs(f"visit {place} of actor {actor} comes in the place of {met[actor]}")
+        met[actor] += 1
+    if met != [len(tickets) for tickets in visits]:
+        raise Differs("the visits of nodes and of actors have no common order")
+    return order
+
+
+def in_lines(order):
+    numbers = [actor for actor, _ in order]
+    return ["order " + " ".join(map(str, numbers[at:at + 64])) for at in range(0, len(numbers), 64)]
+
+
+def network_lines(text):
+    """The lines of a network, without subscribers and what comes after them."""
+    is_network = re.compile(r"(nodes|k|edge)\s")
+    return ["track 2"] + [line for line in text.splitlines() if is_network.match(line)]
+
+
+def seen_lines(scripts, order):
+    """The report as the processes saw it."""
+    places = [[] for _ in scripts]
+    for place, (actor, _) in enumerate(order):
+        places[actor].append(place)
+    lines = []
+    for actor, calls in enumerate(scripts):
+        at = iter(places[actor])
+        lines += [call.seen(list(itertools.islice(at, len(call.tickets)))) for call in calls]
+    return lines
+
+
+def read_all(load):
+    """The homes, the calls of each actor, and what the processes counted."""
+    homes, scripts, events, failed = {}, [], collections.Counter(), 0
+    for number in range(load.movers):
+        subs, some = read_mover(load, number)
+        events.update(some)
+        homes.update(subs)
+    if sorted(homes) != list(range(load.subs())):
+        raise Differs(f"{load.subs()} subscribers came, and they aren't {sorted(homes)}")
+    scripts = [homes[sub][1] for sub in sorted(homes)]
+    medians = []
+    for number in range(load.callers):
+        calls, said = read_caller(load, number)
+        scripts.append(calls)
+        events.update(said["events"])
+        failed += said["failed"]
+        medians.append(said["median"])
+    return [homes[sub][0] for sub in sorted(homes)], scripts, events, failed, sorted(medians)[len(medians) // 2]
+
+
+Told = collections.namedtuple("Told", "visits calls again changes failed unknown median")
+
+
+def compare(load):
+    """Replays a load; raises Differs where the report isn't what was seen."""
+    homes, scripts, events, failed, median = read_all(load)
+    order = ordered(load.description["store"], [[ticket for call in calls for ticket in call.tickets] for calls in scripts])
+    lines = network_lines(load.description["network"]) + [f"sub {home}" for home in homes] + [f"callers {load.callers}"]
+    lines += [call.line for calls in scripts for call in calls] + in_lines(order)
+    given = pathlib.Path(load.room, "record.txt")
+    given.write_text("\n".join(lines) + "\n", encoding="ascii")
+    with open(given, "rb") as file:
+        ran = subprocess.run([PROGRAM, "replay"], stdin=file, stdout=subprocess.PIPE, check=False)
+    report = re.sub(r"^(move .*) weight \d+ ", r"\1 weight - ", ran.stdout.decode("ascii"), flags=re.M)
+    seen = "\n".join(seen_lines(scripts, order) + in_lines(order) + [f"end {len(order)}"]) + "\n"
+    pathlib.Path(load.room, "record.txt.seen").write_text(seen, encoding="ascii")
+    if ran.returncode != 0 or report != seen:
+        raise Differs(f"the replay (status {ran.returncode}) tells another report: {first_difference(report, seen)}")
+    again = sum(count for name, count in events.items() if name.startswith("again"))
+    changes = sum(one[0] != other[0] for one, other in itertools.pairwise(order))
+    return Told(len(order), sum(map(len, scripts)), again, changes, failed, events["unknown"], median)
+
+
+def first_difference(report, seen):
+    pairs = itertools.zip_longest(report.splitlines(), seen.splitlines())
+    return next((f"line {at}: {told!r}, and seen was {saw!r}" for at, (told, saw) in enumerate(pairs, 1) if told != saw), "none")
