@@ -122,7 +122,6 @@ def play_life(directory, load, book, number, life):
     if life in book.joined:
         handset = directory.take_over(book.joined[life])
     else:
-        time.sleep(random.random() * 0.05)
         handset = directory.join(home)
         book.join(life, handset, home)
     book.hold(handset)
@@ -136,14 +135,13 @@ def play_life(directory, load, book, number, life):
     handset.leave()
 
 
-def play_mover(load, number):
+def play_mover(load, number, life):
     random.seed(os.urandom(8))
     book = Book(load, number)
     directory = load.directory(60.0, book)
     directory.store = Mortal(directory.store, load.mortal)
     try:
-        for life in range(max(book.joined, default=0), load.lives):
-            play_life(directory, load, book, number, life)
+        play_life(directory, load, book, number, life)
     except stores.Superseded:
         os._exit(LOST)
     book.write("events", directory.counts.events)

@@ -12,44 +12,49 @@ FORK = multiprocessing.get_context("fork")
 
 
 class Crew:
-    """The processes of a load, by role and number. A mover that was killed is started again; now and then two of them are, of which one
-    has to lose."""
+    """The processes of a load: (process, its function, its arguments). A mover that was killed is started again; now and then two of
+    them are, of which one has to lose. Once one has come to its end, its next subscriber comes."""
 
     def __init__(self, load):
         self.load, self.running, self.kills, self.lost = load, {}, 0, 0
         self.done = set()
 
-    def start(self, role, number):
-        process = FORK.Process(target=play_mover if role == "mover" else play_caller, args=(self.load, number))
+    def start(self, play, *arguments):
+        process = FORK.Process(target=play, args=(self.load, *arguments))
         process.start()
-        self.running[process.sentinel] = (process, role, number)
-
-    def has(self, number):
-        return any(role == "mover" and at == number for _, role, at in self.running.values())
+        self.running[process.sentinel] = (process, play, arguments)
 
     def ended(self, sentinel):
-        process, role, number = self.running.pop(sentinel)
+        process, play, arguments = self.running.pop(sentinel)
         process.join()
         status = process.exitcode
-        if status == 0:
-            self.done.add((role, number))
-            return
-        if role == "mover" and status == -signal.SIGKILL:
-            self.kills += 1
-        elif role == "mover" and status == LOST:
-            self.lost += 1
+        if play is play_caller or status not in (0, LOST, -signal.SIGKILL):
+            if status:
+                raise RuntimeError(f"{play.__name__} {arguments} ended with status {status}")
+        elif status == 0:
+            self.next_life(*arguments)
         else:
-            raise RuntimeError(f"{role} {number} ended with status {status}")
-        if not self.has(number) and (role, number) not in self.done:
-            for _ in range(2 if status != LOST and random.random() < 0.2 else 1):
-                self.start(role, number)
+            self.kills += status != LOST
+            self.lost += status == LOST
+            self.start_again(arguments, 2 if status != LOST and random.random() < 0.2 else 1)
+
+    def next_life(self, number, life):
+        if (number, life) not in self.done and life + 1 < self.load.lives:
+            self.start(play_mover, number, life + 1)
+        self.done.add((number, life))
+
+    def start_again(self, arguments, count):
+        is_running = any((play, some) == (play_mover, arguments) for _, play, some in self.running.values())
+        if not is_running and arguments not in self.done:
+            for _ in range(count):
+                self.start(play_mover, *arguments)
 
     def play(self):
         """Runs all to their ends."""
         for number in range(self.load.movers):
-            self.start("mover", number)
+            self.start(play_mover, number, 0)
         for number in range(self.load.callers):
-            self.start("caller", number)
+            self.start(play_caller, number)
         try:
             while self.running:
                 for sentinel in multiprocessing.connection.wait(list(self.running), timeout=60):
