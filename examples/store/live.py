@@ -10,7 +10,7 @@ import track
 
 import stores
 from counts import Counts
-from stores import BadCell, State, Store, StoreError, Superseded, Ticket, Unreachable
+from stores import BadCell, NoHandset, State, Store, StoreError, Superseded, Ticket, Unreachable
 
 T = TypeVar("T")
 
@@ -90,12 +90,13 @@ class Directory:
 
     def take_over(self, sub: int) -> Handset:
         """The handset of a subscriber whose process is gone, or has to go: it goes on from the last put that was made, and the other
-        one's next put raises Superseded. Every server is asked. Raises NoHandset, NoData, Unreachable; Superseded, where somebody
-        else takes it over at the same time."""
+        one's next put raises Superseded. Every server is asked. Raises NoHandset, where no such subscriber is open; NoData,
+        Unreachable; Superseded, where somebody else takes it over at the same time."""
+        if not self.is_open(sub):
+            raise NoHandset(f"there is no subscriber {sub}")
         holder = secrets.token_hex(8)
         epoch = self.asked(lambda: self.store.highest_epoch(sub)) + 1
         held = self.asked(lambda: self.store.raise_epoch(sub, epoch, holder))
-        self._open.add(sub)
         return Handset(self, track.Mover.load(self.plan, list(held.state.words[1:])), held.state, held.ticket)
 
     def find(self, start: int, sub: int) -> Answer:

@@ -51,10 +51,10 @@ class Crew:
 
     def play(self):
         """Runs all to their ends."""
-        for number in range(self.load.movers):
-            self.start(play_mover, number, 0)
         for number in range(self.load.callers):
             self.start(play_caller, number)
+        for number in range(self.load.movers):
+            self.start(play_mover, number, 0)
         try:
             while self.running:
                 for sentinel in multiprocessing.connection.wait(list(self.running), timeout=60):

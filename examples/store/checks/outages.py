@@ -33,13 +33,13 @@ def check_majority(servers, text, plan):
     handset = first.join(3)
     for it in servers.all[1:]:
         it.kill()
-    first.patience = second.patience = 1.5
+    first.patience = second.patience = 0.7
     for call, what in ((lambda: handset.move(5), "a move"), (lambda: second.find(3, handset.sub), "a find")):
         begun = time.monotonic()
         must(raised(call) == "Unreachable", f"{what} without a majority isn't told why")
         must(time.monotonic() - begun < 6, f"{what} without a majority takes longer than the time set")
     try:
-        second.find_until_answered(3, handset.sub, seconds=2)
+        second.find_until_answered(3, handset.sub, seconds=1)
         must(False, "a find without a majority has an answer")
     except live.NotAnswered as told:
         must(isinstance(told.__cause__, stores.Unreachable), "a find that isn't answered doesn't tell the cause")

@@ -8,7 +8,7 @@ import time
 import track
 
 import stores
-from checks import handsets, outages, records
+from checks import commands, handsets, outages, records
 from checks.loads import Crew, Faults
 from checks.actors import Load
 from checks.replaying import stand_in
@@ -16,14 +16,15 @@ from checks.servers import Servers
 
 TOP = pathlib.Path(__file__).resolve().parents[3]
 NETWORKS = ["nsfnet", "geant", "ring", "grid"]
+FEW = {"movers": 8, "callers": 8, "lives": 1}
 # Of each part and store: how many loads, and what they are like; first the short form.
 SIZES = {
-    ("a", "redis"): (dict(loads=2, steps=6, finds=80), dict(loads=20, steps=30, finds=400)),
-    ("b", "redis"): (dict(loads=1, steps=10, finds=60, mortal=0.03), dict(loads=8, steps=30, finds=400, mortal=0.03)),
-    ("c", "redis"): (dict(loads=1, steps=20, finds=120, kills=4), dict(loads=4, steps=40, finds=600, kills=25)),
-    ("a", "etcd"): (dict(loads=1, steps=2, finds=30), dict(loads=4, steps=20, finds=250)),
-    ("b", "etcd"): (dict(loads=1, steps=2, finds=20, mortal=0.05), dict(loads=2, steps=20, finds=250, mortal=0.03)),
-    ("c", "etcd"): (dict(loads=1, steps=3, finds=40, kills=2), dict(loads=8, steps=30, finds=400, kills=15, mortal=0.002)),
+    ("a", "redis"): (dict(loads=1, steps=4, finds=40, **FEW), dict(loads=20, steps=9, finds=100)),
+    ("b", "redis"): (dict(loads=1, steps=3, finds=20, mortal=0.05, **FEW), dict(loads=5, steps=10, finds=60, mortal=0.03)),
+    ("c", "redis"): (dict(loads=1, steps=3, finds=20, kills=2, **FEW), dict(loads=3, steps=20, finds=120, kills=12)),
+    ("a", "etcd"): (dict(loads=1, steps=1, finds=5, **FEW), dict(loads=1, steps=20, finds=200)),
+    ("b", "etcd"): (dict(loads=1, steps=1, finds=5, mortal=0.1, **FEW), dict(loads=1, steps=10, finds=100, mortal=0.03)),
+    ("c", "etcd"): (dict(loads=1, steps=1, finds=8, kills=1, **FEW), dict(loads=8, steps=30, finds=350, kills=13, mortal=0.003)),
 }
 
 
@@ -75,20 +76,29 @@ def play_loads(servers, room, plans, part, sizes):
           "each replay is what was seen", flush=True)
 
 
+def play_part(servers, room, plans, letter, is_short):
+    others = {"h": handsets.check, "e": handsets.check_cells, "d": outages.check_lost_data, "m": outages.check_majority}
+    folder = os.path.join(room, letter)
+    os.mkdir(folder)
+    try:
+        if letter == "r":
+            print(f"store: {servers.word} ({letter}): {commands.check(servers, folder)}", flush=True)
+        elif letter in others:
+            print(f"store: {servers.word} ({letter}): {others[letter](servers, *plans['nsfnet'])}", flush=True)
+        else:
+            play_loads(servers, folder, plans, letter, SIZES[letter, servers.word][not is_short])
+    except records.Differs as differs:
+        sys.exit(f"store: {servers.word} ({letter}): {differs}")
+
+
 def run(word, room, is_short, wanted):
-    """Runs the parts over a store, each with servers of its own; exits where one fails."""
+    """Runs the parts over a store; exits where one fails. Redis servers that are killed have a journal, and are others."""
     stand_in()
     plans = Networks()
-    others = {"h": handsets.check, "e": handsets.check_cells, "d": outages.check_lost_data, "m": outages.check_majority}
-    letters = wanted or (["h", "a", "b", "c", "d", "e"] if word == "redis" else ["h", "a", "b", "c", "m", "e"])
-    for letter in letters:
-        folder = os.path.join(room, letter)
-        os.mkdir(folder)
-        try:
-            with Servers(word, folder, has_journal=letter == "c") as servers:
-                if letter in others:
-                    print(f"store: {word} ({letter}): {others[letter](servers, *plans['nsfnet'])}", flush=True)
-                else:
-                    play_loads(servers, folder, plans, letter, SIZES[letter, word][not is_short])
-        except records.Differs as differs:
-            sys.exit(f"store: {word} ({letter}): {differs}")
+    letters = wanted or (["r", "h", "a", "b", "e", "d", "c"] if word == "redis" else ["r", "h", "a", "b", "e", "m", "c"])
+    for has_journal in (False, True):
+        some = [letter for letter in letters if (word == "redis" and letter == "c") == has_journal]
+        if some:
+            with Servers(word, os.path.join(room, f"servers{has_journal:d}"), has_journal=has_journal) as servers:
+                for letter in some:
+                    play_part(servers, room, plans, letter, is_short)
