@@ -148,13 +148,15 @@ def play_mover(load, number, life):
 
 
 class Notes(live.Watcher):
-    """The tickets of a caller's looks since they were taken."""
+    """The tickets of a caller's looks since they were taken. Now and then it rests after one, so that moves fall within finds."""
 
-    def __init__(self):
-        self.tickets = []
+    def __init__(self, choose):
+        self.choose, self.tickets = choose, []
 
     def looked(self, cell, word, ticket):
         self.tickets.append(ticket)
+        if self.choose.random() < 0.03:
+            time.sleep(self.choose.random() * 0.1)
 
     def take(self):
         taken, self.tickets = self.tickets, []
@@ -171,7 +173,8 @@ def told(answer):
 
 def play_caller(load, number):
     """Makes finds; one whose look fails is told why at once, and goes on."""
-    choose, notes, failed = random.Random(f"{load.seed} caller {number}"), Notes(), 0
+    choose, failed = random.Random(f"{load.seed} caller {number}"), 0
+    notes = Notes(choose)
     directory = load.directory(0.0, notes)
     found = []
     for _ in range(load.finds):
