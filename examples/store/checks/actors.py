@@ -136,6 +136,7 @@ def play_life(directory, load, book, number, life):
 
 
 def play_mover(load, number, life):
+    signal.signal(signal.SIGTERM, signal.SIG_DFL)
     random.seed(os.urandom(8))
     book = Book(load, number)
     directory = load.directory(60.0, book)
@@ -144,7 +145,7 @@ def play_mover(load, number, life):
         play_life(directory, load, book, number, life)
     except stores.Superseded:
         os._exit(LOST)
-    book.write("events", directory.counts.events)
+    book.write("counts", directory.counts.events, directory.counts.puts.quantile(0.5))
 
 
 class Notes(live.Watcher):
@@ -192,7 +193,5 @@ def play_caller(load, number):
             time.sleep(0.005)
         else:
             found.append((start, sub, *told(answer), notes.take()))
-    times = directory.counts.finds
     with open(load.path("caller", number), "w", encoding="ascii") as file:
-        json.dump({"finds": found, "events": directory.counts.events, "failed": failed,
-                   "median": times.quantile(0.5), "longest": times.longest}, file)
+        json.dump({"finds": found, "events": directory.counts.events, "failed": failed, "look": directory.counts.looks.quantile(0.5)}, file)

@@ -66,25 +66,38 @@ class Crew:
 
 
 class Faults:
-    """Kills one server after another and starts it again, as long as it is held open by `with`, or until so many kills."""
+    """Makes faults while it is held open by `with`: kills one server after another and starts it again; and each third time holds one up
+    for longer than a request waits, so that requests that were given up, and made again elsewhere, arrive late."""
 
-    def __init__(self, servers, between, down, most):
-        self.servers, self.between, self.down, self.most = servers, between, down, most
-        self.kills, self.ending = 0, threading.Event()
+    def __init__(self, servers, most, timeout):
+        self.servers, self.most, self.timeout = servers, most, timeout
+        self.kills, self.holds, self.ending = 0, 0, threading.Event()
         self.failed = None
         self.thread = threading.Thread(target=self.run)
 
     def run(self):
         try:
-            while self.kills < self.most and not self.ending.wait(self.between):
+            while self.kills + self.holds < self.most and not self.ending.wait(0.4 if self.kills else 0.1):
                 server = random.choice(self.servers.all)
-                server.kill()
-                self.kills += 1
-                time.sleep(self.down)
-                server.start()
+                if (self.kills + self.holds) % 3 == 1:
+                    self.hold(server)
+                else:
+                    self.kill(server)
                 self.servers.wait(server)
         except Exception as error:
             self.failed = error
+
+    def kill(self, server):
+        server.kill()
+        self.kills += 1
+        time.sleep(0.3)
+        server.start()
+
+    def hold(self, server):
+        server.process.send_signal(signal.SIGSTOP)
+        self.holds += 1
+        time.sleep(1.4 * self.timeout)
+        server.process.send_signal(signal.SIGCONT)
 
     def __enter__(self):
         self.thread.start()

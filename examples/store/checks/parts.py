@@ -1,7 +1,7 @@
 """The parts of the check, for each store in a short form and a long one."""
-import contextlib
 import os
 import pathlib
+import statistics
 import sys
 import time
 
@@ -21,10 +21,10 @@ FEW = {"movers": 8, "callers": 8, "lives": 1}
 SIZES = {
     ("a", "redis"): (dict(loads=1, steps=4, finds=40, **FEW), dict(loads=20, steps=9, finds=100)),
     ("b", "redis"): (dict(loads=1, steps=3, finds=20, mortal=0.05, **FEW), dict(loads=5, steps=10, finds=60, mortal=0.03)),
-    ("c", "redis"): (dict(loads=1, steps=3, finds=20, kills=2, **FEW), dict(loads=3, steps=20, finds=120, kills=12)),
+    ("c", "redis"): (dict(loads=1, steps=3, finds=20, faults=2, **FEW), dict(loads=3, steps=20, finds=120, faults=14)),
     ("a", "etcd"): (dict(loads=1, steps=1, finds=5, **FEW), dict(loads=1, steps=20, finds=200)),
     ("b", "etcd"): (dict(loads=1, steps=1, finds=5, mortal=0.1, **FEW), dict(loads=1, steps=10, finds=100, mortal=0.03)),
-    ("c", "etcd"): (dict(loads=1, steps=1, finds=8, kills=1, **FEW), dict(loads=8, steps=30, finds=350, kills=13, mortal=0.003)),
+    ("c", "etcd"): (dict(loads=1, steps=1, finds=8, faults=2, **FEW), dict(loads=8, steps=30, finds=350, faults=20, mortal=0.003)),
 }
 
 
@@ -48,32 +48,30 @@ def play_load(servers, plans, room, name, number, sizes):
     os.mkdir(folder)
     description = stores.set_up(servers.word, servers.addresses, text, f"{name}{number}")
     sizes = dict(sizes)
-    kills = sizes.pop("kills", 0)
-    load = Load(description, plan, folder, f"{name} {number}", **sizes)
+    faults = Faults(servers, sizes.pop("faults", 0), 1.0)
+    load = Load(description, plan, folder, f"{name} {number}", timeout=faults.timeout, **sizes)
     crew = Crew(load)
-    faults = Faults(servers, 0.5, 0.3, kills) if kills else None
-    with faults or contextlib.nullcontext():
+    with faults:
         crew.play()
-    return records.compare(load), crew, faults.kills if faults else 0
+    return records.compare(load), crew, faults
 
 
 def play_loads(servers, room, plans, part, sizes):
     sizes, begun = dict(sizes), time.monotonic()
-    told, crews, killed = [], [], 0
-    for number in range(sizes.pop("loads")):
-        one, crew, kills = play_load(servers, plans, room, part, number, sizes)
-        told.append(one)
-        crews.append(crew)
-        killed += kills
+    played = [play_load(servers, plans, room, part, number, sizes) for number in range(sizes.pop("loads"))]
+    told, crews, faults = zip(*played)
+    if sizes.get("mortal") and not any(it.kills for it in crews) or sizes.get("faults") and not any(it.kills for it in faults):
+        raise records.Differs("nothing was killed: the loads are too short")
     said = f"{sum(it.visits for it in told)} visits of {sum(it.calls for it in told)} calls in {len(told)} loads"
     said += f", {sum(it.again for it in told)} finds to make again, {sum(it.unknown for it in told)} too early"
     said += f", {sum(it.changes for it in told)} changes of the actor"
     for many, words in ((sum(it.kills for it in crews), "movers killed"), (sum(it.lost for it in crews), "second movers refused"),
-                        (killed, "servers killed"), (sum(it.failed for it in told), "looks failed and made again")):
+                        (sum(it.kills for it in faults), "servers killed"), (sum(it.holds for it in faults), "held up"),
+                        (sum(it.failed for it in told), "looks failed and made again")):
         said += f", {many} {words}" if many else ""
-    seconds = time.monotonic() - begun
-    print(f"store: {servers.word} ({part}): {said}, {seconds:.0f} seconds; a find took {1000 * told[-1].median:.1f} ms in the median: "
-          "each replay is what was seen", flush=True)
+    look, put = (1000 * statistics.median(times) for times in zip(*((it.look, it.put) for it in told)))
+    print(f"store: {servers.word} ({part}): {said}, {time.monotonic() - begun:.0f} seconds, a look {look:.1f} ms and a put {put:.1f} ms in "
+          "the median: each replay is what was seen", flush=True)
 
 
 def play_part(servers, room, plans, letter, is_short):

@@ -5,6 +5,7 @@ import json
 import os
 import pathlib
 import re
+import statistics
 import subprocess
 
 TOP = pathlib.Path(__file__).resolve().parents[3]
@@ -37,13 +38,14 @@ def steps_of(sub, home, calls, puts):
 
 def read_mover(load, number):
     """The subscribers of a mover's file, with their homes and calls."""
-    puts, joined, events = collections.defaultdict(dict), {}, collections.Counter()
+    puts, joined, events, times = collections.defaultdict(dict), {}, collections.Counter(), []
     with open(load.path("mover", number), encoding="ascii") as file:
         for word, *fields in map(json.loads, file):
             if word == "join":
                 joined[fields[1]] = (fields[0], fields[2])
-            elif word == "events":
+            elif word == "counts":
                 events.update(fields[0])
+                times.append(fields[1])
             else:
                 sub, step, call, count, node, *ticket = fields
                 if puts[sub].setdefault(step, (call, count, node, tuple(ticket))) != (call, count, node, tuple(ticket)):
@@ -58,7 +60,7 @@ def read_mover(load, number):
         if len(steps) != len(calls):
             raise Differs(f"of {len(calls)} calls of {sub} {len(steps)} were made")
         subs[sub] = (home, steps)
-    return subs, events
+    return subs, events, times
 
 
 def read_caller(load, number):
@@ -135,34 +137,38 @@ def seen_lines(scripts, order):
     return lines
 
 
-def read_all(load):
-    """The homes, the calls of each actor, and what the processes counted."""
-    homes, scripts, events, failed = {}, [], collections.Counter(), 0
-    for number in range(load.movers):
-        subs, some = read_mover(load, number)
-        events.update(some)
-        homes.update(subs)
-    if sorted(homes) != list(range(load.subs())):
-        raise Differs(f"{load.subs()} subscribers came, and they aren't {sorted(homes)}")
-    scripts = [homes[sub][1] for sub in sorted(homes)]
-    medians = []
-    for number in range(load.callers):
-        calls, said = read_caller(load, number)
-        scripts.append(calls)
-        events.update(said["events"])
-        failed += said["failed"]
-        medians.append(said["median"])
-    return [homes[sub][0] for sub in sorted(homes)], scripts, events, failed, sorted(medians)[len(medians) // 2]
+class Seen:
+    """All that the processes of a load saw: the homes of its subscribers, the calls of each actor, and what they counted."""
+
+    def __init__(self, load):
+        self.events, self.failed = collections.Counter(), 0
+        looks, puts, subs = [], [], {}
+        for number in range(load.movers):
+            some, events, times = read_mover(load, number)
+            subs.update(some)
+            self.events.update(events)
+            puts += times
+        if sorted(subs) != list(range(load.subs())):
+            raise Differs(f"{load.subs()} subscribers came, and they aren't {sorted(subs)}")
+        self.homes, self.scripts = map(list, zip(*(subs[sub] for sub in sorted(subs))))
+        for number in range(load.callers):
+            calls, said = read_caller(load, number)
+            self.scripts.append(calls)
+            self.events.update(said["events"])
+            self.failed += said["failed"]
+            looks.append(said["look"])
+        self.look, self.put = statistics.median(looks), statistics.median(puts)
 
 
-Told = collections.namedtuple("Told", "visits calls again changes failed unknown median")
+Told = collections.namedtuple("Told", "visits calls again changes failed unknown look put")
 
 
 def compare(load):
     """Replays a load; raises Differs where the report isn't what was seen."""
-    homes, scripts, events, failed, median = read_all(load)
+    seen_by = Seen(load)
+    scripts, events = seen_by.scripts, seen_by.events
     order = ordered(load.description["store"], [[ticket for call in calls for ticket in call.tickets] for calls in scripts])
-    lines = network_lines(load.description["network"]) + [f"sub {home}" for home in homes] + [f"callers {load.callers}"]
+    lines = network_lines(load.description["network"]) + [f"sub {home}" for home in seen_by.homes] + [f"callers {load.callers}"]
     lines += [call.line for calls in scripts for call in calls] + in_lines(order)
     given = pathlib.Path(load.room, "record.txt")
     given.write_text("\n".join(lines) + "\n", encoding="ascii")
@@ -175,7 +181,7 @@ def compare(load):
         raise Differs(f"the replay (status {ran.returncode}) tells another report: {first_difference(report, seen)}")
     again = sum(count for name, count in events.items() if name.startswith("again"))
     changes = sum(one[0] != other[0] for one, other in itertools.pairwise(order))
-    return Told(len(order), sum(map(len, scripts)), again, changes, failed, events["unknown"], median)
+    return Told(len(order), sum(map(len, scripts)), again, changes, seen_by.failed, events["unknown"], seen_by.look, seen_by.put)
 
 
 def first_difference(report, seen):
