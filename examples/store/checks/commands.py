@@ -1,7 +1,10 @@
 """The commands of the README, as somebody types them."""
 import json
+import os
 import pathlib
+import re
 import subprocess
+import sys
 
 from checks.handsets import must
 
@@ -19,6 +22,16 @@ def call(*words):
     return ran.stdout.strip()
 
 
+def run_program(room):
+    """The program of the README, in the folder of its directory.json; what it prints."""
+    lines = re.search(r"^    import json, live\n(?:^    .*\n)+", (HERE / "README.md").read_text(encoding="utf-8"), flags=re.M)[0]
+    text = re.sub(r"^    ", "", lines, flags=re.M)
+    paths = {"PYTHONPATH": os.pathsep.join(map(str, (HERE, HERE.parent.parent / "bindings/python/src")))}
+    before = "from checks.replaying import stand_in\nstand_in()\n"
+    ran = subprocess.run([sys.executable, "-c", before + text], cwd=room, env=os.environ | paths, stdout=subprocess.PIPE, text=True, check=False)
+    return ran.stdout
+
+
 def check(servers, room):
     network = HERE.parent / "networks/nsfnet.txt"
     said = call("set-up", servers.word, network, *servers.addresses)
@@ -29,4 +42,6 @@ def check(servers, room):
     for words, wanted in CALLS:
         found = call(path, *words.split())
         must(found == wanted, f"{words} answers {found!r}, and not {wanted!r}")
-    return f"{len(CALLS)} commands answer what they should"
+    said = run_program(room)
+    must(said.count("Found(node=12, number=1") == 2 and "'found': 2" in said, f"the program of the README prints {said!r}")
+    return f"the program and {len(CALLS)} commands answer what they should"
