@@ -39,9 +39,9 @@ class Times:
 
 
 class Counts:
-    """`finds` and `steps` (moves and switches) are times of whole calls, `looks` and `puts` of single visits with all their tries.
-    `events` counts what befell them: answers by name (`found`, `off`, `again empty_mark`, `again no_entry`, `again chased`, `unknown`),
-    causes by name (`Unreachable`, ..) as often as a request met one."""
+    """`finds` and `steps` (moves and switches) are times of whole calls, `looks` and `puts` of single visits with all their
+    tries. `events` counts what befell them: answers by name (`found`, `off`, `again empty_mark`, `again no_entry`, `again
+    chased`, `unknown`), causes by name (`Unreachable`, ..) as often as a request met one."""
 
     def __init__(self) -> None:
         self.finds, self.steps, self.looks, self.puts = Times(), Times(), Times(), Times()

@@ -1,6 +1,7 @@
-"""Cells in etcd: one key a cell, over as many members as there are, by the gateway that speaks JSON. A look is a linearizable read, and a
-put one transaction: it compares the epoch and the handset's revision with what they were, and writes handset and cell. So a request whose
-answer was lost is made again without harm, and the revisions of the store are the order of all visits."""
+"""Cells in etcd: one key a cell, over as many members as there are, by the gateway that speaks JSON. A look is a linearizable
+read, and a put one transaction: it compares the epoch and the handset's revision with what they were, and writes handset and
+cell. So a request whose answer was lost is made again without harm, and the revisions of the store are the order of all
+visits."""
 from __future__ import annotations
 
 import base64
@@ -115,8 +116,8 @@ class EtcdStore:
         return (0 if value is None else read_word(value, cell)), (revision, 1)
 
     def put(self, put: track.Put, sub: int, state: State) -> Ticket:
-        """The handset's key is written once at the opening and once with each put: so before a put it was written as often as its step
-        says."""
+        """The handset's key is written once at the opening and once with each put: so before a put it was written as often as its
+        step says."""
         held, epoch, cell = self.key("handset", sub), self.key("epoch", sub), self.key("cell", put.cell)
         value = f"{state.step} {state.packed().hex()}"
         write = writes(cell, str(put.word)) if put.word else {"requestDeleteRange": {"key": encoded(cell)}}
@@ -157,8 +158,8 @@ class EtcdStore:
         return int(value)
 
     def raise_epoch(self, sub: int, epoch: int, holder: str) -> Held:
-        """Writes epoch and holder where a lower epoch stands; then no older process's put is made, and the state that is read is the
-        latest."""
+        """Writes epoch and holder where a lower epoch stands; then no older process's put is made, and the state that is read is
+        the latest."""
         keys = [self.key(part, sub) for part in ("epoch", "holder", "handset")]
         (value, revision), (held_by, _), (handset, made) = self.read_all(keys)
         if value is None or handset is None:

@@ -1,5 +1,6 @@
-"""The directory over a store: subscribers come, move, switch and leave, and are found, from any number of processes. What is written next,
-where a find looks next and what it answers is the library's; this module carries its visits to a store, one after another."""
+"""The directory over a store: subscribers come, move, switch and leave, and are found, from any number of processes. What is
+written next, where a find looks next and what it answers is the library's; this module carries its visits to a store, one after
+another."""
 from __future__ import annotations
 
 import secrets
@@ -46,7 +47,9 @@ class Directory:
     """A process's hold on a directory: one thread uses it at a time. A request that isn't answered is made again for `patience`
     seconds, with `pause` between; then the call raises Unreachable, and can be gone on with."""
 
-    def __init__(self, plan: track.Plan, store: Store, patience: float = 5.0, pause: float = 0.02, watcher: Watcher = Watcher()) -> None:
+    def __init__(
+        self, plan: track.Plan, store: Store, patience: float = 5.0, pause: float = 0.02, watcher: Watcher = Watcher()
+    ) -> None:
         self.plan, self.store, self.patience, self.pause, self.watcher = plan, store, patience, pause, watcher
         self.counts = Counts()
         self._open: set[int] = set()
@@ -89,8 +92,8 @@ class Directory:
         return Handset(self, mover, state, None)
 
     def take_over(self, sub: int) -> Handset:
-        """The handset of a subscriber whose process is gone, or has to go: it goes on from the last put that was made, and the other
-        one's next put raises Superseded. Every server is asked. Raises NoHandset, where no such subscriber is open; NoData,
+        """The handset of a subscriber whose process is gone, or has to go: it goes on from the last put that was made, and the
+        other one's next put raises Superseded. Every server is asked. Raises NoHandset, where no such subscriber is open; NoData,
         Unreachable; Superseded, where somebody else takes it over at the same time."""
         if not self.is_open(sub):
             raise NoHandset(f"there is no subscriber {sub}")
@@ -137,8 +140,8 @@ class Find:
         self._begun = time.monotonic()
 
     def run(self) -> Answer:
-        """Makes the looks that are left, and answers. After Unreachable, NoData or BadCell (a cell holds a word that nothing packs to) it can
-        be run again: it looks at the same cell again."""
+        """Makes the looks that are left, and answers. After Unreachable, NoData or BadCell (a cell holds a word that nothing
+        packs to) it can be run again: it looks at the same cell again."""
         directory, counts = self.directory, self.directory.counts
         if not directory.is_open(self.sub):
             counts.events["unknown"] += 1
@@ -166,8 +169,8 @@ class Find:
 
 
 class Handset:
-    """The one handset of a subscriber. A put is taken off the mover, and sent with the state after it until it is answered: so the latest
-    state that the store holds is that of the puts that were made, no more and no less."""
+    """The one handset of a subscriber. A put is taken off the mover, and sent with the state after it until it is answered: so
+    the latest state that the store holds is that of the puts that were made, no more and no less."""
 
     def __init__(self, directory: Directory, mover: track.Mover, state: State, ticket: Ticket) -> None:
         self.directory, self.latest, self.ticket = directory, state, ticket
@@ -185,13 +188,14 @@ class Handset:
 
     @property
     def calls(self) -> int:
-        """How many moves and switches were begun, the one under way with them: so a program that goes on after a crash knows which of
-        its calls are left, once `finish` has ended the last."""
+        """How many moves and switches were begun, the one under way with them: so a program that goes on after a crash knows
+        which of its calls are left, once `finish` has ended the last."""
         return self._calls
 
     def move(self, to: int) -> None:
-        """Moves to a node. Raises track.NoNode, SamePlace, IsOff, NumbersSpent: nothing is begun; Superseded, NoData: this handset is
-        at its end, or can't go on; Unreachable: the move is under way, and the next call, or `finish`, goes on with it."""
+        """Moves to a node. Raises track.NoNode, SamePlace, IsOff, NumbersSpent: nothing is begun; Superseded, NoData: this
+        handset is at its end, or can't go on; Unreachable: the move is under way, and the next call, or `finish`, goes on with
+        it."""
         self._step(lambda: self._mover.move(to))
 
     def switch(self, off: bool) -> None:

@@ -1,6 +1,6 @@
-"""Cells in Redis: a node's cells lie at one of several servers, the one of the node's number modulo how many there are. A look is one
-command, and so is a put: a script, which a server runs as a whole. A server knows its generation, drawn at set-up; without it, its
-data is gone."""
+"""Cells in Redis: a node's cells lie at one of several servers, the one of the node's number modulo how many there are. A look is
+one command, and so is a put: a script, which a server runs as a whole. A server knows its generation, drawn at set-up; without
+it, its data is gone."""
 from __future__ import annotations
 
 import secrets

@@ -1,5 +1,5 @@
-"""What every store of cells keeps to: the causes for which a request isn't made, what it writes of a handset, and which module a word
-names. The directory (live.py) knows this alone, and none of the modules."""
+"""What every store of cells keeps to: the causes for which a request isn't made, what it writes of a handset, and which module a
+word names. The directory (live.py) knows this alone, and none of the modules."""
 from __future__ import annotations
 
 import importlib
@@ -45,8 +45,8 @@ class Occupied(StoreError):
 
 
 class State(NamedTuple):
-    """What a store keeps of a handset, written with each put: the epoch counts who has held it, the step its puts, and the words are
-    what it goes on from."""
+    """What a store keeps of a handset, written with each put: the epoch counts who has held it, the step its puts, and the words
+    are what it goes on from."""
 
     epoch: int
     step: int
@@ -78,8 +78,8 @@ class Store(Protocol):
         """The word of a cell, 0 where nobody has written it. Raises NoData, BadCell."""
 
     def put(self, put: track.Put, sub: int, state: State) -> Ticket:
-        """Writes the cell and the state of the handset, both or none. Of a put that is made already: its ticket, and nothing changes.
-        Raises NoData, Superseded, Late."""
+        """Writes the cell and the state of the handset, both or none. Of a put that is made already: its ticket, and nothing
+        changes. Raises NoData, Superseded, Late."""
 
     def draw_number(self) -> int:
         """A subscriber's number that nobody else has or had. Raises NoData."""
@@ -108,8 +108,8 @@ def module(word: str) -> Any:
 
 
 def set_up(word: str, addresses: list[str], network: str, name: str = "track") -> dict:
-    """Sets a directory up over servers (HOST:PORT), and says what every process has to know of it: a description, to be kept as JSON.
-    Raises Unreachable, Occupied, track.BadNetwork."""
+    """Sets a directory up over servers (HOST:PORT), and says what every process has to know of it: a description, to be kept as
+    JSON. Raises Unreachable, Occupied, track.BadNetwork."""
     track.Plan.read(network).close()
     return {"store": word, "name": name, "servers": module(word).set_up(addresses, name), "network": network}
 

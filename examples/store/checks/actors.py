@@ -1,5 +1,5 @@
-"""The processes of a load: those that move subscribers, and those that look for them. Each writes what it did, and what it was told, to a
-file of its own, which outlives it."""
+"""The processes of a load: those that move subscribers, and those that look for them. Each writes what it did, and what it was
+told, to a file of its own, which outlives it."""
 import http.client
 import json
 import os
@@ -36,7 +36,8 @@ class Load:
         return live.Directory(self.plan, stores.connect(self.description, self.timeout, recording=True), patience, watcher=watcher)
 
     def life(self, number, life):
-        """Where the subscriber of a mover's life starts, and its calls: a node to move to, or 'off' or 'on'. It is on at the end."""
+        """Where the subscriber of a mover's life starts, and its calls: a node to move to, or 'off' or 'on'. It is on at the
+        end."""
         choose = random.Random(f"{self.seed} {number} {life}")
         at = home = choose.randrange(self.plan.nodes)
         calls = []
@@ -173,12 +174,12 @@ def told(answer):
 
 
 def play_caller(load, number):
-    """Makes finds; one whose look fails is told why at once, and goes on."""
+    """Makes finds until so many have an answer; one whose look fails is told why at once, and goes on."""
     choose, failed = random.Random(f"{load.seed} caller {number}"), 0
     notes = Notes(choose)
     directory = load.directory(0.0, notes)
     found = []
-    for _ in range(load.finds):
+    while len(found) < load.finds:
         start, sub = choose.randrange(load.plan.nodes), choose.randrange(load.subs())
         find, answer, end = live.Find(directory, start, sub), None, time.monotonic() + 120
         while answer is None:
@@ -194,4 +195,5 @@ def play_caller(load, number):
         else:
             found.append((start, sub, *told(answer), notes.take()))
     with open(load.path("caller", number), "w", encoding="ascii") as file:
-        json.dump({"finds": found, "events": directory.counts.events, "failed": failed, "look": directory.counts.looks.quantile(0.5)}, file)
+        counts = directory.counts
+        json.dump({"finds": found, "events": counts.events, "failed": failed, "look": counts.looks.quantile(0.5)}, file)

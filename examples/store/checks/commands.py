@@ -12,8 +12,8 @@ HERE = pathlib.Path(__file__).resolve().parent.parent
 # What is called, and what it answers.
 CALLS = [
     ("new 3", "sub 0"), ("find 8 0", "at 3"), ("move 0 5", "ok"), ("find 8 0", "at 5"), ("off 0", "ok"), ("find 8 0", "off 5"),
-    ("find 8 7", "unknown"), ("move 0 1", "refused IsOff"), ("on 0", "ok"), ("move 0 5", "refused SamePlace"), ("move 7 1", "refused NoHandset"),
-    ("new 99", "refused NoNode"), ("find 99 0", "refused NoNode"),
+    ("find 8 7", "unknown"), ("move 0 1", "refused IsOff"), ("on 0", "ok"), ("move 0 5", "refused SamePlace"),
+    ("move 7 1", "refused NoHandset"), ("new 99", "refused NoNode"), ("find 99 0", "refused NoNode"),
 ]
 
 
@@ -26,9 +26,9 @@ def run_program(room):
     """The program of the README, in the folder of its directory.json; what it prints."""
     lines = re.search(r"^    import json, live\n(?:^    .*\n)+", (HERE / "README.md").read_text(encoding="utf-8"), flags=re.M)[0]
     text = re.sub(r"^    ", "", lines, flags=re.M)
-    paths = {"PYTHONPATH": os.pathsep.join(map(str, (HERE, HERE.parent.parent / "bindings/python/src")))}
+    paths = os.environ | {"PYTHONPATH": os.pathsep.join(map(str, (HERE, HERE.parent.parent / "bindings/python/src")))}
     before = "from checks.replaying import stand_in\nstand_in()\n"
-    ran = subprocess.run([sys.executable, "-c", before + text], cwd=room, env=os.environ | paths, stdout=subprocess.PIPE, text=True, check=False)
+    ran = subprocess.run([sys.executable, "-c", before + text], cwd=room, env=paths, stdout=subprocess.PIPE, text=True, check=False)
     return ran.stdout
 
 

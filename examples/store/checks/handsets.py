@@ -1,4 +1,5 @@
-"""One handset a subscriber, and cells that somebody set by hand: requests that come late, twice, or from a process that has to stop."""
+"""One handset a subscriber, and cells that somebody set by hand: requests that come late, twice, or from a process that has to
+stop."""
 import live
 import stores
 import track
@@ -32,7 +33,8 @@ class Puts(live.Watcher):
 
 def directories(servers, plan, text, name, count=2):
     description = stores.set_up(servers.word, servers.addresses, text, name)
-    return description, [live.Directory(plan, stores.connect(description, recording=True), 2.0, watcher=Puts()) for _ in range(count)]
+    each = [stores.connect(description, recording=True) for _ in range(count)]
+    return [live.Directory(plan, store, 2.0, watcher=Puts()) for store in each]
 
 
 def raw(servers, key, value):
@@ -67,7 +69,8 @@ def check_repeats(first, handset):
         table.append((earlier[0], earlier[1], "Late"))
     for again, changed, wanted in table:
         found = raised(store.put, again, handset.sub, changed)
-        must(found == wanted, f"a put of {changed.epoch}, {changed.step} where {state.epoch}, {state.step} stands is {found}, not {wanted}")
+        stands = f"where {state.epoch}, {state.step} stands"
+        must(found == wanted, f"a put of {changed.epoch}, {changed.step} {stands} is {found}, not {wanted}")
         must(store.look(put.cell)[0] == word, "a put that was refused has changed its cell")
     return len(table) + 1
 
@@ -81,7 +84,7 @@ def check_openings(first, handset, node):
 
 
 def check(servers, text, plan):
-    _, (first, second) = directories(servers, plan, text, "h")
+    first, second = directories(servers, plan, text, "h")
     must(raised(first.take_over, 7) == "NoHandset", "a subscriber that never came is taken over")
     must(first.find(0, 0) == live.Unknown(0), "a subscriber that never came is found")
     handset = first.join(3)
@@ -115,7 +118,7 @@ def check(servers, text, plan):
 
 
 def check_cells(servers, text, plan):
-    description, (first, second) = directories(servers, plan, text, "e")
+    first, second = directories(servers, plan, text, "e")
     handset = first.join(3)
     cell = next(plan.opening(handset.sub, 3)).cell
     good = first.store.look(cell)[0]

@@ -12,8 +12,8 @@ FORK = multiprocessing.get_context("fork")
 
 
 class Crew:
-    """The processes of a load: (process, its function, its arguments). A mover that was killed is started again; now and then two of
-    them are, of which one has to lose. Once one has come to its end, its next subscriber comes."""
+    """The processes of a load: (process, its function, its arguments). A mover that was killed is started again; now and then two
+    of them are, of which one has to lose. Once one has come to its end, its next subscriber comes."""
 
     def __init__(self, load):
         self.load, self.running, self.kills, self.lost = load, {}, 0, 0
@@ -66,8 +66,8 @@ class Crew:
 
 
 class Faults:
-    """Makes faults while it is held open by `with`: kills one server after another and starts it again; and each third time holds one up
-    for longer than a request waits, so that requests that were given up, and made again elsewhere, arrive late."""
+    """Makes faults while it is held open by `with`: kills one server after another and starts it again; and each third time holds
+    one up for longer than a request waits, so that requests that were given up, and made again elsewhere, arrive late."""
 
     def __init__(self, servers, most, timeout):
         self.servers, self.most, self.timeout = servers, most, timeout

@@ -8,7 +8,7 @@ from checks.handsets import directories, must, raised
 
 
 def check_lost_data(servers, text, plan):
-    _, (first, second) = directories(servers, plan, text, "d")
+    first, second = directories(servers, plan, text, "d")
     lost = servers.all[1]
     at_lost = [node for node in range(plan.nodes) if node % len(servers.all) == 1]
     elsewhere = next(node for node in range(plan.nodes) if node % len(servers.all) != 1)
@@ -25,11 +25,12 @@ def check_lost_data(servers, text, plan):
     must(raised(handset.move, at_lost[0]) == "NoData", "a put goes to a server without its data")
     must(raised(second.take_over, handset.sub) == "NoData", "a handset is taken over though a server lost its data")
     must(second.find(elsewhere, handset.sub).node == elsewhere, "a find that needs no lost cell fails")
-    return f"a server without its data: looks from {len(at_lost)} nodes, a put and a restart are told so; what needs none of its cells goes on"
+    return (f"a server without its data: looks from {len(at_lost)} nodes, a put and a restart are told so; what needs none of its "
+            "cells goes on")
 
 
 def check_majority(servers, text, plan):
-    _, (first, second) = directories(servers, plan, text, "m")
+    first, second = directories(servers, plan, text, "m")
     handset = first.join(3)
     for it in servers.all[1:]:
         it.kill()

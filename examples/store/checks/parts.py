@@ -19,12 +19,12 @@ NETWORKS = ["nsfnet", "geant", "ring", "grid"]
 FEW = {"movers": 8, "callers": 8, "lives": 1}
 # Of each part and store: how many loads, and what they are like; first the short form.
 SIZES = {
-    ("a", "redis"): (dict(loads=1, steps=4, finds=40, **FEW), dict(loads=20, steps=9, finds=100)),
-    ("b", "redis"): (dict(loads=1, steps=3, finds=20, mortal=0.05, **FEW), dict(loads=5, steps=10, finds=60, mortal=0.03)),
-    ("c", "redis"): (dict(loads=1, steps=3, finds=20, faults=2, **FEW), dict(loads=3, steps=20, finds=120, faults=14)),
-    ("a", "etcd"): (dict(loads=1, steps=1, finds=5, **FEW), dict(loads=1, steps=20, finds=200)),
-    ("b", "etcd"): (dict(loads=1, steps=1, finds=5, mortal=0.1, **FEW), dict(loads=1, steps=10, finds=100, mortal=0.03)),
-    ("c", "etcd"): (dict(loads=1, steps=1, finds=8, faults=2, **FEW), dict(loads=8, steps=30, finds=350, faults=20, mortal=0.003)),
+    ("a", "redis"): (dict(loads=1, steps=4, finds=30, **FEW), dict(loads=20, steps=9, finds=100)),
+    ("b", "redis"): (dict(loads=1, steps=3, finds=12, mortal=0.05, **FEW), dict(loads=5, steps=10, finds=60, mortal=0.03)),
+    ("c", "redis"): (dict(loads=1, steps=3, finds=12, faults=2, **FEW), dict(loads=3, steps=20, finds=120, faults=14)),
+    ("a", "etcd"): (dict(loads=1, steps=1, finds=3, **FEW), dict(loads=1, steps=20, finds=200)),
+    ("b", "etcd"): (dict(loads=1, steps=1, finds=3, mortal=0.1, **FEW), dict(loads=1, steps=10, finds=100, mortal=0.03)),
+    ("c", "etcd"): (dict(loads=1, steps=1, finds=6, faults=2, **FEW), dict(loads=8, steps=30, finds=350, faults=20, mortal=0.003)),
 }
 
 
@@ -70,8 +70,8 @@ def play_loads(servers, room, plans, part, sizes):
                         (sum(it.failed for it in told), "looks failed and made again")):
         said += f", {many} {words}" if many else ""
     look, put = (1000 * statistics.median(times) for times in zip(*((it.look, it.put) for it in told)))
-    print(f"store: {servers.word} ({part}): {said}, {time.monotonic() - begun:.0f} seconds, a look {look:.1f} ms and a put {put:.1f} ms in "
-          "the median: each replay is what was seen", flush=True)
+    said += f", {time.monotonic() - begun:.0f} seconds, a look {look:.1f} ms and a put {put:.1f} ms in the median"
+    print(f"store: {servers.word} ({part}): {said}: each replay is what was seen", flush=True)
 
 
 def play_part(servers, room, plans, letter, is_short):

@@ -1,4 +1,5 @@
-"""Puts what the processes of a load saw into one order of visits, and holds it to `track replay`: the report has to be what they saw."""
+"""Puts what the processes of a load saw into one order of visits, and holds it to `track replay`: the report has to be what they
+saw."""
 import collections
 import itertools
 import json
@@ -7,11 +8,24 @@ import pathlib
 import re
 import statistics
 import subprocess
+import typing
 
 TOP = pathlib.Path(__file__).resolve().parents[3]
 PROGRAM = os.environ.get("TRACK", str(TOP / "track"))
 
-Call = collections.namedtuple("Call", "line seen tickets")  # a line of the input; that of the report, of the places of its tickets
+
+class Call(typing.NamedTuple):
+    """A call as a line of an input, and as what its process saw: the line of the report up to its tickets, which of its visits this
+    names, and the tickets that the store gave them."""
+
+    line: str
+    seen: str
+    named: dict
+    tickets: list
+
+    def seen_at(self, places):
+        """The line of the report, where the call's visits came at these places of the order."""
+        return " ".join([self.seen, *(f"{word} {places[visit]}" for word, visit in self.named.items())])
 
 
 class Differs(Exception):
@@ -20,19 +34,19 @@ class Differs(Exception):
 
 def steps_of(sub, home, calls, puts):
     """A subscriber's calls, from its puts by step: (call, number, node, ticket)."""
-    done = []
-    number, node = 0, home
+    done, number, node = [], 0, home
     for call, some in itertools.groupby(puts, key=lambda put: put[0]):
         some = list(some)
-        tickets = [put[3] for put in some]
-        word = calls[call - 1]
+        tickets, word = [put[3] for put in some], calls[call - 1]
         if isinstance(word, int):
-            commit = next(place for place, put in enumerate(some) if put[1] != number)
+            commit = next((visit for visit, put in enumerate(some) if put[1] != number), None)
+            if commit is None:
+                raise Differs(f"move {call} of {sub} has no commit")
             start, number, node = node, some[-1][1], some[-1][2]
-            done.append(Call(f"move {sub} {word}", lambda at, line=f"move {sub} {number} {start} {node} weight - first", commit=commit:
-                             f"{line} {at[0]} commit {at[commit]} last {at[-1]}", tickets))
+            seen, named = f"move {sub} {number} {start} {node} weight -", {"first": 0, "commit": commit, "last": -1}
+            done.append(Call(f"move {sub} {word}", seen, named, tickets))
         else:
-            done.append(Call(f"{word} {sub}", lambda at, line=f"switch {sub} {word} {node} number {number} ticket": f"{line} {at[0]}", tickets))
+            done.append(Call(f"{word} {sub}", f"switch {sub} {word} {node} number {number}", {"ticket": 0}, tickets))
     return done
 
 
@@ -67,8 +81,8 @@ def read_caller(load, number):
     actor = load.subs() + number
     with open(load.path("caller", number), encoding="ascii") as file:
         said = json.load(file)
-    calls = [Call(f"find {actor} {start} {sub}", lambda at, line=f"{word} {actor} {start} {sub} {answer}": f"{line} first {at[0]} last {at[-1]}",
-                  [tuple(ticket) for ticket in tickets]) for start, sub, word, answer, tickets in said["finds"]]
+    calls = [Call(f"find {actor} {start} {sub}", f"{word} {actor} {start} {sub} {answer}", {"first": 0, "last": -1},
+                  list(map(tuple, tickets))) for start, sub, word, answer, tickets in said["finds"]]
     return calls, said
 
 
@@ -133,7 +147,7 @@ def seen_lines(scripts, order):
     lines = []
     for actor, calls in enumerate(scripts):
         at = iter(places[actor])
-        lines += [call.seen(list(itertools.islice(at, len(call.tickets)))) for call in calls]
+        lines += [call.seen_at(list(itertools.islice(at, len(call.tickets)))) for call in calls]
     return lines
 
 

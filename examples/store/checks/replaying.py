@@ -1,5 +1,5 @@
-"""A stand-in for `save` and `load` of a mover until the library has them: a state is the steps that the mover began, and how many puts of the
-last one are made. It serves the check alone."""
+"""A stand-in for `save` and `load` of a mover until the library has them: a state is the steps that the mover began, and how many
+puts of the last one are made. It serves the check alone."""
 import track
 
 
