@@ -19,12 +19,12 @@ WHY = {track.Why.NO_ENTRY: "none", track.Why.CHASED: "chased"}
 
 class Load:
     """What a load is: `movers` processes move `lives` subscribers each, one after another, with `steps` calls each; `callers` make
-    `finds` each. At a share `mortal` of all puts the process is killed."""
+    `finds` each. At a share `mortal` of all puts the process is killed. A `plant` spoils the store (plants.py)."""
 
-    def __init__(self, description, plan, room, seed, movers=12, callers=8, lives=2, steps=20, finds=200, mortal=0.0, timeout=1.0):
+    def __init__(self, description, plan, room, seed, movers=12, callers=8, lives=2, steps=20, finds=200, mortal=0.0, timeout=1.0, plant=None):
         self.description, self.plan, self.room, self.seed = description, plan, room, seed
         self.movers, self.callers, self.lives, self.steps, self.finds = movers, callers, lives, steps, finds
-        self.mortal, self.timeout = mortal, timeout
+        self.mortal, self.timeout, self.plant = mortal, timeout, plant
 
     def subs(self):
         return self.movers * self.lives
@@ -33,7 +33,8 @@ class Load:
         return os.path.join(self.room, f"{role}{number}")
 
     def directory(self, patience, watcher):
-        return live.Directory(self.plan, stores.connect(self.description, self.timeout, recording=True), patience, watcher=watcher)
+        store = stores.connect(self.description, self.timeout, recording=True)
+        return live.Directory(self.plan, self.plant(store) if self.plant else store, patience, watcher=watcher)
 
     def life(self, number, life):
         """Where the subscriber of a mover's life starts, and its calls: a node to move to, or 'off' or 'on'. It is on at the

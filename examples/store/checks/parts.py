@@ -11,6 +11,7 @@ import stores
 from checks import commands, handsets, outages, records
 from checks.loads import Crew, Faults
 from checks.actors import Load
+from checks.plants import PLANTS
 from checks.replaying import stand_in
 from checks.servers import Servers
 
@@ -74,12 +75,25 @@ def play_loads(servers, room, plans, part, sizes):
     print(f"store: {servers.word} ({part}): {said}: each replay is what was seen", flush=True)
 
 
+def check_plants(servers, room, plans):
+    """Each planted fault has to be found."""
+    for plant in PLANTS:
+        try:
+            play_load(servers, plans, room, plant.__name__, 0, dict(steps=4, finds=25, plant=plant, **FEW))
+        except records.Differs:
+            continue
+        raise records.Differs(f"a store that is {plant.__name__.lower()} passes")
+    return f"{len(PLANTS)} faults that were planted into the store are found"
+
+
 def play_part(servers, room, plans, letter, is_short):
     others = {"h": handsets.check, "e": handsets.check_cells, "d": outages.check_lost_data, "m": outages.check_majority}
     folder = os.path.join(room, letter)
     os.mkdir(folder)
     try:
-        if letter == "r":
+        if letter == "p":
+            print(f"store: {servers.word} ({letter}): {check_plants(servers, folder, plans)}", flush=True)
+        elif letter == "r":
             print(f"store: {servers.word} ({letter}): {commands.check(servers, folder)}", flush=True)
         elif letter in others:
             print(f"store: {servers.word} ({letter}): {others[letter](servers, *plans['nsfnet'])}", flush=True)
@@ -93,7 +107,7 @@ def run(word, room, is_short, wanted):
     """Runs the parts over a store; exits where one fails. Redis servers that are killed have a journal, and are others."""
     stand_in()
     plans = Networks()
-    letters = wanted or (["r", "h", "a", "b", "e", "d", "c"] if word == "redis" else ["r", "h", "a", "b", "e", "m", "c"])
+    letters = wanted or (["r", "h", "p", "a", "b", "e", "d", "c"] if word == "redis" else ["r", "h", "a", "b", "e", "m", "c"])
     for has_journal in (False, True):
         some = [letter for letter in letters if (word == "redis" and letter == "c") == has_journal]
         if some:
