@@ -25,7 +25,7 @@ SIZES = {
     ("c", "redis"): (dict(loads=1, steps=3, finds=12, faults=2, **FEW), dict(loads=3, steps=20, finds=120, faults=14)),
     ("a", "etcd"): (dict(loads=1, steps=1, finds=3, **FEW), dict(loads=1, steps=20, finds=200)),
     ("b", "etcd"): (dict(loads=1, steps=1, finds=3, mortal=0.1, **FEW), dict(loads=1, steps=10, finds=100, mortal=0.03)),
-    ("c", "etcd"): (dict(loads=1, steps=1, finds=6, faults=2, **FEW), dict(loads=8, steps=30, finds=350, faults=20, mortal=0.003)),
+    ("c", "etcd"): (dict(loads=1, steps=1, finds=6, faults=2, **FEW), dict(loads=8, steps=25, finds=300, faults=26, mortal=0.003)),
 }
 
 

@@ -32,12 +32,20 @@ class Differs(Exception):
     """What was seen isn't what the replay tells."""
 
 
-def steps_of(sub, home, calls, puts):
-    """A subscriber's calls, from its puts by step: (call, number, node, ticket)."""
-    done, number, node = [], 0, home
-    for call, some in itertools.groupby(puts, key=lambda put: put[0]):
+class Life(typing.NamedTuple):
+    """What a subscriber was to do from its home, and its puts in their order: (call, number, node, ticket)."""
+
+    home: int
+    calls: list
+    puts: list
+
+
+def steps_of(sub, life):
+    """A subscriber's calls, from its puts."""
+    done, number, node = [], 0, life.home
+    for call, some in itertools.groupby(life.puts, key=lambda put: put[0]):
         some = list(some)
-        tickets, word = [put[3] for put in some], calls[call - 1]
+        tickets, word = [put[3] for put in some], life.calls[call - 1]
         if isinstance(word, int):
             commit = next((visit for visit, put in enumerate(some) if put[1] != number), None)
             if commit is None:
@@ -47,11 +55,13 @@ def steps_of(sub, home, calls, puts):
             done.append(Call(f"move {sub} {word}", seen, named, tickets))
         else:
             done.append(Call(f"{word} {sub}", f"switch {sub} {word} {node} number {number}", {"ticket": 0}, tickets))
+    if len(done) != len(life.calls):
+        raise Differs(f"of {len(life.calls)} calls of {sub} {len(done)} were made")
     return done
 
 
 def read_mover(load, number):
-    """The subscribers of a mover's file, with their homes and calls."""
+    """The lives of a mover's file by the numbers of their subscribers, and what it counted."""
     puts, joined, events, times = collections.defaultdict(dict), {}, collections.Counter(), []
     with open(load.path("mover", number), encoding="ascii") as file:
         for word, *fields in map(json.loads, file):
@@ -64,25 +74,26 @@ def read_mover(load, number):
                 sub, step, call, count, node, *ticket = fields
                 if puts[sub].setdefault(step, (call, count, node, tuple(ticket))) != (call, count, node, tuple(ticket)):
                     raise Differs(f"put {step} of {sub} was made twice, with {puts[sub][step]} and {fields}")
-    subs = {}
+    lives = {}
     for sub, (life, home) in joined.items():
         made = puts[sub]
         if sorted(made) != list(range(1, len(made) + 1)):
             raise Differs(f"puts of {sub} are missing: {sorted(set(range(1, len(made) + 1)) - set(made))}")
-        calls = load.life(number, life)[1] + ["off"]
-        steps = steps_of(sub, home, calls, [made[step] for step in sorted(made)])
-        if len(steps) != len(calls):
-            raise Differs(f"of {len(calls)} calls of {sub} {len(steps)} were made")
-        subs[sub] = (home, steps)
-    return subs, events, times
+        lives[sub] = Life(home, load.life(number, life)[1] + ["off"], [made[step] for step in sorted(made)])
+    return lives, events, times
 
 
-def read_caller(load, number):
+def read_caller(load, number, place_of):
+    """A caller's finds, and what else it tells. A subscriber's place is that of its number among all that came: a number whose drawing
+    was cut off is nobody's."""
     actor = load.subs() + number
     with open(load.path("caller", number), encoding="ascii") as file:
         said = json.load(file)
-    calls = [Call(f"find {actor} {start} {sub}", f"{word} {actor} {start} {sub} {answer}", {"first": 0, "last": -1},
-                  list(map(tuple, tickets))) for start, sub, word, answer, tickets in said["finds"]]
+    calls = []
+    for start, number, word, answer, tickets in said["finds"]:
+        sub = place_of[number]
+        seen = f"{word} {actor} {start} {sub} {answer}"
+        calls.append(Call(f"find {actor} {start} {sub}", seen, {"first": 0, "last": -1}, list(map(tuple, tickets))))
     return calls, said
 
 
@@ -156,17 +167,19 @@ class Seen:
 
     def __init__(self, load):
         self.events, self.failed = collections.Counter(), 0
-        looks, puts, subs = [], [], {}
+        looks, puts, lives = [], [], {}
         for number in range(load.movers):
             some, events, times = read_mover(load, number)
-            subs.update(some)
+            lives.update(some)
             self.events.update(events)
             puts += times
-        if sorted(subs) != list(range(load.subs())):
-            raise Differs(f"{load.subs()} subscribers came, and they aren't {sorted(subs)}")
-        self.homes, self.scripts = map(list, zip(*(subs[sub] for sub in sorted(subs))))
+        if len(lives) != load.subs():
+            raise Differs(f"{load.subs()} subscribers were to come, and {len(lives)} came")
+        place_of = {sub: place for place, sub in enumerate(sorted(lives))}
+        self.homes = [lives[sub].home for sub in place_of]
+        self.scripts = [steps_of(place, lives[sub]) for sub, place in place_of.items()]
         for number in range(load.callers):
-            calls, said = read_caller(load, number)
+            calls, said = read_caller(load, number, place_of)
             self.scripts.append(calls)
             self.events.update(said["events"])
             self.failed += said["failed"]
