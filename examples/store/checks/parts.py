@@ -22,7 +22,7 @@ FEW = {"movers": 8, "callers": 8, "lives": 1}
 SIZES = {
     ("a", "redis"): (dict(loads=1, steps=4, finds=30, **FEW), dict(loads=20, steps=9, finds=100)),
     ("b", "redis"): (dict(loads=1, steps=3, finds=12, mortal=0.05, **FEW), dict(loads=5, steps=10, finds=60, mortal=0.03)),
-    ("c", "redis"): (dict(loads=1, steps=3, finds=12, faults=2, **FEW), dict(loads=3, steps=20, finds=120, faults=14)),
+    ("c", "redis"): (dict(loads=1, steps=3, finds=12, faults=2, **FEW), dict(loads=4, steps=20, finds=120, faults=14, mortal=0.01)),
     ("a", "etcd"): (dict(loads=1, steps=1, finds=3, **FEW), dict(loads=1, steps=20, finds=200)),
     ("b", "etcd"): (dict(loads=1, steps=1, finds=3, mortal=0.1, **FEW), dict(loads=1, steps=10, finds=100, mortal=0.03)),
     ("c", "etcd"): (dict(loads=1, steps=1, finds=6, faults=2, **FEW), dict(loads=8, steps=25, finds=300, faults=26, mortal=0.003)),

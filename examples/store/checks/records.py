@@ -84,8 +84,8 @@ def read_mover(load, number):
 
 
 def read_caller(load, number, place_of):
-    """A caller's finds, and what else it tells. A subscriber's place is that of its number among all that came: a number whose drawing
-    was cut off is nobody's."""
+    """A caller's finds, and what else it tells. A subscriber's place is that of its number among all that came: a number whose
+    drawing was cut off is nobody's."""
     actor = load.subs() + number
     with open(load.path("caller", number), encoding="ascii") as file:
         said = json.load(file)
