@@ -1,11 +1,13 @@
 """The processes of a load: those that move subscribers, and those that look for them. Each writes what it did, and what it was
 told, to a file of its own, which outlives it."""
+import dataclasses
 import http.client
 import json
 import os
 import random
 import signal
 import time
+import typing
 
 import redis
 import track
@@ -17,14 +19,23 @@ LOST = 3  # the status of a process that had to stop, since a later one has its 
 WHY = {track.Why.NO_ENTRY: "none", track.Why.CHASED: "chased"}
 
 
+@dataclasses.dataclass
 class Load:
     """What a load is: `movers` processes move `lives` subscribers each, one after another, with `steps` calls each; `callers` make
     `finds` each. At a share `mortal` of all puts the process is killed. A `plant` spoils the store (plants.py)."""
 
-    def __init__(self, description, plan, room, seed, movers=12, callers=8, lives=2, steps=20, finds=200, mortal=0.0, timeout=1.0, plant=None):
-        self.description, self.plan, self.room, self.seed = description, plan, room, seed
-        self.movers, self.callers, self.lives, self.steps, self.finds = movers, callers, lives, steps, finds
-        self.mortal, self.timeout, self.plant = mortal, timeout, plant
+    description: dict
+    plan: track.Plan
+    room: str
+    seed: str
+    movers: int = 12
+    callers: int = 8
+    lives: int = 2
+    steps: int = 20
+    finds: int = 200
+    mortal: float = 0.0
+    timeout: float = 1.0
+    plant: typing.Optional[type] = None
 
     def subs(self):
         return self.movers * self.lives
