@@ -8,7 +8,7 @@ import time
 import track
 
 import stores
-from checks import commands, handsets, outages, records
+from checks import commands, handsets, outages, records, rust
 from checks.loads import Crew, Faults
 from checks.actors import Load
 from checks.plants import PLANTS
@@ -86,17 +86,25 @@ def check_plants(servers, room, plans):
     return f"{len(PLANTS)} faults that were planted into the store are found"
 
 
+# The parts that aren't loads: what they tell, given the servers, a folder, the networks, and whether the form is the short one.
+OTHERS = {
+    "h": lambda servers, room, plans, is_short: handsets.check(servers, *plans["nsfnet"]),
+    "e": lambda servers, room, plans, is_short: handsets.check_cells(servers, *plans["nsfnet"]),
+    "d": lambda servers, room, plans, is_short: outages.check_lost_data(servers, *plans["nsfnet"]),
+    "m": lambda servers, room, plans, is_short: outages.check_majority(servers, *plans["nsfnet"]),
+    "p": lambda servers, room, plans, is_short: check_plants(servers, room, plans),
+    "r": lambda servers, room, plans, is_short: commands.check(servers, room),
+    "x": lambda servers, room, plans, is_short: rust.check(servers, *plans["nsfnet"], 200 if is_short else 5000),
+}
+ALL = {"redis": "rhxpabedc", "etcd": "rhabemc"}
+
+
 def play_part(servers, room, plans, letter, is_short):
-    others = {"h": handsets.check, "e": handsets.check_cells, "d": outages.check_lost_data, "m": outages.check_majority}
     folder = os.path.join(room, letter)
     os.mkdir(folder)
     try:
-        if letter == "p":
-            print(f"store: {servers.word} ({letter}): {check_plants(servers, folder, plans)}", flush=True)
-        elif letter == "r":
-            print(f"store: {servers.word} ({letter}): {commands.check(servers, folder)}", flush=True)
-        elif letter in others:
-            print(f"store: {servers.word} ({letter}): {others[letter](servers, *plans['nsfnet'])}", flush=True)
+        if letter in OTHERS:
+            print(f"store: {servers.word} ({letter}): {OTHERS[letter](servers, folder, plans, is_short)}", flush=True)
         else:
             play_loads(servers, folder, plans, letter, SIZES[letter, servers.word][not is_short])
     except records.Differs as differs:
@@ -107,7 +115,7 @@ def run(word, room, is_short, wanted):
     """Runs the parts over a store; exits where one fails. Redis servers that are killed have a journal, and are others."""
     stand_in()
     plans = Networks()
-    letters = wanted or (["r", "h", "p", "a", "b", "e", "d", "c"] if word == "redis" else ["r", "h", "a", "b", "e", "m", "c"])
+    letters = [letter for letter in ALL[word] if not wanted or letter in wanted]
     for has_journal in (False, True):
         some = [letter for letter in letters if (word == "redis" and letter == "c") == has_journal]
         if some:
