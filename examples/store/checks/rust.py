@@ -51,5 +51,5 @@ def check(servers, text, plan, finds):
     moves.join()
     must(told["on"] + told["off"] == THREADS * finds, f"{THREADS * finds} finds were made in Rust, and {told} answered")
     rate = THREADS * finds / (told["micros"] / 1e6)
-    return (f"in Rust {THREADS * finds} finds of {THREADS} threads during {moves.made} moves: {rate:,.0f} a second, {told['median'] / 1000:.2f} ms in "
-            f"the median, {told['again']} to make again")
+    return (f"in Rust {THREADS * finds} finds of {THREADS} threads during {moves.made} moves: {rate:,.0f} a second, "
+            f"{told['median'] / 1000:.2f} ms in the median, {told['again']} to make again")
