@@ -106,7 +106,7 @@ class Drawing:
         self.began = [self.chance.below(network.nodes) for _ in range(wishes.subs)]
         self.away = [self.chance.below(network.nodes) for _ in range(wishes.subs)]
         self.at = list(self.began)
-        self.wandered = [[self.next_node(sub) for _ in range(WANDERED * network.nodes)] for sub in range(wishes.subs)]
+        self.wandered = [self.wander(sub) for sub in range(wishes.subs)]
         self.popular = zipf_sums(wishes.subs, wishes.zipf)
         self.begins: dict[int, list[int]] = {}
 
@@ -118,6 +118,11 @@ class Drawing:
         for due, is_find in sorted(drawn):
             part.calls.append(self.ask(due) if is_find else self.move(due))
         return part
+
+    def wander(self, sub: int) -> list[int]:
+        """Where the subscriber goes before the first input. One move more or less lets it come to all nodes of a grid, where even
+        and odd numbers of moves end at nodes of their own."""
+        return [self.next_node(sub) for _ in range(WANDERED * self.network.nodes + self.chance.below(2))]
 
     def warm_up(self, part: Part) -> None:
         """Moves until each subscriber has gone as far as the network is wide, so that the addresses have all ages."""
