@@ -20,9 +20,9 @@ NETWORKS = ["nsfnet", "geant", "ring", "grid"]
 FEW = {"movers": 8, "callers": 8, "lives": 1}
 # Of each part and store: how many loads, and what they are like; first the short form.
 SIZES = {
-    ("a", "redis"): (dict(loads=1, steps=4, finds=30, **FEW), dict(loads=20, steps=9, finds=100)),
-    ("b", "redis"): (dict(loads=1, steps=3, finds=12, mortal=0.05, **FEW), dict(loads=5, steps=10, finds=60, mortal=0.03)),
-    ("c", "redis"): (dict(loads=1, steps=3, finds=12, faults=2, **FEW), dict(loads=4, steps=20, finds=120, faults=14, mortal=0.01)),
+    ("a", "redis"): (dict(loads=1, steps=4, finds=20, **FEW), dict(loads=20, steps=9, finds=100)),
+    ("b", "redis"): (dict(loads=1, steps=3, finds=8, mortal=0.05, **FEW), dict(loads=5, steps=10, finds=60, mortal=0.03)),
+    ("c", "redis"): (dict(loads=1, steps=3, finds=8, faults=2, **FEW), dict(loads=4, steps=20, finds=120, faults=14, mortal=0.01)),
     ("a", "etcd"): (dict(loads=1, steps=1, finds=3, **FEW), dict(loads=1, steps=20, finds=200)),
     ("b", "etcd"): (dict(loads=1, steps=1, finds=3, mortal=0.1, **FEW), dict(loads=1, steps=10, finds=100, mortal=0.03)),
     ("c", "etcd"): (dict(loads=1, steps=1, finds=6, faults=2, **FEW), dict(loads=8, steps=25, finds=300, faults=26, mortal=0.003)),
@@ -97,6 +97,8 @@ OTHERS = {
     "x": lambda servers, room, plans, is_short: rust.check(servers, *plans["nsfnet"], 200 if is_short else 5000),
 }
 ALL = {"redis": "rhxpabedc", "etcd": "rhabemc"}
+# The commands are the same over each store; the short form tries them over one.
+SHORT = {"redis": "rhxpabedc", "etcd": "habemc"}
 
 
 def play_part(servers, room, plans, letter, is_short):
@@ -115,7 +117,7 @@ def run(word, room, is_short, wanted):
     """Runs the parts over a store; exits where one fails. Redis servers that are killed have a journal, and are others."""
     stand_in()
     plans = Networks()
-    letters = [letter for letter in ALL[word] if not wanted or letter in wanted]
+    letters = [letter for letter in ALL[word] if letter in (wanted or (SHORT if is_short else ALL)[word])]
     for has_journal in (False, True):
         some = [letter for letter in letters if (word == "redis" and letter == "c") == has_journal]
         if some:
