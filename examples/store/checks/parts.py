@@ -8,7 +8,7 @@ import time
 import track
 
 import stores
-from checks import commands, handsets, outages, records, rust
+from checks import commands, handsets, outages, records, rust, schedules
 from checks.loads import Crew, Faults
 from checks.actors import Load
 from checks.plants import PLANTS
@@ -94,11 +94,13 @@ OTHERS = {
     "m": lambda servers, room, plans, is_short: outages.check_majority(servers, *plans["nsfnet"]),
     "p": lambda servers, room, plans, is_short: check_plants(servers, room, plans),
     "r": lambda servers, room, plans, is_short: commands.check(servers, room),
+    "s": lambda servers, room, plans, is_short: schedules.check(servers, *plans["nsfnet"], SCHEDULES[servers.word][not is_short]),
     "x": lambda servers, room, plans, is_short: rust.check(servers, *plans["nsfnet"], 200 if is_short else 5000),
 }
-ALL = {"redis": "rhxpabedc", "etcd": "rhabemc"}
+SCHEDULES = {"redis": (15, 1000), "etcd": (3, 100)}
+ALL = {"redis": "rhsxpabedc", "etcd": "rhsabemc"}
 # The commands are the same over each store; the short form tries them over one.
-SHORT = {"redis": "rhxpabedc", "etcd": "habemc"}
+SHORT = {"redis": "rhsxpabedc", "etcd": "hsabemc"}
 
 
 def play_part(servers, room, plans, letter, is_short):
