@@ -114,6 +114,10 @@ def check(servers, text, plan):
     answer = first.find(4, third.sub)
     must(answer.off and answer.node == 1, "who has left isn't off where it was")
     must(second.join(2).sub == third.sub + 1, "a number is used again")
+    if servers.word == "redis":
+        many = [second.join(node % plan.nodes) for node in range(70)]
+        many[-1].move(12)
+        must(first.find(0, many[-1].sub).node == 12 and many[-1].sub == third.sub + 71, "of many subscribers the last isn't found")
     return f"one handset: {tried} puts made again or late, 3 handsets taken over, two restarts at once: one wins"
 
 

@@ -8,7 +8,7 @@ import time
 import track
 
 import stores
-from checks import commands, handsets, outages, records, rust
+from checks import commands, handsets, outages, records, rust, schedules
 from checks.loads import Crew, Faults
 from checks.actors import Load
 from checks.plants import PLANTS
@@ -20,9 +20,9 @@ NETWORKS = ["nsfnet", "geant", "ring", "grid"]
 FEW = {"movers": 8, "callers": 8, "lives": 1}
 # Of each part and store: how many loads, and what they are like; first the short form.
 SIZES = {
-    ("a", "redis"): (dict(loads=1, steps=4, finds=30, **FEW), dict(loads=20, steps=9, finds=100)),
-    ("b", "redis"): (dict(loads=1, steps=3, finds=12, mortal=0.05, **FEW), dict(loads=5, steps=10, finds=60, mortal=0.03)),
-    ("c", "redis"): (dict(loads=1, steps=3, finds=12, faults=2, **FEW), dict(loads=4, steps=20, finds=120, faults=14, mortal=0.01)),
+    ("a", "redis"): (dict(loads=1, steps=4, finds=20, **FEW), dict(loads=20, steps=9, finds=100)),
+    ("b", "redis"): (dict(loads=1, steps=3, finds=8, mortal=0.05, **FEW), dict(loads=5, steps=10, finds=60, mortal=0.03)),
+    ("c", "redis"): (dict(loads=1, steps=3, finds=8, faults=2, **FEW), dict(loads=4, steps=20, finds=120, faults=14, mortal=0.01)),
     ("a", "etcd"): (dict(loads=1, steps=1, finds=3, **FEW), dict(loads=1, steps=20, finds=200)),
     ("b", "etcd"): (dict(loads=1, steps=1, finds=3, mortal=0.1, **FEW), dict(loads=1, steps=10, finds=100, mortal=0.03)),
     ("c", "etcd"): (dict(loads=1, steps=1, finds=6, faults=2, **FEW), dict(loads=8, steps=25, finds=300, faults=26, mortal=0.003)),
@@ -94,9 +94,13 @@ OTHERS = {
     "m": lambda servers, room, plans, is_short: outages.check_majority(servers, *plans["nsfnet"]),
     "p": lambda servers, room, plans, is_short: check_plants(servers, room, plans),
     "r": lambda servers, room, plans, is_short: commands.check(servers, room),
+    "s": lambda servers, room, plans, is_short: schedules.check(servers, *plans["nsfnet"], SCHEDULES[servers.word][not is_short]),
     "x": lambda servers, room, plans, is_short: rust.check(servers, *plans["nsfnet"], 200 if is_short else 5000),
 }
-ALL = {"redis": "rhxpabedc", "etcd": "rhabemc"}
+SCHEDULES = {"redis": (15, 1000), "etcd": (3, 100)}
+ALL = {"redis": "rhsxpabedc", "etcd": "rhsabemc"}
+# The commands are the same over each store; the short form tries them over one.
+SHORT = {"redis": "rhsxpabedc", "etcd": "hsabemc"}
 
 
 def play_part(servers, room, plans, letter, is_short):
@@ -115,7 +119,7 @@ def run(word, room, is_short, wanted):
     """Runs the parts over a store; exits where one fails. Redis servers that are killed have a journal, and are others."""
     stand_in()
     plans = Networks()
-    letters = [letter for letter in ALL[word] if not wanted or letter in wanted]
+    letters = [letter for letter in ALL[word] if letter in (wanted or (SHORT if is_short else ALL)[word])]
     for has_journal in (False, True):
         some = [letter for letter in letters if (word == "redis" and letter == "c") == has_journal]
         if some:
