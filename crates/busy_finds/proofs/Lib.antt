@@ -13,3 +13,4 @@ mod Price
 mod Gathered
 mod Bounded
 mod Altogether
+mod Levels

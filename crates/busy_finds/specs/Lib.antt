@@ -2,4 +2,5 @@ pub mod Within
 pub mod Prices
 pub mod Plans
 pub mod Altogether
+pub mod Levels
 pub mod Examples
