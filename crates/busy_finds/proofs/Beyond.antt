@@ -1,7 +1,6 @@
 -- What a find pays beyond its reading, from the address that it met.
 use Rattle.std.proofs.Common.{◌≡◌, inl, inr, ℕ, zero, suc, ◌+◌, ◌-◌, ◌*◌, ◌<◌, ◌≤◌, ◌^◌, Bool, true, false, cond, ◌||◌, List, [], ◌∷◌, ◌++◌, Option, Some, None, length, take, refl, sym, ap, ◌∙◌, subst, arith, length-append}
 use Rattle.std.specs.List.{last_or, list_any}
-use Rattle.std.proofs.Math.Nat.{mul-le-mul_left, mul_left_comm}
 use Rattle.std.proofs.lemmas.Bool.{cases_lt}
 use Rattle.std.proofs.lemmas.List.{append-nil, take-append-le}
 use Rattle.std.proofs.lemmas.List.Folds.{list_any-append}
@@ -20,8 +19,8 @@ use Rattle.trail_laws.specs.Phases.{moves_begun}
 use Rattle.trail_laws.specs.Trail.{EntriesTell, entry_seen, EntryTells, mark_seen, MarkTells}
 use Rattle.trail_laws.specs.Ways.{PassagesAreOpen}
 use Rattle.stretch_laws.specs.Costs.{ReadingIsBounded}
-use Rattle.stretch_laws.specs.Tracking.{IsTracking, radius, stretch}
-use Rattle.busy_finds.specs.Within.{IsWithin, moves_of}
+use Rattle.stretch_laws.specs.Tracking.{IsTracking}
+use Rattle.busy_finds.specs.Within.{moves_of}
 use Rattle.busy_finds.proofs.Chase.{IsPaid}
 use Rattle.busy_finds.proofs.Fronts.{more-commits, more-puts, number-more}
 use Rattle.busy_finds.proofs.Moves.{AreInPlace, stop-after, stop-inside, stop_of}
@@ -234,9 +233,9 @@ module _ (laws : PriceLaws) (setting : Setting) (width most_readers : ℕ) (hist
         spends,
         old-way older,
         travelled-more its (count_by first) (begun_by x - 1) after,
-          room,
-          low_weight,
-          some,
+        room,
+        low_weight,
+        some,
       )
       | inl early ↦
           let is_first : begun_by x ≡ count_by first = omega (arith, early, count-since, count-within) in
@@ -265,9 +264,9 @@ module _ (laws : PriceLaws) (setting : Setting) (width most_readers : ℕ) (hist
             ap (setting.distance (stop_by (begun_by x - 1))) (ap stop_by is_first ∙ sym stood-there),
             way address.number (begun_by x - 1) (omega (arith, older)) (omega arith),
             ap (λ n. setting.distance n (stop_by (begun_by x - 1))) address-stop,
-          room,
-          low_weight,
-          some,
+            room,
+            low_weight,
+            some,
           )
     ]
 
@@ -286,7 +285,9 @@ module _ (laws : PriceLaws) (setting : Setting) (width most_readers : ℕ) (hist
           arith,
           spends,
           travelled-more its (count_by first) address.number (omega (arith, newest, count-since, count-within)),
-          room, low_weight, some,
+          room,
+          low_weight,
+          some,
         )
       ];
       back = λ y from later within unknown comes. back-paid y from later within comes;
@@ -345,7 +346,9 @@ module _ (laws : PriceLaws) (setting : Setting) (width most_readers : ℕ) (hist
                 unclosed,
                 passage-earlier setting call.sub history first y (omega (arith, since, later)) still,
                 ground.tracking.metric.both_ways from address.node is.inside told.0,
-                room, low_weight, some,
+                room,
+                low_weight,
+                some,
               )
         ]
           where

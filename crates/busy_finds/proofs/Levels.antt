@@ -1,12 +1,10 @@
 -- What a find pays where its climb ends at or below a level.
-use Rattle.std.proofs.Common.{append_assoc, ◌≡◌, ◌≢◌, ◌⊎◌, inl, inr, ℕ, zero, suc, ◌+◌, ◌-◌, ◌*◌, ◌<◌, ◌≤◌, ◌^◌, ◌==◌, max, Bool, true, false, cond, List, [], ◌∷◌, ◌++◌, Some, map, refl, sym, ap, ◌∙◌, subst, arith}
-use Rattle.std.specs.Prelude.{flat_map}
+use Rattle.std.proofs.Common.{append_assoc, ◌≡◌, ◌≢◌, ◌⊎◌, inl, inr, ℕ, zero, suc, ◌+◌, ◌-◌, ◌*◌, ◌<◌, ◌≤◌, ◌==◌, max, Bool, true, false, cond, List, [], ◌∷◌, ◌++◌, map, refl, sym, ap, ◌∙◌, subst, arith}
 use Rattle.std.proofs.lemmas.Bool.{cases_eq, cases_lt, eq-eqb}
 use Rattle.std.proofs.lemmas.List.{append-nil}
 use Rattle.std.proofs.lemmas.List.Sums.{sum_by-cons}
 use Rattle.node_set.specs.Ascending.{has}
 use Rattle.directory.specs.Settings.{levels, Setting}
-use Rattle.directory.specs.Courses.{Move}
 use Rattle.directory.specs.Finds.{all_readers, FindCall, Reader, way_in}
 use Rattle.directory.specs.Histories.{before, History}
 use Rattle.directory.specs.Looks.{first_of, last_of}
@@ -17,7 +15,7 @@ use Rattle.stretch_laws.specs.Costs.{readers_up_to}
 use Rattle.stretch_laws.specs.Tracking.{radius}
 use Rattle.busy_finds.specs.Levels.{cost_up_to, dearest, EndsBy, farthest, farthest_of, FindsEndByLevel, inside_of}
 use Rattle.busy_finds.specs.Prices.{moves_within, weight_of}
-use Rattle.busy_finds.specs.Within.{IsWithin, moves_of}
+use Rattle.busy_finds.specs.Within.{moves_of}
 use Rattle.busy_finds.proofs.Beyond.{Ground, PriceLaws}
 use Rattle.busy_finds.proofs.Looks.{Climbed, in-rows, WasEmpty, IsMetAt, met-at, rows, WereEmpty, were-split}
 use Rattle.busy_finds.proofs.Price.{find-on, home-near, in-order, IsNearHome, near_home, renewed-within, spent-within, Terms}
@@ -154,9 +152,13 @@ module _ (laws : PriceLaws) (setting : Setting) (width most_readers : ℕ) (hist
       elim (in-either setting call (readers_up_to setting call.from level)
       (rows setting history call first (suc level) (setting.top - level)) passed later r (sym all-parts ∙ all)) [
         | inl here ↦ here
-        | inr on ↦ absurd (omega (arith, under, (met-at setting history call first t (suc level) (setting.top - level) on.0
-            later r on.2 (were-split setting history call first t (readers_up_to setting call.from level) on.0
-            (subst (λ xs. WereEmpty setting history call first t xs) on.1 were)).1).low))
+        | inr on ↦ absurd (omega (
+          arith,
+          under,
+          (met-at setting history call first t (suc level) (setting.top - level) on.0
+              later r on.2 (were-split setting history call first t (readers_up_to setting call.from level) on.0
+              (subst (λ xs. WereEmpty setting history call first t xs) on.1 were)).1).low,
+        ))
       ]
 
   level-terms : (spent : ℕ) → travelled (moves_of setting call.sub history) (number call.sub (before last history))

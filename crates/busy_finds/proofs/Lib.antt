@@ -14,3 +14,4 @@ mod Gathered
 mod Bounded
 mod Altogether
 mod Levels
+mod Own

@@ -44,7 +44,7 @@ radius-more low (suc k) =
     let e : suc k + low ≡ suc (k + low) = omega arith in
     subst (λ n. radius low ≤ radius n) (sym e) (omega (arith, doubled (k + low), radius-more low k))
 
-radius-up : (low high : ℕ) → low ≤ high → radius low ≤ radius high
+pub radius-up : (low high : ℕ) → low ≤ high → radius low ≤ radius high
 radius-up low high h =
     subst (λ n. radius low ≤ radius n) (let e : (high - low) + low ≡ high = omega (arith, h) in e)
     (radius-more low (high - low))
@@ -495,7 +495,7 @@ greatest-grows setting [] most = omega arith
 greatest-grows setting (x ∷ xs) most =
     omega (arith, greatest-grows setting xs (max most (setting.threshold x.renewed)))
 
-greatest-has : (setting : Setting) (xs : List Move) (most i : ℕ) (move : Move) → slice_get xs i ≡ Some move
+pub greatest-has : (setting : Setting) (xs : List Move) (most i : ℕ) (move : Move) → slice_get xs i ≡ Some move
     → setting.threshold move.renewed ≤ fold (λ most (m : Move). max most (setting.threshold m.renewed)) most xs
 greatest-has setting [] most i move h = cc
 greatest-has setting (x ∷ xs) most zero move h =

@@ -1,20 +1,20 @@
 -- What a find pays where its climb ends at or below a level, told by the readers of its origin
 -- alone, which may be far less than the stretch says: the reading, over the leader that has an
 -- address to the farthest node that is homed there, and back.
--- Key laws: `finds_end_by_level`.
-use Rattle.std.specs.Prelude.{◌≡◌, ◌⊎◌, ℕ, ◌+◌, ◌-◌, ◌*◌, ◌<◌, ◌≤◌, ◌==◌, ◌^◌, if◌then◌else◌, List, [], ◌∷◌, fold, max}
+-- Key law: `finds_end_by_level`.
+use Rattle.std.specs.Prelude.{◌≡◌, ◌≢◌, ◌⊎◌, ℕ, zero, suc, nat_le, ◌+◌, ◌-◌, ◌*◌, ◌<◌, ◌≤◌, ◌==◌, ◌^◌, if◌then◌else◌, List, [], ◌∷◌, max}
 use Rattle.directory.specs.Settings.{Setting}
 use Rattle.directory.specs.Histories.{before, History}
 use Rattle.directory.specs.Courses.{Move}
 use Rattle.directory.specs.Legal.{IsLegal}
 use Rattle.directory.specs.Finds.{FindCall, found_weight, Reader}
 use Rattle.directory.specs.Looks.{first_of, IsFind, last_of}
-use Rattle.directory.specs.Standing.{passage, standing}
+use Rattle.directory.specs.Standing.{number, passage, standing}
 use Rattle.directory.specs.Writes.{numbers_from}
 use Rattle.directory.specs.declared.answers.Found.{Found}
 use Rattle.stretch_laws.specs.Costs.{readers_up_to}
 use Rattle.stretch_laws.specs.Tracking.{IsTracking, radius}
-use Rattle.busy_finds.specs.Prices.{moves_within, weight_of}
+use Rattle.busy_finds.specs.Prices.{greatest_threshold, moves_within, weight_of}
 use Rattle.busy_finds.specs.Within.{IsWithin}
 
 -- how far the farthest node whose home is a cluster of a level is from the cluster's leader, of the
@@ -75,5 +75,67 @@ FindsEndByLevel =
     → found_weight found ≤ cost_up_to setting call.from level
     + setting.distance call.from
     (standing setting call.sub (before (first_of tickets) history))
+    + 2 * passage setting call.sub (before (first_of tickets) history)
+    + weight_of (moves_within setting call.sub history (first_of tickets) (last_of tickets))
+
+-- the level at which a climb ends at the latest for a distance, where no move renews levels within:
+-- the least one whose radius and one are at least twice the distance, and the top level where there
+-- is none
+unfoldable pub reaching : ℕ → ℕ → ℕ → ℕ
+reaching distance level zero = level
+reaching distance level (suc more) =
+    if nat_le (2 * distance) (radius level + 1) then level
+    else reaching distance (suc level) more
+
+abbrev pub level_for : Setting → ℕ → ℕ
+level_for setting distance = reaching distance 0 setting.top
+
+-- so many times its distance bounds what a find from any node pays up to the level for it
+abbrev pub IsOwnStretch : Setting → ℕ → Type 0
+IsOwnStretch setting own =
+    (from to : ℕ) → from < setting.nodes → to < setting.nodes → from ≢ to
+    → cost_up_to setting from (level_for setting (setting.distance from to))
+    + setting.distance from to ≤ own * setting.distance from to
+
+-- and so many times a threshold what it pays up to the level above, or up to the top level
+pub record IsAnyStretch (setting : Setting) (most : ℕ) : Type 0 where
+  pub own : IsOwnStretch setting most
+  pub above : (from level : ℕ) → from < setting.nodes → level < setting.top
+      → cost_up_to setting from (suc level) + setting.threshold level
+      ≤ most * setting.threshold level
+  pub top : (from : ℕ) → from < setting.nodes
+      → cost_up_to setting from setting.top + setting.threshold setting.top
+      ≤ most * setting.threshold setting.top
+
+-- a find with no commit within weighs at most a setting's own stretch times its distance, and twice
+-- the passage that was open before its first look (`finds_end_by_level`)
+abbrev pub FindsKeepOwnStretch : Type 0
+FindsKeepOwnStretch =
+    (setting : Setting) (width most_readers own : ℕ) (history : History) (actor : ℕ)
+    (call : FindCall) (found : Found) (tickets : List ℕ) → setting.nodes ≤ 2 ^ 16
+    → IsTracking setting width most_readers → IsOwnStretch setting own
+    → call.from < setting.nodes → IsLegal setting call.sub history
+    → IsFind setting history actor call found tickets
+    → number call.sub (before (last_of tickets) history)
+    ≡ number call.sub (before (first_of tickets) history)
+    → found_weight found ≤ own
+    * setting.distance call.from
+    (standing setting call.sub (before (first_of tickets) history))
+    + 2 * passage setting call.sub (before (first_of tickets) history)
+
+-- each find is within its price by such a stretch in place of that of all settings
+-- (`finds_end_by_level`)
+abbrev pub FindsKeepAnyStretch : Type 0
+FindsKeepAnyStretch =
+    (setting : Setting) (width most_readers most : ℕ) (history : History) (actor : ℕ)
+    (call : FindCall) (found : Found) (tickets : List ℕ) → setting.nodes ≤ 2 ^ 16
+    → IsTracking setting width most_readers → IsAnyStretch setting most
+    → call.from < setting.nodes → IsLegal setting call.sub history
+    → IsFind setting history actor call found tickets
+    → found_weight found ≤ most
+    * max (setting.distance call.from
+    (standing setting call.sub (before (first_of tickets) history)))
+    (greatest_threshold setting
+    (moves_within setting call.sub history (first_of tickets) (last_of tickets)))
     + 2 * passage setting call.sub (before (first_of tickets) history)
     + weight_of (moves_within setting call.sub history (first_of tickets) (last_of tickets))
