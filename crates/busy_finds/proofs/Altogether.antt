@@ -116,7 +116,7 @@ module _ (setting : Setting) (begin : ℕ) (moves : List Move) (are : AreInPlace
   )
 
 -- sums of first elements
-sum-front : (f : Move → ℕ) (xs : List Move) (n m : ℕ) → n ≤ m
+pub sum-front : (f : Move → ℕ) (xs : List Move) (n m : ℕ) → n ≤ m
     → sum_by f (take m xs) ≡ sum_by f (take n xs) + sum_by f (drop n (take m xs))
 sum-front f xs n m h =
     ap (sum_by f) (sym (take-append-drop n (take m xs)))

@@ -15,3 +15,5 @@ mod Bounded
 mod Altogether
 mod Levels
 mod Own
+mod LineOwn
+mod Missed
