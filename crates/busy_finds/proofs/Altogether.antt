@@ -27,7 +27,7 @@ use Rattle.busy_finds.proofs.Bounded.{and-one, gather-half}
 use Rattle.busy_finds.proofs.Fronts.{moves-in-place, number-more}
 use Rattle.busy_finds.proofs.Gathered.{gathered-is-way}
 use Rattle.busy_finds.proofs.Moves.{AreInPlace, base-grows, base-more, base-within}
-use Rattle.busy_finds.proofs.Price.{in-order}
+use Rattle.busy_finds.proofs.ByStretch.{in-order}
 use Rattle.busy_finds.proofs.Sums.{travelled, travelled-more}
 
 -- a sum over the numbers below one

@@ -24,7 +24,7 @@ use Rattle.busy_finds.specs.Within.{moves_of}
 use Rattle.busy_finds.proofs.Chase.{IsPaid}
 use Rattle.busy_finds.proofs.Fronts.{more-commits, more-puts, number-more}
 use Rattle.busy_finds.proofs.Moves.{AreInPlace, stop-after, stop-inside, stop_of}
-use Rattle.busy_finds.proofs.Only.{none-older}
+use Rattle.busy_finds.proofs.Older.{none-older}
 use Rattle.busy_finds.proofs.Sums.{below-steps, StayBelow, travelled, travelled-more, travelled-step, way-within}
 use Rattle.busy_finds.proofs.Tickets.{begun-low, begun-more, coming-is, count-begun, first-moves, IsComing, its_legal, MarkLaws, placed, stands-in, stands-there, stop-then}
 

@@ -18,7 +18,8 @@ use Rattle.busy_finds.specs.Prices.{moves_within, weight_of}
 use Rattle.busy_finds.specs.Within.{moves_of}
 use Rattle.busy_finds.proofs.Beyond.{Ground, PriceLaws}
 use Rattle.busy_finds.proofs.Looks.{Climbed, in-rows, WasEmpty, IsMetAt, met-at, rows, WereEmpty, were-split}
-use Rattle.busy_finds.proofs.Price.{find-on, home-near, in-order, IsNearHome, near_home, renewed-within, spent-within, Terms}
+use Rattle.busy_finds.proofs.ByStretch.{in-order, spent-within}
+use Rattle.busy_finds.proofs.Price.{find-on, home-near, IsNearHome, near_home, renewed-within, Terms}
 use Rattle.busy_finds.proofs.Sums.{travelled}
 use Rattle.busy_finds.proofs.Tickets.{stands-in}
 

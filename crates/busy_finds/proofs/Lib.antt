@@ -6,10 +6,12 @@ mod Looks
 mod NoEntry
 mod Sums
 mod Only
+mod Older
 mod Tickets
 mod Chase
 mod Beyond
 mod Price
+mod ByStretch
 mod Gathered
 mod Bounded
 mod Altogether

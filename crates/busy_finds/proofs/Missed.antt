@@ -20,7 +20,7 @@ use Rattle.busy_finds.specs.Prices.{moves_within}
 use Rattle.busy_finds.specs.Within.{moves_of, NoEntryMeetsTop}
 use Rattle.busy_finds.proofs.Altogether.{sum-front}
 use Rattle.busy_finds.proofs.Fronts.{number-more}
-use Rattle.busy_finds.proofs.Price.{in-order, within-listed}
+use Rattle.busy_finds.proofs.ByStretch.{in-order, within-listed}
 
 -- a sum is no less than any of its parts
 part-low : (f : Move → ℕ) (xs : List Move) (i : ℕ) (move : Move) → slice_get xs i ≡ Some move → f move ≤ sum_by f xs

@@ -18,7 +18,8 @@ use Rattle.busy_finds.specs.Prices.{greatest_threshold, moves_within, weight_of}
 use Rattle.busy_finds.specs.Within.{IsWithin, moves_of}
 use Rattle.busy_finds.proofs.Beyond.{PriceLaws}
 use Rattle.busy_finds.proofs.Fronts.{moves-in-place}
-use Rattle.busy_finds.proofs.Price.{find-on, greatest-has, in-dropped, in-order, radius-up, spent-within, within-listed}
+use Rattle.busy_finds.proofs.ByStretch.{greatest-has, in-dropped, in-order, spent-within, within-listed}
+use Rattle.busy_finds.proofs.Price.{find-on, radius-up}
 use Rattle.busy_finds.proofs.Sums.{travelled}
 use Rattle.busy_finds.proofs.Tickets.{in-front}
 
