@@ -27,7 +27,7 @@ use Rattle.busy_finds.proofs.Bounded.{and-one, gather-half}
 use Rattle.busy_finds.proofs.Fronts.{moves-in-place, number-more}
 use Rattle.busy_finds.proofs.Gathered.{gathered-is-way}
 use Rattle.busy_finds.proofs.Moves.{AreInPlace, base-grows, base-more, base-within}
-use Rattle.busy_finds.proofs.Price.{in-order}
+use Rattle.busy_finds.proofs.ByStretch.{in-order}
 use Rattle.busy_finds.proofs.Sums.{travelled, travelled-more}
 
 -- a sum over the numbers below one
@@ -116,7 +116,7 @@ module _ (setting : Setting) (begin : ℕ) (moves : List Move) (are : AreInPlace
   )
 
 -- sums of first elements
-sum-front : (f : Move → ℕ) (xs : List Move) (n m : ℕ) → n ≤ m
+pub sum-front : (f : Move → ℕ) (xs : List Move) (n m : ℕ) → n ≤ m
     → sum_by f (take m xs) ≡ sum_by f (take n xs) + sum_by f (drop n (take m xs))
 sum-front f xs n m h =
     ap (sum_by f) (sym (take-append-drop n (take m xs)))

@@ -1,7 +1,6 @@
 -- What a find pays beyond its reading, from the address that it met.
 use Rattle.std.proofs.Common.{◌≡◌, inl, inr, ℕ, zero, suc, ◌+◌, ◌-◌, ◌*◌, ◌<◌, ◌≤◌, ◌^◌, Bool, true, false, cond, ◌||◌, List, [], ◌∷◌, ◌++◌, Option, Some, None, length, take, refl, sym, ap, ◌∙◌, subst, arith, length-append}
 use Rattle.std.specs.List.{last_or, list_any}
-use Rattle.std.proofs.Math.Nat.{mul-le-mul_left, mul_left_comm}
 use Rattle.std.proofs.lemmas.Bool.{cases_lt}
 use Rattle.std.proofs.lemmas.List.{append-nil, take-append-le}
 use Rattle.std.proofs.lemmas.List.Folds.{list_any-append}
@@ -20,12 +19,12 @@ use Rattle.trail_laws.specs.Phases.{moves_begun}
 use Rattle.trail_laws.specs.Trail.{EntriesTell, entry_seen, EntryTells, mark_seen, MarkTells}
 use Rattle.trail_laws.specs.Ways.{PassagesAreOpen}
 use Rattle.stretch_laws.specs.Costs.{ReadingIsBounded}
-use Rattle.stretch_laws.specs.Tracking.{IsTracking, radius, stretch}
-use Rattle.busy_finds.specs.Within.{IsWithin, moves_of}
+use Rattle.stretch_laws.specs.Tracking.{IsTracking}
+use Rattle.busy_finds.specs.Within.{moves_of}
 use Rattle.busy_finds.proofs.Chase.{IsPaid}
 use Rattle.busy_finds.proofs.Fronts.{more-commits, more-puts, number-more}
 use Rattle.busy_finds.proofs.Moves.{AreInPlace, stop-after, stop-inside, stop_of}
-use Rattle.busy_finds.proofs.Only.{none-older}
+use Rattle.busy_finds.proofs.Older.{none-older}
 use Rattle.busy_finds.proofs.Sums.{below-steps, StayBelow, travelled, travelled-more, travelled-step, way-within}
 use Rattle.busy_finds.proofs.Tickets.{begun-low, begun-more, coming-is, count-begun, first-moves, IsComing, its_legal, MarkLaws, placed, stands-in, stands-there, stop-then}
 
@@ -36,28 +35,14 @@ pub record PriceLaws : Type 0 where
   pub opens : PassagesAreOpen
   pub reading : ReadingIsBounded
 
--- the terms on which a find pays: what it may reach, what the moves within it weigh, and what it may weigh
-pub record Terms (setting : Setting) (width most_readers : ℕ) (history : History) (call : FindCall)
-    (first last reach spent most : ℕ) : Type 0 where
+-- what stands before a find: the setting tracks its subscribers, and the history is legal
+pub record Ground (setting : Setting) (width most_readers : ℕ) (history : History) (call : FindCall)
+    (first last : ℕ) : Type 0 where
   pub few : setting.nodes ≤ 2 ^ 16
   pub tracking : IsTracking setting width most_readers
   pub inside : call.from < setting.nodes
   pub legal : IsLegal setting call.sub history
   pub order : first ≤ last
-  pub far : setting.distance call.from (standing setting call.sub (before first history)) ≤ reach
-  pub moves : (move : Move) → IsWithin setting call.sub history first last move → radius move.renewed ≤ 2 * reach
-  pub spends : travelled (moves_of setting call.sub history) (number call.sub (before last history))
-      ≡ travelled (moves_of setting call.sub history) (number call.sub (before first history)) + spent
-  pub pays : stretch width most_readers * reach + 2 * passage setting call.sub (before first history) + spent ≤ most
-
--- the sum of what a find pays
-spread-out : (m w x : ℕ) → stretch w m * x ≡ 16 * (m * (w * x)) + 12 * (w * x) + 5 * x
-spread-out m w x = grind arith
-
-pub priced : (m w r x : ℕ) → r ≤ 4 * x → 4 * (m * (w * r)) + 3 * (w * r) + r + x ≤ stretch w m * x
-priced m w r x small =
-    let wide : w * r ≤ 4 * (w * x) = omega (arith, mul-le-mul_left w small, mul_left_comm w 4 x) in
-    omega (arith, spread-out m w x, wide, mul-le-mul_left m wide, mul_left_comm m 4 (w * x), small)
 
 -- a passage that is still open was open before
 passage-since : (setting : Setting) (xs ys : History) (c : Option Commit)
@@ -98,8 +83,7 @@ passage-earlier setting sub history t u h same =
     nothing-more (x ∷ xs) e = absurd (omega (arith, e))
 
 module _ (laws : PriceLaws) (setting : Setting) (width most_readers : ℕ) (history : History) (call : FindCall)
-    (first last reach spent most : ℕ)
-    (terms : Terms setting width most_readers history call first last reach spent most) where
+    (first last : ℕ) (ground : Ground setting width most_readers history call first last) where
   abbrev pub its : List Move
   its = moves_of setting call.sub history
 
@@ -119,78 +103,75 @@ module _ (laws : PriceLaws) (setting : Setting) (width most_readers : ℕ) (hist
   stood = standing setting call.sub (before first history)
 
   in-place : AreInPlace setting (start setting call.sub) its
-  in-place = placed laws.marks setting call.sub history terms.few terms.legal
+  in-place = placed laws.marks setting call.sub history ground.few ground.legal
 
   stood-there : stood ≡ stop_by (count_by first)
-  stood-there = stands-there laws.marks setting call.sub history terms.few terms.legal first
+  stood-there = stands-there laws.marks setting call.sub history ground.few ground.legal first
 
   stood-in : stood < setting.nodes
-  stood-in = stands-in laws.marks setting call.sub history terms.few terms.legal first
+  stood-in = stands-in laws.marks setting call.sub history ground.few ground.legal first
 
   stops-in : (t place : ℕ) → place ≤ begun_by t → stop_by place < setting.nodes
   stops-in t place low = stop-inside its in-place place
-      (omega (arith, low, begun-low laws.marks setting call.sub history terms.few terms.legal t))
+      (omega (arith, low, begun-low laws.marks setting call.sub history ground.few ground.legal t))
 
   -- no level has gathered its threshold
   pub below : StayBelow setting its
   below = below-steps setting (course_at (start setting call.sub)) (steps_in (puts_to call.sub history))
-      (record { begins = terms.legal.script.begins; each = λ i move h. cc }) terms.legal.script.allowed
-      terms.tracking.gathers (λ k level within low. at_none k level low)
+      (record { begins = ground.legal.script.begins; each = λ i move h. cc }) ground.legal.script.allowed
+      ground.tracking.gathers (λ k level within low. at_none k level low)
     where
       at_none : (k level : ℕ) → level ≤ setting.top
           → travelled [] k < travelled [] (base level (take k [])) + setting.threshold level
-      at_none zero level low = omega (arith, terms.tracking.gathers level low)
-      at_none (suc k) level low = omega (arith, terms.tracking.gathers level low)
+      at_none zero level low = omega (arith, ground.tracking.gathers level low)
+      at_none (suc k) level low = omega (arith, ground.tracking.gathers level low)
+
+  -- what an address tells
+  pub told-at : (x i c : ℕ) (address : Address) → i ≤ setting.top
+      → entry_seen setting call.sub (before x history) i c ≡ Some address
+      → EntryTells setting call.sub (before x history) i c (Some address)
+  told-at x i c address low held = subst (EntryTells setting call.sub (before x history) i c) held
+      (laws.entries setting call.sub (before x history) ground.few
+      (its_legal laws.marks setting call.sub history ground.few ground.legal x) i c low)
 
   -- ---- an address that a reader of the origin has
   module _ (x i c : ℕ) (address : Address) (since : first ≤ x) (by : x ≤ last) (low : i ≤ setting.top)
       (reads : has c (setting.readers i call.from) ≡ true)
-      (held : entry_seen setting call.sub (before x history) i c ≡ Some address) where
+      (held : entry_seen setting call.sub (before x history) i c ≡ Some address) (spent most read : ℕ)
+      (spends : far_by (count_by last) ≡ far_by (count_by first) + spent)
+      (room : read + 2 * setting.inside i c call.from + 2 * setting.distance (setting.leader i c) address.node
+      + 2 * setting.threshold i + setting.distance call.from stood + 2 * passage setting call.sub (before first history)
+      + spent ≤ most + 2) where
     told : EntryTells setting call.sub (before x history) i c (Some address)
-    told = subst (EntryTells setting call.sub (before x history) i c) held
-        (laws.entries setting call.sub (before x history) terms.few
-        (its_legal laws.marks setting call.sub history terms.few terms.legal x) i c low)
+    told = told-at x i c address low held
 
     address-stop : address.node ≡ stop_by address.number
     address-stop = told.3
         ∙ (ap (λ n. stop_of n (moves_of setting call.sub (before x history)) address.number)
         (start-kept setting (course_at (start setting call.sub)) (steps_in (puts_to call.sub (before x history))))
-        ∙ stop-then laws.marks setting call.sub history terms.few terms.legal x address.number told.2)
-
-    at_home : has c (setting.readers i address.node) ≡ true
-    at_home = subst (λ n. has n (setting.readers i address.node) ≡ true) (sym told.1)
-        (terms.tracking.read i address.node address.node low told.0 told.0
-        (omega (arith, terms.tracking.metric.none address.node told.0)))
+        ∙ stop-then laws.marks setting call.sub history ground.few ground.legal x address.number told.2)
 
     leader_in : setting.leader i c < setting.nodes
-    leader_in = terms.tracking.led i c call.from low terms.inside reads
+    leader_in = ground.tracking.led i c call.from low ground.inside reads
 
-    -- from the leader
-    pub from-leader : setting.distance (setting.leader i c) address.node ≤ width * radius i
-    from-leader = omega (
-      arith,
-      terms.tracking.far i c address.node low told.0 at_home,
-      terms.tracking.wide i c address.node low told.0 at_home,
-    )
-
-    -- and over it
-    over-leader : setting.distance address.node call.from ≤ 2 * (width * radius i)
+    -- over the leader
+    over-leader : setting.distance address.node call.from
+        ≤ setting.distance (setting.leader i c) address.node + setting.inside i c call.from
     over-leader = omega (
       arith,
-      from-leader,
-      terms.tracking.far i c call.from low terms.inside reads,
-      terms.tracking.wide i c call.from low terms.inside reads,
-      terms.tracking.metric.both_ways address.node (setting.leader i c) told.0 leader_in,
-      terms.tracking.metric.detour address.node (setting.leader i c) call.from told.0 leader_in terms.inside,
+      ground.tracking.far i c call.from low ground.inside reads,
+      ground.tracking.metric.both_ways address.node (setting.leader i c) told.0 leader_in,
+      ground.tracking.metric.detour address.node (setting.leader i c) call.from told.0 leader_in ground.inside,
     )
 
     -- to where the subscriber stood at the first look
     to-stood : setting.distance address.node stood
-        ≤ 2 * (width * radius i) + setting.distance call.from stood
+        ≤ setting.distance (setting.leader i c) address.node + setting.inside i c call.from
+        + setting.distance call.from stood
     to-stood = omega (
       arith,
       over-leader,
-      terms.tracking.metric.detour address.node call.from stood told.0 terms.inside stood-in,
+      ground.tracking.metric.detour address.node call.from stood told.0 ground.inside stood-in,
     )
 
     -- a move from one stop to the next
@@ -200,7 +181,7 @@ module _ (laws : PriceLaws) (setting : Setting) (width most_readers : ℕ) (hist
         let found = slice_get-within its place (omega (
           arith,
           low,
-          begun-low laws.marks setting call.sub history terms.few terms.legal t,
+          begun-low laws.marks setting call.sub history ground.few ground.legal t,
         )) in
         omega (
           arith,
@@ -210,23 +191,23 @@ module _ (laws : PriceLaws) (setting : Setting) (width most_readers : ℕ) (hist
         )
 
     way : (a b : ℕ) → a ≤ b → b ≤ begun_by x → setting.distance (stop_by a) (stop_by b) + far_by a ≤ far_by b
-    way a b h low = way-within its in-place terms.tracking.metric a b h
-        (omega (arith, low, begun-low laws.marks setting call.sub history terms.few terms.legal x))
+    way a b h low = way-within its in-place ground.tracking.metric a b h
+        (omega (arith, low, begun-low laws.marks setting call.sub history ground.few ground.legal x))
 
     count-since : count_by first ≤ count_by x
     count-since = number-more call.sub first x history since
 
     count-within : count_by x ≤ begun_by x
-    count-within = count-begun laws.marks setting call.sub history terms.few terms.legal x
+    count-within = count-begun laws.marks setting call.sub history ground.few ground.legal x
 
     -- the moves from an address that isn't the newest one
     old-way : address.number < begun_by x
         → far_by (begun_by x - 1) < far_by address.number + setting.threshold i
     old-way older =
-        let more = first-moves laws.marks setting call.sub history terms.few terms.legal x in
+        let more = first-moves laws.marks setting call.sub history ground.few ground.legal x in
         let oldest : base i (take (begun_by x - 1) (moves_of setting call.sub (before x history))) ≤ address.number =
-        none-older laws.marks.facts.writes setting call.sub (before x history) terms.few
-        (its_legal laws.marks setting call.sub history terms.few terms.legal x) i c address low held in
+        none-older laws.marks.facts.writes setting call.sub (before x history) ground.few
+        (its_legal laws.marks setting call.sub history ground.few ground.legal x) i c address low held in
         let same : take (begun_by x - 1) its ≡ take (begun_by x - 1) (moves_of setting call.sub (before x history)) =
         ap (take (begun_by x - 1)) more.1
         ∙ take-append-le (begun_by x - 1) (moves_of setting call.sub (before x history)) more.0 (omega arith) in
@@ -234,32 +215,27 @@ module _ (laws : PriceLaws) (setting : Setting) (width most_readers : ℕ) (hist
           arith,
           below (begun_by x - 1) i (omega (
             arith,
-            begun-low laws.marks setting call.sub history terms.few terms.legal x,
+            begun-low laws.marks setting call.sub history ground.few ground.legal x,
           )) low,
           travelled-more its (base i (take (begun_by x - 1) its)) address.number (omega (arith, oldest, ap (base i) same)),
         )
 
-    -- what is to be paid, all in all
-    rest-paid : (r : ℕ) → r ≡ radius i → r ≤ 4 * reach → (weight : ℕ)
-        → weight ≤ 4 * (most_readers * (width * r)) + width * r
-        → weight + 2 * (width * r) + r + reach + 2 * passage setting call.sub (before first history) + spent ≤ most
-    rest-paid r is small weight read = omega (arith, terms.pays, priced most_readers width r reach small, read)
-
-    threshold-low : 2 * setting.threshold i ≤ radius i + 1
-    threshold-low = terms.tracking.halves i low
+    some : 1 ≤ setting.threshold i
+    some = ground.tracking.gathers i low
 
     -- where it isn't the newest
-    old-on : address.number < begun_by x → radius i ≤ 4 * reach → (weight : ℕ)
-        → weight ≤ 4 * (most_readers * (width * radius i)) + width * radius i
+    old-on : address.number < begun_by x → (weight : ℕ)
+        → weight ≤ read + setting.inside i c call.from + setting.distance (setting.leader i c) address.node
         → weight + far_by (count_by last) ≤ most + far_by address.number
-    old-on older small weight read = elim (cases_lt (begun_by x - 1) (count_by first)) [
+    old-on older weight low_weight = elim (cases_lt (begun_by x - 1) (count_by first)) [
       | inr after ↦ omega (
         arith,
-        terms.spends,
+        spends,
         old-way older,
-        threshold-low,
         travelled-more its (count_by first) (begun_by x - 1) after,
-        rest-paid (radius i) refl small weight read,
+        room,
+        low_weight,
+        some,
       )
       | inl early ↦
           let is_first : begun_by x ≡ count_by first = omega (arith, early, count-since, count-within) in
@@ -272,44 +248,46 @@ module _ (laws : PriceLaws) (setting : Setting) (width most_readers : ℕ) (hist
           ≤ setting.distance address.node (stop_by (begun_by x - 1)) + setting.distance address.node stood =
           omega (
             arith,
-            terms.tracking.metric.detour (stop_by (begun_by x - 1)) address.node stood
+            ground.tracking.metric.detour (stop_by (begun_by x - 1)) address.node stood
                 (stops-in x (begun_by x - 1) (omega arith)) told.0 stood-in,
-            terms.tracking.metric.both_ways (stop_by (begun_by x - 1)) address.node
+            ground.tracking.metric.both_ways (stop_by (begun_by x - 1)) address.node
                 (stops-in x (begun_by x - 1) (omega arith)) told.0,
           ) in
           omega (
             arith,
-            terms.spends,
+            spends,
             old-way older,
-            threshold-low,
             step,
             ap far_by is_first,
             back,
             to-stood,
-            terms.far,
             ap (setting.distance (stop_by (begun_by x - 1))) (ap stop_by is_first ∙ sym stood-there),
             way address.number (begun_by x - 1) (omega (arith, older)) (omega arith),
             ap (λ n. setting.distance n (stop_by (begun_by x - 1))) address-stop,
-            rest-paid (radius i) refl small weight read,
+            room,
+            low_weight,
+            some,
           )
     ]
 
     -- the chase from there
-    pub address-paid : (chase : Chase) → radius i ≤ 4 * reach
-        → chase.weight ≤ 4 * (most_readers * (width * radius i)) + width * radius i
-        → IsPaid laws.marks setting call.sub history terms.few terms.legal terms.tracking.metric last most x chase address.node
-    address-paid chase small read = record {
+    pub address-paid : (chase : Chase)
+        → chase.weight ≤ read + setting.inside i c call.from + setting.distance (setting.leader i c) address.node
+        → IsPaid laws.marks setting call.sub history ground.few ground.legal ground.tracking.metric last most x chase address.node
+    address-paid chase low_weight = record {
       place = address.number;
       there = address-stop;
       known_then = told.2;
-      enough = omega (arith, rest-paid (radius i) refl small chase.weight read);
+      enough = omega (arith, room, low_weight, some);
       on = elim (cases_lt address.number (begun_by x)) [
-        | inl older ↦ old-on older small chase.weight read
+        | inl older ↦ old-on older chase.weight low_weight
         | inr newest ↦ omega (
           arith,
-          terms.spends,
+          spends,
           travelled-more its (count_by first) address.number (omega (arith, newest, count-since, count-within)),
-          rest-paid (radius i) refl small chase.weight read,
+          room,
+          low_weight,
+          some,
         )
       ];
       back = λ y from later within unknown comes. back-paid y from later within comes;
@@ -323,7 +301,7 @@ module _ (laws : PriceLaws) (setting : Setting) (width most_readers : ℕ) (hist
           | inr after ↦
               let ways : setting.distance address.node from
               ≤ setting.distance address.node stood + setting.distance stood from =
-              terms.tracking.metric.detour address.node stood from told.0 stood-in is.inside in
+              ground.tracking.metric.detour address.node stood from told.0 stood-in is.inside in
               let on : setting.distance stood from + far_by (count_by first) ≤ far_by (address.number - 1) =
               omega (
                 arith,
@@ -331,12 +309,12 @@ module _ (laws : PriceLaws) (setting : Setting) (width most_readers : ℕ) (hist
                 ap (λ n. setting.distance n from) stood-there,
                 ap (setting.distance (stop_by (count_by first))) is.leads,
               ) in
-              omega (arith, terms.spends, ways, on, to-stood, terms.far, rest-paid (radius i) refl small chase.weight read)
+              omega (arith, spends, ways, on, to-stood, room, low_weight, some)
           | inl early ↦
               let newest : address.number ≡ begun_by x = omega (
                 arith,
                 is.last,
-                begun-more laws.marks setting call.sub history terms.few terms.legal x y later,
+                begun-more laws.marks setting call.sub history ground.few ground.legal x y later,
                 told.2,
               ) in
               let counted : address.number ≡ count_by first =
@@ -345,12 +323,12 @@ module _ (laws : PriceLaws) (setting : Setting) (width most_readers : ℕ) (hist
                 arith,
                 counted,
                 is.last,
-                count-begun laws.marks setting call.sub history terms.few terms.legal y,
+                count-begun laws.marks setting call.sub history ground.few ground.legal y,
                 number-more call.sub first y history (omega (arith, since, later)),
               ) in
               let unclosed : passage setting call.sub (before y history) ≡ setting.distance from address.node =
-              laws.opens setting call.sub (before y history) terms.few
-              (its_legal laws.marks setting call.sub history terms.few terms.legal y) address.node address.number from told.0
+              laws.opens setting call.sub (before y history) ground.few
+              (its_legal laws.marks setting call.sub history ground.few ground.legal y) address.node address.number from told.0
               comes (omega (arith, counted, still)) in
               let e : suc (address.number - 1) ≡ address.number = omega (arith, is.some) in
               let step : far_by address.number ≡ far_by (address.number - 1) + setting.distance from address.node =
@@ -362,18 +340,20 @@ module _ (laws : PriceLaws) (setting : Setting) (width most_readers : ℕ) (hist
               e (one-move x (address.number - 1) (omega (arith, newest, is.some))))) in
               omega (
                 arith,
-                terms.spends,
+                spends,
                 step,
                 ap far_by counted,
                 unclosed,
                 passage-earlier setting call.sub history first y (omega (arith, since, later)) still,
-                terms.tracking.metric.both_ways from address.node is.inside told.0,
-                rest-paid (radius i) refl small chase.weight read,
+                ground.tracking.metric.both_ways from address.node is.inside told.0,
+                room,
+                low_weight,
+                some,
               )
         ]
           where
-            is : IsComing laws.marks setting call.sub history terms.few terms.legal y address.node address.number from
-            is = coming-is laws.marks setting call.sub history terms.few terms.legal y address.node address.number from
+            is : IsComing laws.marks setting call.sub history ground.few ground.legal y address.node address.number from
+            is = coming-is laws.marks setting call.sub history ground.few ground.legal y address.node address.number from
                 (subst (MarkTells setting call.sub (before y history) address.node) comes
-                (laws.marks.marks setting call.sub (before y history) terms.few
-                (its_legal laws.marks setting call.sub history terms.few terms.legal y) address.node told.0))
+                (laws.marks.marks setting call.sub (before y history) ground.few
+                (its_legal laws.marks setting call.sub history ground.few ground.legal y) address.node told.0))

@@ -23,7 +23,7 @@ use Rattle.busy_finds.proofs.Beyond.{PriceLaws}
 use Rattle.busy_finds.proofs.Fronts.{moves-in-place, number-more}
 use Rattle.busy_finds.proofs.Gathered.{AllReach, HasReached, gathered-is-way, greatest-no-more, reach-steps, sum-no-more}
 use Rattle.busy_finds.proofs.Moves.{base-within, IsAt, stop-inside, stop_of}
-use Rattle.busy_finds.proofs.Price.{in-dropped, in-order, spent-within}
+use Rattle.busy_finds.proofs.ByStretch.{in-dropped, in-order, spent-within}
 use Rattle.busy_finds.proofs.Sums.{travelled, travelled-more, travelled-step, way-within}
 use Rattle.busy_finds.proofs.Tickets.{begun-low, count-begun, in-front, stands-in, stands-there}
 

@@ -6,11 +6,17 @@ mod Looks
 mod NoEntry
 mod Sums
 mod Only
+mod Older
 mod Tickets
 mod Chase
 mod Beyond
 mod Price
+mod ByStretch
 mod Gathered
 mod Bounded
 mod Altogether
 mod PricedLines
+mod Levels
+mod Own
+mod LineOwn
+mod Missed

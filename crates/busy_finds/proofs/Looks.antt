@@ -113,7 +113,7 @@ module _ (setting : Setting) (history : History) (call : FindCall) (first : ℕ)
   abbrev pub rows : ℕ → ℕ → List Reader
   rows from count = flat_map (λ level. row level (setting.readers level call.from)) (numbers_from from count)
 
-  were-split : (last : ℕ) (xs ys : List Reader) → WereEmpty last (xs ++ ys) → WereEmpty last xs × WereEmpty last ys
+  pub were-split : (last : ℕ) (xs ys : List Reader) → WereEmpty last (xs ++ ys) → WereEmpty last xs × WereEmpty last ys
   were-split last [] ys were = (tt, were)
   were-split last (x ∷ xs) ys (was, were) = let rest = were-split last xs ys were in ((was, rest.0), rest.1)
 

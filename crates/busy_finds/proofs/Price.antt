@@ -1,11 +1,7 @@
 -- No find weighs more than its price.
-use Rattle.std.proofs.Common.{◌≡◌, ◌⊎◌, inl, inr, ℕ, zero, suc, ◌+◌, ◌-◌, ◌*◌, ◌<◌, ◌≤◌, ◌^◌, max, true, List, [], ◌∷◌, Option, Some, None, length, take, drop, fold, refl, sym, ap, ◌∙◌, subst, arith}
-use Rattle.std.specs.Prelude.{slice_get, sum_by}
-use Rattle.std.proofs.lemmas.Bool.{cases_lt}
-use Rattle.std.proofs.lemmas.List.{append-nil, take-append-drop, take-append-le, take-take}
-use Rattle.std.proofs.lemmas.List.Sums.{sum_by-append}
+use Rattle.std.proofs.Common.{List, None, Option, Some, [], ap, arith, inl, inr, length, refl, subst, suc, sym, take, zero, ℕ, ◌*◌, ◌++◌, ◌+◌, ◌-◌, ◌<◌, ◌^◌, ◌∙◌, ◌∷◌, ◌≡◌, ◌≤◌, ◌⊎◌}
+use Rattle.std.proofs.lemmas.List.{take-append-le}
 use Rattle.std.proofs.lemmas.Option.{slice_get_within}
-use Rattle.node_set.specs.Ascending.{has}
 use Rattle.entry_word.specs.declared.address.Address.{Address}
 use Rattle.entry_word.specs.declared.mark.PresenceMark.{PresenceMark}
 use Rattle.entry_word.specs.declared.mark.PresenceMark.TheVariants.{Empty, Here, Gone, Coming, Off}
@@ -13,7 +9,7 @@ use Rattle.entry_word.specs.declared.visit.Key.{Key}
 use Rattle.entry_word.specs.declared.visit.Key.TheVariants.{Presence, Entry}
 use Rattle.directory.specs.Settings.{levels, Setting, start}
 use Rattle.directory.specs.Courses.{base, Move}
-use Rattle.directory.specs.Finds.{after_entry, after_origin, after_word, all_readers, at_origin, begin_chase, chases, climb, climbs, ended, FindCall, found_weight, key_of, Pursuit, Reader}
+use Rattle.directory.specs.Finds.{FindCall, Pursuit, Reader, after_entry, after_origin, after_word, all_readers, at_origin, begin_chase, chases, climb, climbs, ended, found_weight, key_of, way_in}
 use Rattle.directory.specs.Histories.{before, cell, History}
 use Rattle.directory.specs.Looks.{first_of, IsFind, last_of, look_by}
 use Rattle.directory.specs.Parts.{climb_weight}
@@ -21,20 +17,19 @@ use Rattle.directory.specs.StepLaws.{slice_get-within}
 use Rattle.directory.specs.Standing.{number, passage, standing}
 use Rattle.directory.specs.declared.answers.Found.{Found}
 use Rattle.trail_laws.specs.Trail.{entry_seen, mark_seen, MarkTells}
-use Rattle.stretch_laws.specs.Tracking.{radius, stretch}
-use Rattle.busy_finds.specs.Prices.{FindsBetweenCommits, FindsHaveTheirPrice, greatest_threshold, moves_within, price, weight_of}
+use Rattle.stretch_laws.specs.Tracking.{radius}
 use Rattle.busy_finds.specs.Within.{IsWithin, moves_of}
-use Rattle.busy_finds.proofs.Beyond.{address-paid, below, begun_by, from-leader, priced, PriceLaws, Terms}
+use Rattle.busy_finds.proofs.Beyond.{address-paid, begun_by, below, Ground, PriceLaws, told-at}
 use Rattle.busy_finds.proofs.Chase.{IsPaid, mark-paid, PaysOn}
 use Rattle.busy_finds.proofs.Current.{current}
 use Rattle.busy_finds.proofs.Fronts.{gone-renewed, moves-in-place, number-more, within-whole}
-use Rattle.busy_finds.proofs.Looks.{Climbed, climbed-more, climbed-none, in-rows, IsMetAt, looks-end, met-at, rows, WasEmpty, WereEmpty}
+use Rattle.busy_finds.proofs.Looks.{Climbed, climbed-more, climbed-none, IsMetAt, looks-end, met-at, WasEmpty, WereEmpty}
 use Rattle.busy_finds.proofs.Moves.{AreInPlace, base-within, stop-after, stop-inside, stop_of}
 use Rattle.busy_finds.proofs.Sums.{travelled, travelled-more, travelled-step, way-within}
 use Rattle.busy_finds.proofs.Tickets.{begun-low, begun-more, coming-is, count-begun, first-moves, IsComing, its_legal, none-empty, none-gone, placed, stands-in, stands-there, stop-then}
 
 -- radii double from level to level
-doubled : (level : ℕ) → radius (suc level) ≡ 2 * radius level
+pub doubled : (level : ℕ) → radius (suc level) ≡ 2 * radius level
 doubled level = let e : 2 ^ suc level ≡ 2 * 2 ^ level = omega arith in e
 
 radius-more : (low k : ℕ) → radius low ≤ radius (k + low)
@@ -43,14 +38,13 @@ radius-more low (suc k) =
     let e : suc k + low ≡ suc (k + low) = omega arith in
     subst (λ n. radius low ≤ radius n) (sym e) (omega (arith, doubled (k + low), radius-more low k))
 
-radius-up : (low high : ℕ) → low ≤ high → radius low ≤ radius high
+pub radius-up : (low high : ℕ) → low ≤ high → radius low ≤ radius high
 radius-up low high h =
     subst (λ n. radius low ≤ radius n) (let e : (high - low) + low ≡ high = omega (arith, h) in e)
     (radius-more low (high - low))
 
 module _ (laws : PriceLaws) (setting : Setting) (width most_readers : ℕ) (history : History) (call : FindCall)
-    (first last reach spent most : ℕ)
-    (terms : Terms setting width most_readers history call first last reach spent most) where
+    (first last : ℕ) (ground : Ground setting width most_readers history call first last) where
   abbrev moves : List Move
   moves = moves_of setting call.sub history
 
@@ -60,35 +54,35 @@ module _ (laws : PriceLaws) (setting : Setting) (width most_readers : ℕ) (hist
   abbrev apart : ℕ
   apart = setting.distance call.from stood_at
 
-  abbrev near_home : ℕ → ℕ
+  abbrev pub near_home : ℕ → ℕ
   near_home level = current (start setting call.sub) (moves_of setting call.sub (before first history))
       (number call.sub (before first history)) level
 
   -- at the first look each level has an address at the home of a node that is near where the subscriber stands
-  record IsNearHome (level : ℕ) : Type 0 where
-    inside : near_home level < setting.nodes
-    near : setting.distance (near_home level) stood_at < setting.threshold level
+  pub record IsNearHome (level : ℕ) : Type 0 where
+    pub inside : near_home level < setting.nodes
+    pub near : setting.distance (near_home level) stood_at < setting.threshold level
 
-  home-near : (level : ℕ) → level ≤ setting.top → IsNearHome level
+  pub home-near : (level : ℕ) → level ≤ setting.top → IsNearHome level
   home-near level low = record {
     inside = rw there (stop-inside moves place b (omega (
       arith,
       based,
       counted,
       begun-low laws.marks setting call.sub history
-          terms.few terms.legal first,
+          ground.few ground.legal first,
     )));
-    near = rw (there, stands-there laws.marks setting call.sub history terms.few terms.legal first) (omega (
+    near = rw (there, stands-there laws.marks setting call.sub history ground.few ground.legal first) (omega (
       arith,
-      way-within moves place terms.tracking.metric b n based (omega (
+      way-within moves place ground.tracking.metric b n based (omega (
         arith,
         counted,
-        begun-low laws.marks setting call.sub history terms.few terms.legal first,
+        begun-low laws.marks setting call.sub history ground.few ground.legal first,
       )),
-      below laws setting width most_readers history call first last reach spent most terms n level (omega (
+      below laws setting width most_readers history call first last ground n level (omega (
         arith,
         counted,
-        begun-low laws.marks setting call.sub history terms.few terms.legal first,
+        begun-low laws.marks setting call.sub history ground.few ground.legal first,
       )) low,
       ap (λ ms. travelled moves (base level ms)) same,
     ));
@@ -98,111 +92,87 @@ module _ (laws : PriceLaws) (setting : Setting) (width most_readers : ℕ) (hist
       n = number call.sub (before first history)
 
       place : AreInPlace setting (start setting call.sub) moves
-      place = placed laws.marks setting call.sub history terms.few terms.legal
+      place = placed laws.marks setting call.sub history ground.few ground.legal
 
-      counted : n ≤ begun_by laws setting width most_readers history call first last reach spent most terms first
-      counted = count-begun laws.marks setting call.sub history terms.few terms.legal first
+      counted : n ≤ begun_by laws setting width most_readers history call first last ground first
+      counted = count-begun laws.marks setting call.sub history ground.few ground.legal first
 
       b : ℕ
       b = base level (take n (moves_of setting call.sub (before first history)))
 
       based : b ≤ n
       based = base-within level (moves_of setting call.sub (before first history))
-          (moves-in-place (before first history) (its_legal laws.marks setting call.sub history terms.few terms.legal first))
+          (moves-in-place (before first history) (its_legal laws.marks setting call.sub history ground.few ground.legal first))
           n counted
 
       there : near_home level ≡ stop_of (start setting call.sub) moves b
-      there = stop-then laws.marks setting call.sub history terms.few terms.legal first b (omega (arith, based, counted))
+      there = stop-then laws.marks setting call.sub history ground.few ground.legal first b (omega (arith, based, counted))
 
       same : take n moves ≡ take n (moves_of setting call.sub (before first history))
-      same = let more = first-moves laws.marks setting call.sub history terms.few terms.legal first in
+      same = let more = first-moves laws.marks setting call.sub history ground.few ground.legal first in
           ap (take n) more.1
           ∙ take-append-le n (moves_of setting call.sub (before first history)) more.0 counted
 
-  -- a level whose home was empty is reached by a move within
-  reached : (t level : ℕ) → t ≤ last → level ≤ setting.top
+  -- a level whose home was empty was renewed by a move within
+  pub renewed-within : (t level : ℕ) → t ≤ last → level ≤ setting.top
       → WasEmpty setting history call first t (record { level = level; cluster = setting.home level (near_home level) })
-      → radius level ≤ 2 * reach
-  reached t level by low was =
-      let within = within-whole laws.marks.facts history terms.few terms.legal first was.0 last level
-      (omega (arith, was.2, by))
-      (gone-renewed laws.marks.facts history terms.few terms.legal first was.0 level was.1 low was.3) in
-      omega (arith, radius-up level within.0.renewed within.1, terms.moves within.0 within.2)
+      → (move : Move) × (level ≤ move.renewed) × IsWithin setting call.sub history first last move
+  renewed-within t level by low was =
+      within-whole laws.marks.facts history ground.few ground.legal first was.0 last level (omega (arith, was.2, by))
+      (gone-renewed laws.marks.facts history ground.few ground.legal first was.0 level was.1 low was.3)
 
-  -- how high a climb goes
-  height : (t : ℕ) (passed : List Reader) (r : Reader) → t ≤ last → 1 ≤ apart
-      → IsMetAt setting history call first t 0 (levels setting) passed r → radius r.level ≤ 4 * reach
-  height t passed r by some met = at_level r.level (omega arith) met.high met.below
-    where
-      at_level : (i : ℕ) → i ≤ r.level → i < 0 + levels setting
-          → ((level c : ℕ) → 0 ≤ level → level < i → has c (setting.readers level call.from) ≡ true
-          → WasEmpty setting history call first t (record { level = level; cluster = c }))
-          → radius i ≤ 4 * reach
-      at_level zero under high were = let e : 2 ^ 0 ≡ 1 = omega arith in
-          let one : radius 0 ≡ 1 = e in omega (arith, one, some, terms.far)
-      at_level (suc i) under high were = elim (cases_lt (radius i) (2 * apart)) [
-        | inl far ↦ omega (arith, far, doubled i, terms.far)
-        | inr near ↦
-            let home = home-near i (omega (arith, high)) in
-            let way : setting.distance (near_home i) call.from ≤ radius i = omega (
-              arith,
-              near,
-              home.near,
-              terms.tracking.halves i (omega (arith, high)),
-              terms.tracking.metric.detour (near_home i) stood_at call.from home.inside
-                  (stands-in laws.marks setting call.sub history terms.few terms.legal first) terms.inside,
-              terms.tracking.metric.both_ways call.from stood_at terms.inside
-                  (stands-in laws.marks setting call.sub history terms.few terms.legal first),
-            ) in
-            omega (
-              arith,
-              doubled i,
-              reached t i by (omega (arith, high)) (were i (setting.home i (near_home i)) (omega arith) (omega arith)
-                  (terms.tracking.read i (near_home i) call.from (omega (arith, high)) home.inside terms.inside way)),
-            )
-      ]
+-- the terms on which a find pays: what the moves within it weigh, and what it may weigh at most, wherever it meets an
+-- address and where it meets none
+pub record Terms (setting : Setting) (width most_readers : ℕ) (history : History) (call : FindCall)
+    (first last spent most : ℕ) : Type 0 where
+  pub ground : Ground setting width most_readers history call first last
+  pub spends : travelled (moves_of setting call.sub history) (number call.sub (before last history))
+      ≡ travelled (moves_of setting call.sub history) (number call.sub (before first history)) + spent
+  pub least : setting.distance call.from (standing setting call.sub (before first history))
+      + 2 * passage setting call.sub (before first history) + spent ≤ most
+  pub meets : (t : ℕ) (passed later : List Reader) (r : Reader) (v : ℕ) → t ≤ last
+      → 1 ≤ setting.distance call.from (standing setting call.sub (before first history))
+      → all_readers setting call.from ≡ passed ++ r ∷ later
+      → IsMetAt setting history call first t 0 (levels setting) passed r → WereEmpty setting history call first t passed
+      → v < setting.nodes → r.cluster ≡ setting.home r.level v
+      → climb_weight setting call passed + 2 * way_in setting call r + 2 * setting.distance (setting.leader r.level r.cluster) v
+      + 2 * setting.threshold r.level + setting.distance call.from (standing setting call.sub (before first history))
+      + 2 * passage setting call.sub (before first history) + spent ≤ most + 2
+  pub misses : (t weight : ℕ) → t ≤ last
+      → 1 ≤ setting.distance call.from (standing setting call.sub (before first history))
+      → Climbed setting history call first t weight [] → weight ≤ most
 
-  -- what the reading up to a level weighs
-  reading : (level : ℕ) → level ≤ setting.top → climb_weight setting call (rows setting history call first 0 (suc level))
-      ≤ 4 * (most_readers * (width * radius level))
-  reading level low = laws.reading setting width most_readers call level terms.tracking terms.inside low
+module _ (laws : PriceLaws) (setting : Setting) (width most_readers : ℕ) (history : History) (call : FindCall)
+    (first last spent most : ℕ) (terms : Terms setting width most_readers history call first last spent most) where
+  abbrev ground : Ground setting width most_readers history call first last
+  ground = terms.ground
 
-  -- a find without an address
-  none-paid : (t weight : ℕ) → t ≤ last → Climbed setting history call first t weight [] → weight ≤ most
-  none-paid t weight by c =
-      let home = home-near setting.top (omega arith) in
-      let all : all_readers setting call.from ≡ c.passed = c.all ∙ append-nil c.passed in
-      let small : radius setting.top ≤ 2 * reach =
-      reached t setting.top by (omega arith) (in-rows setting history call first t 0 (levels setting) setting.top
-      (setting.home setting.top (near_home setting.top)) (omega arith) (omega arith)
-      (terms.tracking.whole (near_home setting.top) call.from home.inside terms.inside)
-      (subst (λ xs. WereEmpty setting history call first t xs) (sym all) c.empty)) in
-      omega (
-        arith,
-        c.weighs,
-        ap (climb_weight setting call) all,
-        reading setting.top (omega arith),
-        priced most_readers width (radius setting.top) reach (omega (arith, small)),
-        terms.pays,
-      )
+  abbrev all_moves : List Move
+  all_moves = moves_of setting call.sub history
+
+  abbrev stands_at : ℕ
+  stands_at = standing setting call.sub (before first history)
+
+  abbrev distant : ℕ
+  distant = setting.distance call.from stands_at
 
   -- ---- a find under way
   abbrev GoesOn : ℕ → Pursuit → Type 0
   GoesOn t at_origin = ⊥
   GoesOn t (climbs known weight reader later) =
-      Climbed setting history call first t weight (reader ∷ later) × (1 ≤ apart)
+      Climbed setting history call first t weight (reader ∷ later) × (1 ≤ distant)
   GoesOn t (chases chase node) =
-      IsPaid laws.marks setting call.sub history terms.few terms.legal terms.tracking.metric last most t chase node
+      IsPaid laws.marks setting call.sub history ground.few ground.legal ground.tracking.metric last most t chase node
   GoesOn t (ended found) = found_weight found ≤ most
 
-  climb-on : (t : ℕ) (known : Option ℕ) (weight : ℕ) (left : List Reader) → t ≤ last → 1 ≤ apart
+  climb-on : (t : ℕ) (known : Option ℕ) (weight : ℕ) (left : List Reader) → t ≤ last → 1 ≤ distant
       → Climbed setting history call first t weight left → GoesOn t (climb known weight left)
-  climb-on t known weight [] by some c = none-paid t weight by c
+  climb-on t known weight [] by some c = terms.misses t weight by some c
   climb-on t known weight (reader ∷ left) by some c = (c, some)
 
   -- it goes on as its chase does
   chase-on : (t : ℕ) (pursuit : Pursuit)
-      → PaysOn laws.marks setting call.sub history terms.few terms.legal terms.tracking.metric last most t pursuit
+      → PaysOn laws.marks setting call.sub history ground.few ground.legal ground.tracking.metric last most t pursuit
       → GoesOn t pursuit
   chase-on t at_origin pays = pays
   chase-on t (climbs known weight reader later) pays = absurd pays
@@ -210,7 +180,7 @@ module _ (laws : PriceLaws) (setting : Setting) (width most_readers : ℕ) (hist
   chase-on t (ended found) pays = pays
 
   entry-on : (t u : ℕ) (known : Option ℕ) (weight : ℕ) (reader : Reader) (left : List Reader) → first ≤ t → t < u → u ≤ last
-      → Climbed setting history call first t weight (reader ∷ left) → 1 ≤ apart → (entry : Option Address)
+      → Climbed setting history call first t weight (reader ∷ left) → 1 ≤ distant → (entry : Option Address)
       → entry_seen setting call.sub (before u history) reader.level reader.cluster ≡ entry
       → GoesOn u (after_entry setting call known weight reader left entry)
   entry-on t u known weight reader left low later by c some None e = climb-on u known _ left by some
@@ -219,83 +189,78 @@ module _ (laws : PriceLaws) (setting : Setting) (width most_readers : ℕ) (hist
       let met : IsMetAt setting history call first t 0 (levels setting) c.passed reader =
       met-at setting history call first t 0 (levels setting) c.passed left reader c.all c.empty in
       let level : reader.level ≤ setting.top = omega (arith, met.high) in
-      let near : setting.distance (setting.leader reader.level reader.cluster) address.node ≤ width * radius reader.level =
-      from-leader laws setting width most_readers history call first last reach spent most terms u reader.level
-      reader.cluster address (omega (arith, low, later)) by level met.reads e in
-      address-paid laws setting width most_readers history call first last reach spent most terms u reader.level
-      reader.cluster address (omega (arith, low, later)) by level met.reads e _
-      (height t c.passed reader (omega (arith, later, by)) some met)
-      (omega (arith, c.weighs, met.weighs reader.level (omega arith), reading reader.level level, near))
+      let told = told-at laws setting width most_readers history call first last ground u reader.level reader.cluster address
+      level e in
+      address-paid laws setting width most_readers history call first last ground u reader.level
+      reader.cluster address (omega (arith, low, later)) by level met.reads e spent most (climb_weight setting call c.passed)
+      terms.spends
+      (terms.meets t c.passed left reader address.node (omega (arith, later, by)) some c.all met c.empty told.0 told.1) _
+      (omega (arith, c.weighs))
 
   -- the first look: where the subscriber stands a find doesn't climb
   elsewhere : (mark : PresenceMark) → mark_seen setting call.sub (before first history) call.from ≡ mark
-      → ((mark ≡ Empty) ⊎ ((p : ℕ) × (to : ℕ) × (mark ≡ Gone p to))) → 1 ≤ apart
-  elsewhere mark is leads = terms.tracking.apart call.from stood_at terms.inside
-      (stands-in laws.marks setting call.sub history terms.few terms.legal first) (λ same. elim leads [
-        | inl none ↦ none-empty laws.marks setting call.sub history terms.few terms.legal first
+      → ((mark ≡ Empty) ⊎ ((p : ℕ) × (to : ℕ) × (mark ≡ Gone p to))) → 1 ≤ distant
+  elsewhere mark is leads = ground.tracking.apart call.from stands_at ground.inside
+      (stands-in laws.marks setting call.sub history ground.few ground.legal first) (λ same. elim leads [
+        | inl none ↦ none-empty laws.marks setting call.sub history ground.few ground.legal first
             (ap (mark_seen setting call.sub (before first history)) (sym same) ∙ (is ∙ none))
-        | inr gone ↦ none-gone laws.marks setting call.sub history terms.few terms.legal first gone.0 gone.1
+        | inr gone ↦ none-gone laws.marks setting call.sub history ground.few ground.legal first gone.0 gone.1
             (ap (mark_seen setting call.sub (before first history)) (sym same) ∙ (is ∙ gone.2))
       ])
 
   -- a Coming there
   module _ (q from : ℕ) (comes : mark_seen setting call.sub (before first history) call.from ≡ Coming q from) where
-    its_coming : IsComing laws.marks setting call.sub history terms.few terms.legal first call.from q from
-    its_coming = coming-is laws.marks setting call.sub history terms.few terms.legal first call.from q from
+    its_coming : IsComing laws.marks setting call.sub history ground.few ground.legal first call.from q from
+    its_coming = coming-is laws.marks setting call.sub history ground.few ground.legal first call.from q from
         (subst (MarkTells setting call.sub (before first history) call.from) comes
-        (laws.marks.marks setting call.sub (before first history) terms.few
-        (its_legal laws.marks setting call.sub history terms.few terms.legal first) call.from terms.inside))
+        (laws.marks.marks setting call.sub (before first history) ground.few
+        (its_legal laws.marks setting call.sub history ground.few ground.legal first) call.from ground.inside))
 
-    stood-no : stood_at ≡ stop_of (start setting call.sub) moves (number call.sub (before first history))
-    stood-no = stands-there laws.marks setting call.sub history terms.few terms.legal first
+    stood-no : stands_at ≡ stop_of (start setting call.sub) all_moves (number call.sub (before first history))
+    stood-no = stands-there laws.marks setting call.sub history ground.few ground.legal first
 
-    within-reach : reach ≤ stretch width most_readers * reach
-    within-reach = omega (arith, priced most_readers width 0 reach (omega arith))
-
-    back-on : setting.distance call.from from + travelled moves (number call.sub (before last history))
-        ≤ most + travelled moves (q - 1)
+    back-on : setting.distance call.from from + travelled all_moves (number call.sub (before last history))
+        ≤ most + travelled all_moves (q - 1)
     back-on = elim its_coming.by [
       | inl early ↦
           let e : q - 1 ≡ number call.sub (before first history) = omega (arith, early) in
           omega (
             arith,
             terms.spends,
-            terms.pays,
-            terms.far,
-            within-reach,
-            ap (setting.distance call.from) (its_coming.leads ∙ (ap (stop_of (start setting call.sub) moves) e ∙ sym stood-no)),
-            ap (travelled moves) e,
+            terms.least,
+            ap (setting.distance call.from) (its_coming.leads ∙ (ap (stop_of (start setting call.sub) all_moves) e ∙ sym stood-no)),
+            ap (travelled all_moves) e,
           )
       | inr late ↦
           let e : suc (q - 1) ≡ number call.sub (before first history) = omega (arith, late.0, its_coming.some) in
-          let found = slice_get-within moves (q - 1) (omega (
+          let found = slice_get-within all_moves (q - 1) (omega (
             arith,
             e,
-            count-begun laws.marks setting call.sub history terms.few terms.legal first,
-            begun-low laws.marks setting call.sub history terms.few terms.legal first,
+            count-begun laws.marks setting call.sub history ground.few ground.legal first,
+            begun-low laws.marks setting call.sub history ground.few ground.legal first,
           )) in
-          let step : travelled moves (suc (q - 1)) ≡ travelled moves (q - 1) + found.0.weight =
-          travelled-step moves (q - 1) found.0 found.1 in
-          let weighs : found.0.weight ≡ setting.distance (stop_of (start setting call.sub) moves (q - 1)) found.0.to =
-          ((placed laws.marks setting call.sub history terms.few terms.legal).each (q - 1) found.0 found.1).weight in
+          let step : travelled all_moves (suc (q - 1)) ≡ travelled all_moves (q - 1) + found.0.weight =
+          travelled-step all_moves (q - 1) found.0 found.1 in
+          let weighs : found.0.weight ≡ setting.distance (stop_of (start setting call.sub) all_moves (q - 1)) found.0.to =
+          ((placed laws.marks setting call.sub history ground.few ground.legal).each (q - 1) found.0 found.1).weight in
           let goes : found.0.to ≡ call.from =
-          sym (stop-after (start setting call.sub) moves (q - 1) found.0 found.1)
-          ∙ (ap (stop_of (start setting call.sub) moves) e ∙ (sym stood-no ∙ sym late.1)) in
+          sym (stop-after (start setting call.sub) all_moves (q - 1) found.0 found.1)
+          ∙ (ap (stop_of (start setting call.sub) all_moves) e ∙ (sym stood-no ∙ sym late.1)) in
           let opened : passage setting call.sub (before first history) ≡ setting.distance from call.from =
-          laws.opens setting call.sub (before first history) terms.few
-          (its_legal laws.marks setting call.sub history terms.few terms.legal first) call.from q from terms.inside comes
+          laws.opens setting call.sub (before first history) ground.few
+          (its_legal laws.marks setting call.sub history ground.few ground.legal first) call.from q from ground.inside comes
           late.0 in
           omega (
             arith,
             terms.spends,
-            terms.pays,
+            terms.least,
             step,
             weighs,
-            ap (setting.distance (stop_of (start setting call.sub) moves (q - 1))) goes,
+            ap (setting.distance (stop_of (start setting call.sub) all_moves (q - 1))) goes,
             ap (λ n. setting.distance n call.from) its_coming.leads,
-            ap (travelled moves) e,
+            ap (travelled all_moves) e,
             opened,
-            terms.tracking.metric.both_ways call.from from terms.inside its_coming.inside,
+            ground.tracking.metric.both_ways call.from from ground.inside its_coming.inside,
           )
     ]
 
@@ -307,9 +272,9 @@ module _ (laws : PriceLaws) (setting : Setting) (width most_readers : ℕ) (hist
       enough = omega (
         arith,
         back-on,
-        travelled-more moves (q - 1) (number call.sub (before last history)) (omega (
+        travelled-more all_moves (q - 1) (number call.sub (before last history)) (omega (
           arith,
-          number-more call.sub first last history terms.order,
+          number-more call.sub first last history ground.order,
           committed its_coming.by,
         )),
       );
@@ -319,30 +284,30 @@ module _ (laws : PriceLaws) (setting : Setting) (width most_readers : ℕ) (hist
         (again-is y further again).last,
         its_coming.last,
         its_coming.some,
-        begun-more laws.marks setting call.sub history terms.few terms.legal first y later,
+        begun-more laws.marks setting call.sub history ground.few ground.legal first y later,
       ));
     }
       where
         committed : (q ≡ suc (number call.sub (before first history)))
-            ⊎ ((q ≡ number call.sub (before first history)) × (call.from ≡ stood_at))
+            ⊎ ((q ≡ number call.sub (before first history)) × (call.from ≡ stands_at))
             → q - 1 ≤ number call.sub (before first history)
         committed (inl early) = omega (arith, early)
         committed (inr late) = omega (arith, late.0)
 
         again-is : (y further : ℕ) → mark_seen setting call.sub (before y history) from ≡ Coming (q - 1) further
-            → IsComing laws.marks setting call.sub history terms.few terms.legal y from (q - 1) further
-        again-is y further again = coming-is laws.marks setting call.sub history terms.few terms.legal y from (q - 1) further
+            → IsComing laws.marks setting call.sub history ground.few ground.legal y from (q - 1) further
+        again-is y further again = coming-is laws.marks setting call.sub history ground.few ground.legal y from (q - 1) further
             (subst (MarkTells setting call.sub (before y history) from) again
-            (laws.marks.marks setting call.sub (before y history) terms.few
-            (its_legal laws.marks setting call.sub history terms.few terms.legal y) from its_coming.inside))
+            (laws.marks.marks setting call.sub (before y history) ground.few
+            (its_legal laws.marks setting call.sub history ground.few ground.legal y) from its_coming.inside))
 
   origin-on : (mark : PresenceMark) → mark_seen setting call.sub (before first history) call.from ≡ mark
       → GoesOn first (after_origin setting call mark)
-  origin-on Empty is = climb-on first None 0 _ terms.order (elsewhere Empty is (inl refl))
+  origin-on Empty is = climb-on first None 0 _ ground.order (elsewhere Empty is (inl refl))
       (climbed-none setting history call first first)
   origin-on (Here p) is = omega arith
   origin-on (Off p) is = omega arith
-  origin-on (Gone p to) is = climb-on first (Some p) 0 _ terms.order (elsewhere (Gone p to) is (inr (p, to, refl)))
+  origin-on (Gone p to) is = climb-on first (Some p) 0 _ ground.order (elsewhere (Gone p to) is (inr (p, to, refl)))
       (climbed-none setting history call first first)
   origin-on (Coming q from) is = coming-on q from is
 
@@ -359,12 +324,12 @@ module _ (laws : PriceLaws) (setting : Setting) (width most_readers : ℕ) (hist
   look-on t u (chases chase node) key low later by within wanted now =
       let e : Presence node call.sub ≡ key = cc in
       subst (λ k. GoesOn u (after_word setting call (chases chase node) (cell setting (before u history) k))) e
-      (chase-on u _ (mark-paid laws.marks setting call.sub history terms.few terms.legal terms.tracking.metric last most t u
+      (chase-on u _ (mark-paid laws.marks setting call.sub history ground.few ground.legal ground.tracking.metric last most t u
       chase node now (omega (arith, later)) by within (mark_seen setting call.sub (before u history) node) refl))
   look-on t u (ended found) key low later by within wanted now = cc
 
   -- all of them
-  find-on : (actor : ℕ) (found : Found) (tickets : List ℕ) → first ≡ first_of tickets → last ≡ last_of tickets
+  pub find-on : (actor : ℕ) (found : Found) (tickets : List ℕ) → first ≡ first_of tickets → last ≡ last_of tickets
       → IsFind setting history actor call found tickets → found_weight found ≤ most
   find-on actor found tickets is_first is_last find =
       (looks-end setting history actor call last (λ t pursuit. (first ≤ t) × GoesOn t pursuit)
@@ -387,115 +352,3 @@ module _ (laws : PriceLaws) (setting : Setting) (width most_readers : ℕ) (hist
           subst (λ n. GoesOn n (after_word setting call at_origin (cell setting (before n history) key))) same
           (subst (λ k. GoesOn first (after_word setting call at_origin (cell setting (before first history) k))) e
           (origin-on (mark_seen setting call.sub (before first history) call.from) refl))
-
--- ---- the terms of a find
-pub in-dropped : {A : Type 0} (xs : List A) (b i : ℕ) → slice_get (drop b xs) i ≡ slice_get xs (b + i)
-in-dropped xs zero i = let e : 0 + i ≡ i = omega arith in rw e refl
-in-dropped [] (suc b) i = refl
-in-dropped (x ∷ xs) (suc b) i = let e : suc b + i ≡ suc (b + i) = omega arith in rw e (in-dropped xs b i)
-
-in-taken : {A : Type 0} (n : ℕ) (xs : List A) (i : ℕ) → i < n → slice_get (take n xs) i ≡ slice_get xs i
-in-taken zero xs i low = absurd (omega (arith, low))
-in-taken (suc n) [] i low = refl
-in-taken (suc n) (x ∷ xs) zero low = refl
-in-taken (suc n) (x ∷ xs) (suc i) low = in-taken n xs i (omega (arith, low))
-
-greatest-grows : (setting : Setting) (xs : List Move) (most : ℕ)
-    → most ≤ fold (λ most (move : Move). max most (setting.threshold move.renewed)) most xs
-greatest-grows setting [] most = omega arith
-greatest-grows setting (x ∷ xs) most =
-    omega (arith, greatest-grows setting xs (max most (setting.threshold x.renewed)))
-
-greatest-has : (setting : Setting) (xs : List Move) (most i : ℕ) (move : Move) → slice_get xs i ≡ Some move
-    → setting.threshold move.renewed ≤ fold (λ most (m : Move). max most (setting.threshold m.renewed)) most xs
-greatest-has setting [] most i move h = cc
-greatest-has setting (x ∷ xs) most zero move h =
-    let e : x ≡ move = cc in
-    omega (
-      arith,
-      greatest-grows setting xs (max most (setting.threshold x.renewed)),
-      ap (λ (m : Move). setting.threshold m.renewed) e,
-    )
-greatest-has setting (x ∷ xs) most (suc i) move h =
-    greatest-has setting xs (max most (setting.threshold x.renewed)) i move h
-
--- a move within is one of the moves within
-pub within-listed : (setting : Setting) (sub : ℕ) (history : History) (first last : ℕ) (move : Move)
-    → IsWithin setting sub history first last move
-    → slice_get (moves_within setting sub history first last) (move.number - 1 - number sub (before first history))
-    ≡ Some move
-within-listed setting sub history first last move is =
-    in-dropped (take (number sub (before last history)) (moves_of setting sub history)) (number sub (before first history))
-    (move.number - 1 - number sub (before first history))
-    ∙ (ap (slice_get (take (number sub (before last history)) (moves_of setting sub history)))
-    (let e : number sub (before first history) + (move.number - 1 - number sub (before first history)) ≡ move.number - 1 =
-    omega (arith, is.after) in e)
-    ∙ (in-taken (number sub (before last history)) (moves_of setting sub history) (move.number - 1)
-    (omega (arith, is.after, is.by)) ∙ is.is))
-
--- what the moves within weigh
-pub spent-within : (setting : Setting) (sub : ℕ) (history : History) (first last : ℕ) → first ≤ last
-    → travelled (moves_of setting sub history) (number sub (before last history))
-    ≡ travelled (moves_of setting sub history) (number sub (before first history))
-    + weight_of (moves_within setting sub history first last)
-spent-within setting sub history first last h =
-    let n : ℕ = number sub (before first history) in
-    let m : ℕ = number sub (before last history) in
-    let front : take n (take m (moves_of setting sub history)) ≡ take n (moves_of setting sub history) =
-    take-take n m (moves_of setting sub history) (number-more sub first last history h) in
-    ap (sum_by (λ (x : Move). x.weight)) (sym (take-append-drop n (take m (moves_of setting sub history))))
-    ∙ (sum_by-append (λ (x : Move). x.weight) (take n (take m (moves_of setting sub history)))
-    (drop n (take m (moves_of setting sub history)))
-    ∙ ap (λ xs. sum_by (λ (x : Move). x.weight) xs + weight_of (moves_within setting sub history first last)) front)
-
--- the first look of a find isn't after its last
-pub in-order : {setting : Setting} {history : History} {actor : ℕ} {call : FindCall} {found : Found} {tickets : List ℕ}
-    → IsFind setting history actor call found tickets → first_of tickets ≤ last_of tickets
-in-order {setting} {history} {actor} {call} {found} {tickets} find =
-    looks-end setting history actor call (last_of tickets) (λ t pursuit. first_of tickets ≤ t)
-    (λ t u pursuit key later by is_look wanted now. omega (arith, now, later)) tickets find (omega arith)
-    (λ t key at_first by is_look wanted. omega (arith, at_first))
-
-pub have-price : PriceLaws → FindsHaveTheirPrice
-have-price laws setting width most_readers history actor call found tickets few tracking half inside legal find =
-    find-on laws setting width most_readers history call (first_of tickets) (last_of tickets)
-    (max (setting.distance call.from (standing setting call.sub (before (first_of tickets) history)))
-    (greatest_threshold setting (moves_within setting call.sub history (first_of tickets) (last_of tickets))))
-    (weight_of (moves_within setting call.sub history (first_of tickets) (last_of tickets)))
-    (price setting width most_readers call (before (first_of tickets) history)
-    (moves_within setting call.sub history (first_of tickets) (last_of tickets)))
-    (record {
-      few = few;
-      tracking = tracking;
-      inside = inside;
-      legal = legal;
-      order = order;
-      far = omega arith;
-      moves = λ move is. omega (
-        arith,
-        greatest-has setting (moves_within setting call.sub history (first_of tickets) (last_of tickets)) 0 _ move
-            (within-listed setting call.sub history (first_of tickets) (last_of tickets) move is),
-        half move.renewed (((moves-in-place history legal).each (move.number - 1) move is.is).low),
-      );
-      spends = spent-within setting call.sub history (first_of tickets) (last_of tickets) order;
-      pays = omega arith;
-    }) actor found tickets refl refl find
-  where
-    order : first_of tickets ≤ last_of tickets
-    order = in-order find
-
-pub between-commits : PriceLaws → FindsBetweenCommits
-between-commits laws setting width most_readers history actor call found tickets few tracking inside legal find same =
-    find-on laws setting width most_readers history call (first_of tickets) (last_of tickets)
-    (setting.distance call.from (standing setting call.sub (before (first_of tickets) history))) 0 _
-    (record {
-      few = few;
-      tracking = tracking;
-      inside = inside;
-      legal = legal;
-      order = in-order find;
-      far = omega arith;
-      moves = λ move is. absurd (omega (arith, is.after, is.by, same));
-      spends = omega (arith, ap (travelled (moves_of setting call.sub history)) same);
-      pays = omega arith;
-    }) actor found tickets refl refl find

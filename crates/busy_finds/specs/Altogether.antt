@@ -1,15 +1,19 @@
 -- Finds of one subscriber that follow one another, as those of one caller do: what they weigh in
 -- all. Each move is charged to one of them at most, and what a subscriber's moves gather is in all
 -- at most what it moved, once for each level.
--- Key laws: `finds_in_turn_are_bounded`.
-use Rattle.std.specs.Prelude.{◌≡◌, ℕ, ◌+◌, ◌*◌, ◌<◌, ◌≤◌, ◌^◌, List, [], ◌∷◌, sum_by}
+-- Key laws: `finds_in_turn_are_bounded`, `missed_finds_are_few`.
+use Rattle.std.specs.Prelude.{◌≡◌, ℕ, ◌+◌, ◌*◌, ◌<◌, ◌≤◌, ◌==◌, ◌^◌, if◌then◌else◌, List, [], ◌∷◌, sum_by}
 use Rattle.directory.specs.Settings.{levels, Setting}
 use Rattle.directory.specs.Histories.{before, History}
+use Rattle.directory.specs.Courses.{Move}
 use Rattle.directory.specs.Legal.{IsLegal}
 use Rattle.directory.specs.Finds.{FindCall, found_weight}
 use Rattle.directory.specs.Looks.{first_of, IsFind, last_of}
 use Rattle.directory.specs.Standing.{passage, standing}
 use Rattle.directory.specs.declared.answers.Found.{Found}
+use Rattle.directory.specs.declared.answers.Found.TheVariants.{At, Off as OffAt, Again}
+use Rattle.directory.specs.declared.answers.Why.TheVariants.{Empty as EmptyAt, NoEntry, Chased}
+use Rattle.trail_laws.specs.Rightness.{ReadsTop}
 use Rattle.stretch_laws.specs.Tracking.{IsTracking, stretch}
 use Rattle.busy_finds.specs.Prices.{GathersHalf, weight_of}
 use Rattle.busy_finds.specs.Within.{moves_of}
@@ -65,3 +69,25 @@ FindsInTurnAreBounded =
     * (distance_in_all setting history finds
     + levels setting * weight_of (moves_of setting sub history))
     + 2 * passages_in_all setting history finds
+
+-- 1 for an answer that no address was met, and 0 for another
+abbrev pub missed_once : Found → ℕ
+missed_once (At node number level weight) = 0
+missed_once (OffAt node number level weight) = 0
+missed_once (Again (EmptyAt node) weight) = 0
+missed_once (Again NoEntry weight) = 1
+missed_once (Again Chased weight) = 0
+
+-- 1 for a move that renews the top level, and 0 for another
+abbrev pub top_once : Setting → Move → ℕ
+top_once setting move = if move.renewed == setting.top then 1 else 0
+
+-- of finds of a subscriber in turn no more met no address than moves of the subscriber renewed the
+-- top level (`missed_finds_are_few`)
+abbrev pub MissedFindsAreFew : Type 0
+MissedFindsAreFew =
+    (setting : Setting) (history : History) (sub : ℕ) (finds : List MadeFind)
+    → setting.nodes ≤ 2 ^ 16 → ReadsTop setting → IsLegal setting sub history
+    → AreInTurn setting history sub 0 finds
+    → sum_by (λ find. missed_once find.found) finds
+    ≤ sum_by (top_once setting) (moves_of setting sub history)

@@ -1,4 +1,5 @@
 //! Laws of finds that are to be made again.
+ghost use Rattle.busy_finds.specs.Altogether.{MissedFindsAreFew};
 ghost use Rattle.busy_finds.specs.Within.{NoEntryMeetsTop};
 
 use directory::{commits_are_moves, legal_is_amid, read_of_legal, told_by_writes};
@@ -13,4 +14,12 @@ pub fn no_entry_meets_the_top()
     told_by_writes();
     commits_are_moves();
     front_of_history_is_legal();
+}
+
+/// Of finds of a subscriber that follow one another no more met no address than moves of the
+/// subscriber renewed the top level.
+pub fn missed_finds_are_few()
+    ensures { MissedFindsAreFew }
+{
+    no_entry_meets_the_top();
 }

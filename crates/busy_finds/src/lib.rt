@@ -9,8 +9,8 @@ mod outcomes;
 mod plans;
 mod prices;
 
-pub use again::no_entry_meets_the_top;
+pub use again::{missed_finds_are_few, no_entry_meets_the_top};
 pub use examples::line_price;
 pub use outcomes::plan_outcomes_are_priced;
 pub use plans::{plan_finds_are_bounded, plan_finds_in_turn_are_bounded, plans_gather_half};
-pub use prices::{every_find_has_its_price, finds_in_turn_are_bounded};
+pub use prices::{every_find_has_its_price, finds_end_by_level, finds_in_turn_are_bounded};

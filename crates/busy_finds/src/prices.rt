@@ -1,5 +1,6 @@
 //! Laws of the weight of finds, quiet or not.
 ghost use Rattle.busy_finds.specs.Altogether.{FindsInTurnAreBounded};
+ghost use Rattle.busy_finds.specs.Levels.{FindsEndByLevel, FindsKeepAnyStretch, FindsKeepOwnStretch};
 ghost use Rattle.busy_finds.specs.Prices.{EveryFindIsBounded, FindsBetweenCommits, FindsHaveTheirPrice};
 
 use directory::{
@@ -46,4 +47,30 @@ pub fn finds_in_turn_are_bounded()
     ensures { FindsInTurnAreBounded }
 {
     every_find_has_its_price();
+}
+
+/// A find whose climb ends at or below a level weighs at most what its origin's readers up to that
+/// level cost, its distance, twice the passage that was open before its first look, and the weight
+/// of the moves within. So a find with no commit within keeps to a setting's own stretch, which may
+/// be far less than that of all settings, and each find to its price by such a stretch.
+pub fn finds_end_by_level()
+    ensures levels { FindsEndByLevel }
+    ensures own { FindsKeepOwnStretch }
+    ensures any { FindsKeepAnyStretch }
+{
+    legal_is_amid();
+    read_of_legal();
+    told_by_writes();
+    commits_are_moves();
+    cell_after();
+    same_key_means();
+    front_of_history_is_legal();
+    levels_stay_near();
+    marks_tell();
+    entries_tell();
+    coming_stands();
+    phases_cover();
+    marks_lead();
+    passage_is_open();
+    reading_is_bounded();
 }

@@ -1,6 +1,6 @@
 use Rattle.busy_finds.proofs.Beyond.{PriceLaws}
 use Rattle.busy_finds.proofs.Bounded.{every-bounded}
-use Rattle.busy_finds.proofs.Price.{between-commits, have-price}
+use Rattle.busy_finds.proofs.ByStretch.{between-commits, have-price}
 use Rattle.busy_finds.proofs.prices.every_find_has_its_price.Goals as goal
 
 pub returns : goal.returns

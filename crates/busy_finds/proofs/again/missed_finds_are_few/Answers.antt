@@ -1,0 +1,5 @@
+use Rattle.busy_finds.proofs.Missed.{missed-few}
+use Rattle.busy_finds.proofs.again.missed_finds_are_few.Goals as goal
+
+pub returns : goal.returns
+returns c = missed-few c.no_entry_meets_the_top.ensures
