@@ -1,8 +1,8 @@
 #!/usr/bin/env python3
 """Runs what pages tell their readers to type, and holds what comes to what the pages show. A block of lines that are indented by
-four spaces and begin with '$ ' is such: a line '$ COMMAND' is run by sh, and the lines behind it, up to the next command, are what it
+four spaces and begin with '$ ' is such: a line '$ COMMAND' is run by sh, and the lines after it, up to the next command, are what it
 writes to standard output and standard error. '...' at the end of a block stands for whatever else it writes. A line '[STATUS]'
-behind them is its exit status, where that isn't 0.
+after them is its exit status, where that isn't 0.
 
 Usage, at the top of the repository: bench/check_pages.py PAGE..
 

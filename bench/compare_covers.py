@@ -73,7 +73,7 @@ def plan_parts(lines):
 
 
 def input_with_finds(n, k, es, distance, near):
-    """Moves from anywhere to anywhere, and behind them finds from nearby or from anywhere."""
+    """Moves from anywhere to anywhere, and after them finds from nearby or from anywhere."""
     draw = Draw(n)
     homes = [draw.below(n) for _ in range(SUBS)]
     lines = ["track 2", f"nodes {n}", f"k {k}"] + [f"edge {a} {b} {w}" for a, b, w in es]
