@@ -17,11 +17,12 @@ import subprocess
 import sys
 
 sys.dont_write_bytecode = True
+sys.path.insert(0, os.path.join(os.path.dirname(os.path.realpath(__file__)), "../scripts"))
 from networks import KINDS, edges  # noqa: E402
+from program import tried_program  # noqa: E402
 
 KINDS = KINDS + ["random"]
-os.environ.setdefault("TRACK_PROVED", "1")
-OURS = os.environ.get("TRACK", "./track")
+OURS = tried_program()
 SUBS, CALLERS, MOVES, FINDS = 8, 8, 32, 512
 NEAR = 4
 
