@@ -9,7 +9,6 @@ of a caller in all to theirs. An Again that met no entry has a move within that 
 
 Usage, at the top of the repository: bench/check_bounds.py [--long]    The loads are 200, and 10,000 with --long. TRACK names the
 program, ./track where it isn't set."""
-import os
 import pathlib
 import subprocess
 import sys
