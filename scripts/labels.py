@@ -2,6 +2,7 @@
 import math
 
 SIZES = (11, 9, 7.5, 6.5, 5.5)  # of letters, the largest first
+LEAST = 0.5  # of letters on nodes that lie one over another
 WIDE, HIGH = 0.66, 0.95  # of a letter over its size: as wide as digits are in the common fonts
 SIDES = ((0, -1), (0, 1), (1, 0), (-1, 0), (0.75, -0.75), (-0.75, -0.75), (0.75, 0.75), (-0.75, 0.75))
 
@@ -38,18 +39,20 @@ def nearest_gap(at, node):
 
 
 def placed(at, names, must, radius):
-    """For names of nodes, by node: the middle of each and its size, without one over another, nor over a node. Those that must stand
-    come first, and where no side has room they stand on their node, as small as the next node makes them; others are left out."""
+    """For names of nodes, by node: what stands, its middle and its size, without one over another, nor over another's node. Those
+    that must stand come first: where a name has no room its first word has, the node's number; and where that has none beside its
+    node it stands on it, as small as need be. Others are left out."""
     taken, places = Grid(24), {}
     for node, (x, y) in enumerate(at):
         taken.add(box_round(x, y, 2 * radius, 2 * radius), node)
     for node in sorted(names, key=lambda node: (node not in must, node)):
-        place = beside(at[node], names[node], radius, taken)
+        number = names[node].split(" ")[0]
+        told = names[node] if (place := beside(at[node], names[node], radius, taken)) else number
         if place is None and node in must:
-            place = over(at, node, names[node])
+            place = beside(at[node], number, radius, taken) or over(at, node, number, taken)
         if place is not None:
-            taken.add(box_of(place, names[node]))
-            places[node] = place
+            taken.add(box_of(place, told))
+            places[node] = told, *place
     return places
 
 
@@ -69,7 +72,11 @@ def beside(where, name, radius, taken):
     return None
 
 
-def over(at, node, name):
-    """On the node itself: its box lies within half the way to the next node, as those of all names do that stand so."""
+def over(at, node, name, taken):
+    """On the node itself: its box lies within half the way to the next node, as those of all names do that stand so, and meets no
+    other, unless nodes lie one over another."""
     long = math.hypot(WIDE * len(name), HIGH)
-    return *at[node], min(SIZES[-1], 0.95 * nearest_gap(at, node) / long)
+    place = *at[node], min(SIZES[-1], 0.95 * nearest_gap(at, node) / long)
+    while place[2] > LEAST and not taken.is_free(box_of(place, name), node):
+        place = *at[node], 0.8 * place[2]
+    return place
