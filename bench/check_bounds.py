@@ -9,7 +9,6 @@ of a caller in all to theirs. An Again that met no entry has a move within that 
 
 Usage, at the top of the repository: bench/check_bounds.py [--long]    The loads are 200, and 10,000 with --long. TRACK names the
 program, ./track where it isn't set."""
-import os
 import pathlib
 import subprocess
 import sys
@@ -19,9 +18,9 @@ sys.path.insert(0, str(pathlib.Path(__file__).resolve().parent.parent / "scripts
 import directory  # noqa: E402
 import loads  # noqa: E402
 import texts  # noqa: E402
+from program import tried_program  # noqa: E402
 
-os.environ.setdefault("TRACK_PROVED", "1")
-PROGRAM = os.environ.get("TRACK", "./track")
+PROGRAM = tried_program()
 FALSE = pathlib.Path("examples/false-bounds")
 Move = namedtuple("Move", "start to weight level gathered commit confirm")
 Priced = namedtuple("Priced", "find first_apart last_apart least_apart first_open last_open within")
