@@ -202,7 +202,7 @@ module _ (setting : Setting) (sub : ℕ) (before : List Step) where
   at-rest script = after-steps setting (course_at (start setting sub)) (opening_entry setting sub) before
       (record { begins = script.begins; each = λ i move h. cc }) script.allowed (opens setting sub script.known)
 
-  counted : (ws : List Write) → length (filter_map write_commit (made_before ++ ws))
+  pub counted : (ws : List Write) → length (filter_map write_commit (made_before ++ ws))
       ≡ length done.moves + length (filter_map write_commit ws)
   counted ws = omega (
     arith,

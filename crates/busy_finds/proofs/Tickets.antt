@@ -42,7 +42,7 @@ in-front (suc n) (y ∷ xs) (suc i) x h = in-front n xs i x h
 
 -- what has an image in a list
 module _ {A B : Type 0} (f : A → B) where
-  mapped-at : (xs : List A) (i : ℕ) (y : B) → slice_get (map f xs) i ≡ Some y
+  pub mapped-at : (xs : List A) (i : ℕ) (y : B) → slice_get (map f xs) i ≡ Some y
       → (x : A) × (slice_get xs i ≡ Some x) × (f x ≡ y)
   mapped-at [] i y h = cc
   mapped-at (x ∷ xs) zero y h = (x, refl, same_some h)
