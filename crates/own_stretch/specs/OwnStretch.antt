@@ -1,7 +1,7 @@
--- The own stretches of a setting, as numbers: how many times its distance a find may weigh while its
--- subscriber stays where it is, and how many times that, or what moves renew, any find may. Both are
--- told by what finds from each node pay up to each level (`cost_up_to` of busy_finds), which may be
--- far less than the stretch of all settings says.
+-- The own stretches of a setting, as numbers: how many times its distance a find may weigh while
+-- its subscriber stays where it is, and how many times that, or the greatest threshold that moves
+-- reach, any find may. Both are told by what finds from each node pay up to each level
+-- (`cost_up_to` of busy_finds), which may be far less than the stretch of all settings says.
 -- Key laws: `own_stretches_are_least` (no lesser numbers bound what is paid); over plans,
 -- `plan_finds_keep_own_stretch`.
 use Rattle.std.specs.Prelude.{ℕ, zero, suc, ◌+◌, ◌/◌, ◌%◌, ◌≤◌, ◌==◌, if◌then◌else◌, max, min}
