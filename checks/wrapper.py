@@ -199,17 +199,17 @@ def play_words(ground):
     """Words for which nothing is built, and what is said at a terminal."""
     ground.edit("low", "// words\n")
     ground.commit()
-    for words in ([], ["--help"], ["-h"], ["help"], ["--version"], ["covr"], ["prove", "all"], ["cover", "file"]):
+    for words in ([], ["--help"], ["-h"], ["help"], ["--version"], ["covr"], ["prove", "all"], ["cover", "file"], ["make", "1"]):
         wants(words, ground.run(*words), (2, "", ""))
         status, out, err = at_terminal(ground, words)
         wants(words, (status, out, bool(err)), (2, "", True))
         wants(words, (KIT_LINE if words == ["--version"] else "./track WORD < INPUT") in err, True)
     wants("nothing is built", ground.deeds(), [])
     ground.run("cover")
-    for word, waits in (("cover", "an input"), ("check", "an input, a line 'report' and a report"), ("make", None)):
-        _, out, err = at_terminal(ground, [word], with_input=True)
+    for words, waits in ((["cover"], "an input"), (["check"], "an input, a line 'report' and a report"), (["make", *"123456"], None)):
+        _, out, err = at_terminal(ground, words, with_input=True)
         waiting = f"track: waiting for {waits} on standard input; Ctrl-D ends it\n" if waits else ""
-        wants(word, (out, err), (f"{word} unproved\n", WARNING + waiting))
+        wants(words, (out, err), (f"{' '.join(words)} unproved\n", WARNING + waiting))
 
 
 def compare_words():

@@ -149,9 +149,8 @@ def whole(links: list[tuple[int, int, float]], unit: float, notes: list[str]) ->
         pair = (min(a, b), max(a, b))
         lightest[pair] = min(units, lightest.get(pair, units))
     if rounded:
-        shortest = min(weight for _, _, weight in links)
-        notes.append(f"{rounded} weights are rounded by more than 5 %; --unit measures in smaller units: about the shortest link, "
-                     f"here {shortest:.3g}, is a good one, and with a smaller one moves weigh more")
+        notes.append(f"{rounded} weights are rounded by more than 5 %; with --unit {unit / 10:.3g} they are rounded less, "
+                     "and moves weigh more")
     return [(a, b, weight) for (a, b), weight in sorted(lightest.items())]
 
 

@@ -25,9 +25,12 @@ def share(part: float | None) -> str:
     return f"{100 * part:.{decimals}f} %"
 
 
+HARDLY_ANY = 0.005  # finds a move, below which a load has moves alone
+
+
 def wins_words(row: Row, other: Row) -> str:
     where = wins(row, other) if row is not other else None
-    return where.words(ratio) if where else NONE
+    return where.words(ratio, HARDLY_ANY) if where else NONE
 
 
 Line = tuple[str, Callable[[Row], str]]
@@ -127,8 +130,8 @@ def heads(rows: list[Row], wide: list[int], first: int) -> str:
 def cheapest_words(rows: list[Row]) -> str:
     """Over which cover this load weighs least, and what the cheapest of the others weighs beside that."""
     best, other = cheapest([row for row in rows if row.covers]), cheapest([row for row in rows if row.covers is None])
-    beside = f" ({other.name}: {ratio(over(other, best))} times that)" if best.total() else ""
-    return f"cheapest here: {full_name(best)}{beside}"
+    beside = f"; {other.name}: {ratio(over(other, best))} times that" if best.total() else ""
+    return f"the cheapest cover here: {full_name(best)}{beside}"
 
 
 def nodes_text(rows: list[Row], names: list[str]) -> str:
