@@ -20,20 +20,14 @@ use Rattle.trail_laws.specs.Trail.{EntriesTell, entry_seen, EntryTells, mark_see
 use Rattle.trail_laws.specs.Ways.{PassagesAreOpen}
 use Rattle.stretch_laws.specs.Costs.{ReadingIsBounded}
 use Rattle.stretch_laws.specs.Tracking.{IsTracking}
+use Rattle.busy_finds.specs.LawsBelow.{PriceLaws}
 use Rattle.busy_finds.specs.Within.{moves_of}
 use Rattle.busy_finds.proofs.Chase.{IsPaid}
 use Rattle.busy_finds.proofs.Fronts.{more-commits, more-puts, number-more}
 use Rattle.busy_finds.proofs.Moves.{AreInPlace, stop-after, stop-inside, stop_of}
 use Rattle.busy_finds.proofs.Older.{none-older}
 use Rattle.busy_finds.proofs.Sums.{below-steps, StayBelow, travelled, travelled-more, travelled-step, way-within}
-use Rattle.busy_finds.proofs.Tickets.{begun-low, begun-more, coming-is, count-begun, first-moves, IsComing, its_legal, MarkLaws, placed, stands-in, stands-there, stop-then}
-
--- what is used of the laws
-pub record PriceLaws : Type 0 where
-  pub marks : MarkLaws
-  pub entries : EntriesTell
-  pub opens : PassagesAreOpen
-  pub reading : ReadingIsBounded
+use Rattle.busy_finds.proofs.Tickets.{begun-low, begun-more, coming-is, count-begun, first-moves, IsComing, its_legal, placed, stands-in, stands-there, stop-then}
 
 -- what stands before a find: the setting tracks its subscribers, and the history is legal
 pub record Ground (setting : Setting) (width most_readers : ℕ) (history : History) (call : FindCall)

@@ -8,6 +8,9 @@ mod Sums
 mod Only
 mod Older
 mod Tickets
+mod Written
+mod Parts
+mod Cleaning
 mod Chase
 mod Beyond
 mod Price

@@ -17,9 +17,10 @@ use Rattle.directory.specs.declared.answers.Found.TheVariants.{At, Off as OffAt,
 use Rattle.directory.specs.declared.answers.Why.{Why}
 use Rattle.directory.specs.declared.answers.Why.TheVariants.{Empty as EmptyAt, NoEntry, Chased}
 use Rattle.trail_laws.specs.Trail.{entry_seen}
+use Rattle.busy_finds.specs.LawsBelow.{HistoryFacts}
 use Rattle.busy_finds.specs.Within.{IsWithin, moves_of, NoEntryMeetsTop}
 use Rattle.busy_finds.proofs.Current.{current}
-use Rattle.busy_finds.proofs.Fronts.{committed-by, gone-renewed, HistoryFacts, legal-at, moves-in-place, within-whole}
+use Rattle.busy_finds.proofs.Fronts.{committed-by, gone-renewed, legal-at, moves-in-place, within-whole}
 use Rattle.busy_finds.proofs.Looks.{Climbed, climbed-more, climbed-none, in-rows, looks-end, WasEmpty, WereEmpty}
 use Rattle.busy_finds.proofs.Moves.{base-within, stop-inside}
 

@@ -17,8 +17,9 @@ use Rattle.directory.specs.ListLaws.{same_some}
 use Rattle.directory.specs.States.{entry_after, opening_entry, writes_made}
 use Rattle.directory.specs.Writes.{entry_at, erasure_writes, mark_at, move_writes, new_address, numbers_from, purge_writes, step_writes, Write, writes}
 use Rattle.trail_laws.specs.Trail.{entry_seen}
+use Rattle.busy_finds.specs.LawsBelow.{WriteLaws}
 use Rattle.busy_finds.specs.Within.{moves_of}
-use Rattle.busy_finds.proofs.Current.{entries_after, made_before, script-before, WriteLaws}
+use Rattle.busy_finds.proofs.Current.{entries_after, made_before, script-before}
 use Rattle.busy_finds.proofs.Kept.{held_after, late}
 use Rattle.busy_finds.proofs.Moves.{AreInPlace, base-grows, base-within, place-steps}
 use Rattle.busy_finds.proofs.Only.{IsOnly, only-steps}
@@ -105,14 +106,14 @@ module _ (setting : Setting) (sub : ℕ) (before : List Step) (script : IsScript
   abbrev done : Course
   done = course_of setting sub before
 
-  done-place : AreInPlace setting done.start done.moves
+  pub done-place : AreInPlace setting done.start done.moves
   done-place = place-steps setting (course_at (start setting sub)) before
       (record { begins = script.begins; each = λ i move h. cc }) script.allowed
 
   only-start : IsOnly setting (opening_entry setting sub) (start setting sub) []
   only-start level cluster address below is = grind (arith, nat_tests, cases_Bool, eqb-true)
 
-  done-only : IsOnly setting (entries_after (opening_entry setting sub) (made_before setting sub before)) done.start done.moves
+  pub done-only : IsOnly setting (entries_after (opening_entry setting sub) (made_before setting sub before)) done.start done.moves
   done-only = only-steps setting (course_at (start setting sub)) (opening_entry setting sub) before
       (record { begins = script.begins; each = λ i move h. cc }) script.allowed only-start
 
