@@ -11,6 +11,7 @@ mod Tickets
 mod Written
 mod Parts
 mod Cleaning
+mod Between
 mod Chase
 mod Beyond
 mod Price

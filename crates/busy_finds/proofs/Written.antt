@@ -110,7 +110,7 @@ module _ (setting : Setting) (sub : ℕ) (ws : List Write) (write : Write) where
 
 module _ (laws : MarkLaws) (setting : Setting) (sub : ℕ) (history : History) (few : setting.nodes ≤ 2 ^ 16)
     (legal : IsLegal setting sub history) where
-  abbrev puts_at : ℕ → List Visit
+  abbrev pub puts_at : ℕ → List Visit
   puts_at t = puts_to sub (before t history)
 
   abbrev pub made_at : ℕ → List Write
@@ -122,6 +122,7 @@ module _ (laws : MarkLaws) (setting : Setting) (sub : ℕ) (history : History) (
   -- a visit that writes this for the subscriber
   pub record IsWritten (t : ℕ) (write : Write) : Type 0 where
     pub visit : slice_get history t ≡ Some (visit_of sub write)
+    pub grown : puts_at (suc t) ≡ puts_at t ++ visit_of sub write ∷ []
     pub more : made_at (suc t) ≡ made_at t ++ write ∷ []
     pub last : IsLast setting sub (steps_in (puts_at (suc t))) (made_at t ++ write ∷ []) write
 
@@ -158,6 +159,7 @@ module _ (laws : MarkLaws) (setting : Setting) (sub : ℕ) (history : History) (
         found.0,
         record {
           visit = is ∙ ap Some (sym found.2);
+          grown = grown ∙ ap (λ v. puts_at t ++ v ∷ []) (sym found.2);
           more = grows;
           last = last-amid setting sub (made_at t) found.0 (steps_in (puts_at (suc t))) am.before am.under am.made am.steps am.one
               am.some am.few (sym grows ∙ am.writes);
