@@ -16,9 +16,7 @@ use Rattle.directory.specs.Puts.{mark_put, node_put, steps_in}
 use Rattle.directory.specs.Standing.{Commit, commits, confirms, number, passage, passage_of, standing}
 use Rattle.directory.specs.StepLaws.{slice_get-within, start-kept}
 use Rattle.trail_laws.specs.Phases.{moves_begun}
-use Rattle.trail_laws.specs.Trail.{EntriesTell, entry_seen, EntryTells, mark_seen, MarkTells}
-use Rattle.trail_laws.specs.Ways.{PassagesAreOpen}
-use Rattle.stretch_laws.specs.Costs.{ReadingIsBounded}
+use Rattle.trail_laws.specs.Trail.{entry_seen, EntryTells, mark_seen, MarkTells}
 use Rattle.stretch_laws.specs.Tracking.{IsTracking}
 use Rattle.busy_finds.specs.LawsBelow.{PriceLaws}
 use Rattle.busy_finds.specs.Within.{moves_of}

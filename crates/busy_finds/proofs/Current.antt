@@ -18,7 +18,6 @@ use Rattle.directory.specs.Courses.{after_step, after_steps, base, Course, cours
 use Rattle.directory.specs.ListLaws.{slice_get-right}
 use Rattle.directory.specs.Standing.{commit_of, number}
 use Rattle.directory.specs.States.{entry_after, opening_entry, write_commit, writes_made}
-use Rattle.directory.specs.Statements.{CommitsAreTold, EntriesAreLeft, LegalIsAmid}
 use Rattle.directory.specs.StepLaws.{may-take, start-kept}
 use Rattle.directory.specs.Writes.{mark_at, move_writes, step_writes, Write, writes}
 use Rattle.trail_laws.specs.Trail.{entry_seen}

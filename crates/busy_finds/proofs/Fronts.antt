@@ -13,7 +13,6 @@ use Rattle.directory.specs.HistoryLaws.{commits-append}
 use Rattle.directory.specs.Legal.{IsLegal}
 use Rattle.directory.specs.Puts.{course_in, ends_off, steps_from, steps_in}
 use Rattle.directory.specs.Standing.{Commit, commits, number}
-use Rattle.directory.specs.Statements.{CommitsAreMoves}
 use Rattle.directory.specs.StepLaws.{start-kept, steps-append}
 use Rattle.trail_laws.specs.Trail.{entry_seen}
 use Rattle.trail_laws.specs.Within.{HistoryFrontsAreLegal}

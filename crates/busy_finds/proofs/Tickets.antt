@@ -22,7 +22,6 @@ use Rattle.directory.specs.Legal.{IsLegal}
 use Rattle.directory.specs.ListLaws.{last_or-push, same_some, slice_get-left, slice_get-right}
 use Rattle.directory.specs.Puts.{mark_put, node_put, steps_in}
 use Rattle.directory.specs.Standing.{Commit, commit_by, commit_of, commits, number, standing}
-use Rattle.directory.specs.Statements.{CellAfter, SameKey, StandsAtStop}
 use Rattle.directory.specs.StepLaws.{slice_get-within, start-kept, take-more}
 use Rattle.directory.specs.Parts.{known_after}
 use Rattle.trail_laws.specs.Phases.{ComingStands, moves_begun, PhasesCover}
