@@ -1,19 +1,18 @@
 -- What visits between two tickets do to marks and entries: which put an entry's or a node's Empty comes of, and what stays.
-use Rattle.std.proofs.Common.{◌≡◌, ◌≢◌, ◌⊎◌, inl, inr, ℕ, zero, suc, ◌+◌, ◌-◌, ◌<◌, ◌≤◌, ◌^◌, Bool, true, false, cond, ◌==◌, ◌&&◌, List, [], ◌∷◌, ◌++◌, Option, Some, None, length, refl, sym, ap, ◌∙◌, subst, arith, length-append}
-use Rattle.std.specs.Prelude.{is_some, slice_get}
+use Rattle.std.proofs.Common.{◌≡◌, ◌≢◌, ◌⊎◌, inl, inr, ℕ, zero, suc, ◌-◌, ◌<◌, ◌≤◌, ◌^◌, Bool, true, false, cond, ◌==◌, ◌&&◌, [], ◌∷◌, ◌++◌, Option, Some, None, length, refl, sym, ap, ◌∙◌, subst, arith, length-append}
+use Rattle.std.specs.Prelude.{is_some}
 use Rattle.std.specs.List.{cons_option}
-use Rattle.std.proofs.lemmas.Bool.{and_both, cases_eq, eqb-true}
-use Rattle.std.proofs.lemmas.List.{append-nil}
+use Rattle.std.proofs.lemmas.Bool.{cases_eq, eqb-true}
 use Rattle.std.proofs.lemmas.List.Sums.{fold-append}
 use Rattle.entry_word.specs.declared.address.Address.{Address}
 use Rattle.entry_word.specs.declared.mark.PresenceMark.{PresenceMark}
 use Rattle.entry_word.specs.declared.mark.PresenceMark.TheVariants.{Empty, Here, Coming}
 use Rattle.entry_word.specs.declared.visit.Visit.{Visit}
-use Rattle.directory.specs.Courses.{after_step, after_steps, Course, course_at, Move, move_to, next_move, Step, switch_off, switch_on}
+use Rattle.directory.specs.Courses.{after_step, after_steps, Course, course_at, move_to, next_move, Step, switch_off, switch_on}
 use Rattle.directory.specs.Histories.{before, History}
 use Rattle.directory.specs.Legal.{IsLegal}
 use Rattle.directory.specs.ListLaws.{same_some}
-use Rattle.directory.specs.Puts.{course_in, mark_put, mark_step, node_put, steps_in}
+use Rattle.directory.specs.Puts.{course_in, ends_off, mark_put, mark_step, node_put, steps_from, steps_in}
 use Rattle.directory.specs.Settings.{Setting, start}
 use Rattle.directory.specs.Standing.{standing}
 use Rattle.directory.specs.States.{entry_after, mark_after}
@@ -292,18 +291,31 @@ module _ (laws : MarkLaws) (setting : Setting) (sub : ℕ) (history : History) (
           (ap (λ n. marks t n) (stands-there laws setting sub history few legal t
           ∙ ap (λ n. stop_at laws setting sub history few legal n) (sym same)) ∙ empty)
 
+  -- a visit begins one step at most
+  one-step : (is_off : Bool) (visit : Visit) → (o : Option Step) × (steps_from is_off (visit ∷ []) ≡ cons_option o [])
+  unfolding steps_from
+  one-step is_off visit = (mark_step is_off (node_put visit.act) (mark_put visit.act), refl)
+
+  none-begun : began 0 ≡ 0
+  unfolding steps_from
+  none-begun = refl
+
   begun-step : (t : ℕ) → suc t ≤ length history → began (suc t) ≤ suc (began t)
   begun-step t low = elim (visited t low) [
     | inl still ↦ omega (arith, ap (λ puts. length (course_in setting sub puts).moves) still)
-    | inr writes ↦ omega (
-      arith,
-      ap (λ puts. length (course_in setting sub puts).moves) writes.1.grown,
-      ap (λ steps. length (after_steps setting (course_at (start setting sub)) steps).moves)
-          (steps-append false (puts_at laws setting sub history few legal t) (visit_of sub writes.0 ∷ [])),
-      ap (λ (c : Course). length c.moves) (fold-append (after_step setting) (course_at (start setting sub))
-          (steps_in (puts_at laws setting sub history few legal t)) _),
-      one-more (course_in setting sub (puts_at laws setting sub history few legal t)) (mark_step _ _ _),
-    )
+    | inr writes ↦
+        let its_puts = puts_at laws setting sub history few legal t in
+        let one = one-step (ends_off its_puts) (visit_of sub writes.0) in
+        let grown : steps_in (puts_at laws setting sub history few legal (suc t)) ≡ steps_in its_puts ++ cons_option one.0 [] =
+        ap steps_in writes.1.grown ∙ (steps-append false its_puts (visit_of sub writes.0 ∷ [])
+        ∙ ap (λ steps. steps_in its_puts ++ steps) one.1) in
+        omega (
+          arith,
+          ap (λ steps. length (after_steps setting (course_at (start setting sub)) steps).moves) grown,
+          ap (λ (c : Course). length c.moves) (fold-append (after_step setting) (course_at (start setting sub))
+              (steps_in its_puts) (cons_option one.0 [])),
+          one-more (course_in setting sub its_puts) one.0,
+        )
   ]
     where
       one-more : (course : Course) (o : Option Step)
@@ -323,7 +335,7 @@ module _ (laws : MarkLaws) (setting : Setting) (sub : ℕ) (history : History) (
   pub purged-before : (place t : ℕ) → t ≤ length history → place ≤ began t
       → marks t (stop_at laws setting sub history few legal place) ≡ Empty → WasPurged place t
   purged-before place zero low known empty =
-      let e : place ≡ 0 = omega (arith, known) in
+      let e : place ≡ began 0 = omega (arith, known, none-begun) in
       absurd (top-marked 0 (subst (λ n. marks 0 (stop_at laws setting sub history few legal n) ≡ Empty) e empty))
   purged-before place (suc t) low known empty = elim (cases_eq place (began (suc t))) [
     | inl same ↦ absurd (top-marked (suc t)

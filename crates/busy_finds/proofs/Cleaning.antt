@@ -1,13 +1,12 @@
 -- What it tells where a visit puts an address, an erasure or a purge.
-use Rattle.std.proofs.Common.{◌≡◌, ◌≢◌, ℕ, zero, suc, ◌+◌, ◌-◌, ◌<◌, ◌≤◌, ◌^◌, Bool, true, false, ◌==◌, List, [], ◌∷◌, ◌++◌, Some, None, length, take, fold, refl, sym, ap, ◌∙◌, subst, arith, length-append}
+use Rattle.std.proofs.Common.{◌≡◌, ◌≢◌, ℕ, zero, suc, ◌+◌, ◌-◌, ◌<◌, ◌≤◌, ◌^◌, true, false, List, [], ◌∷◌, ◌++◌, Some, None, length, take, fold, refl, sym, ap, ◌∙◌, subst, arith, length-append}
 use Rattle.std.specs.Prelude.{cond, filter_map, nat_le, slice_get}
 use Rattle.std.proofs.lemmas.Bool.{eq-eqb, eqb-true}
 use Rattle.std.proofs.lemmas.Bool.Decides.{nat_tests}
 use Rattle.std.proofs.lemmas.List.Elements.{filter_map-append}
 use Rattle.std.proofs.lemmas.List.Sums.{fold-append}
 use Rattle.entry_word.specs.declared.address.Address.{Address}
-use Rattle.entry_word.specs.declared.mark.PresenceMark.{PresenceMark}
-use Rattle.entry_word.specs.declared.mark.PresenceMark.TheVariants.{Empty, Here, Gone, Coming, Off}
+use Rattle.entry_word.specs.declared.mark.PresenceMark.TheVariants.{Empty, Here, Gone, Coming}
 use Rattle.directory.specs.Amid.{course_of}
 use Rattle.directory.specs.Courses.{after_step, after_steps, base, Course, course_at, Move, move_to, next_move, Step, switch_off, switch_on}
 use Rattle.directory.specs.Histories.{before, History, puts_to}
@@ -242,6 +241,7 @@ module _ (laws : MarkLaws) (setting : Setting) (sub : ℕ) (history : History) (
         at_step switch_on e = let clash = only-one _ _ _ (there-at switch_on e) ∙ same in cc
 
     pub erasing : (level cluster : ℕ) → write ≡ entry_at level cluster None → IsErasing t level cluster
+    unfolding cleaning-behind
     erasing level cluster same = at_step is.last.step refl
       where
         at_part : (node : ℕ) (moves : is.last.step ≡ move_to node)
@@ -258,7 +258,7 @@ module _ (laws : MarkLaws) (setting : Setting) (sub : ℕ) (history : History) (
             let its_level : l ≡ level = cc in
             let its_cluster : c ≡ cluster = cc in record {
               cleaning = cleaning-behind t write is node moves so.behind;
-              low = omega (arith, so.low, its_level);
+              low = subst (λ n. n ≤ (next_move setting (course_of setting sub is.last.earlier) node).renewed) its_level so.low;
               apart = λ h.
                   let clash : false ≡ true = sym so.old
                   ∙ eq-eqb (old_home setting (course_of setting sub is.last.earlier) l)
@@ -272,6 +272,7 @@ module _ (laws : MarkLaws) (setting : Setting) (sub : ℕ) (history : History) (
         at_step switch_on e = let clash = only-one _ _ _ (there-at switch_on e) ∙ same in cc
 
     pub purging : (at : ℕ) → write ≡ mark_at at Empty → IsPurging t at
+    unfolding cleaning-behind
     purging at same = at_step is.last.step refl
       where
         at_part : (node : ℕ) (moves : is.last.step ≡ move_to node)

@@ -15,7 +15,6 @@ use Rattle.directory.specs.Puts.{course_in, ends_off, steps_from, steps_in}
 use Rattle.directory.specs.Standing.{Commit, commits, number}
 use Rattle.directory.specs.StepLaws.{start-kept, steps-append}
 use Rattle.trail_laws.specs.Trail.{entry_seen}
-use Rattle.trail_laws.specs.Within.{HistoryFrontsAreLegal}
 use Rattle.busy_finds.specs.LawsBelow.{HistoryFacts}
 use Rattle.busy_finds.specs.Within.{IsWithin, moves_of}
 use Rattle.busy_finds.proofs.Current.{current, currents-have}

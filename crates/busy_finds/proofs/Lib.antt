@@ -3,7 +3,6 @@ mod Kept
 mod Current
 mod Fronts
 mod Looks
-mod NoEntry
 mod Sums
 mod Only
 mod Older
@@ -12,6 +11,7 @@ mod Written
 mod Parts
 mod Cleaning
 mod Between
+mod NoEntry
 mod Chase
 mod Beyond
 mod Price

@@ -1,5 +1,5 @@
 -- Which of a move's writes are addresses, erasures and purges, and where they stand among them.
-use Rattle.std.proofs.Common.{◌≡◌, ◌⊎◌, inl, inr, ℕ, zero, suc, ◌+◌, ◌-◌, ◌<◌, ◌≤◌, Bool, true, false, cond, not, ◌==◌, ◌&&◌, List, [], ◌∷◌, ◌++◌, Option, Some, None, length, map, drop, take, fold, refl, sym, ap, ◌∙◌, arith, length-append}
+use Rattle.std.proofs.Common.{◌≡◌, ◌⊎◌, inl, inr, ℕ, zero, suc, ◌+◌, ◌-◌, ◌<◌, ◌≤◌, Bool, true, false, cond, not, ◌==◌, ◌&&◌, List, [], ◌∷◌, ◌++◌, Option, Some, None, length, map, drop, take, fold, refl, sym, ap, ◌∙◌, subst, arith}
 use Rattle.std.specs.Prelude.{slice_get}
 use Rattle.std.proofs.lemmas.Bool.{eq-eqb, eqb-true}
 use Rattle.std.proofs.lemmas.List.{take-append-le, take_all}
@@ -20,29 +20,28 @@ use Rattle.busy_finds.proofs.Tickets.{in-front, mapped-at}
 -- what stands in joined lists stands in one of them
 pub in-parts : {A : Type 0} (xs ys : List A) (k : ℕ) (x : A) → slice_get (xs ++ ys) k ≡ Some x
     → (slice_get xs k ≡ Some x) ⊎ ((j : ℕ) × (k ≡ length xs + j) × (slice_get ys j ≡ Some x))
-in-parts [] ys k x h = inr (k, refl, h)
+in-parts [] ys k x h = let e : k ≡ 0 + k = omega arith in inr (k, e, h)
 in-parts (y ∷ xs) ys zero x h = inl h
 in-parts (y ∷ xs) ys (suc k) x h = elim (in-parts xs ys k x h) [
   | inl there ↦ inl there
-  | inr on ↦ inr (on.0, ap suc on.1, on.2)
+  | inr on ↦ let e : suc k ≡ suc (length xs) + on.0 = omega (arith, on.1) in inr (on.0, e, on.2)
 ]
 
 -- what is sifted passes the test
 sift-at : (test : ℕ → Bool) (first count j x : ℕ) → slice_get (sift test first count) j ≡ Some x
     → (test x ≡ true) × (x < first + count)
 sift-at test first zero j x h = cc
-sift-at test first (suc count) j x h = at_test (test first) refl j h
+sift-at test first (suc count) j x h =
+    at_test (test first) refl j (λ i there. sift-at test (suc first) count i x there) h
   where
-    later : (i : ℕ) → slice_get (sift test (suc first) count) i ≡ Some x → (test x ≡ true) × (x < first + suc count)
-    later i there = let rest = sift-at test (suc first) count i x there in (rest.0, omega (arith, rest.1))
-
     at_test : (b : Bool) → test first ≡ b → (i : ℕ)
+        → ((l : ℕ) → slice_get (sift test (suc first) count) l ≡ Some x → (test x ≡ true) × (x < suc first + count))
         → slice_get (cond b (first ∷ sift test (suc first) count) (sift test (suc first) count)) i ≡ Some x
         → (test x ≡ true) × (x < first + suc count)
-    at_test true e zero there =
+    at_test true e zero later there =
         let same : first ≡ x = cc in (ap test (sym same) ∙ e, omega (arith, same))
-    at_test true e (suc i) there = later i there
-    at_test false e i there = later i there
+    at_test true e (suc i) later there = let rest = later i there in (rest.0, omega (arith, rest.1))
+    at_test false e i later there = let rest = later i there in (rest.0, omega (arith, rest.1))
 
 module _ (setting : Setting) (course : Course) (move : Move) where
   abbrev pub ends : List Write
@@ -205,14 +204,14 @@ module _ (setting : Setting) (course : Course) (move : Move) where
   ends-pass i write h = elim (in-parts (erasure_writes setting course move) (purge_writes setting course move) i write h) [
     | inl erased ↦ let found = erases-at i write erased in subst (Passes move.to) found.1 tt
     | inr purged ↦ let found = purges-at purged.0 write purged.2 in
-        subst (Passes move.to) found.1 (turned (move.to == found.0) refl found.3)
+        subst (Passes move.to) found.1 (turned found.0 (move.to == found.0) refl found.3)
   ]
     where
-      turned : {node : ℕ} (b : Bool) → (move.to == node) ≡ b → (node == move.to) ≡ false → (move.to == node) ≡ false
-      turned {node} true e other =
+      turned : (node : ℕ) (b : Bool) → (move.to == node) ≡ b → (node == move.to) ≡ false → (move.to == node) ≡ false
+      turned node true e other =
           let same : move.to ≡ node = eqb-true move.to node e in
           let clash : false ≡ true = sym other ∙ eq-eqb node move.to (sym same) in cc
-      turned false e other = e
+      turned node false e other = e
 
   pub here-stays : (mark : PresenceMark) (j : ℕ)
       → fold (mark_after move.to) mark (early setting course move ++ mark_at move.from (Gone move.number move.to)

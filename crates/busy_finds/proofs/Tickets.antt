@@ -24,9 +24,8 @@ use Rattle.directory.specs.Puts.{mark_put, node_put, steps_in}
 use Rattle.directory.specs.Standing.{Commit, commit_by, commit_of, commits, number, standing}
 use Rattle.directory.specs.StepLaws.{slice_get-within, start-kept, take-more}
 use Rattle.directory.specs.Parts.{known_after}
-use Rattle.trail_laws.specs.Phases.{ComingStands, moves_begun, PhasesCover}
-use Rattle.trail_laws.specs.Trail.{AddressesLead, answers, IsLed, mark_seen, MarksTell, MarkTells, TopHasEntry}
-use Rattle.trail_laws.specs.Ways.{StandsInside}
+use Rattle.trail_laws.specs.Phases.{moves_begun}
+use Rattle.trail_laws.specs.Trail.{answers, IsLed, mark_seen, MarkTells}
 use Rattle.busy_finds.specs.LawsBelow.{MarkLaws}
 use Rattle.busy_finds.specs.Within.{moves_of}
 use Rattle.busy_finds.proofs.Fronts.{committed-by, legal-at, more-moves, moves-in-place}

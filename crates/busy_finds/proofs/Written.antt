@@ -1,5 +1,5 @@
 -- What each visit of a legal history writes: nothing for the subscriber, or one write of a step of it.
-use Rattle.std.proofs.Common.{◌≡◌, ◌⊎◌, inl, inr, ℕ, zero, suc, ◌+◌, ◌-◌, ◌<◌, ◌≤◌, ◌^◌, Bool, true, false, List, [], ◌∷◌, ◌++◌, Some, None, length, map, take, fold, refl, sym, ap, ◌∙◌, subst, append_assoc, arith, length-append, length-take}
+use Rattle.std.proofs.Common.{◌≡◌, ◌⊎◌, inl, inr, ℕ, zero, suc, ◌<◌, ◌≤◌, ◌^◌, Bool, true, false, List, [], ◌∷◌, ◌++◌, Some, None, length, map, take, fold, refl, sym, ap, ◌∙◌, subst, append_assoc, arith, length-append, length-take}
 use Rattle.std.specs.Prelude.{slice_get}
 use Rattle.std.specs.List.{last_or}
 use Rattle.std.proofs.Math.Seq.{take-nil}
@@ -7,9 +7,9 @@ use Rattle.std.proofs.lemmas.List.{append-nil, length-map, take-append-le, take_
 use Rattle.std.proofs.lemmas.List.Sums.{fold-append}
 use Rattle.entry_word.specs.declared.visit.Visit.{Visit}
 use Rattle.directory.specs.Amid.{course_of, IsAmid}
-use Rattle.directory.specs.Courses.{after_steps, course_at, Step, move_to, switch_off, switch_on}
+use Rattle.directory.specs.Courses.{course_at, Step, move_to, switch_off, switch_on}
 use Rattle.directory.specs.Histories.{before, History, is_put_for, puts_to}
-use Rattle.directory.specs.Legal.{ArePuts, IsLegal, IsScript}
+use Rattle.directory.specs.Legal.{IsLegal}
 use Rattle.directory.specs.ListLaws.{last_or-push, same_some, slice_get-right}
 use Rattle.directory.specs.Puts.{steps_in}
 use Rattle.directory.specs.Settings.{Setting, start}
