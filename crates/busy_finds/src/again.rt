@@ -4,7 +4,8 @@ ghost use Rattle.busy_finds.specs.Within.{NoEntryMeetsTop};
 
 use crate::below::laws_below;
 
-/// Where a find met no address at all, a move that renews the top level was committed within it.
+/// Where a find met no address at all, a move that renews the top level was committed within it, and
+/// erased an address of that level within it.
 pub fn no_entry_meets_the_top()
     ensures { NoEntryMeetsTop }
 {
