@@ -196,12 +196,12 @@ module _ (laws : MarkLaws) (setting : Setting) (sub : ℕ) (history : History) (
   tells : (t node : ℕ) → node < setting.nodes → MarkTells setting sub (before t history) node (marks t node)
   tells t node inside = laws.marks setting sub (before t history) few (its_legal laws setting sub history few legal t) node inside
 
-  coming-at : (t node q from : ℕ) → node < setting.nodes → marks t node ≡ Coming q from
+  pub coming-at : (t node q from : ℕ) → node < setting.nodes → marks t node ≡ Coming q from
       → IsComing laws setting sub history few legal t node q from
   coming-at t node q from inside is = coming-is laws setting sub history few legal t node q from
       (subst (MarkTells setting sub (before t history) node) is (tells t node inside))
 
-  coming-since : (node q from t x : ℕ) → node < setting.nodes → t ≤ x → x ≤ length history → q ≤ counts t
+  pub coming-since : (node q from t x : ℕ) → node < setting.nodes → t ≤ x → x ≤ length history → q ≤ counts t
       → marks x node ≡ Coming q from → marks t node ≡ Coming q from
   coming-since node q from t zero inside h low done is =
       let e : t ≡ 0 = omega (arith, h) in ap (λ n. marks n node) e ∙ is

@@ -59,6 +59,7 @@ module _ (laws : MarkLaws) (setting : Setting) (sub : ℕ) (history : History) (
     pub cleaning : IsCleaning t
     pub low : level ≤ cleaning.move.renewed
     pub apart : cluster ≢ setting.home level cleaning.move.to
+    pub above : cleaning.move.renewed ≡ setting.top → level ≡ setting.top → Above cleaning.move.number (suc t)
 
   pub record IsPurging (t node : ℕ) : Type 0 where
     pub cleaning : IsCleaning t
@@ -164,19 +165,17 @@ module _ (laws : MarkLaws) (setting : Setting) (sub : ℕ) (history : History) (
           ∙ here-stays setting done_course its _ (suc j)));
     }
 
-    above-behind : (j : ℕ)
-        → place ≡ length (early setting done_course its) + suc (suc (length (erasure_writes setting done_course its) + j))
-        → its.renewed ≡ setting.top → Above its.number (suc t)
-    above-behind j e tops level cluster address low held =
-        let n = length (erasure_writes setting done_course its) + j in
+    above-behind : (j : ℕ) → place ≡ length (early setting done_course its) + suc (suc j)
+        → length (erasure_writes setting done_course its) ≤ suc j → its.renewed ≡ setting.top → Above its.number (suc t)
+    above-behind j e erased tops level cluster address low held =
         let value : entries_after (entries_after (opening_entry setting sub) (made_before setting sub earlier))
         (move_writes setting done_course its) level cluster ≡ Some address =
         sym (laws.facts.writes.entries setting sub (before (suc t) history) few
         (its_legal laws setting sub history few legal (suc t)) level cluster
-        ∙ (ap (fold (entry_after level cluster) (opening_entry setting sub level cluster)) (up-to-so_far n e)
+        ∙ (ap (fold (entry_after level cluster) (opening_entry setting sub level cluster)) (up-to-so_far j e)
         ∙ (fold-append (entry_after level cluster) (opening_entry setting sub level cluster)
-        (made_before setting sub earlier) (so_far n)
-        ∙ entries-done setting done_course its level cluster j _))) ∙ held in
+        (made_before setting sub earlier) (so_far j)
+        ∙ entries-done setting done_course its level cluster (suc j) _ erased))) ∙ held in
         let only = only-move setting done_course node
         (entries_after (opening_entry setting sub) (made_before setting sub earlier))
         (done-place setting sub earlier script) (done-only setting sub earlier script) level cluster address low value in
@@ -264,6 +263,8 @@ module _ (laws : MarkLaws) (setting : Setting) (sub : ℕ) (history : History) (
                   ∙ eq-eqb (old_home setting (course_of setting sub is.last.earlier) l)
                   (setting.home l node)
                   (sym so.at ∙ (its_cluster ∙ (h ∙ ap (λ n. setting.home n node) (sym its_level)))) in cc;
+              above = λ tops highest. above-behind t write is node moves so.behind.0 so.behind.1
+                  (so.last (its_level ∙ (highest ∙ sym tops))) tops;
             }
 
         at_step : (step : Step) → is.last.step ≡ step → IsErasing t level cluster
@@ -291,7 +292,7 @@ module _ (laws : MarkLaws) (setting : Setting) (sub : ℕ) (history : History) (
               cleaning = cleaning-behind t write is node moves (_, so.behind.1);
               tops = tops;
               apart = λ h. let clash : false ≡ true = sym so.other ∙ eq-eqb v node (its_node ∙ h) in cc;
-              above = above-behind t write is node moves so.behind.0 so.behind.1 tops;
+              above = above-behind t write is node moves _ so.behind.1 (omega arith) tops;
             }
           where
             renewed : ℕ → ℕ

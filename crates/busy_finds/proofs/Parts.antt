@@ -2,7 +2,7 @@
 use Rattle.std.proofs.Common.{◌≡◌, ◌⊎◌, inl, inr, ℕ, zero, suc, ◌+◌, ◌-◌, ◌<◌, ◌≤◌, Bool, true, false, cond, not, ◌==◌, ◌&&◌, List, [], ◌∷◌, ◌++◌, Option, Some, None, length, map, drop, take, fold, refl, sym, ap, ◌∙◌, subst, arith}
 use Rattle.std.specs.Prelude.{slice_get}
 use Rattle.std.proofs.lemmas.Bool.{eq-eqb, eqb-true}
-use Rattle.std.proofs.lemmas.List.{take-append-le, take_all}
+use Rattle.std.proofs.lemmas.List.{length-map, take-append-le, take_all}
 use Rattle.std.proofs.lemmas.List.Sums.{fold-append}
 use Rattle.std.proofs.lemmas.Option.{slice_get_within}
 use Rattle.node_set.specs.Ascending.{has, sift}
@@ -43,6 +43,24 @@ sift-at test first (suc count) j x h =
     at_test true e (suc i) later there = let rest = later i there in (rest.0, omega (arith, rest.1))
     at_test false e i later there = let rest = later i there in (rest.0, omega (arith, rest.1))
 
+-- and the greatest that may be is the last
+sift-last : (test : ℕ → Bool) (first count j x : ℕ) → slice_get (sift test first count) j ≡ Some x → suc x ≡ first + count
+    → length (sift test first count) ≤ suc j
+sift-last test first zero j x h last = omega arith
+sift-last test first (suc count) j x h last =
+    at_test (test first) refl j (λ i there. sift-last test (suc first) count i x there (omega (arith, last))) h
+  where
+    at_test : (b : Bool) → test first ≡ b → (i : ℕ)
+        → ((l : ℕ) → slice_get (sift test (suc first) count) l ≡ Some x
+        → length (sift test (suc first) count) ≤ suc l)
+        → slice_get (cond b (first ∷ sift test (suc first) count) (sift test (suc first) count)) i ≡ Some x
+        → length (cond b (first ∷ sift test (suc first) count) (sift test (suc first) count)) ≤ suc i
+    at_test true e zero later there =
+        let same : first ≡ x = cc in
+        let none : count ≡ 0 = omega (arith, same, last) in rw none (omega arith)
+    at_test true e (suc i) later there = omega (arith, later i there)
+    at_test false e i later there = later i there
+
 module _ (setting : Setting) (course : Course) (move : Move) where
   abbrev pub ends : List Write
   ends = erasure_writes setting course move ++ purge_writes setting course move
@@ -57,6 +75,7 @@ module _ (setting : Setting) (course : Course) (move : Move) where
     pub old : (old_home setting course level == setting.home level move.to) ≡ false
     pub at : cluster ≡ old_home setting course level
     pub behind : BehindConfirm k
+    pub last : level ≡ move.renewed → length (erasure_writes setting course move) ≤ suc behind.0
 
   -- a purge
   pub record IsPurging (k node : ℕ) : Type 0 where
@@ -91,6 +110,7 @@ module _ (setting : Setting) (course : Course) (move : Move) where
   erases-at : (j : ℕ) (write : Write) → slice_get (erasure_writes setting course move) j ≡ Some write
       → (level : ℕ) × (entry_at level (old_home setting course level) None ≡ write) × (level ≤ move.renewed)
       × ((old_home setting course level == setting.home level move.to) ≡ false)
+      × (level ≡ move.renewed → length (erasure_writes setting course move) ≤ suc j)
   erases-at j write h =
       let found = mapped-at (λ level. entry_at level (old_home setting course level) None)
       (sift (λ level. not (old_home setting course level == setting.home level move.to)) 0 (suc move.renewed)) j write h in
@@ -100,6 +120,13 @@ module _ (setting : Setting) (course : Course) (move : Move) where
         found.2,
         omega (arith, passed.1),
         not-true (old_home setting course found.0 == setting.home found.0 move.to) passed.0,
+        λ highest. omega (
+          arith,
+          length-map (sift (λ level. not (old_home setting course level == setting.home level move.to)) 0 (suc move.renewed))
+              (λ level. entry_at level (old_home setting course level) None),
+          sift-last (λ level. not (old_home setting course level == setting.home level move.to)) 0
+              (suc move.renewed) j found.0 found.1 (omega (arith, highest)),
+        ),
       )
     where
       not-true : (b : Bool) → not b ≡ true → b ≡ false
@@ -155,6 +182,7 @@ module _ (setting : Setting) (course : Course) (move : Move) where
                   old = found.3;
                   at = refl;
                   behind = (j, e);
+                  last = found.4;
                 })
             | inr purged ↦
                 let found = purges-at purged.0 write purged.2 in
@@ -235,24 +263,22 @@ module _ (setting : Setting) (course : Course) (move : Move) where
       ap (λ e. fold (entry_after level cluster) e ws) (ap (entry_after level cluster entry) (sym one.1))
       ∙ purges-leave level cluster ws entry (λ i other h. each (suc i) other h)
 
-  pub entries-done : (level cluster j : ℕ) (entry : Option Address)
+  pub entries-done : (level cluster j : ℕ) (entry : Option Address) → length (erasure_writes setting course move) ≤ j
       → fold (entry_after level cluster) entry (early setting course move
-      ++ mark_at move.from (Gone move.number move.to) ∷ mark_at move.to (Here move.number)
-      ∷ take (suc (length (erasure_writes setting course move) + j)) ends)
+      ++ mark_at move.from (Gone move.number move.to) ∷ mark_at move.to (Here move.number) ∷ take j ends)
       ≡ fold (entry_after level cluster) entry (move_writes setting course move)
-  entries-done level cluster j entry =
-      let n = length (erasure_writes setting course move) in
-      let part : take (suc (n + j)) ends ≡ erasure_writes setting course move ++ take (suc (n + j) - n) (purge_writes setting course move) =
-      take-append (suc (n + j)) (erasure_writes setting course move) (purge_writes setting course move)
-      ∙ ap (λ xs. xs ++ take (suc (n + j) - n) (purge_writes setting course move))
-      (take_all (suc (n + j)) (erasure_writes setting course move) (omega arith)) in
+  entries-done level cluster j entry low =
+      let left = j - length (erasure_writes setting course move) in
+      let part : take j ends ≡ erasure_writes setting course move ++ take left (purge_writes setting course move) =
+      take-append j (erasure_writes setting course move) (purge_writes setting course move)
+      ∙ ap (λ xs. xs ++ take left (purge_writes setting course move)) (take_all j (erasure_writes setting course move) low) in
       let front = fold-append (entry_after level cluster) entry (early setting course move) in
-      front (mark_at move.from (Gone move.number move.to) ∷ mark_at move.to (Here move.number) ∷ take (suc (n + j)) ends)
+      front (mark_at move.from (Gone move.number move.to) ∷ mark_at move.to (Here move.number) ∷ take j ends)
       ∙ (ap (fold (entry_after level cluster) (fold (entry_after level cluster) entry (early setting course move))) part
       ∙ (fold-append (entry_after level cluster) (fold (entry_after level cluster) entry (early setting course move))
-      (erasure_writes setting course move) (take (suc (n + j) - n) (purge_writes setting course move))
-      ∙ (purges-leave level cluster (take (suc (n + j) - n) (purge_writes setting course move)) _
-      (λ i write h. purge-is i write (in-front (suc (n + j) - n) (purge_writes setting course move) i write h))
+      (erasure_writes setting course move) (take left (purge_writes setting course move))
+      ∙ (purges-leave level cluster (take left (purge_writes setting course move)) _
+      (λ i write h. purge-is i write (in-front left (purge_writes setting course move) i write h))
       ∙ (sym (purges-leave level cluster (purge_writes setting course move) _ purge-is)
       ∙ (sym (fold-append (entry_after level cluster) (fold (entry_after level cluster) entry (early setting course move))
       (erasure_writes setting course move) (purge_writes setting course move))

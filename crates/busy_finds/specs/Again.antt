@@ -1,7 +1,6 @@
--- Where a find is told that its subscriber was gone and that the node it had gone to was emptied: a
--- move has purged that node. The move's first purge comes after the look at which the find's chase
--- began, and so does its last erasure, if it erases anything; so an earlier find that met no address
--- isn't to be charged to the same move.
+-- Where a find read that a node is empty: a move has purged that node after the look at which the
+-- find's chase began. At that look some trace of an earlier move was left, an address or a Coming,
+-- and the find's last look comes when none is: so no earlier find is to be charged to the move.
 -- Key laws: `empty_meets_a_purge`.
 use Rattle.std.specs.Prelude.{◌≡◌, ◌⊎◌, ℕ, ◌-◌, ◌<◌, ◌≤◌, ◌^◌, List, Some, slice_get}
 use Rattle.entry_word.specs.declared.address.Address.{Address}
@@ -16,7 +15,7 @@ use Rattle.directory.specs.Looks.{first_of, IsFind, last_of, look_by}
 use Rattle.directory.specs.declared.answers.Found.TheVariants.{Again}
 use Rattle.directory.specs.declared.answers.Why.TheVariants.{Empty as EmptyAt}
 use Rattle.trail_laws.specs.Trail.{entry_seen, mark_seen}
-use Rattle.busy_finds.specs.Within.{IsErasure, IsPurge, moves_of}
+use Rattle.busy_finds.specs.Within.{ArePast, IsPurge, moves_of}
 
 -- a find's chase begins at a ticket: at its first look, where its origin says that the subscriber is
 -- coming, or at its look at an entry that has an address
@@ -29,21 +28,19 @@ BeginsChase setting history actor call first ticket =
     × (entry_seen setting call.sub (before ticket history) level cluster ≡ Some address))
 
 -- a move that renews the top level has purged a node between a ticket and a later one, and the node
--- stayed empty; none of the move's purges comes before the earlier ticket, and where it erases
--- anything, an erasure of it doesn't
+-- stayed empty; the moves up to it were past before the later ticket, but not before the earlier one
 pub record HasPurged (setting : Setting) (sub : ℕ) (history : History) (move : Move)
     (node since last : ℕ) : Type 0 where
   pub is : slice_get (moves_of setting sub history) (move.number - 1) ≡ Some move
   pub top : move.renewed ≡ setting.top
   pub ticket : ℕ
+  pub after : since ≤ ticket
   pub by : ticket < last
   pub purges : IsPurge setting sub history move node ticket
   pub stays : (later : ℕ) → ticket < later → later ≤ last
       → mark_seen setting sub (before later history) node ≡ Empty
-  pub first : (other later : ℕ) → IsPurge setting sub history move other later → since ≤ later
-  pub erased : (level earlier : ℕ) → IsErasure setting sub history move level earlier
-      → (other : ℕ) × (later : ℕ) × IsErasure setting sub history move other later
-      × (since ≤ later)
+  pub past : ArePast setting sub (before last history) move.number
+  pub not_yet : ArePast setting sub (before since history) move.number → ⊥
 
 -- where a find read that a node is empty, a move has purged it after the look at which the find's
 -- chase began (`empty_meets_a_purge`)

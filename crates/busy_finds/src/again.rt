@@ -1,4 +1,5 @@
 //! Laws of finds that are to be made again.
+ghost use Rattle.busy_finds.specs.Again.{EmptyMeetsPurge};
 ghost use Rattle.busy_finds.specs.Altogether.{MissedFindsAreFew};
 ghost use Rattle.busy_finds.specs.Within.{NoEntryMeetsTop};
 
@@ -8,6 +9,14 @@ use crate::below::laws_below;
 /// erased an address of that level within it.
 pub fn no_entry_meets_the_top()
     ensures { NoEntryMeetsTop }
+{
+    laws_below();
+}
+
+/// Where a find read that a node is empty, a move that renews the top level has purged that node since
+/// the look at which the find's chase began.
+pub fn empty_meets_a_purge()
+    ensures { EmptyMeetsPurge }
 {
     laws_below();
 }
