@@ -155,43 +155,6 @@ module _ (laws : MarkLaws) (setting : Setting) (sub : ℕ) (history : History) (
       at_visit level cluster address under is since (inr (write, writes)) more =
           at_write level cluster address is since write writes more
 
-  -- ---- while one move is committed and no other is begun, entries stay, or one is erased
-  abbrev pub ErasedSince : ℕ → ℕ → Type 0
-  ErasedSince a u = (x : ℕ) × (level : ℕ) × (cluster : ℕ) × (a ≤ x) × (x < u) × Writes x (entry_at level cluster None)
-
-  pub erased-or-same : (q a u : ℕ) → a ≤ u → u ≤ length history → q ≤ counts a → began u ≤ q
-      → ErasedSince a u ⊎ ((level cluster : ℕ) → held u level cluster ≡ held a level cluster)
-  erased-or-same q a zero h low done last =
-      let e : a ≡ 0 = omega (arith, h) in inr (λ level cluster. ap (λ n. held n level cluster) (sym e))
-  erased-or-same q a (suc u) h low done last = elim (cases_eq a (suc u)) [
-    | inl same ↦ inr (λ level cluster. ap (λ n. held n level cluster) (sym same))
-    | inr apart ↦ at_visit (omega (arith, h, apart)) (visited u low) (erased-or-same q a u (omega (arith, h, apart))
-        (omega (arith, low)) done
-        (omega (arith, last, begun-more laws setting sub history few legal u (suc u) (omega arith))))
-  ]
-    where
-      Goal : Type 0
-      Goal = ErasedSince a (suc u) ⊎ ((level cluster : ℕ) → held (suc u) level cluster ≡ held a level cluster)
-
-      at_write : a ≤ u → (write : Write) → Writes u write
-          → ((level cluster : ℕ) → held u level cluster ≡ held a level cluster)
-          → ErasedSince a (suc u) ⊎ ((level cluster : ℕ) → held (suc u) level cluster ≡ held a level cluster)
-      at_write since (mark_at node mark) is same = inr (λ level cluster.
-          entry-written laws setting sub history few legal u (mark_at node mark) is level cluster ∙ same level cluster)
-      at_write since (entry_at level cluster None) is same = inl (u, level, cluster, since, omega arith, is)
-      at_write since (entry_at level cluster (Some address)) is same =
-          let early = address-early laws setting sub history few legal u _ is level cluster address refl in
-          absurd (omega (arith, early.1, last, done, number-more sub a (suc u) history (omega (arith, since))))
-
-      at_visit : a ≤ u → (puts_at laws setting sub history few legal (suc u) ≡ puts_at laws setting sub history few legal u)
-          ⊎ ((write : Write) × Writes u write)
-          → ErasedSince a u ⊎ ((level cluster : ℕ) → held u level cluster ≡ held a level cluster)
-          → ErasedSince a (suc u) ⊎ ((level cluster : ℕ) → held (suc u) level cluster ≡ held a level cluster)
-      at_visit since visit (inl (x, level, cluster, low, by, is)) = inl (x, level, cluster, low, omega (arith, by), is)
-      at_visit since (inl still) (inr same) = inr (λ level cluster.
-          entry-still laws setting sub history few legal u still level cluster ∙ same level cluster)
-      at_visit since (inr (write, is)) (inr same) = at_write since write is same
-
   -- ---- no Coming is put once its move is committed
   tells : (t node : ℕ) → node < setting.nodes → MarkTells setting sub (before t history) node (marks t node)
   tells t node inside = laws.marks setting sub (before t history) few (its_legal laws setting sub history few legal t) node inside

@@ -37,7 +37,7 @@ gone-on laws setting sub history few legal x place node q to within low there in
             stands-there laws setting sub history few legal x
             ∙ (ap (λ n. stop_at laws setting sub history few legal n) (sym same) ∙ sym there) in
             absurd (none-gone laws setting sub history few legal x q to
-                (ap (λ n. mark_at laws setting sub history few legal x n) here ∙ gone))
+            (ap (λ n. mark_at laws setting sub history few legal x n) here ∙ gone))
         | inr apart ↦
             let most_begun : begun laws setting sub history few legal x ≤ suc (count laws setting sub history few legal x) =
             begun-few laws setting sub history few legal x in

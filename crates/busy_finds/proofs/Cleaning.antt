@@ -61,10 +61,9 @@ module _ (laws : MarkLaws) (setting : Setting) (sub : ℕ) (history : History) (
     pub apart : cluster ≢ setting.home level cleaning.move.to
     pub above : cleaning.move.renewed ≡ setting.top → level ≡ setting.top → Above cleaning.move.number (suc t)
 
-  pub record IsPurging (t node : ℕ) : Type 0 where
+  pub record IsPurging (t : ℕ) : Type 0 where
     pub cleaning : IsCleaning t
     pub tops : cleaning.move.renewed ≡ setting.top
-    pub apart : node ≢ cleaning.move.to
     pub above : Above cleaning.move.number (suc t)
 
   -- ---- a visit of a move
@@ -272,33 +271,30 @@ module _ (laws : MarkLaws) (setting : Setting) (sub : ℕ) (history : History) (
         at_step switch_off e = let clash = only-one _ _ _ (there-at switch_off e) ∙ same in cc
         at_step switch_on e = let clash = only-one _ _ _ (there-at switch_on e) ∙ same in cc
 
-    pub purging : (at : ℕ) → write ≡ mark_at at Empty → IsPurging t at
+    pub purging : (at : ℕ) → write ≡ mark_at at Empty → IsPurging t
     unfolding cleaning-behind
     purging at same = at_step is.last.step refl
       where
         at_part : (node : ℕ) (moves : is.last.step ≡ move_to node)
             → IsPart setting (course_of setting sub is.last.earlier)
             (next_move setting (course_of setting sub is.last.earlier) node) is.last.made write
-            → IsPurging t at
+            → IsPurging t
         at_part node moves (is_coming v u e low) = let clash = sym same ∙ e in cc
         at_part node moves (is_address l c other e numbered low) = let clash = sym same ∙ e in cc
         at_part node moves (is_gone e) = let clash = sym same ∙ e in cc
         at_part node moves (is_here e) = let clash = sym same ∙ e in cc
         at_part node moves (is_erasure l c e so) = let clash = sym same ∙ e in cc
         at_part node moves (is_purge v e so) =
-            let one : mark_at v Empty ≡ mark_at at Empty = sym e ∙ same in
-            let its_node : v ≡ at = cc in
             let tops : renewed node ≡ setting.top = eqb-true (renewed node) setting.top so.tops in record {
               cleaning = cleaning-behind t write is node moves (_, so.behind.1);
               tops = tops;
-              apart = λ h. let clash : false ≡ true = sym so.other ∙ eq-eqb v node (its_node ∙ h) in cc;
               above = above-behind t write is node moves _ so.behind.1 (omega arith) tops;
             }
           where
             renewed : ℕ → ℕ
             renewed node = (next_move setting (course_of setting sub is.last.earlier) node).renewed
 
-        at_step : (step : Step) → is.last.step ≡ step → IsPurging t at
+        at_step : (step : Step) → is.last.step ≡ step → IsPurging t
         at_step (move_to node) e = at_part node e (part-of setting _ _ is.last.made write (there-at (move_to node) e))
         at_step switch_off e = let clash = only-one _ _ _ (there-at switch_off e) ∙ same in cc
         at_step switch_on e = let clash = only-one _ _ _ (there-at switch_on e) ∙ same in cc

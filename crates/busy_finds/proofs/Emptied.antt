@@ -10,17 +10,16 @@ use Rattle.entry_word.specs.declared.mark.PresenceMark.TheVariants.{Empty, Here,
 use Rattle.entry_word.specs.declared.visit.Key.{Key}
 use Rattle.entry_word.specs.declared.visit.Key.TheVariants.{Entry, Presence}
 use Rattle.directory.specs.Settings.{levels, Setting, start}
-use Rattle.directory.specs.Courses.{course_at, Move}
+use Rattle.directory.specs.Courses.{course_at}
 use Rattle.directory.specs.Histories.{before, cell, History, puts_to}
 use Rattle.directory.specs.Finds.{after_entry, after_mark, after_origin, after_word, at_origin, Chase, chases, climb, climbs, ended, FindCall, hop, is_known, key_of, Pursuit, Reader}
 use Rattle.directory.specs.Legal.{IsLegal}
-use Rattle.directory.specs.Looks.{first_of, IsFind, last_of, look_by}
+use Rattle.directory.specs.Looks.{first_of, last_of, look_by}
 use Rattle.directory.specs.Puts.{steps_in}
 use Rattle.directory.specs.StepLaws.{start-kept}
 use Rattle.directory.specs.Writes.{mark_at, visit_of}
 use Rattle.directory.specs.declared.answers.Found.{Found}
 use Rattle.directory.specs.declared.answers.Found.TheVariants.{At, Off as OffAt, Again}
-use Rattle.directory.specs.declared.answers.Why.{Why}
 use Rattle.directory.specs.declared.answers.Why.TheVariants.{Empty as EmptyAt, NoEntry, Chased}
 use Rattle.trail_laws.specs.Trail.{entry_seen, EntryTells, mark_seen, MarkTells}
 use Rattle.busy_finds.specs.Again.{BeginsChase, EmptyMeetsPurge}
@@ -289,7 +288,6 @@ empty-meets laws setting history actor call node weight tickets few inside legal
         (ap (λ n. mark_seen setting call.sub (before last history) n) (sym chasing.there) ∙ told_end.2.1)
 
     its : IsPurging laws.marks setting call.sub history few legal was.ticket
-        (stop_at laws.marks setting call.sub history few legal chasing.place)
     its = purging laws.marks setting call.sub history few legal was.ticket _ was.writes _ refl
 
     past_then : Past laws.marks setting call.sub history few legal its.cleaning.move.number (suc was.ticket)

@@ -78,9 +78,8 @@ module _ (setting : Setting) (course : Course) (move : Move) where
     pub last : level ≡ move.renewed → length (erasure_writes setting course move) ≤ suc behind.0
 
   -- a purge
-  pub record IsPurging (k node : ℕ) : Type 0 where
+  pub record IsPurging (k : ℕ) : Type 0 where
     pub tops : (move.renewed == setting.top) ≡ true
-    pub other : (node == move.to) ≡ false
     pub behind : (j : ℕ) × (k ≡ length (early setting course move) + suc (suc (length (erasure_writes setting course move) + j)))
 
   purges-at : (j : ℕ) (write : Write) → slice_get (purge_writes setting course move) j ≡ Some write
@@ -153,7 +152,7 @@ module _ (setting : Setting) (course : Course) (move : Move) where
     is_gone : write ≡ mark_at move.from (Gone move.number move.to) → IsPart k write
     is_here : write ≡ mark_at move.to (Here move.number) → IsPart k write
     is_erasure : (level cluster : ℕ) → write ≡ entry_at level cluster None → IsErasing k level cluster → IsPart k write
-    is_purge : (node : ℕ) → write ≡ mark_at node Empty → IsPurging k node → IsPart k write
+    is_purge : (node : ℕ) → write ≡ mark_at node Empty → IsPurging k → IsPart k write
 
   pub part-of : (k : ℕ) (write : Write) → slice_get (move_writes setting course move) k ≡ Some write → IsPart k write
   part-of k write h = elim (in-parts (early setting course move)
@@ -188,7 +187,6 @@ module _ (setting : Setting) (course : Course) (move : Move) where
                 let found = purges-at purged.0 write purged.2 in
                 is_purge found.0 (sym found.1) (record {
                   tops = found.2;
-                  other = found.3;
                   behind = (purged.0, omega (arith, e, purged.1));
                 })
           ]

@@ -1,5 +1,5 @@
 -- Moves that are past stay so, and those up to a move are, once it has erased its top level's address or purged a node.
-use Rattle.std.proofs.Common.{◌≡◌, inl, inr, ℕ, suc, ◌<◌, ◌≤◌, ◌^◌, length, arith}
+use Rattle.std.proofs.Common.{inl, inr, ℕ, suc, ◌<◌, ◌≤◌, ◌^◌, length, arith}
 use Rattle.std.proofs.lemmas.Bool.{cases_lt}
 use Rattle.directory.specs.Histories.{before, History}
 use Rattle.directory.specs.Legal.{IsLegal}

@@ -21,10 +21,12 @@ pub fn empty_meets_a_purge()
     laws_below();
 }
 
-/// Of finds of a subscriber that follow one another no more met no address than moves of the
-/// subscriber renewed the top level.
+/// Of finds of a subscriber that follow one another no more met no address, or a node that was
+/// emptied, than moves of the subscriber renewed the top level.
 pub fn missed_finds_are_few()
     ensures { MissedFindsAreFew }
 {
+    laws_below();
+    empty_meets_a_purge();
     no_entry_meets_the_top();
 }
