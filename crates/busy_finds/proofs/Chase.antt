@@ -21,6 +21,36 @@ knows-it : (q : ℕ) (known : Option ℕ) → is_known q (known_with q known) �
 knows-it q None = grind (arith, nat_tests)
 knows-it q (Some known) = grind (arith, nat_tests)
 
+-- a Gone leads to a later stop
+pub gone-on : (laws : MarkLaws) (setting : Setting) (sub : ℕ) (history : History) (few : setting.nodes ≤ 2 ^ 16)
+    (legal : IsLegal setting sub history) (x place node q to : ℕ) → x ≤ length history
+    → place ≤ begun laws setting sub history few legal x → node ≡ stop_at laws setting sub history few legal place
+    → node < setting.nodes → mark_at laws setting sub history few legal x node ≡ Gone q to → place < q
+gone-on laws setting sub history few legal x place node q to within low there inside gone =
+    elim (cases_lt place (count laws setting sub history few legal x)) [
+      | inl early ↦ gone-later laws setting sub history few legal x within place q to early
+          (ap (λ n. mark_at laws setting sub history few legal x n) (sym there) ∙ gone)
+          (subst (λ n. n < setting.nodes) there inside)
+      | inr late ↦ elim (cases_eq place (count laws setting sub history few legal x)) [
+        | inl same ↦
+            let here : standing setting sub (before x history) ≡ node =
+            stands-there laws setting sub history few legal x
+            ∙ (ap (λ n. stop_at laws setting sub history few legal n) (sym same) ∙ sym there) in
+            absurd (none-gone laws setting sub history few legal x q to
+            (ap (λ n. mark_at laws setting sub history few legal x n) here ∙ gone))
+        | inr apart ↦
+            let most_begun : begun laws setting sub history few legal x ≤ suc (count laws setting sub history few legal x) =
+            begun-few laws setting sub history few legal x in
+            let comes = coming-there laws setting sub history few legal x (omega (arith, late, apart, low, most_begun)) in
+            let here : stop_at laws setting sub history few legal (begun laws setting sub history few legal x) ≡ node =
+            ap (λ n. stop_at laws setting sub history few legal n)
+            (let e : begun laws setting sub history few legal x ≡ place = omega (arith, late, apart, low, most_begun) in e)
+            ∙ sym there in
+            let clash : Coming comes.0 comes.1 ≡ Gone q to =
+            sym comes.2 ∙ (ap (λ n. mark_at laws setting sub history few legal x n) here ∙ gone) in cc
+      ]
+    ]
+
 module _ (laws : MarkLaws) (setting : Setting) (sub : ℕ) (history : History) (few : setting.nodes ≤ 2 ^ 16)
     (legal : IsLegal setting sub history) (metric : HasMetric setting) (last most : ℕ) where
   -- how far it was from the start to a stop
@@ -91,26 +121,9 @@ module _ (laws : MarkLaws) (setting : Setting) (sub : ℕ) (history : History) (
       back = λ y from h g new comes. absurd (never y from h g new comes);
     }
 
-    -- a Gone leads to a later stop
     gone-after : (q to : ℕ) → seen_at x node ≡ Gone q to → paid.place < q
-    gone-after q to gone = elim (cases_lt paid.place (count_at x)) [
-      | inl early ↦ gone-later laws setting sub history few legal x within paid.place q to early
-          (ap (λ n. seen_at x n) (sym paid.there) ∙ gone) (subst (λ n. n < setting.nodes) paid.there node-inside)
-      | inr late ↦ elim (cases_eq paid.place (count_at x)) [
-        | inl same ↦
-            let here : standing setting sub (before x history) ≡ node =
-            stands-there laws setting sub history few legal x ∙ (ap (λ n. stop_no n) (sym same) ∙ sym paid.there) in
-            absurd (none-gone laws setting sub history few legal x q to (ap (λ n. seen_at x n) here ∙ gone))
-        | inr apart ↦
-            let most_begun : begun_at x ≤ suc (count_at x) = begun-few laws setting sub history few legal x in
-            let comes = coming-there laws setting sub history few legal x (omega (arith, late, apart, place-low, most_begun)) in
-            let here : stop_no (begun_at x) ≡ node =
-            ap (λ n. stop_no n) (let e : begun_at x ≡ paid.place = omega (arith, late, apart, place-low, most_begun) in e)
-            ∙ sym paid.there in
-            let clash : Coming comes.0 comes.1 ≡ Gone q to =
-            sym comes.2 ∙ (ap (λ n. seen_at x n) here ∙ gone) in cc
-      ]
-    ]
+    gone-after q to gone = gone-on laws setting sub history few legal x paid.place node q to within place-low paid.there
+        node-inside gone
 
     gone-paid : (q to : ℕ) → seen_at x node ≡ Gone q to
         → PaysOn x (hop setting (known_with q chase.known) chase.level chase.weight chase.hops_left node to)

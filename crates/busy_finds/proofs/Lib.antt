@@ -11,8 +11,10 @@ mod Written
 mod Parts
 mod Cleaning
 mod Between
+mod Past
 mod NoEntry
 mod Chase
+mod Emptied
 mod Beyond
 mod Price
 mod ByStretch

@@ -32,6 +32,7 @@ use Rattle.busy_finds.proofs.Current.{current, currents-have}
 use Rattle.busy_finds.proofs.Fronts.{committed-by, legal-at, moves-in-place, number-more}
 use Rattle.busy_finds.proofs.Looks.{Climbed, climbed-more, climbed-none, in-rows, looks-end, WasEmpty, WereEmpty}
 use Rattle.busy_finds.proofs.Moves.{AreInPlace, base-more, base-within, stop-after, stop-inside, stop_of}
+use Rattle.busy_finds.proofs.Past.{cleaned-past}
 use Rattle.busy_finds.proofs.Tickets.{begun-more, first-moves}
 
 module _ (setting : Setting) (history : History) (call : FindCall) (first : ℕ) where
@@ -104,7 +105,14 @@ no-entry laws setting history actor call weight tickets few reads inside legal f
   its,
   same_top,
   record { after = after_first; by = omega (arith, cleaned.done, number-more call.sub (suc e) last history (omega (arith, erased.2, was.2))); is = cleaned.is },
-  (e, erased.1, omega (arith, erased.2, was.2), (cluster, erased.3.visit, cleaned.last)),
+  (
+    e,
+    erased.1,
+    omega (arith, erased.2, was.2),
+    (cluster, erased.3.visit, cleaned.last),
+    cleaned-past laws setting call.sub history few legal e (omega (arith, erased.2, was.2, told_end.1)) cleaned
+        (erasure.above same_top refl),
+  ),
 )
   where
     first : ℕ

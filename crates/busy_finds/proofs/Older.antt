@@ -106,14 +106,14 @@ module _ (setting : Setting) (sub : ℕ) (before : List Step) (script : IsScript
   abbrev done : Course
   done = course_of setting sub before
 
-  done-place : AreInPlace setting done.start done.moves
+  pub done-place : AreInPlace setting done.start done.moves
   done-place = place-steps setting (course_at (start setting sub)) before
       (record { begins = script.begins; each = λ i move h. cc }) script.allowed
 
   only-start : IsOnly setting (opening_entry setting sub) (start setting sub) []
   only-start level cluster address below is = grind (arith, nat_tests, cases_Bool, eqb-true)
 
-  done-only : IsOnly setting (entries_after (opening_entry setting sub) (made_before setting sub before)) done.start done.moves
+  pub done-only : IsOnly setting (entries_after (opening_entry setting sub) (made_before setting sub before)) done.start done.moves
   done-only = only-steps setting (course_at (start setting sub)) (opening_entry setting sub) before
       (record { begins = script.begins; each = λ i move h. cc }) script.allowed only-start
 

@@ -202,7 +202,7 @@ module _ (setting : Setting) (course : Course) (node : ℕ) (entries : ℕ → �
             (slice_get-right course.moves (its ∷ []) (length course.moves) 0 (omega arith)))),
       )
 
-  only-move : IsOnly setting (entries_after entries (move_writes setting course its)) course.start more
+  pub only-move : IsOnly setting (entries_after entries (move_writes setting course its)) course.start more
   only-move level cluster address below is = at_level (nat_le level its.renewed) refl
     where
       value : held_after level cluster (held_after level cluster (entries level cluster) (early setting course its))

@@ -13,10 +13,10 @@ use Rattle.directory.specs.Legal.{IsLegal}
 use Rattle.directory.specs.ListLaws.{last_or-push, same_some, slice_get-right}
 use Rattle.directory.specs.Puts.{steps_in}
 use Rattle.directory.specs.Settings.{Setting, start}
-use Rattle.directory.specs.States.{entry_after, opening_entry, writes_made}
+use Rattle.directory.specs.States.{entry_after, mark_after, opening_entry, opening_mark, writes_made}
 use Rattle.directory.specs.StepLaws.{puts-push_other, puts-push_own, slice_get-within, steps-append, take-more, writes-append, writes-more}
 use Rattle.directory.specs.Writes.{step_writes, visit_of, visits, Write, writes}
-use Rattle.trail_laws.specs.Trail.{entry_seen}
+use Rattle.trail_laws.specs.Trail.{entry_seen, mark_seen}
 use Rattle.busy_finds.specs.LawsBelow.{MarkLaws}
 use Rattle.busy_finds.proofs.Current.{made_before}
 use Rattle.busy_finds.proofs.Tickets.{in-front, its_legal, mapped-at}
@@ -122,6 +122,7 @@ module _ (laws : MarkLaws) (setting : Setting) (sub : ℕ) (history : History) (
   -- a visit that writes this for the subscriber
   pub record IsWritten (t : ℕ) (write : Write) : Type 0 where
     pub visit : slice_get history t ≡ Some (visit_of sub write)
+    pub grown : puts_at (suc t) ≡ puts_at t ++ visit_of sub write ∷ []
     pub more : made_at (suc t) ≡ made_at t ++ write ∷ []
     pub last : IsLast setting sub (steps_in (puts_at (suc t))) (made_at t ++ write ∷ []) write
 
@@ -158,6 +159,7 @@ module _ (laws : MarkLaws) (setting : Setting) (sub : ℕ) (history : History) (
         found.0,
         record {
           visit = is ∙ ap Some (sym found.2);
+          grown = grown ∙ ap (λ v. puts_at t ++ v ∷ []) (sym found.2);
           more = grows;
           last = last-amid setting sub (made_at t) found.0 (steps_in (puts_at (suc t))) am.before am.under am.made am.steps am.one
               am.some am.few (sym grows ∙ am.writes);
@@ -197,3 +199,20 @@ module _ (laws : MarkLaws) (setting : Setting) (sub : ℕ) (history : History) (
       laws.facts.writes.entries setting sub (before (suc t) history) few (legally (suc t)) level cluster
       ∙ (ap (λ puts. fold (entry_after level cluster) (opening_entry setting sub level cluster) (writes_made setting sub puts)) same
       ∙ sym (laws.facts.writes.entries setting sub (before t history) few (legally t) level cluster))
+
+  pub mark-written : (t : ℕ) (write : Write) → IsWritten t write → (node : ℕ)
+      → mark_seen setting sub (before (suc t) history) node
+      ≡ mark_after node (mark_seen setting sub (before t history) node) write
+  mark-written t write is node =
+      laws.facts.writes.left setting sub (before (suc t) history) few (legally (suc t)) node
+      ∙ (ap (fold (mark_after node) (opening_mark setting sub node)) is.more
+      ∙ (fold-append (mark_after node) (opening_mark setting sub node) (made_at t) (write ∷ [])
+      ∙ ap (λ m. mark_after node m write)
+      (sym (laws.facts.writes.left setting sub (before t history) few (legally t) node))))
+
+  pub mark-still : (t : ℕ) → puts_at (suc t) ≡ puts_at t → (node : ℕ)
+      → mark_seen setting sub (before (suc t) history) node ≡ mark_seen setting sub (before t history) node
+  mark-still t same node =
+      laws.facts.writes.left setting sub (before (suc t) history) few (legally (suc t)) node
+      ∙ (ap (λ puts. fold (mark_after node) (opening_mark setting sub node) (writes_made setting sub puts)) same
+      ∙ sym (laws.facts.writes.left setting sub (before t history) few (legally t) node))

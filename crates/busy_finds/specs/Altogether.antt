@@ -70,11 +70,11 @@ FindsInTurnAreBounded =
     + levels setting * weight_of (moves_of setting sub history))
     + 2 * passages_in_all setting history finds
 
--- 1 for an answer that no address was met, and 0 for another
+-- 1 for an answer that no address was met, or a node that was emptied, and 0 for another
 abbrev pub missed_once : Found → ℕ
 missed_once (At node number level weight) = 0
 missed_once (OffAt node number level weight) = 0
-missed_once (Again (EmptyAt node) weight) = 0
+missed_once (Again (EmptyAt node) weight) = 1
 missed_once (Again NoEntry weight) = 1
 missed_once (Again Chased weight) = 0
 
@@ -82,8 +82,8 @@ missed_once (Again Chased weight) = 0
 abbrev pub top_once : Setting → Move → ℕ
 top_once setting move = if move.renewed == setting.top then 1 else 0
 
--- of finds of a subscriber in turn no more met no address than moves of the subscriber renewed the
--- top level (`missed_finds_are_few`)
+-- of finds of a subscriber in turn no more met no address, or a node that was emptied, than moves of
+-- the subscriber renewed the top level (`missed_finds_are_few`)
 abbrev pub MissedFindsAreFew : Type 0
 MissedFindsAreFew =
     (setting : Setting) (history : History) (sub : ℕ) (finds : List MadeFind)

@@ -1,6 +1,6 @@
 -- What the laws of this crate rest on, of the crates below: how far legal histories are and what
 -- they leave, what marks and addresses tell, and what reading weighs.
-use Rattle.directory.specs.Statements.{CellAfter, CommitsAreMoves, CommitsAreTold, EntriesAreLeft, LegalIsAmid, SameKey, StandsAtStop}
+use Rattle.directory.specs.Statements.{CellAfter, CommitsAreMoves, CommitsAreTold, EntriesAreLeft, LegalIsAmid, MarksAreLeft, SameKey, StandsAtStop}
 use Rattle.stretch_laws.specs.Costs.{ReadingIsBounded}
 use Rattle.trail_laws.specs.Phases.{ComingStands, PhasesCover}
 use Rattle.trail_laws.specs.Trail.{AddressesLead, EntriesTell, MarksTell, TopHasEntry}
@@ -11,6 +11,7 @@ use Rattle.trail_laws.specs.Within.{HistoryFrontsAreLegal}
 pub record WriteLaws : Type 0 where
   pub amid : LegalIsAmid
   pub entries : EntriesAreLeft
+  pub left : MarksAreLeft
   pub told : CommitsAreTold
 
 -- and how its fronts and its commits are

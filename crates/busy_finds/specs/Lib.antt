@@ -1,5 +1,6 @@
 pub mod LawsBelow
 pub mod Within
+pub mod Again
 pub mod Prices
 pub mod Plans
 pub mod Altogether

@@ -1,4 +1,5 @@
 //! Laws of finds that are to be made again.
+ghost use Rattle.busy_finds.specs.Again.{EmptyMeetsPurge};
 ghost use Rattle.busy_finds.specs.Altogether.{MissedFindsAreFew};
 ghost use Rattle.busy_finds.specs.Within.{NoEntryMeetsTop};
 
@@ -12,10 +13,20 @@ pub fn no_entry_meets_the_top()
     laws_below();
 }
 
-/// Of finds of a subscriber that follow one another no more met no address than moves of the
-/// subscriber renewed the top level.
+/// Where a find read that a node is empty, a move that renews the top level has purged that node since
+/// the look at which the find's chase began.
+pub fn empty_meets_a_purge()
+    ensures { EmptyMeetsPurge }
+{
+    laws_below();
+}
+
+/// Of finds of a subscriber that follow one another no more met no address, or a node that was
+/// emptied, than moves of the subscriber renewed the top level.
 pub fn missed_finds_are_few()
     ensures { MissedFindsAreFew }
 {
+    laws_below();
+    empty_meets_a_purge();
     no_entry_meets_the_top();
 }

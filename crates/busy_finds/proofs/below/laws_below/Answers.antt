@@ -7,6 +7,7 @@ returns c = record {
       writes = record {
         amid = c.legal_is_amid.ensures;
         entries = c.read_of_legal.ensures.entries;
+        left = c.read_of_legal.ensures.marks;
         told = c.told_by_writes.ensures.commits;
       };
       fronts = c.front_of_history_is_legal.ensures;
