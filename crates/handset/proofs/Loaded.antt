@@ -1,22 +1,22 @@
 -- A handset comes back from its words, and what is read of words is their handset.
-use Rattle.std.proofs.Common.{◌≡◌, ◌⊎◌, ℕ, ◌+◌, ◌*◌, ◌^◌, ◌<◌, ◌≤◌, Bool, true, false, List, [], ◌++◌, Some, None, drop, get_or, length, map, take, refl, sym, ap, ◌∙◌, subst, arith, length-append}
-use Rattle.std.specs.Prelude.{◌==◌, ◌&&◌, not, nat_eq, nat_le, nat_lt, if◌then◌else◌, Option, Result, Ok, Err}
+use Rattle.std.proofs.Common.{◌≡◌, ℕ, ◌+◌, ◌*◌, ◌^◌, ◌<◌, ◌≤◌, Bool, true, false, List, ◌++◌, Some, None, drop, get_or, length, map, take, refl, sym, ap, ◌∙◌, subst, arith, length-append}
+use Rattle.std.specs.Prelude.{not, nat_eq, nat_lt, if◌then◌else◌, Result, Ok, Err, IfOk, MatchResult}
 use Rattle.std.specs.Cmp.Lexicographic.{pointwise}
-use Rattle.std.proofs.lemmas.Bool.{and_parts, eqb-true, eq-eqb, le-leb, lt-ltb, ltb-true}
+use Rattle.std.proofs.lemmas.Bool.{and_parts, eqb-true, eq-eqb, lt-ltb, ltb-true}
 use Rattle.std.proofs.lemmas.Bool.Decides.{nat_tests}
-use Rattle.std.proofs.lemmas.List.{drop_at, get_or-map, length-drop, length-map, length-take-le, take_at}
+use Rattle.std.proofs.lemmas.List.{drop_at, length-drop, length-map, length-take-le, take_at}
 use Rattle.node_set.specs.SetLaws.{length-passing_all}
 use Rattle.directory.specs.Courses.{Move}
 use Rattle.directory.specs.Writes.{numbers_from}
 use Rattle.region_plan.specs.Kept.{IsKept}
 use Rattle.region_plan.specs.Plan.{PlanData, levels_of, nodes_of}
 use Rattle.node_set.specs.Ascending.{has}
-use Rattle.handset.specs.declared.fault.StateFault.{StateFault}
+use Rattle.handset.specs.declared.fault.StateRefusal.{StateRefusal}
 use Rattle.handset.specs.declared.fault.StateFault.TheVariants.{Short, Garbled, NoNode, Mixed}
 use Rattle.handset.specs.declared.stage.Stage.{Stage}
 use Rattle.handset.specs.declared.stage.Stage.TheVariants.{Resting, Coming, Renewing, Committing, Confirming, Erasing, Purging, Switching}
 use Rattle.handset.specs.Condition.{GoesWith, HandsetData, begun_at}
-use Rattle.handset.specs.States.{IsStateFor, ReadWordsAreStates, StatesComeBack, checked, goes_together, handset_from, names_nodes, narrow, nodes_on, or_fault, stage_from, stage_kind, stage_part, state_fault, state_of, trail_from, truth_word, words_of}
+use Rattle.handset.specs.States.{IsRefusalOf, IsStateFor, ReadWordsAreStates, StatesComeBack, checked, goes_together, handset_from, names_nodes, narrow, nodes_on, or_fault, state_fault, state_of, trail_from, words_of}
 use Rattle.handset.proofs.Saved.{all-below, all-within, below-all, is-stage, narrow-below, narrow-each, narrow-small, own-words, same-words, stage-back, stage-is, trail-back, truth-back, within-all}
 
 -- ---- there
@@ -60,7 +60,7 @@ read-back plan handset kept goes small =
     ≡ handset.trail
     = ap (trail_from (nodes_of plan)) parts.2
     ∙ (ap (λ n. trail_from n (nodes_on handset.trail)) (sym goes.trail) ∙ trail-back handset.trail) in
-    let stage = stage-back handset.stage goes.stage few low in
+    let stage = stage-back (nodes_of plan) handset.last handset.stage goes.stage few low in
     same-handset (narrow-small handset.sub small)
     (narrow-small handset.place (omega (arith, goes.place, few)))
     (narrow-small handset.number number) (truth-back handset.is_off) stage
@@ -134,7 +134,7 @@ long-enough plan handset goes =
 
 pub states-back : StatesComeBack
 states-back plan handset words kept is =
-    ap (state_of plan) is.words ∙ (rw (long-enough plan handset is.goes)
+    ap (state_of plan) is.same ∙ (rw (long-enough plan handset is.goes)
     (ap (checked plan (words_of handset)) (read-back plan handset kept is.goes is.sub)
     ∙ rw (own-words (words_of handset), faultless plan handset is.goes) refl))
 
@@ -208,7 +208,7 @@ checked-is plan words read handset lengths h =
     by-words true same true n true g e =
         let is : read ≡ handset = cc in
         subst (λ it. IsStateFor plan it words) is (record {
-          words = sym (same-words (words_of read) words same);
+          same = sym (same-words (words_of read) words same);
           goes = goes-from plan read lengths.addresses lengths.gathered lengths.trail lengths.numbered n g;
           sub = lengths.sub;
         })
@@ -226,3 +226,23 @@ states-only plan words handset h =
         let rest : 2 * levels_of plan ≤ length (drop 11 words) = omega (arith, long, length-drop 11 words) in
         checked-is plan words (handset_from plan (take 11 words) (drop 11 words)) handset
         (lengths-of plan (take 11 words) (drop 11 words) rest) e
+
+-- what comes of enough words is what comes of the handset that is read of them
+pub whole : (plan : PlanData) (words head rest : List ℕ) (handset : HandsetData)
+    (result : Result HandsetData StateRefusal) → 11 + 2 * levels_of plan ≤ length words → head ≡ take 11 words
+    → rest ≡ drop 11 words → handset ≡ handset_from plan head rest
+    → MatchResult result (λ it. checked plan words handset ≡ Ok it) (IsRefusalOf (checked plan words handset))
+    → MatchResult result (λ it. state_of plan words ≡ Ok it) (IsRefusalOf (state_of plan words))
+whole plan words head rest handset result long front back read came =
+    let test : nat_lt (length words) (11 + 2 * levels_of plan) ≡ false = grind (arith, nat_tests) in
+    let is : handset ≡ handset_from plan (take 11 words) (drop 11 words)
+    = read ∙ (ap (λ h. handset_from plan h rest) front ∙ ap (handset_from plan (take 11 words)) back) in
+    let same : state_of plan words ≡ checked plan words handset
+    = rw test (ap (checked plan words) (sym is)) in
+    subst (λ a. MatchResult result (λ it. a ≡ Ok it) (IsRefusalOf a)) (sym same) came
+
+pub whole-goes : ReadWordsAreStates → (plan : PlanData) (words : List ℕ) (result : Result HandsetData StateRefusal)
+    → MatchResult result (λ it. state_of plan words ≡ Ok it) (IsRefusalOf (state_of plan words))
+    → IfOk result (GoesWith plan)
+whole-goes only plan words (Ok handset) came = (only plan words handset came).goes
+whole-goes only plan words (Err refusal) came = tt

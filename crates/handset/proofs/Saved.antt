@@ -1,25 +1,25 @@
 -- The words of a handset: each part is read as it was written, and what is read goes with its plan where it has no fault.
-use Rattle.std.proofs.Common.{◌≡◌, ℕ, zero, suc, ◌+◌, ◌*◌, ◌^◌, ◌<◌, ◌≤◌, Bool, true, false, List, [], ◌∷◌, ◌++◌, Some, None, drop, get_or, length, map, take, refl, sym, ap, ◌∙◌, subst, arith, length-append}
-use Rattle.std.specs.Prelude.{◌==◌, ◌&&◌, not, nat_eq, nat_le, nat_lt, if◌then◌else◌, Result, Ok, Err}
+use Rattle.std.proofs.Common.{◌≡◌, ℕ, zero, suc, ◌+◌, ◌*◌, ◌^◌, ◌<◌, ◌≤◌, Bool, true, false, List, [], ◌∷◌, ◌++◌, get_or, length, map, take, refl, sym, ap, ◌∙◌, arith, length-append}
+use Rattle.std.specs.Prelude.{◌==◌, ◌||◌, nat_eq, nat_le, nat_lt}
 use Rattle.std.specs.Cmp.Lexicographic.{pointwise}
 use Rattle.std.specs.List.{list_all}
-use Rattle.std.proofs.lemmas.Bool.{and_parts, le-leb, lt-ltb, ltb-true, leb-true, eqb-true, eq-eqb}
+use Rattle.std.proofs.lemmas.Bool.{and_parts, le-leb, lt-ltb, ltb-true, leb-true}
 use Rattle.std.proofs.lemmas.Bool.Decides.{Decides-eqb, nat_tests}
-use Rattle.std.proofs.lemmas.List.{drop_at, ext_get_or, get_or-map, length-drop, length-map, length-take-le, take_at}
+use Rattle.std.proofs.Math.Bool.{or-false}
+use Rattle.std.proofs.lemmas.List.{append_assoc, ext_get_or, get_or-map, length-map, take_more}
 use Rattle.std.proofs.lemmas.Slice.Eq.{slice_eq-Decides}
-use Rattle.node_set.specs.Ascending.{has, sift}
+use Rattle.node_set.specs.Ascending.{has, sift, with_number}
 use Rattle.node_set.specs.Nodes.{AreNodes, Nodes}
-use Rattle.node_set.specs.SetLaws.{all_members, has-passing, length-passing_all, passing_all-each, passing_same}
+use Rattle.node_set.specs.SetLaws.{all_members, has-append, has-inserted, has-passing, length-passing-le, length-passing_all, passing_all-each, passing_same, passing_skips, passing_takes}
 use Rattle.directory.specs.Courses.{Move}
 use Rattle.directory.specs.Writes.{numbers_from}
-use Rattle.region_plan.specs.Kept.{IsKept}
-use Rattle.region_plan.specs.Plan.{PlanData, levels_of, nodes_of}
+use Rattle.region_plan.specs.Plan.{PlanData, levels_of}
 use Rattle.handset.specs.declared.stage.Stage.{Stage}
 use Rattle.handset.specs.declared.stage.Stage.TheVariants.{Resting, Coming, Renewing, Committing, Confirming, Erasing, Purging, Switching}
-use Rattle.handset.specs.Condition.{GoesWith, HandsetData, IsMoveStage, begun_at}
+use Rattle.handset.specs.Condition.{GoesWith, HandsetData, IsMoveStage}
 use Rattle.handset.specs.Trails.{flags}
 use Rattle.handset.proofs.Trails.{flag-at, flag-count}
-use Rattle.handset.specs.States.{IsStateFor, ReadWordsAreStates, StatesComeBack, checked, goes_together, handset_from, is_move_stage, names_nodes, narrow, nodes_on, or_fault, stage_from, stage_kind, stage_part, state_fault, state_of, trail_from, truth_word, words_of}
+use Rattle.handset.specs.States.{is_move_stage, narrow, nodes_on, stage_from, stage_kind, stage_part, trail_from, truth_word, words_of}
 
 -- a number of 32 bits
 pub narrow-small : (n : ℕ) → n < 2 ^ 32 → narrow n ≡ n
@@ -42,16 +42,16 @@ switch-back : (off : Bool) → stage_from 7 (narrow (truth_word off)) ≡ Switch
 switch-back true = refl
 switch-back false = refl
 
-pub stage-back : {nodes : ℕ} {move : Move} (stage : Stage) → IsMoveStage nodes move stage → nodes ≤ 2 ^ 32
+pub stage-back : (nodes : ℕ) (move : Move) (stage : Stage) → IsMoveStage nodes move stage → nodes ≤ 2 ^ 32
     → move.renewed < 2 ^ 32 → stage_from (stage_kind stage) (narrow (stage_part stage)) ≡ stage
-stage-back Resting is few low = refl
-stage-back Coming is few low = refl
-stage-back (Renewing level) is few low = ap Renewing (narrow-small level (omega (arith, is, low)))
-stage-back Committing is few low = refl
-stage-back Confirming is few low = refl
-stage-back (Erasing level) is few low = ap Erasing (narrow-small level (omega (arith, is, low)))
-stage-back (Purging node) is few low = ap Purging (narrow-small node (omega (arith, is, few)))
-stage-back (Switching off) is few low = switch-back off
+stage-back nodes move Resting is few low = refl
+stage-back nodes move Coming is few low = refl
+stage-back nodes move (Renewing level) is few low = ap Renewing (narrow-small level (omega (arith, is, low)))
+stage-back nodes move Committing is few low = refl
+stage-back nodes move Confirming is few low = refl
+stage-back nodes move (Erasing level) is few low = ap Erasing (narrow-small level (omega (arith, is, low)))
+stage-back nodes move (Purging node) is few low = ap Purging (narrow-small node (omega (arith, is, few)))
+stage-back nodes move (Switching off) is few low = switch-back off
 
 -- a trail
 pub trail-back : (trail : List Bool) → trail_from (length trail) (nodes_on trail) ≡ trail
@@ -134,4 +134,76 @@ nodes-members set sound =
     let count = flag-count set in
     ap (sift (λ node. get_or (flags set) node false) 0) count
     ∙ (passing_same (λ node. get_or (flags set) node false) (λ node. has node set.members) 0 set.room
-    (λ x low high. flag-at set x (omega (arith, high))) ∙ sym (all_members set sound))
+    (λ x low high. flag-at set x (omega (arith, high))) ∙ all_members set sound)
+
+pub nodes-few : (set : Nodes) → AreNodes set → length set.members ≤ 1024
+nodes-few set sound =
+    omega (arith, ap length (all_members set sound), length-passing-le (λ x. has x set.members) 0 set.room, sound.small)
+
+-- so many words there are
+pub state-count : {plan : PlanData} {handset : HandsetData} (set : Nodes) → AreNodes set → GoesWith plan handset
+    → handset.trail ≡ flags set → 11 + 2 * levels_of plan + length set.members ≡ length (words_of handset)
+state-count {plan} {handset} set sound goes same =
+    let nodes : length (nodes_on handset.trail) ≡ length set.members
+    = ap (λ t. length (nodes_on t)) same ∙ ap length (nodes-members set sound) in
+    omega (
+      arith,
+      nodes,
+      length-append handset.addresses (handset.gathered ++ nodes_on handset.trail),
+      length-append handset.gathered (nodes_on handset.trail),
+      goes.addresses,
+      goes.gathered,
+    )
+
+-- the nodes of a trail, one by one
+pub nodes-takes : (trail : Nodes) (base words after : List ℕ) (i : ℕ) → i < trail.room → has i trail.members ≡ true
+    → words ≡ base ++ sift (λ node. get_or (flags trail) node false) 0 i → after ≡ words ++ i ∷ []
+    → after ≡ base ++ sift (λ node. get_or (flags trail) node false) 0 (i + 1)
+nodes-takes trail base words after i below there so_far pushed =
+    let flag : get_or (flags trail) i false ≡ true = flag-at trail i below ∙ there in
+    let taken = passing_takes (λ node. get_or (flags trail) node false) i flag in
+    pushed ∙ ap (λ xs. xs ++ i ∷ []) so_far
+    ∙ append_assoc base (sift (λ node. get_or (flags trail) node false) 0 i) (i ∷ [])
+    ∙ ap (λ xs. base ++ xs) (sym taken)
+
+pub nodes-skips : (trail : Nodes) (base words : List ℕ) (i : ℕ) → i < trail.room → has i trail.members ≡ false
+    → words ≡ base ++ sift (λ node. get_or (flags trail) node false) 0 i
+    → words ≡ base ++ sift (λ node. get_or (flags trail) node false) 0 (i + 1)
+nodes-skips trail base words i below none so_far =
+    let flag : get_or (flags trail) i false ≡ false = flag-at trail i below ∙ none in
+    so_far ∙ ap (λ xs. base ++ xs) (sym (passing_skips (λ node. get_or (flags trail) node false) i flag))
+
+pub nodes-done : (trail : Nodes) (base words : List ℕ) (i : ℕ) → i ≡ trail.room
+    → words ≡ base ++ sift (λ node. get_or (flags trail) node false) 0 i → words ≡ base ++ nodes_on (flags trail)
+nodes-done trail base words i end so_far =
+    so_far ∙ ap (λ n. base ++ sift (λ node. get_or (flags trail) node false) 0 n) (end ∙ sym (flag-count trail))
+
+-- a trail of words, one by one
+has-more : (words : List ℕ) (i x : ℕ) → i < length words
+    → has x (take (i + 1) words) ≡ (has x (take i words) || x == get_or words i 0)
+has-more words i x inside =
+    ap (has x) (take_more words i 0 inside) ∙ has-append x (take i words) (get_or words i 0 ∷ [])
+    ∙ ap (λ b. has x (take i words) || b) (or-false (x == get_or words i 0))
+
+pub trail-takes : (members words : List ℕ) (i x w : ℕ) → i < length words → w ≡ get_or words i 0
+    → has x members ≡ has x (take i words) → has x (with_number w members) ≡ has x (take (i + 1) words)
+trail-takes members words i x w inside is same = grind (arith, has-inserted, has-more words i x inside)
+
+pub trail-skips : (members words : List ℕ) (i x w nodes : ℕ) → i < length words → w ≡ get_or words i 0 → x < nodes
+    → nodes ≤ w → has x members ≡ has x (take i words) → has x members ≡ has x (take (i + 1) words)
+trail-skips members words i x w nodes inside is below past same =
+    let other : (x == get_or words i 0) ≡ false = grind (arith, nat_tests) in
+    grind (arith, has-more words i x inside)
+
+pub trail-done : (trail : Nodes) (nodes : ℕ) (words : List ℕ) → trail.room ≡ nodes
+    → ((x : ℕ) → x < nodes → has x trail.members ≡ has x words) → flags trail ≡ trail_from nodes words
+trail-done trail nodes words room same =
+    let one = flag-count trail in
+    let other : length (trail_from nodes words) ≡ nodes
+    = length-map (numbers_from 0 nodes) (λ node. has node words) ∙ length-passing_all 0 nodes in
+    ext_get_or false (flags trail) (trail_from nodes words) (omega (arith, one, other, room)) (λ k h.
+    let below : k < nodes = omega (arith, h, one, room) in
+    flag-at trail k (omega (arith, below, room)) ∙ (same k below
+    ∙ sym (get_or-map (λ node. has node words) (numbers_from 0 nodes) k 0 false
+    (omega (arith, below, length-passing_all 0 nodes))
+    ∙ ap (λ n. has n words) (passing_all-each 0 nodes k 0 below ∙ omega arith))))

@@ -156,7 +156,7 @@ state_of plan words =
 
 -- words are the state of a handset that goes with a plan
 pub record IsStateFor (plan : PlanData) (handset : HandsetData) (words : List ℕ) : Type 0 where
-  pub words : words ≡ words_of handset
+  pub same : words ≡ words_of handset
   pub goes : GoesWith plan handset
   pub sub : handset.sub < 2 ^ 32
 

@@ -4,7 +4,7 @@ ghost use Rattle.std.specs.List.{list_all};
 ghost use Rattle.region_plan.specs.Kept.{IsKept};
 ghost use Rattle.region_plan.specs.Plan.{PlanData, levels_of, nodes_of};
 ghost use Rattle.handset.specs.Condition.{GoesWith, begun_at, move_of};
-ghost use Rattle.handset.specs.States.{IsRefusalOf, IsStateFor, ReadWordsAreStates, StatesComeBack, goes_together, handset_from, head_of, is_move_stage, names_nodes, narrow, nodes_on, stage_from, stage_kind, stage_part, state_fault, state_of, trail_from, truth_word, words_of};
+ghost use Rattle.handset.specs.States.{IsRefusalOf, ReadWordsAreStates, StatesComeBack, checked, goes_together, handset_from, head_of, is_move_stage, names_nodes, narrow, nodes_on, stage_from, stage_kind, stage_part, state_fault, state_of, trail_from, truth_word, words_of};
 ghost use Rattle.handset.specs.Trails.{flags};
 
 use crate::fault::{StateFault, StateRefusal};
@@ -31,7 +31,7 @@ impl Handset {
         ensures back { (plan : PlanData) → IsKept plan → GoesWith plan self.now
             → state_of plan (words_of self.now) ≡ Ok self.now }
     {
-        states_come_back();
+        self.comes_back();
         let head = self.head();
         let mut words = Vec::from_slice(alloc, &head)?;
         push_numbers(&mut words, &self.addresses)?;
@@ -65,14 +65,32 @@ impl Handset {
         }
         let (head, rest) = words.split_at(HEAD);
         let handset = Handset::read(alloc, plan, head, rest)?;
-        let again = handset.state(alloc)?;
+        handset.checked(alloc, plan, words)
+    }
+
+    // It, if the words of which it was read are its own and it goes with the plan.
+    fn checked(self, alloc: Global, plan: &Plan, words: &[u64]) -> Result<Handset, StateRefusal>
+        ensures { MatchResult result (λ handset. checked plan.now words.now self ≡ Ok handset)
+            (IsRefusalOf (checked plan.now words.now self)) }
+    {
+        let again = self.state(alloc)?;
         if again.as_slice() != words {
             return Err(StateRefusal::Fault(StateFault::Garbled));
         }
-        match handset.fault(plan) {
+        match self.fault(plan) {
             Some(fault) => Err(StateRefusal::Fault(fault)),
-            None => Ok(handset),
+            None => Ok(self),
         }
+    }
+
+    // Its words are read as it is, over a plan that it goes with. The call does nothing.
+    fn comes_back(&self)
+        ensures { (plan : PlanData) → IsKept plan → GoesWith plan self.now
+            → state_of plan (words_of self.now) ≡ Ok self.now }
+    {
+        states_come_back();
+        // This tells the proof that the subscriber is a number of 32 bits.
+        self.sub();
     }
 
     // The words before those of the levels.

@@ -88,11 +88,7 @@ fn load_in(alloc: Global, object: &Object, words: &[u64]) -> Result<Object, Faul
 
 /// How many words the state of a mover has.
 #[unsafe(no_mangle)]
-pub extern "C" fn track_mover_length(
-    alloc: Global,
-    mover: &mut TrackHandle,
-    count: &mut u32,
-) -> u32
+pub extern "C" fn track_mover_length(alloc: Global, mover: &mut TrackHandle, count: &mut u32) -> u32
     ensures told { Tells (and_then (mover_in (held mover.old)) length_told) result count.old
         count.new }
     ensures kept { held mover.new ≡ held mover.old }
@@ -107,11 +103,7 @@ pub extern "C" fn track_mover_length(
 
 /// Writes the state of a mover over just as many words as it has.
 #[unsafe(no_mangle)]
-pub extern "C" fn track_mover_save(
-    alloc: Global,
-    mover: &mut TrackHandle,
-    words: &mut [u64],
-) -> u32
+pub extern "C" fn track_mover_save(alloc: Global, mover: &mut TrackHandle, words: &mut [u64]) -> u32
     ensures told { TellsWithMemory
         (and_then (mover_in (held mover.old)) (saved (length words.old)))
         result words.old words.new }
