@@ -5,11 +5,12 @@ First each example of examples/false-bounds: the program is to write its .replay
 with the numbers that it fails by. Then made loads of two kinds, those of `make` and those of scripts/loads.py: no find may weigh
 more than the plan's stretch times its distance, the least at any of its tickets, and what the moves within had gathered, and
 twice the passage that was open before it; with the distance before its first look it is held to the sharper price, and the finds
-of a caller in all to theirs. An Again that met no entry has a move within that renews the top level.
+of a caller in all to theirs. An Again that met no entry has a move within that renews the top level, with its commit and an
+erasure of that level. One that met an Empty has the move that put it, whose first Empty and last erasure come after the look at
+which the chase began. One whose chase was given up has three commits within the chase. No two of a caller have the same move.
 
 Usage, at the top of the repository: bench/check_bounds.py [--long]    The loads are 200, and 10,000 with --long. TRACK names the
 program, ./track where it isn't set."""
-import os
 import pathlib
 import subprocess
 import sys
@@ -19,11 +20,12 @@ sys.path.insert(0, str(pathlib.Path(__file__).resolve().parent.parent / "scripts
 import directory  # noqa: E402
 import loads  # noqa: E402
 import texts  # noqa: E402
+from program import tried_program  # noqa: E402
 
-os.environ.setdefault("TRACK_PROVED", "1")
-PROGRAM = os.environ.get("TRACK", "./track")
+PROGRAM = tried_program()
 FALSE = pathlib.Path("examples/false-bounds")
 Move = namedtuple("Move", "start to weight level gathered commit confirm")
+Deed = namedtuple("Deed", "ticket put number")  # number: of the put's move, and 0 of a switch
 Priced = namedtuple("Priced", "find first_apart last_apart least_apart first_open last_open within")
 
 
@@ -45,7 +47,9 @@ class Story:
         self.report = texts.read_report(written("replay", text).decode())
         self.top = len(self.plan.levels) - 1
         self.network = directory.Network(self.said.nodes, self.said.edges)
+        self.setting = directory.Setting(self.network, self.plan)
         self.moves = [self.moves_of(sub) for sub in range(len(self.said.homes))]
+        self.deeds = [self.deeds_of(sub) for sub in range(len(self.said.homes))]
         self.finds = [self.priced(call) for call in self.report.calls if isinstance(call, (texts.Found, texts.Again))]
 
     def moves_of(self, sub):
@@ -60,6 +64,43 @@ class Story:
                 moves.append(Move(call.start, call.to, call.weight, level, gathered[level], call.commit, confirm))
                 gathered[:level + 1] = [0] * (level + 1)
         return moves
+
+    def tickets_of(self, actor):
+        """The tickets of an actor's visits."""
+        return [ticket for ticket, visitor in enumerate(self.report.order) if visitor == actor]
+
+    def deeds_of(self, sub):
+        """The puts of a subscriber, each with its ticket and the number of its move."""
+        course, tickets, deeds = directory.Course(self.setting, self.said.homes[sub]), iter(self.tickets_of(sub)), []
+        for call in self.report.calls:
+            if isinstance(call, texts.Moved) and call.actor == sub:
+                puts, _ = course.move(call.to)
+                deeds += [Deed(ticket, put, course.number) for put, ticket in zip(puts, tickets)]
+            elif isinstance(call, texts.Switched) and call.actor == sub:
+                deeds += [Deed(ticket, put, 0) for put, ticket in zip(course.switch(call.off), tickets)]
+        return deeds
+
+    def erased(self, sub, number, level=None):
+        """The tickets at which a move erases an address, of a level where one is named."""
+        return [deed.ticket for deed in self.deeds[sub] if deed.number == number and deed.put.kind == "entry"
+                and deed.put.word is None and level in (None, deed.put.place[0])]
+
+    def emptied(self, sub):
+        """The puts by which a subscriber's moves empty a mark."""
+        return [deed for deed in self.deeds[sub] if deed.put.word == ("Empty",)]
+
+    def chase_began(self, find):
+        """The ticket of the look at which a find's chase began, by its looks made once more; nothing where it never chased."""
+        walk, cells = directory.Walk(self.setting, find.start, find.sub), directory.Cells(self.setting, self.said.homes)
+        deeds = list(self.deeds[find.sub])
+        for ticket in self.tickets_of(find.actor):
+            if find.first <= ticket <= find.last:
+                while deeds and deeds[0].ticket < ticket:
+                    cells.put(find.sub, deeds.pop(0).put)
+                walk.step(cells, ticket)
+                if walk.place[0] == "chase":
+                    return ticket
+        return None
 
     def standing(self, sub, ticket):
         """Where a subscriber stands before a ticket."""
@@ -87,9 +128,41 @@ def bounded(story, priced):
     reach = max([priced.first_apart] + [threshold(move.level) for move in within])
     if weight > (stretch - 7) * reach + 2 * priced.first_open + moved:
         return f"{weight} > {stretch - 7} * {reach} + 2 * {priced.first_open} + {moved}"
-    if isinstance(priced.find, texts.Again) and priced.find.why == "none":
-        if all(move.level < story.top for move in within):
-            return "no entry, and no move within that renews the top level"
+    return None
+
+
+def charge(story, priced):
+    """The number of the move that an Again is charged to, 0 where its chase was given up; and what keeps it from that, if anything."""
+    find, moves = priced.find, story.moves[priced.find.sub]
+    if find.why == "none":
+        for number, move in enumerate(moves, 1):
+            if move in priced.within and any(find.first < t < find.last for t in story.erased(find.sub, number, story.top)):
+                return number, None
+        return 0, "no entry, and no move within that erases an address of the top level"
+    since = story.chase_began(find)
+    if find.why == "chased":
+        commits = sum(since < move.commit for move in priced.within)
+        return 0, None if commits >= 3 else f"chased, with {commits} commits since {since}"
+    node = int(find.why.split()[1])
+    number = max((d for d in story.emptied(find.sub) if d.put.place == node and d.ticket < find.last), key=lambda d: d.ticket).number
+    first = min(deed.ticket for deed in story.emptied(find.sub) if deed.number == number)
+    erased = story.erased(find.sub, number)
+    if moves[number - 1].level < story.top or first < since or (erased and max(erased) < since):
+        return number, f"empty since move {number}, which empties from {first} on and erases at {erased}, chased since {since}"
+    return number, None
+
+
+def charges(story):
+    """What keeps an Again from its charge, or two of a caller from having each their own."""
+    charged = set()
+    for priced in story.finds:
+        if isinstance(priced.find, texts.Again):
+            number, why = charge(story, priced)
+            key = (priced.find.actor, priced.find.sub, number)
+            if why or key in charged:
+                return why or f"two Agains of caller {priced.find.actor} are charged to move {number}"
+            if number:
+                charged.add(key)
     return None
 
 
@@ -151,14 +224,10 @@ def fewer_agains(story):
 
 def charged_once(story):
     """That no move has its commit and an erasure at the top level within one Again, and its first Empty within another."""
-    setting = directory.Setting(story.network, directory.plan_of(story.network, story.said.k))
-    course, own = directory.Course(setting, story.said.homes[0]), [t for t, a in enumerate(story.report.order) if a == 0]
     agains = [priced for priced in story.finds if isinstance(priced.find, texts.Again)]
     for place, move in enumerate(story.moves[0], 1):
-        puts, _ = course.move(move.to)
-        at, own = own[:len(puts)], own[len(puts):]
-        erased = [t for t, put in zip(at, puts) if put.kind == "entry" and put.word is None and put.place[0] == story.top]
-        empty = [t for t, put in zip(at, puts) if put.word == ("Empty",)][:1]
+        erased = story.erased(0, place, story.top)
+        empty = [deed.ticket for deed in story.emptied(0) if deed.number == place][:1]
         emptied = [priced for priced in agains if any(priced.find.first < t < priced.find.last for t in empty)]
         missed = [priced for priced in agains if move in priced.within and any(t < priced.find.last for t in erased)]
         if missed and emptied and missed != emptied:
@@ -180,7 +249,7 @@ CLAIMS = {
 
 def held(story, name):
     """Ends the script where a find isn't within its bounds."""
-    for why in [bounded(story, priced) for priced in story.finds] + [in_all(story)]:
+    for why in [bounded(story, priced) for priced in story.finds] + [in_all(story), charges(story)]:
         if why:
             sys.exit(f"{name}: {why}")
 

@@ -5,16 +5,21 @@ depths are the greatest least weights inside from the leader, within (2k-1) radi
 whole. Of `cover`: that clusters of one phase are disjoint, and no node lies in more clusters than there are phases; that p^k <=
 k^k n. Of `meancover`: that there is one phase, and t^k <= n^(k+1) for the sum t of the sizes.
 
-Usage, at the top of the repository: bench/check_covers.py [NODES]        It runs crates/track_main/out/track_main."""
+Usage, at the top of the repository: bench/check_covers.py [NODES]        It runs crates/track_main/out/track_main, or the
+program that the variable TRACK names."""
 import functools
 import heapq
 import itertools
+import os
 import subprocess
 import sys
 
-from networks import KINDS, edges, text
+sys.dont_write_bytecode = True
+sys.path.insert(0, os.path.join(os.path.dirname(os.path.realpath(__file__)), "../scripts"))
+from networks import KINDS, edges, text  # noqa: E402
+from program import PROVED, tried_program  # noqa: E402
 
-OURS = "crates/track_main/out/track_main"
+OURS = tried_program(PROVED)
 
 
 def least(neighbours, root, inside=None):

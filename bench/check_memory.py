@@ -11,7 +11,11 @@ import resource
 import subprocess
 import sys
 
-OURS = os.environ.get("TRACK", "crates/track_main/out/track_main")
+sys.dont_write_bytecode = True
+sys.path.insert(0, os.path.join(os.path.dirname(os.path.realpath(__file__)), "../scripts"))
+from program import PROVED, tried_program  # noqa: E402
+
+OURS = tried_program(PROVED)
 MOST = 64 << 20
 FINE = 8 << 20
 

@@ -1,8 +1,8 @@
 #!/usr/bin/env python3
 """Runs what pages tell their readers to type, and holds what comes to what the pages show. A block of lines that are indented by
-four spaces and begin with '$ ' is such: a line '$ COMMAND' is run by sh, and the lines behind it, up to the next command, are what it
+four spaces and begin with '$ ' is such: a line '$ COMMAND' is run by sh, and the lines after it, up to the next command, are what it
 writes to standard output and standard error. '...' at the end of a block stands for whatever else it writes. A line '[STATUS]'
-behind them is its exit status, where that isn't 0.
+after them is its exit status, where that isn't 0.
 
 Usage, at the top of the repository: bench/check_pages.py PAGE..
 
@@ -17,7 +17,10 @@ import tempfile
 sys.dont_write_bytecode = True
 TOP = os.path.realpath(os.path.join(os.path.dirname(os.path.realpath(__file__)), ".."))
 sys.path.insert(0, os.path.join(TOP, "scripts"))
+from program import OURS, tried_program  # noqa: E402
 from texts import BadText, ends_clearly  # noqa: E402
+
+PROGRAM = tried_program()
 
 
 def blocks_of(page):
@@ -57,10 +60,8 @@ def commands_of(block):
 
 
 def run(command, folder):
-    os.environ.setdefault("TRACK_PROVED", "1")
-    program = os.environ.get("TRACK")
-    if program:
-        command = re.sub(r"(?<![\w/])\./track\b", program, command)
+    if PROGRAM != OURS:
+        command = re.sub(r"(?<![\w/])\./track\b", lambda _: PROGRAM, command)
     done = subprocess.run(["sh", "-c", command], cwd=folder, stdin=subprocess.DEVNULL, stdout=subprocess.PIPE,
                           stderr=subprocess.STDOUT, check=False)
     return done.stdout.decode(errors="replace"), done.returncode

@@ -14,10 +14,10 @@ TOP = os.path.join(os.path.dirname(os.path.realpath(__file__)), "..")
 sys.path.insert(0, os.path.join(TOP, "scripts"))
 import directory  # noqa: E402
 from check_replays import made  # noqa: E402
+from program import tried_program  # noqa: E402
 from texts import BadText, Fault, ends_clearly, number, read_bytes, read_input  # noqa: E402
 
-os.environ.setdefault("TRACK_PROVED", "1")
-PROGRAM = os.environ.get("TRACK", "./track")
+PROGRAM = tried_program()
 
 
 def written(word, text):

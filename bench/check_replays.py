@@ -2,12 +2,18 @@
 """Compares what `replay` and `census` write with what another program of the same words does, byte for byte, on made inputs
 with moves, switches, finds and orders: seeds from FIRST on, each one input.
 
-Usage, at the top of the repository: bench/check_replays.py OTHER [COUNT [FIRST]]   It runs crates/track_main/out/track_main."""
+Usage, at the top of the repository: bench/check_replays.py OTHER [COUNT [FIRST]]   It runs crates/track_main/out/track_main, or
+the program that the variable TRACK names."""
+import os
 import random
 import subprocess
 import sys
 
-OURS = "crates/track_main/out/track_main"
+sys.dont_write_bytecode = True
+sys.path.insert(0, os.path.join(os.path.dirname(os.path.realpath(__file__)), "../scripts"))
+from program import PROVED, tried_program  # noqa: E402
+
+OURS = tried_program(PROVED)
 
 
 def network(rng, nodes):

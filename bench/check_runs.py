@@ -13,7 +13,11 @@ import subprocess
 import sys
 import time
 
-OURS = os.environ.get("TRACK", "crates/track_main/out/track_main")
+sys.dont_write_bytecode = True
+sys.path.insert(0, os.path.join(os.path.dirname(os.path.realpath(__file__)), "../scripts"))
+from program import PROVED, tried_program  # noqa: E402
+
+OURS = tried_program(PROVED)
 LOADS = ["42 256 4 64 64 2048", "42 256 4 64 64 8192", "7 1024 3 64 64 16384"]
 
 

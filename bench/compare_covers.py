@@ -17,11 +17,12 @@ import subprocess
 import sys
 
 sys.dont_write_bytecode = True
+sys.path.insert(0, os.path.join(os.path.dirname(os.path.realpath(__file__)), "../scripts"))
 from networks import KINDS, edges  # noqa: E402
+from program import tried_program  # noqa: E402
 
 KINDS = KINDS + ["random"]
-os.environ.setdefault("TRACK_PROVED", "1")
-OURS = os.environ.get("TRACK", "./track")
+OURS = tried_program()
 SUBS, CALLERS, MOVES, FINDS = 8, 8, 32, 512
 NEAR = 4
 
@@ -73,7 +74,7 @@ def plan_parts(lines):
 
 
 def input_with_finds(n, k, es, distance, near):
-    """Moves from anywhere to anywhere, and behind them finds from nearby or from anywhere."""
+    """Moves from anywhere to anywhere, and after them finds from nearby or from anywhere."""
     draw = Draw(n)
     homes = [draw.below(n) for _ in range(SUBS)]
     lines = ["track 2", f"nodes {n}", f"k {k}"] + [f"edge {a} {b} {w}" for a, b, w in es]

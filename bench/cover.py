@@ -1,7 +1,7 @@
 #!/usr/bin/env python3
 """Times `cover` on a path, a ring, a star, a grid, a complete and a random network of 32 to 256 nodes. It builds nothing:
-it runs crates/track_main/out/track_main, and beside it, in turns, another program where one is named. The columns are the
-median of the wall times in milliseconds, and the ratio of ours to the other's in the same run.
+it runs crates/track_main/out/track_main, or the program that the variable TRACK names, and beside it, in turns, another program
+where one is named. The columns are the median of the wall times in milliseconds, and the ratio of ours to the other's in the same run.
 
 Usage, at the top of the repository: bench/cover.py [OTHER PROGRAM]        RUNS=9 sets how often each is run, K="1 2 3 8" the
 trade-offs."""
@@ -10,11 +10,14 @@ import subprocess
 import sys
 import time
 
-from networks import KINDS, edges, text
+sys.dont_write_bytecode = True
+sys.path.insert(0, os.path.join(os.path.dirname(os.path.realpath(__file__)), "../scripts"))
+from networks import KINDS, edges, text  # noqa: E402
+from program import PROVED, tried_program  # noqa: E402
 
 KINDS = KINDS + ["random"]
 
-OURS = "crates/track_main/out/track_main"
+OURS = tried_program(PROVED)
 
 
 def once(program, data):

@@ -6,15 +6,19 @@ hundred more than is kept. A run of which no number is kept yet is counted, told
 nothing is counted: it says that it was skipped, and ends with status 77, which is neither that of a pass nor that of a failure.
 
 Usage, at the top of the repository: bench/instructions.py [--keep]        With --keep it writes the numbers anew, once a change
-has been found to be worth them. It runs crates/track_main/out/track_main."""
+has been found to be worth them. It runs crates/track_main/out/track_main, or the program that the variable TRACK names."""
+import os
 import re
 import shutil
 import subprocess
 import sys
 
-from networks import edges, text
+sys.dont_write_bytecode = True
+sys.path.insert(0, os.path.join(os.path.dirname(os.path.realpath(__file__)), "../scripts"))
+from networks import edges, text  # noqa: E402
+from program import PROVED, tried_program  # noqa: E402
 
-OURS = "crates/track_main/out/track_main"
+OURS = tried_program(PROVED)
 KEPT = "bench/instructions.txt"
 MOST = 1.03
 MOST_BYTES = 4194304

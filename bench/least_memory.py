@@ -6,7 +6,6 @@ fails here that needs more than a tenth more than is kept. A run of which no num
 
 Usage, at the top of the repository: bench/least_memory.py [--keep]        With --keep it writes the numbers anew, once a change
 has been found to be worth them. It runs crates/track_main/out/track_main, or the program that the variable TRACK names."""
-import os
 import resource
 import subprocess
 import sys
@@ -14,7 +13,6 @@ import sys
 import instructions
 from networks import edges, text
 
-OURS = instructions.OURS = os.environ.get("TRACK", instructions.OURS)
 KEPT = "bench/least_memory.txt"
 MOST = 1.1
 PAGE = 4096
@@ -36,7 +34,7 @@ RUNS = [
 def succeeds(word, given, most):
     """Whether a run that may have so many bytes of addresses ends with status 0."""
     limit = lambda: resource.setrlimit(resource.RLIMIT_AS, (most, most))
-    ran = subprocess.run([OURS, word], input=given, stdout=subprocess.DEVNULL, stderr=subprocess.DEVNULL, preexec_fn=limit)
+    ran = subprocess.run([instructions.OURS, word], input=given, stdout=subprocess.DEVNULL, stderr=subprocess.DEVNULL, preexec_fn=limit)
     return ran.returncode == 0
 
 

@@ -11,6 +11,7 @@ TOP = os.path.join(os.path.dirname(os.path.realpath(__file__)), "..")
 sys.path.insert(0, os.path.join(TOP, "scripts"))
 import price_plots as plots  # noqa: E402
 import price_tables as tables  # noqa: E402
+from price_head import head_of  # noqa: E402
 from price_networks import BLOCK, PRICED, UNITS  # noqa: E402
 from prices import KINDS, MOVERS, RIVALS, Cover, Ground, cover_name, covers_of, read_rows, rows_of, rows_text  # noqa: E402
 from program import Program  # noqa: E402
@@ -19,8 +20,8 @@ from texts import BadText, ends_clearly, load_input, number  # noqa: E402
 HELP = """\
   bench/price.py INPUT [--k K,..]   prints tables of the network of an input of yours, over loads that are made for it: its own
                                     subscribers and calls aren't used. About two seconds a cover and kind of subscribers.
-  bench/price.py --check            the short form, which the gate runs: the tables of docs/PRICE.md and the plots of docs/pictures/
-                                    are those of the rows of docs/pictures/price.csv, no row is missing, and the rows of a sample of
+  bench/price.py --check            the short form, which the gate runs: the head and tables of docs/PRICE.md and the plots of
+                                    docs/pictures/ are those of the rows of docs/pictures/price.csv, no row is missing, and the rows of a sample of
                                     loads are weighed anew. About half a minute of one processor.
   bench/price.py --check-all        the same with all rows weighed anew: as long as --write
   bench/price.py --write            weighs all rows and makes the tables and the plots. About a quarter of an hour of one processor;
@@ -76,7 +77,8 @@ def blocks_of(prices):
     """The tables of the page, by the names of their marks."""
     below = {unit: (BLOCK // unit - 1).bit_length() for unit in (*UNITS, BLOCK)}
     units = [(unit, f"unit-{unit}" if unit != BLOCK else "grid-256", below[unit]) for unit in (*UNITS, BLOCK)]
-    blocks = {"cheapest": tables.cheapest_table(prices, TABLED), "break-even": tables.break_even_table(prices, TABLED), "choosing": tables.choosing_table(prices, TABLED),
+    blocks = {"head": head_of(prices, TABLED), "cheapest": tables.cheapest_table(prices, TABLED),
+              "break-even": tables.break_even_table(prices, TABLED), "choosing": tables.choosing_table(prices, TABLED),
               "bounds": tables.bounds_table(prices, TABLED), "units": tables.units_table(prices, units),
               "halves": tables.halves_words(prices.rows),
               "choice": tables.choice_table(prices, CHOICE, SMALL, [name for name in TABLED if name not in SMALL])}

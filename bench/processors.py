@@ -4,8 +4,8 @@ compiler's target has it. So it shows how much of a ratio is the width of anothe
 qemu-user) and gcc, which builds the plugin that counts; where one of them is missing it says so, and counts nothing.
 
 Usage, at the top of the repository: bench/processors.py OTHER INPUT..   OTHER is a program with the same words; ours is
-crates/track_main/out/track_main. For each input and word it prints our millions of instructions and the ratio of ours to the
-other's, with wide vectors and then without, and whether the texts are the same."""
+crates/track_main/out/track_main, or the one that the variable TRACK names. For each input and word it prints our millions of
+instructions and the ratio of ours to the other's, with wide vectors and then without, and whether the texts are the same."""
 import os
 import re
 import shutil
@@ -13,7 +13,11 @@ import subprocess
 import sys
 import tempfile
 
-OURS = "crates/track_main/out/track_main"
+sys.dont_write_bytecode = True
+sys.path.insert(0, os.path.join(os.path.dirname(os.path.realpath(__file__)), "../scripts"))
+from program import PROVED, tried_program  # noqa: E402
+
+OURS = tried_program(PROVED)
 PROCESSORS = ["max", "max,-avx2"]
 WORDS = ["cover", "replay", "census"]
 PLUGIN = r"""

@@ -12,9 +12,12 @@ import subprocess
 import sys
 import tempfile
 
-from networks import edges, text
+sys.dont_write_bytecode = True
+sys.path.insert(0, os.path.join(os.path.dirname(os.path.realpath(__file__)), "../scripts"))
+from networks import edges, text  # noqa: E402
+from program import PROVED, tried_program  # noqa: E402
 
-OURS = os.environ.get("TRACK", "crates/track_main/out/track_main")
+OURS = tried_program(PROVED)
 HEAVIEST = 1048576
 MADE = {256: "42 256 4 64 64 8192", 1024: "7 1024 3 64 64 16384"}
 

@@ -1,5 +1,5 @@
 """Networks in GraphML, as collections of the internet's topology have them: nodes with a label, a latitude and a longitude, which
-stand behind keys; edges that are undirected, often several between two nodes, and seldom with a weight."""
+stand after keys; edges that are undirected, often several between two nodes, and seldom with a weight."""
 from __future__ import annotations
 
 import xml.etree.ElementTree as Xml

@@ -15,7 +15,7 @@ import lab_page
 import lab_plots
 from break_even import Wins
 from lab_load import Wishes
-from lab_measure import Row, over, wins
+from lab_measure import Row, over, rivals_of, wins
 from lab_networks import Site
 from lab_plots import Points
 from lab_run import Outcome
@@ -87,7 +87,6 @@ def write_all(folder: pathlib.Path, answer: Answer) -> None:
 def plots_of(answer: Answer) -> dict[str, str]:
     """All plots by name, in the order of the page."""
     rows = answer.rows
-    away = next(row for row in rows if row.name == "away")
     medians = {outcome.name: medians_by_distance(outcome, answer.network) for outcome in answer.outcomes}
     plots = {}
     if answer.wishes.finds:
@@ -95,7 +94,7 @@ def plots_of(answer: Answer) -> dict[str, str]:
         plots["finds-by-distance"] = lab_plots.distance_plot(rows, medians)
     if answer.wishes.moves:
         plots["moves"] = lab_plots.moves_plot(rows)
-    in_all = lab_plots.in_all_plot(rows, away)
+    in_all = lab_plots.in_all_plot(rows, rivals_of(rows)["home"])
     if in_all:
         plots["in-all"] = in_all
     plots["visits"] = lab_plots.load_plot(rows)
@@ -125,7 +124,7 @@ def number_or_none(value: float | None) -> float | None:
 
 def records_of_rows(answer: Answer) -> list[dict]:
     """A record for each plan and each rival."""
-    rivals = {row.name: row for row in answer.rows if row.covers is None}
+    rivals = rivals_of(answer.rows)
     records = []
     for row in answer.rows:
         record = {name: getattr(row, name) for name in ("name", "covers", "k", "levels", "degree", "stretch")}
@@ -135,9 +134,10 @@ def records_of_rows(answer: Answer) -> list[dict]:
                        f"{kind}_95": number_or_none(found.most_of), f"{kind}_most": number_or_none(found.most)}
         record |= {name: getattr(row, name) for name in ("at_no_distance", "again", "again_weight", "finds", "find_weight", "moves",
                                                          "moved", "costs", "messages", "busy", "late")}
-        for name in ("home", "away"):
-            record[f"over_{name}"] = number_or_none(over(row, rivals[name]))
-            record |= record_of_wins(name, wins(row, rivals[name]))
+        record["in_all"] = number_or_none(row.in_all())
+        for name, rival in rivals.items():
+            record[f"over_{name}"] = number_or_none(over(row, rival))
+            record |= record_of_wins(name, wins(row, rival))
         records.append(record)
     return records
 

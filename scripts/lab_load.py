@@ -66,7 +66,6 @@ class Load:
     """All that happens. A subscriber began at a node, and wandered to others; there the first part begins."""
 
     began: list[int]
-    away: list[int]  # for each subscriber a node that has nothing to do with where it is
     wandered: list[list[int]]  # the nodes to which each subscriber went, one after another
     parts: list[Part]
 
@@ -104,7 +103,6 @@ class Drawing:
         self.diameter = network.diameter()
         self.near = [sorted(arcs) for arcs in network.arcs]
         self.began = [self.chance.below(network.nodes) for _ in range(wishes.subs)]
-        self.away = [self.chance.below(network.nodes) for _ in range(wishes.subs)]
         self.at = list(self.began)
         self.wandered = [self.wander(sub) for sub in range(wishes.subs)]
         self.popular = zipf_sums(wishes.subs, wishes.zipf)
@@ -173,9 +171,9 @@ def time_of(wishes: Wishes) -> float:
 
 
 def draw_load(network: directory.Network, wishes: Wishes, count: int) -> Load:
-    """The load in so many parts of one mixture, which take the same time."""
+    """The load in so many parts, which take the same time and have moves and finds at the same rates."""
     drawing, time = Drawing(network, wishes), max(1, math.ceil(time_of(wishes) / count))
     share = [((at + 1) * wishes.moves // count - at * wishes.moves // count,
               (at + 1) * wishes.finds // count - at * wishes.finds // count) for at in range(count)]
     parts = [drawing.part(moves, finds, time) for moves, finds in share]
-    return Load(drawing.began, drawing.away, drawing.wandered, parts)
+    return Load(drawing.began, drawing.wandered, parts)

@@ -144,7 +144,7 @@ def head_of(words: argparse.Namespace, site: Site, network: directory.Network, w
     load += f"{wishes.finds:,} finds by {wishes.callers} callers from {wishes.find_from}"
     load += f", zipf {wishes.zipf:g}" if wishes.zipf else ""
     load += f", pace {wishes.pace}" if wishes.pace != 1 else ""
-    parts = "one input" if count == 1 else f"{count} inputs, each of which begins where the one before ended"
+    parts = "one input" if count == 1 else f"{count} inputs of the same rates, each of which begins where the one before ended"
     edges = "1 edge" if len(site.edges) == 1 else f"{len(site.edges):,} edges"
     diameter, stay = network.diameter(), f"{wishes.stay:,.0f}" if wishes.stay >= 10 else f"{wishes.stay:g}"
     return [

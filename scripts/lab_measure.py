@@ -62,7 +62,17 @@ class Row:
     def means(self) -> Means | None:
         return Means(self.move_mean(), self.find_mean()) if self.moves and self.finds else None
 
+    def rate(self) -> float | None:
+        """How many finds there are a move."""
+        return self.finds / self.moves if self.moves else None
+
+    def in_all(self) -> float | None:
+        """What a move weighs with its finds: the means of both over all inputs, added by their rates."""
+        means = self.means()
+        return means.move + self.rate() * means.find if means else None
+
     def total(self) -> int:
+        """What all moves and all finds weigh; by their rates that is `in_all` for each move."""
         return self.find_weight + self.messages
 
 
@@ -101,6 +111,11 @@ def row_of(outcome: Outcome, network: directory.Network) -> Row:
         busy=outcome.busy if own else None,
         late=outcome.late if own else None,
     )
+
+
+def rivals_of(rows: list[Row]) -> dict[str, Row]:
+    """What people use in place of the directory, by name."""
+    return {row.name: row for row in rows if row.covers is None}
 
 
 def wins(row: Row, other: Row) -> Wins | None:

@@ -3,7 +3,7 @@ from __future__ import annotations
 
 from xml.sax.saxutils import escape
 
-from lab_measure import Row, largest
+from lab_measure import Row, largest, rivals_of
 from lab_rivals import TOLD
 from lab_table import cheapest_words, full_name, group_of, table_lines, title_of
 
@@ -29,8 +29,11 @@ MODEL = [
     "commit twice the distance, and what is purged weighs nothing.",
     "A find is <em>quiet</em> where no write of a move of its subscriber came while it was on its way; the others <em>met a "
     "move</em>. A find that is to be made again was made again, and all its attempts together are one find here.",
-    "A load that is too long for one input was cut by time into several, each of which begins where the one before has left the "
-    "subscribers, after moves that aren't counted; what they weigh is added up.",
+    "An input has 16,384 calls at most. A longer load is weighed as several inputs, each stationary and of the same rates: it has "
+    "its share of all moves and of all finds, and begins where the one before has left the subscribers, after moves that aren't "
+    "counted. What a move weighs and what a find weighs are told apart, each as the mean over all inputs; in all they are added "
+    "by their rates, as many finds a move as were asked for. A find stands in one input with the moves around it: in an input of "
+    "finds alone none would meet a move.",
     "The program replayed each input in <code>inputs/</code>, and wrote byte for byte what the lab saw.",
     "What people use in place of a directory is weighed call by call, without races: ",
 ]
@@ -84,7 +87,7 @@ def table_of(rows: list[Row]) -> list[str]:
     groups = [group_of(row) if first else "" for row, first in zip(rows, firsts)]
     lines = ["<table>", "<thead>", f"<tr><th></th>{cells_of('th', groups, firsts)}</tr>",
              f"<tr><th></th>{cells_of('th', [title_of(row) for row in rows], firsts)}</tr>", "</thead>", "<tbody>"]
-    for name, group in table_lines({row.name: row for row in rows if row.covers is None}):
+    for name, group in table_lines(rivals_of(rows)):
         lines.append(f'<tr class="group"><th colspan="{len(rows) + 1}">{escape(name)}</th></tr>')
         for words, write in group:
             inner = " class=inner" if words.startswith("    ") else ""

@@ -10,7 +10,7 @@ from pictures import COLOURS, INK, LINE, PALE, Picture
 
 GRID = "#e4e4e4"
 QUIET, MET, ALL = COLOURS[0], COLOURS[5], COLOURS[2]
-RIVAL_STYLES = {"home": (INK, ""), "away": (INK, "6 4"), "pointers": (COLOURS[3], "2 3"), "everybody": (PALE, "2 3")}
+RIVAL_STYLES = {"home": (INK, ""), "pointers": (COLOURS[3], "2 3"), "everybody": (PALE, "2 3")}
 
 
 @dataclass(frozen=True)
@@ -178,7 +178,7 @@ def in_all_plot(rows: list[Row], other: Row) -> str | None:
         often = [10 ** (power / 10) for power in range(-10, 31)]
         points = [(f, (move + f * find) / (means[other.name][1] + f * means[other.name][0])) for f in often]
         lines.append((full_name(row), style_of(row, ks), points))
-    return lines_plot("Moves and finds in all, over the home register that is away (below 1: better)", "finds a move", lines, True)
+    return lines_plot("Moves and finds in all, over the home register (below 1: better)", "finds a move", lines, True)
 
 
 def distance_plot(rows: list[Row], medians: dict[str, Points]) -> str:

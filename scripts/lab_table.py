@@ -3,7 +3,7 @@ from __future__ import annotations
 
 from collections.abc import Callable
 
-from lab_measure import Row, Spread, cheapest, largest, over, wins
+from lab_measure import Row, Spread, cheapest, largest, over, rivals_of, wins
 
 NONE = "-"
 
@@ -43,13 +43,19 @@ def spread_lines(words: str, pick: Callable[[Row], Spread]) -> list[Line]:
     ]
 
 
+def won_line(name: str, rival: Row) -> Line:
+    """At how many finds a move each row weighs less than one of the others."""
+    return f"  less than {name}, at finds a move", lambda row: wins_words(row, rival)
+
+
 def top_share(counts: list[int]) -> float | None:
     return max(counts) / sum(counts) if sum(counts) else None
 
 
 def table_lines(rivals: dict[str, Row]) -> list[tuple[str, list[Line]]]:
     """The groups of the table, each with its lines."""
-    home, away = rivals["home"], rivals["away"]
+    home = rivals["home"]
+    finds = "its finds" if home.rate() is None else "its find" if home.rate() == 1 else f"its {home.rate():.3g} finds"
     return [
         ("the plan", [
             ("  levels", lambda row: count(row.levels)),
@@ -63,19 +69,18 @@ def table_lines(rivals: dict[str, Row]) -> list[tuple[str, list[Line]]]:
             ("  made again, times", lambda row: NONE if row.covers is None else count(row.again)),
             ("    of the weight of all finds", lambda row: NONE if row.covers is None or not row.find_weight
                 else share(row.again_weight / row.find_weight)),
-            ("  a find weighs on average", lambda row: count(row.find_mean())),
+            ("  a find weighs on average", lambda row: ratio(row.find_mean())),
         ]),
         ("moves: weight over distance moved", [
             ("  by the word costs", lambda row: ratio(row.costs_ratio())),
             ("  by messages there and back", lambda row: ratio(row.messages_ratio())),
-            ("  a move weighs on average (messages)", lambda row: count(row.move_mean())),
+            ("  a move weighs on average (messages)", lambda row: ratio(row.move_mean())),
             ("  subscribers in a move, of their time", lambda row: share(row.busy)),
         ]),
         ("in all, moves by messages", [
+            (f"  a move and {finds} weigh", lambda row: ratio(row.in_all())),
             ("  over the home register", lambda row: ratio(over(row, home))),
-            ("  over the one away", lambda row: ratio(over(row, away))),
-            ("  less than home, at finds a move", lambda row: wins_words(row, home)),
-            ("  less than away, at finds a move", lambda row: wins_words(row, away)),
+            *(won_line(name, rival) for name, rival in rivals.items()),
         ]),
         ("nodes", [
             ("  visits in all", lambda row: count(sum(row.visits))),
@@ -95,8 +100,7 @@ def group_of(row: Row) -> str:
 
 def table_text(rows: list[Row]) -> str:
     """The table; columns of one group stand together."""
-    rivals = {row.name: row for row in rows if row.covers is None}
-    groups = table_lines(rivals)
+    groups = table_lines(rivals_of(rows))
     cells = [[write(row) for row in rows] for _, lines in groups for _, write in lines]
     wide = [max(9, len(title_of(row)), *(len(line[at]) for line in cells)) for at, row in enumerate(rows)]
     first = max(len(words) for _, lines in groups for words, _ in lines)
@@ -123,7 +127,7 @@ def heads(rows: list[Row], wide: list[int], first: int) -> str:
 def cheapest_words(rows: list[Row]) -> str:
     """Over which cover this load weighs least, and what the cheapest of the others weighs beside that."""
     best, other = cheapest([row for row in rows if row.covers]), cheapest([row for row in rows if row.covers is None])
-    beside = f" ({other.name} weighs {ratio(over(other, best))} times that)" if best.total() else ""
+    beside = f" ({other.name}: {ratio(over(other, best))} times that)" if best.total() else ""
     return f"cheapest here: {full_name(best)}{beside}"
 
 

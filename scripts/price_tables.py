@@ -59,9 +59,14 @@ def means(row, kind):
     return Means(row.messages / row.moves, find_weight(row, kind))
 
 
+def break_even_of(covers, rival, kind):
+    """At how many finds a move the directory costs less than the rival over one of the covers."""
+    return wins_of([means(row, kind) for row in covers], means(rival, kind))
+
+
 def break_even(covers, rival, kind):
-    """At how many finds a move, from one on, the directory costs less than the rival over one of the covers."""
-    return wins_of([means(row, kind) for row in covers], means(rival, kind)).words(short, least=1)
+    """The same in words, from one find a move on."""
+    return break_even_of(covers, rival, kind).words(short, least=1)
 
 
 def table(head, rows):

@@ -84,7 +84,7 @@ class Reader:
         if word == "order" and not fields:
             self.fail("form", "an order line has one number at least")
         if word != "order" and len(fields) != FIELDS[word]:
-            self.fail("form", f"'{word}' has {FIELDS[word]} numbers behind it, and not {len(fields)}")
+            self.fail("form", f"'{word}' has {FIELDS[word]} numbers after it, and not {len(fields)}")
         numbers = [number(field) for field in fields]
         if None in numbers:
             field = fields[numbers.index(None)]
@@ -95,7 +95,7 @@ class Reader:
     def test_place(self, word, place):
         many = place in (4, 5, 7, 8)
         if place < self.place or (place == self.place and not many):
-            self.fail("form", f"{NAMED[place]} may not stand behind {NAMED[self.place]}")
+            self.fail("form", f"{NAMED[place]} may not stand after {NAMED[self.place]}")
         missing = [p for p in range(self.place + 1, place) if p not in (4, 7, 8)]
         if missing:
             self.fail("form", f"before '{word}' {NAMED[missing[0]]} is missing")
@@ -283,7 +283,7 @@ def whole_lines(text, what):
     return text[:-1].split("\n")
 
 
-def numbers_behind(line, word, what):
+def numbers_after(line, word, what):
     head, *rest = line.split(" ")
     if head != word or any(number(field) is None for field in rest):
         raise BadText(f"{what}: '{line[:60]}' isn't a line of {word}")
@@ -305,8 +305,8 @@ def read_plan(text):
             for c in range(size):
                 head, _, members = lines[at + 1 + c].partition(" members ")
                 named, phase, leader, depth = fields_of(head, "cluster # phase # leader # depth #", what)
-                clusters.append(Cluster(phase, leader, depth, numbers_behind("m " + members, "m", what)))
-            homes = numbers_behind(lines[at + 1 + size], "homes", what)
+                clusters.append(Cluster(phase, leader, depth, numbers_after("m " + members, "m", what)))
+            homes = numbers_after(lines[at + 1 + size], "homes", what)
             known = all(v < nodes for cluster in clusters for v in [cluster.leader, *cluster.members])
             if level != i or not known or len(homes) != nodes or any(home >= size for home in homes):
                 raise BadText(f"{what}: level {i} isn't whole")
@@ -368,7 +368,7 @@ def read_report(text):
     order = []
     calls = [read_call(line) for line in lines if line.split(" ")[0] not in ("order", "end")]
     for line in lines[len(calls):-1]:
-        order += numbers_behind(line, "order", "the report")
+        order += numbers_after(line, "order", "the report")
     (visits,) = fields_of(lines[-1], "end #", "the report")
     if visits != len(order):
         raise BadText(f"the report: its end tells {visits} visits, and its order lines {len(order)}")

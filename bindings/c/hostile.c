@@ -1,6 +1,8 @@
 /* Random calls over random handles, kinds, numbers, texts and words. Usage: hostile CALLS SEED
  * No call may crash, answer a code that isn't in track.h, answer a code that it doesn't list, or change a handle that it
- * refuses; and nothing may be left at the end (run it under valgrind or a leak checker). */
+ * refuses; and nothing may be left at the end (run it under valgrind or a leak checker).
+ * With FUZZED defined it is a target of libFuzzer (clang -DFUZZED -fsanitize=fuzzer,address): then the fuzzer's bytes are
+ * what is drawn, and it is told which call answered which code, as the archive itself isn't instrumented. */
 #include "track.h"
 
 #include <stdio.h>
@@ -10,12 +12,23 @@
 enum { HANDLES = 12, TEXTS = 4, MOST_TEXT = 512 };
 
 static track_handle handles[HANDLES];
+
+#ifdef FUZZED
+static const uint8_t *drawn, *drawn_end;
+
+static uint64_t draw(uint64_t below) {
+    uint64_t found = 0;
+    for (uint64_t most = 1; most < below && drawn < drawn_end; most <<= 8) found = found << 8 | *drawn++;
+    return found % below;
+}
+#else
 static uint64_t state;
 
 static uint64_t draw(uint64_t below) {
     state = state * 6364136223846793005u + 1442695040888963407u;
     return (state >> 33) % below;
 }
+#endif
 
 /* Mostly small numbers, and sometimes those at the ends of what fits. */
 static uint32_t number(void) {
@@ -44,6 +57,15 @@ static const char *const sound[TEXTS] = {
 
 /* A text as it is, or with a few bytes changed, or cut off. */
 static size_t text(uint8_t *into) {
+#ifdef FUZZED
+    if (!draw(2)) {
+        size_t taken = (size_t)draw(MOST_TEXT), left = (size_t)(drawn_end - drawn);
+        if (taken > left) taken = left;
+        memcpy(into, drawn, taken);
+        drawn += taken;
+        return taken;
+    }
+#endif
     const char *from = sound[draw(TEXTS)];
     size_t length = strlen(from);
     memcpy(into, from, length);
@@ -58,14 +80,30 @@ static const uint32_t of_handle = CAN(TRACK_OK) | CAN(TRACK_EMPTY_HANDLE) | CAN(
 
 static void fail(const char *call, uint32_t code) {
     fprintf(stderr, "hostile: %s answered %u\n", call, code);
-    exit(1);
+    abort();
 }
 
 static uint32_t kinds[32];
 
+#ifdef FUZZED
+/* A counter for each call and code: the call is told from the others by a hash of its name. */
+enum { CALLS = 128 };
+__attribute__((section("__libfuzzer_extra_counters"))) static uint8_t answered[CALLS][32];
+
+static void count(const char *call, uint32_t code) {
+    uint32_t hash = 0;
+    while (*call) hash = hash * 31 + (uint8_t)*call++;
+    uint8_t *counter = &answered[hash % CALLS][code];
+    if (*counter < UINT8_MAX) ++*counter;
+}
+#else
+static void count(const char *call, uint32_t code) { (void)call, (void)code; }
+#endif
+
 static void is_listed(const char *call, uint32_t code, uint32_t listed) {
     if (code >= 32 || !(listed & CAN(code))) fail(call, code);
     kinds[code]++;
+    count(call, code);
 }
 
 static track_handle *any(void) { return &handles[draw(HANDLES)]; }
@@ -189,23 +227,38 @@ static void say(void) {
     }
 }
 
-int main(int count, char **words) {
-    unsigned long calls = count > 1 ? strtoul(words[1], 0, 10) : 1000000;
-    state = count > 2 ? strtoul(words[2], 0, 10) : 1;
-    for (unsigned long call = 0; call < calls; call++) {
-        uint64_t which = draw(32);
-        if (which < 4) make();
-        else if (which < 15) ask(any());
-        else if (which < 27) step(any());
-        else if (which < 30) say();
-        else is_listed("track_close", track_close(any()), CAN(TRACK_OK) | CAN(TRACK_EMPTY_HANDLE));
-    }
+static void make_one_call(void) {
+    uint64_t which = draw(32);
+    if (which < 4) make();
+    else if (which < 15) ask(any());
+    else if (which < 27) step(any());
+    else if (which < 30) say();
+    else is_listed("track_close", track_close(any()), CAN(TRACK_OK) | CAN(TRACK_EMPTY_HANDLE));
+}
+
+static void close_all(void) {
     for (int i = 0; i < HANDLES; i++) {
         track_close(&handles[i]);
         if (handles[i].full) fail("track_close", 0);
     }
+}
+
+#ifdef FUZZED
+int LLVMFuzzerTestOneInput(const uint8_t *bytes, size_t length) {
+    drawn = bytes, drawn_end = bytes + length, last_word = 0;
+    while (drawn < drawn_end) make_one_call();
+    close_all();
+    return 0;
+}
+#else
+int main(int count, char **words) {
+    unsigned long calls = count > 1 ? strtoul(words[1], 0, 10) : 1000000;
+    state = count > 2 ? strtoul(words[2], 0, 10) : 1;
+    for (unsigned long call = 0; call < calls; call++) make_one_call();
+    close_all();
     int seen = 0;
     for (int code = 0; code < 32; code++) seen += kinds[code] > 0;
     printf("%lu calls, %d codes\n", calls, seen);
     return 0;
 }
+#endif

@@ -4,7 +4,8 @@ const SVG = "http://www.w3.org/2000/svg";
 const FEW_NODES = 40; // with all of their names
 const FEW_EDGES = 40; // with their weights
 const SHORT = 90; // too short for a weight
-const LAYERS = ["shades", "passages", "edges", "trail", "ways", "nodes", "rings", "tokens", "labels", "words"];
+const LAYERS = ["shades", "passages", "edges", "trail", "ways", "nodes", "rings", "weights", "tokens", "labels", "words"];
+const SHARES = [0.5, 0.42, 0.58, 0.34, 0.66, 0.27, 0.73]; // of an edge, where its weight may stand
 
 function shape(parent, name, attributes = {}) {
   const made = document.createElementNS(SVG, name);
@@ -28,6 +29,13 @@ function beside(from, to, aside) {
   const [across, down] = [to.x - from.x, to.y - from.y];
   const length = Math.hypot(across, down) || 1;
   return { x: (from.x + to.x) / 2 - (down / length) * aside, y: (from.y + to.y) / 2 + (across / length) * aside };
+}
+
+/** The place at a share of a way that is bent towards another place. */
+function along(from, bent, to, share) {
+  const rest = 1 - share;
+  const mean = (one, middle, other) => rest * rest * one + 2 * share * rest * middle + share * share * other;
+  return { x: mean(from.x, bent.x, to.x), y: mean(from.y, bent.y, to.y) };
 }
 
 /** A bent arrow between two places, as the text of a path; its head stops short of the place by a gap. */
@@ -91,14 +99,28 @@ class NetworkMap {
 
   drawEdges() {
     const { edges } = this.replay.data.map;
+    this.edgeWeights = [];
     for (const [a, b, weight] of edges) {
       const [one, other] = [this.places[a], this.places[b]];
       shape(this.layers.edges, "line", { x1: one.x, y1: one.y, x2: other.x, y2: other.y });
       const short = Math.hypot(one.x - other.x, one.y - other.y) < SHORT;
       if (edges.length > FEW_EDGES || short) continue;
-      const at = { x: (one.x + other.x) / 2, y: (one.y + other.y) / 2 + 4, class: "edge-weight", "text-anchor": "middle" };
-      shape(this.layers.edges, "text", at).textContent = weight;
+      const { x, y } = this.roomOn(one, other, `${weight}`);
+      const text = shape(this.layers.weights, "text", { x, y: y + 4, class: "edge-weight", "text-anchor": "middle" });
+      text.textContent = weight;
+      this.edgeWeights.push(text);
     }
+  }
+
+  /** The place of an edge's weight: its middle, or the first beside it where no name of a node and no other weight stands. */
+  roomOn(one, other, weight) {
+    const names = this.places.map(({ x, y }, node) => ({ x, y: y - this.radius - 10, half: 3.8 * this.called(node).length }));
+    const weights = this.edgeWeights.map((text) => (
+      { x: Number(text.getAttribute("x")), y: Number(text.getAttribute("y")) - 4, half: 3.5 * text.textContent.length }));
+    const wanted = SHARES.map((share) => ({ x: one.x + share * (other.x - one.x), y: one.y + share * (other.y - one.y) }));
+    const isFree = ({ x, y }) => [...names, ...weights].every((word) =>
+      Math.abs(word.x - x) > word.half + 3.5 * weight.length + 2 || Math.abs(word.y - y) > 14);
+    return wanted.find(isFree) ?? wanted[0];
   }
 
   drawNodes() {
@@ -163,8 +185,8 @@ class NetworkMap {
     this.showPassages(moment);
     this.showAddresses(moment, subscriber);
     this.showOthers(moment, subscriber);
-    this.showVisit(moment);
     this.showNames(moment, subscriber, pointed);
+    this.showVisit(moment);
   }
 
   /** The marks of a subscriber, by node, where they aren't Empty. */
@@ -271,22 +293,46 @@ class NetworkMap {
   labelWay(text, { from, to, kind }, at) {
     const [one, other] = [this.places[from], this.places[to]];
     const bend = Math.min(24 + 6 * (at % 4), Math.hypot(other.x - one.x, other.y - one.y) / 2);
-    this.put(text, beside(one, other, bend / 2));
+    this.put(text, along(one, beside(one, other, bend), other, 0.3));
     text.setAttribute("class", `step ${kind}`);
     say(text, `${at + 1}`);
   }
 
-  /** A box with the visit's word beside its node, inside the picture. */
+  /** A box with the visit's word beside its node, inside the picture, where it covers the fewest words and nodes. */
   sayAt(x, y, words, finds) {
     const { group, box, text } = this.callout;
     const width = 16 + 7.6 * words.length;
-    const { width: most, height } = this.replay.data.map;
-    const left = Math.min(Math.max(x - width / 2, 4), most - width - 4);
-    const top = y + this.radius + 20 + 24 < height ? y + this.radius + 20 : y - this.radius - 50;
+    const { left, top } = this.roomFor(x, y, width, this.covered());
     group.setAttribute("transform", `translate(${left.toFixed(1)} ${top.toFixed(1)})`);
     group.setAttribute("class", finds ? "callout look" : "callout put");
     box.setAttribute("width", width.toFixed(1));
     say(text, words);
+  }
+
+  /** What a box should leave free: the words that are seen, and the nodes. */
+  covered() {
+    const texts = [this.names, this.edgeWeights, this.badges.shapes, this.steps.shapes, this.weights.shapes].flat();
+    const boxes = texts.filter(({ hidden }) => !hidden).map((one) => {
+      const [x, y, half] = [Number(one.getAttribute("x")), Number(one.getAttribute("y")), 3.6 * one.textContent.length + 2];
+      return { left: x - half, right: x + half, top: y - 13, bottom: y + 4 };
+    });
+    const { radius } = this;
+    return [...boxes, ...this.places.map(({ x, y }) => ({ left: x - radius, right: x + radius, top: y - radius, bottom: y + radius }))];
+  }
+
+  /** Where a box of a width is put near a place: of some places round it the first that covers least. */
+  roomFor(x, y, width, covered) {
+    const { width: most, height } = this.replay.data.map;
+    const [high, gap] = [24, this.radius + 20];
+    const [below, above, beside] = [y + gap, y - gap - high - 6, y - high / 2];
+    const [right, left] = [x + gap, x - gap - width];
+    const wanted = [[x - width / 2, below], [x - width / 2, above], [right, beside], [left, beside], [right, below], [left, below],
+      [right, above], [left, above], [x - width / 2, below + 28], [x - width / 2, above - 28], [right + 40, beside], [left - 40, beside]];
+    const within = (value, end) => Math.min(Math.max(value, 4), end - 4);
+    const rooms = wanted.map(([across, down]) => ({ left: within(across, most - width), top: within(down, height - high) }));
+    const meets = ({ left: l, top: t }) => covered.filter((other) =>
+      l < other.right && other.left < l + width && t < other.bottom && other.top < t + high).length;
+    return rooms.reduce((best, room) => (meets(room) < meets(best) ? room : best));
   }
 
   /** All names where nodes are few; else those of the visit, of where the subscriber stands, of ends and of leaders. */

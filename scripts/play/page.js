@@ -311,6 +311,7 @@ class Player {
 
   show() {
     const [moment, subscriber] = [this.replay.at(this.ticket), this.subscriber()];
+    say(part("map-of"), `subscriber ${subscriber}`);
     this.map.show(moment, subscriber, this.pointed);
     this.panel.show(moment, subscriber, this.pointed);
     this.strip.show(this.ticket);

@@ -16,24 +16,16 @@ use Rattle.directory.specs.Puts.{mark_put, node_put, steps_in}
 use Rattle.directory.specs.Standing.{Commit, commits, confirms, number, passage, passage_of, standing}
 use Rattle.directory.specs.StepLaws.{slice_get-within, start-kept}
 use Rattle.trail_laws.specs.Phases.{moves_begun}
-use Rattle.trail_laws.specs.Trail.{EntriesTell, entry_seen, EntryTells, mark_seen, MarkTells}
-use Rattle.trail_laws.specs.Ways.{PassagesAreOpen}
-use Rattle.stretch_laws.specs.Costs.{ReadingIsBounded}
+use Rattle.trail_laws.specs.Trail.{entry_seen, EntryTells, mark_seen, MarkTells}
 use Rattle.stretch_laws.specs.Tracking.{IsTracking}
+use Rattle.busy_finds.specs.LawsBelow.{PriceLaws}
 use Rattle.busy_finds.specs.Within.{moves_of}
 use Rattle.busy_finds.proofs.Chase.{IsPaid}
 use Rattle.busy_finds.proofs.Fronts.{more-commits, more-puts, number-more}
 use Rattle.busy_finds.proofs.Moves.{AreInPlace, stop-after, stop-inside, stop_of}
 use Rattle.busy_finds.proofs.Older.{none-older}
 use Rattle.busy_finds.proofs.Sums.{below-steps, StayBelow, travelled, travelled-more, travelled-step, way-within}
-use Rattle.busy_finds.proofs.Tickets.{begun-low, begun-more, coming-is, count-begun, first-moves, IsComing, its_legal, MarkLaws, placed, stands-in, stands-there, stop-then}
-
--- what is used of the laws
-pub record PriceLaws : Type 0 where
-  pub marks : MarkLaws
-  pub entries : EntriesTell
-  pub opens : PassagesAreOpen
-  pub reading : ReadingIsBounded
+use Rattle.busy_finds.proofs.Tickets.{begun-low, begun-more, coming-is, count-begun, first-moves, IsComing, its_legal, placed, stands-in, stands-there, stop-then}
 
 -- what stands before a find: the setting tracks its subscribers, and the history is legal
 pub record Ground (setting : Setting) (width most_readers : ℕ) (history : History) (call : FindCall)

@@ -16,10 +16,10 @@ use Rattle.region_plan.specs.Regions.{threshold_of}
 use Rattle.region_plan.specs.Settings.{setting_of}
 use Rattle.stretch_laws.specs.Plans.{PlansTrack}
 use Rattle.stretch_laws.specs.Tracking.{IsTracking, radius, stretch}
+use Rattle.busy_finds.specs.LawsBelow.{PriceLaws}
 use Rattle.busy_finds.specs.Plans.{distance_at, PlanFindsAreBounded, PlanFindsBetweenCommits, PlansGatherHalf}
 use Rattle.busy_finds.specs.Prices.{EveryFindIsBounded, FindsBetweenCommits, FindsHaveTheirPrice, gathered_by, gathered_within, greatest_threshold, moves_within, weight_of}
 use Rattle.busy_finds.specs.Within.{moves_of}
-use Rattle.busy_finds.proofs.Beyond.{PriceLaws}
 use Rattle.busy_finds.proofs.Fronts.{moves-in-place, number-more}
 use Rattle.busy_finds.proofs.Gathered.{AllReach, HasReached, gathered-is-way, greatest-no-more, reach-steps, sum-no-more}
 use Rattle.busy_finds.proofs.Moves.{base-within, IsAt, stop-inside, stop_of}

@@ -15,9 +15,10 @@ use Rattle.directory.specs.Parts.{climb_weight}
 use Rattle.directory.specs.Standing.{number, passage, standing}
 use Rattle.directory.specs.declared.answers.Found.{Found}
 use Rattle.stretch_laws.specs.Tracking.{radius, stretch}
+use Rattle.busy_finds.specs.LawsBelow.{PriceLaws}
 use Rattle.busy_finds.specs.Prices.{FindsBetweenCommits, FindsHaveTheirPrice, greatest_threshold, moves_within, price, weight_of}
 use Rattle.busy_finds.specs.Within.{IsWithin, moves_of}
-use Rattle.busy_finds.proofs.Beyond.{Ground, PriceLaws}
+use Rattle.busy_finds.proofs.Beyond.{Ground}
 use Rattle.busy_finds.proofs.Fronts.{moves-in-place, number-more}
 use Rattle.busy_finds.proofs.Looks.{Climbed, in-rows, IsMetAt, looks-end, rows, WasEmpty, WereEmpty}
 use Rattle.busy_finds.proofs.Sums.{travelled}

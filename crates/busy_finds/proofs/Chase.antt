@@ -11,10 +11,11 @@ use Rattle.directory.specs.Legal.{IsLegal}
 use Rattle.directory.specs.Standing.{standing}
 use Rattle.directory.specs.declared.answers.Found.TheVariants.{At}
 use Rattle.trail_laws.specs.Trail.{HasMetric, MarkTells}
+use Rattle.busy_finds.specs.LawsBelow.{MarkLaws}
 use Rattle.busy_finds.proofs.Fronts.{number-more}
 use Rattle.busy_finds.proofs.Moves.{stop-inside}
 use Rattle.busy_finds.proofs.Sums.{travelled, travelled-more, way-within}
-use Rattle.busy_finds.proofs.Tickets.{begun, begun-few, begun-low, begun-more, coming-is, coming-there, count, count-begun, gone-is, gone-later, IsComing, IsGone, its_legal, its_moves, mark_at, MarkLaws, none-gone, placed, stands-there, stop_at}
+use Rattle.busy_finds.proofs.Tickets.{begun, begun-few, begun-low, begun-more, coming-is, coming-there, count, count-begun, gone-is, gone-later, IsComing, IsGone, its_legal, its_moves, mark_at, none-gone, placed, stands-there, stop_at}
 
 knows-it : (q : ℕ) (known : Option ℕ) → is_known q (known_with q known) ≡ true
 knows-it q None = grind (arith, nat_tests)

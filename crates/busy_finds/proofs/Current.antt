@@ -18,10 +18,10 @@ use Rattle.directory.specs.Courses.{after_step, after_steps, base, Course, cours
 use Rattle.directory.specs.ListLaws.{slice_get-right}
 use Rattle.directory.specs.Standing.{commit_of, number}
 use Rattle.directory.specs.States.{entry_after, opening_entry, write_commit, writes_made}
-use Rattle.directory.specs.Statements.{CommitsAreTold, EntriesAreLeft, LegalIsAmid}
 use Rattle.directory.specs.StepLaws.{may-take, start-kept}
 use Rattle.directory.specs.Writes.{mark_at, move_writes, step_writes, Write, writes}
 use Rattle.trail_laws.specs.Trail.{entry_seen}
+use Rattle.busy_finds.specs.LawsBelow.{WriteLaws}
 use Rattle.busy_finds.specs.Within.{moves_of}
 use Rattle.busy_finds.proofs.Kept.{early, early-addresses, early-commits, early-spares, held_after, late, late-commits, late-spares_above, late-spares_new, none-listed, none-take, spare-append, spare-take, spared}
 use Rattle.busy_finds.proofs.Moves.{AreInPlace, base-more, base-within, place-step, place-steps, stop-after, stop-kept, stop_of}
@@ -202,7 +202,7 @@ module _ (setting : Setting) (sub : ℕ) (before : List Step) where
   at-rest script = after-steps setting (course_at (start setting sub)) (opening_entry setting sub) before
       (record { begins = script.begins; each = λ i move h. cc }) script.allowed (opens setting sub script.known)
 
-  counted : (ws : List Write) → length (filter_map write_commit (made_before ++ ws))
+  pub counted : (ws : List Write) → length (filter_map write_commit (made_before ++ ws))
       ≡ length done.moves + length (filter_map write_commit ws)
   counted ws = omega (
     arith,
@@ -330,12 +330,6 @@ amid-leaves setting sub before (switch_on ∷ []) made script few =
     (amid-switch setting sub before made (last_stop (course_of setting sub before))
     (Here (length (course_of setting sub before).moves)) (script-before setting sub before (switch_on ∷ []) script) refl)
 amid-leaves setting sub before (step ∷ other ∷ more) made script few = absurd (omega (arith, few))
-
--- what is used of the laws of legal histories
-pub record WriteLaws : Type 0 where
-  pub amid : LegalIsAmid
-  pub entries : EntriesAreLeft
-  pub told : CommitsAreTold
 
 -- after a legal history each level has an address at the home of its current node
 pub currents-have : WriteLaws → (setting : Setting) (sub : ℕ) (history : History) → setting.nodes ≤ 2 ^ 16

@@ -13,12 +13,11 @@ use Rattle.directory.specs.HistoryLaws.{commits-append}
 use Rattle.directory.specs.Legal.{IsLegal}
 use Rattle.directory.specs.Puts.{course_in, ends_off, steps_from, steps_in}
 use Rattle.directory.specs.Standing.{Commit, commits, number}
-use Rattle.directory.specs.Statements.{CommitsAreMoves}
 use Rattle.directory.specs.StepLaws.{start-kept, steps-append}
 use Rattle.trail_laws.specs.Trail.{entry_seen}
-use Rattle.trail_laws.specs.Within.{HistoryFrontsAreLegal}
+use Rattle.busy_finds.specs.LawsBelow.{HistoryFacts}
 use Rattle.busy_finds.specs.Within.{IsWithin, moves_of}
-use Rattle.busy_finds.proofs.Current.{current, currents-have, WriteLaws}
+use Rattle.busy_finds.proofs.Current.{current, currents-have}
 use Rattle.busy_finds.proofs.Moves.{AreInPlace, base-changed, base-within, IsRenewedSince, moves-added, place-steps, stop-kept, stop_of}
 
 -- the later front is the earlier one and what comes after
@@ -79,12 +78,6 @@ moves-in-place {setting} {sub} history legal =
     (start-kept setting (course_at (start setting sub)) (steps_in (puts_to sub history)))
     (place-steps setting (course_at (start setting sub)) (steps_in (puts_to sub history))
     (record { begins = legal.script.begins; each = λ i move h. cc }) legal.script.allowed)
-
--- what is used of histories
-pub record HistoryFacts : Type 0 where
-  pub writes : WriteLaws
-  pub fronts : HistoryFrontsAreLegal
-  pub commits_are : CommitsAreMoves
 
 -- ---- the address of a level goes only where a move that renews it is committed
 module _ (facts : HistoryFacts) {setting : Setting} {sub : ℕ} (history : History) (few : setting.nodes ≤ 2 ^ 16)

@@ -13,10 +13,11 @@ use Rattle.directory.specs.Standing.{number, passage, standing}
 use Rattle.directory.specs.Writes.{numbers_from}
 use Rattle.stretch_laws.specs.Costs.{readers_up_to}
 use Rattle.stretch_laws.specs.Tracking.{radius}
+use Rattle.busy_finds.specs.LawsBelow.{PriceLaws}
 use Rattle.busy_finds.specs.Levels.{cost_up_to, dearest, EndsBy, farthest, farthest_of, FindsEndByLevel, inside_of}
 use Rattle.busy_finds.specs.Prices.{moves_within, weight_of}
 use Rattle.busy_finds.specs.Within.{moves_of}
-use Rattle.busy_finds.proofs.Beyond.{Ground, PriceLaws}
+use Rattle.busy_finds.proofs.Beyond.{Ground}
 use Rattle.busy_finds.proofs.Looks.{Climbed, in-rows, WasEmpty, IsMetAt, met-at, rows, WereEmpty, were-split}
 use Rattle.busy_finds.proofs.ByStretch.{in-order, spent-within}
 use Rattle.busy_finds.proofs.Price.{find-on, home-near, IsNearHome, near_home, renewed-within, Terms}

@@ -3,11 +3,15 @@ mod Kept
 mod Current
 mod Fronts
 mod Looks
-mod NoEntry
 mod Sums
 mod Only
 mod Older
 mod Tickets
+mod Written
+mod Parts
+mod Cleaning
+mod Between
+mod NoEntry
 mod Chase
 mod Beyond
 mod Price

@@ -1,5 +1,5 @@
 -- Where a find met no address at all, a move that renews the top level was committed within it.
-use Rattle.std.proofs.Common.{◌≡◌, ℕ, zero, suc, ◌<◌, ◌≤◌, ◌-◌, Bool, true, false, cond, List, [], ◌∷◌, Option, Some, None, refl, sym, ◌∙◌, subst, arith}
+use Rattle.std.proofs.Common.{◌≡◌, ℕ, zero, suc, ◌<◌, ◌≤◌, ◌-◌, Bool, true, false, cond, List, [], ◌∷◌, Option, Some, None, inl, inr, length, take, ap, refl, sym, ◌∙◌, subst, arith}
 use Rattle.std.proofs.lemmas.List.{append-nil}
 use Rattle.entry_word.specs.declared.address.Address.{Address}
 use Rattle.entry_word.specs.declared.mark.PresenceMark.{PresenceMark}
@@ -7,21 +7,32 @@ use Rattle.entry_word.specs.declared.mark.PresenceMark.TheVariants.{Empty, Here,
 use Rattle.entry_word.specs.declared.visit.Key.{Key}
 use Rattle.entry_word.specs.declared.visit.Key.TheVariants.{Entry}
 use Rattle.directory.specs.Settings.{levels, Setting, start}
-use Rattle.directory.specs.Courses.{Move}
+use Rattle.directory.specs.Courses.{base, Move}
+use Rattle.directory.specs.ListLaws.{same_some, slice_get-left}
+use Rattle.directory.specs.StepLaws.{slice_get-within, take-more}
+use Rattle.directory.specs.Writes.{entry_at}
+use Rattle.std.specs.Prelude.{nat_le, slice_get}
+use Rattle.std.proofs.lemmas.Bool.{cases_lt}
+use Rattle.std.proofs.lemmas.Bool.Decides.{nat_tests}
+use Rattle.std.proofs.lemmas.Option.{slice_get_within}
 use Rattle.directory.specs.Histories.{before, cell, History}
 use Rattle.directory.specs.Finds.{after_entry, after_mark, after_origin, after_word, at_origin, Chase, chases, climb, climbs, ended, FindCall, hop, is_known, key_of, Pursuit, Reader}
-use Rattle.directory.specs.Looks.{first_of, last_of}
+use Rattle.directory.specs.Looks.{first_of, last_of, look_by}
 use Rattle.directory.specs.Standing.{number}
 use Rattle.directory.specs.declared.answers.Found.{Found}
 use Rattle.directory.specs.declared.answers.Found.TheVariants.{At, Off as OffAt, Again}
 use Rattle.directory.specs.declared.answers.Why.{Why}
 use Rattle.directory.specs.declared.answers.Why.TheVariants.{Empty as EmptyAt, NoEntry, Chased}
 use Rattle.trail_laws.specs.Trail.{entry_seen}
-use Rattle.busy_finds.specs.Within.{IsWithin, moves_of, NoEntryMeetsTop}
-use Rattle.busy_finds.proofs.Current.{current}
-use Rattle.busy_finds.proofs.Fronts.{committed-by, gone-renewed, HistoryFacts, legal-at, moves-in-place, within-whole}
+use Rattle.busy_finds.specs.LawsBelow.{MarkLaws}
+use Rattle.busy_finds.specs.Within.{moves_of, NoEntryMeetsTop}
+use Rattle.busy_finds.proofs.Between.{erased-between, WasErased}
+use Rattle.busy_finds.proofs.Cleaning.{erasing, IsCleaning, IsErasing}
+use Rattle.busy_finds.proofs.Current.{current, currents-have}
+use Rattle.busy_finds.proofs.Fronts.{committed-by, legal-at, moves-in-place, number-more}
 use Rattle.busy_finds.proofs.Looks.{Climbed, climbed-more, climbed-none, in-rows, looks-end, WasEmpty, WereEmpty}
-use Rattle.busy_finds.proofs.Moves.{base-within, stop-inside}
+use Rattle.busy_finds.proofs.Moves.{AreInPlace, base-more, base-within, stop-after, stop-inside, stop_of}
+use Rattle.busy_finds.proofs.Tickets.{begun-more, first-moves}
 
 module _ (setting : Setting) (history : History) (call : FindCall) (first : ℕ) where
   -- what is known of a find that ended, and of one under way
@@ -88,47 +99,113 @@ module _ (setting : Setting) (history : History) (call : FindCall) (first : ℕ)
   look-so t u (chases chase node) key low later wanted now = mark-so u chase node _
   look-so t u (ended found) key low later wanted now = cc
 
-pub no-entry : HistoryFacts → NoEntryMeetsTop
-no-entry facts setting history actor call weight tickets few reads inside legal find =
-    let within = within-whole facts history few legal first was.0 (last_of tickets) setting.top was.2
-    (gone-renewed facts history few legal first was.0 setting.top was.1 (omega arith) was.3) in
-    (within.0, omega (arith, within.1, top-most within.0 within.2), within.2)
+pub no-entry : MarkLaws → NoEntryMeetsTop
+no-entry laws setting history actor call weight tickets few reads inside legal find = (
+  its,
+  same_top,
+  record { after = after_first; by = omega (arith, cleaned.done, number-more call.sub (suc e) last history (omega (arith, erased.2, was.2))); is = cleaned.is },
+  (e, erased.1, omega (arith, erased.2, was.2), (cluster, erased.3.visit, cleaned.last)),
+)
   where
     first : ℕ
     first = first_of tickets
 
-    ends : (first ≤ last_of tickets) × Climbed setting history call first (last_of tickets) weight []
-    ends = looks-end setting history actor call (last_of tickets)
-        (λ t pursuit. (first ≤ t) × Climbs setting history call first t pursuit)
+    last : ℕ
+    last = last_of tickets
+
+    told_end : (first ≤ last) × (last < length history) × Climbed setting history call first last weight []
+    told_end = looks-end setting history actor call last
+        (λ t pursuit. (first ≤ t) × (t < length history) × Climbs setting history call first t pursuit)
         (λ t u pursuit key later by is_look wanted now. (
           omega (arith, now.0, later),
-          look-so setting history call first t u pursuit key now.0 later wanted now.1,
+          slice_get_within history u (look_by actor key) is_look,
+          look-so setting history call first t u pursuit key now.0 later wanted now.2,
         ))
         tickets find (omega arith) (λ t key is_first by is_look wanted. (
           omega (arith, is_first),
+          slice_get_within history t (look_by actor key) is_look,
           origin-so setting history call first t _,
         ))
 
+    before_moves : List Move
+    before_moves = moves_of setting call.sub (before first history)
+
+    committed : ℕ
+    committed = number call.sub (before first history)
+
     home : ℕ
-    home = current (start setting call.sub) (moves_of setting call.sub (before first history))
-        (number call.sub (before first history)) setting.top
+    home = current (start setting call.sub) before_moves committed setting.top
+
+    cluster : ℕ
+    cluster = setting.home setting.top home
+
+    placed_before : AreInPlace setting (start setting call.sub) before_moves
+    placed_before = moves-in-place (before first history) (legal-at laws.facts history few legal first)
+
+    few_committed : committed ≤ length before_moves
+    few_committed = committed-by laws.facts history few legal first
 
     home-inside : home < setting.nodes
-    home-inside = stop-inside (moves_of setting call.sub (before first history))
-        (moves-in-place (before first history) (legal-at facts history few legal first)) _ (omega (
-          arith,
-          committed-by facts history few legal first,
-          base-within setting.top (moves_of setting call.sub (before first history))
-              (moves-in-place (before first history) (legal-at facts history few legal first))
-              (number call.sub (before first history)) (committed-by facts history few legal first),
-        ))
+    home-inside = stop-inside before_moves placed_before _ (omega (
+      arith,
+      few_committed,
+      base-within setting.top before_moves placed_before committed few_committed,
+    ))
 
-    was : WasEmpty setting history call first (last_of tickets)
-        (record { level = setting.top; cluster = setting.home setting.top home })
-    was = in-rows setting history call first (last_of tickets) 0 (levels setting) setting.top
-        (setting.home setting.top home) (omega arith) (omega arith) (reads home call.from home-inside inside)
-        (subst (λ xs. WereEmpty setting history call first (last_of tickets) xs)
-        (sym (ends.1.all ∙ append-nil ends.1.passed)) ends.1.empty)
+    was : WasEmpty setting history call first last (record { level = setting.top; cluster = cluster })
+    was = in-rows setting history call first last 0 (levels setting) setting.top cluster (omega arith) (omega arith)
+        (reads home call.from home-inside inside)
+        (subst (λ xs. WereEmpty setting history call first last xs)
+        (sym (told_end.2.all ∙ append-nil told_end.2.passed)) told_end.2.empty)
 
-    top-most : (move : Move) → IsWithin setting call.sub history first (last_of tickets) move → move.renewed ≤ setting.top
-    top-most move is = ((moves-in-place history legal).each (move.number - 1) move is.is).low
+    erased : WasErased laws setting call.sub history few legal setting.top cluster first was.0
+    erased = erased-between laws setting call.sub history few legal setting.top cluster first was.0 was.1
+        (omega (arith, was.2, told_end.1))
+        (currents-have laws.facts.writes setting call.sub (before first history) few
+        (legal-at laws.facts history few legal first) setting.top (omega arith)) was.3
+
+    e : ℕ
+    e = erased.0
+
+    erasure : IsErasing laws setting call.sub history few legal e setting.top cluster
+    erasure = erasing laws setting call.sub history few legal e (entry_at setting.top cluster None) erased.3 setting.top cluster refl
+
+    cleaned : IsCleaning laws setting call.sub history few legal e
+    cleaned = erasure.cleaning
+
+    its : Move
+    its = cleaned.move
+
+    same_top : its.renewed ≡ setting.top
+    same_top = omega (arith, erasure.low, ((moves-in-place history legal).each (its.number - 1) its cleaned.is).low)
+
+    after_first : committed < its.number
+    after_first = elim (cases_lt committed its.number) [
+      | inl later ↦ later
+      | inr early ↦ absurd (erasure.apart (ap (setting.home setting.top) (at_home (omega (
+        arith,
+        early,
+        few_committed,
+        begun-more laws setting call.sub history few legal first (suc e) (omega (arith, erased.1)),
+        cleaned.last,
+      )))))
+    ]
+      where
+        at_home : committed ≡ its.number → home ≡ its.to
+        at_home same =
+            let its_place = (moves-in-place history legal).each (its.number - 1) its cleaned.is in
+            let some : suc (its.number - 1) ≡ committed = omega (arith, its_place.its_number, same) in
+            let found = slice_get-within before_moves (its.number - 1) (omega (arith, some, few_committed)) in
+            let more = first-moves laws setting call.sub history few legal first in
+            let is : found.0 ≡ its = same_some (sym (slice_get-left before_moves more.0 (its.number - 1) found.0 found.1)
+            ∙ (ap (λ ms. slice_get ms (its.number - 1)) (sym more.1) ∙ cleaned.is)) in
+            let based : base setting.top (take committed before_moves) ≡ committed =
+            ap (λ n. base setting.top (take n before_moves)) (sym some)
+            ∙ (ap (base setting.top) (take-more before_moves (its.number - 1) found.0 found.1)
+            ∙ (base-more setting.top (take (its.number - 1) before_moves) found.0
+            ∙ (ap (λ (m : Move). cond (nat_le setting.top m.renewed) m.number
+            (base setting.top (take (its.number - 1) before_moves))) is
+            ∙ (ap (λ b. cond b its.number (base setting.top (take (its.number - 1) before_moves)))
+            (let t : nat_le setting.top its.renewed ≡ true = grind (arith, nat_tests, same_top) in t) ∙ sym same)))) in
+            ap (stop_of (start setting call.sub) before_moves) (based ∙ sym some)
+            ∙ (stop-after (start setting call.sub) before_moves (its.number - 1) found.0 found.1 ∙ ap (λ (m : Move). m.to) is)

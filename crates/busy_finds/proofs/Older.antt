@@ -17,8 +17,9 @@ use Rattle.directory.specs.ListLaws.{same_some}
 use Rattle.directory.specs.States.{entry_after, opening_entry, writes_made}
 use Rattle.directory.specs.Writes.{entry_at, erasure_writes, mark_at, move_writes, new_address, numbers_from, purge_writes, step_writes, Write, writes}
 use Rattle.trail_laws.specs.Trail.{entry_seen}
+use Rattle.busy_finds.specs.LawsBelow.{WriteLaws}
 use Rattle.busy_finds.specs.Within.{moves_of}
-use Rattle.busy_finds.proofs.Current.{entries_after, made_before, script-before, WriteLaws}
+use Rattle.busy_finds.proofs.Current.{entries_after, made_before, script-before}
 use Rattle.busy_finds.proofs.Kept.{held_after, late}
 use Rattle.busy_finds.proofs.Moves.{AreInPlace, base-grows, base-within, place-steps}
 use Rattle.busy_finds.proofs.Only.{IsOnly, only-steps}

@@ -13,10 +13,10 @@ use Rattle.directory.specs.Looks.{first_of, IsFind, last_of}
 use Rattle.directory.specs.Standing.{number, passage, standing}
 use Rattle.directory.specs.declared.answers.Found.{Found}
 use Rattle.stretch_laws.specs.Tracking.{IsTracking, radius}
+use Rattle.busy_finds.specs.LawsBelow.{PriceLaws}
 use Rattle.busy_finds.specs.Levels.{cost_up_to, EndsBy, FindsEndByLevel, FindsKeepAnyStretch, FindsKeepOwnStretch, IsOwnStretch, level_for, reaching}
 use Rattle.busy_finds.specs.Prices.{greatest_threshold, moves_within, weight_of}
 use Rattle.busy_finds.specs.Within.{IsWithin, moves_of}
-use Rattle.busy_finds.proofs.Beyond.{PriceLaws}
 use Rattle.busy_finds.proofs.Fronts.{moves-in-place}
 use Rattle.busy_finds.proofs.ByStretch.{greatest-has, in-dropped, in-order, spent-within, within-listed}
 use Rattle.busy_finds.proofs.Price.{find-on, radius-up}

@@ -18,8 +18,9 @@ use Rattle.directory.specs.Standing.{number, passage, standing}
 use Rattle.directory.specs.declared.answers.Found.{Found}
 use Rattle.trail_laws.specs.Trail.{entry_seen, mark_seen, MarkTells}
 use Rattle.stretch_laws.specs.Tracking.{radius}
+use Rattle.busy_finds.specs.LawsBelow.{PriceLaws}
 use Rattle.busy_finds.specs.Within.{IsWithin, moves_of}
-use Rattle.busy_finds.proofs.Beyond.{address-paid, begun_by, below, Ground, PriceLaws, told-at}
+use Rattle.busy_finds.proofs.Beyond.{address-paid, begun_by, below, Ground, told-at}
 use Rattle.busy_finds.proofs.Chase.{IsPaid, mark-paid, PaysOn}
 use Rattle.busy_finds.proofs.Current.{current}
 use Rattle.busy_finds.proofs.Fronts.{gone-renewed, moves-in-place, number-more, within-whole}

@@ -22,29 +22,15 @@ use Rattle.directory.specs.Legal.{IsLegal}
 use Rattle.directory.specs.ListLaws.{last_or-push, same_some, slice_get-left, slice_get-right}
 use Rattle.directory.specs.Puts.{mark_put, node_put, steps_in}
 use Rattle.directory.specs.Standing.{Commit, commit_by, commit_of, commits, number, standing}
-use Rattle.directory.specs.Statements.{CellAfter, SameKey, StandsAtStop}
 use Rattle.directory.specs.StepLaws.{slice_get-within, start-kept, take-more}
 use Rattle.directory.specs.Parts.{known_after}
-use Rattle.trail_laws.specs.Phases.{ComingStands, moves_begun, PhasesCover}
-use Rattle.trail_laws.specs.Trail.{AddressesLead, answers, IsLed, mark_seen, MarksTell, MarkTells, TopHasEntry}
-use Rattle.trail_laws.specs.Ways.{StandsInside}
+use Rattle.trail_laws.specs.Phases.{moves_begun}
+use Rattle.trail_laws.specs.Trail.{answers, IsLed, mark_seen, MarkTells}
+use Rattle.busy_finds.specs.LawsBelow.{MarkLaws}
 use Rattle.busy_finds.specs.Within.{moves_of}
-use Rattle.busy_finds.proofs.Fronts.{committed-by, HistoryFacts, legal-at, more-moves, moves-in-place}
+use Rattle.busy_finds.proofs.Fronts.{committed-by, legal-at, more-moves, moves-in-place}
 use Rattle.busy_finds.proofs.Moves.{AreInPlace, stop-after, stop-kept, stop_of}
 use Rattle.busy_finds.proofs.Sums.{travelled, travelled-step}
-
--- what is used of the laws of marks
-pub record MarkLaws : Type 0 where
-  pub facts : HistoryFacts
-  pub stands : StandsAtStop
-  pub inside : StandsInside
-  pub marks : MarksTell
-  pub coming : ComingStands
-  pub phases : PhasesCover
-  pub addresses : AddressesLead
-  pub top : TopHasEntry
-  pub cells : CellAfter
-  pub keys : SameKey
 
 -- what stands in a front stands in the whole
 pub in-front : {A : Type 0} (n : ℕ) (xs : List A) (i : ℕ) (x : A) → slice_get (take n xs) i ≡ Some x
@@ -56,7 +42,7 @@ in-front (suc n) (y ∷ xs) (suc i) x h = in-front n xs i x h
 
 -- what has an image in a list
 module _ {A B : Type 0} (f : A → B) where
-  mapped-at : (xs : List A) (i : ℕ) (y : B) → slice_get (map f xs) i ≡ Some y
+  pub mapped-at : (xs : List A) (i : ℕ) (y : B) → slice_get (map f xs) i ≡ Some y
       → (x : A) × (slice_get xs i ≡ Some x) × (f x ≡ y)
   mapped-at [] i y h = cc
   mapped-at (x ∷ xs) zero y h = (x, refl, same_some h)

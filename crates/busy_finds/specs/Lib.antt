@@ -1,3 +1,4 @@
+pub mod LawsBelow
 pub mod Within
 pub mod Prices
 pub mod Plans

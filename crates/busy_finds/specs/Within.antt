@@ -1,9 +1,10 @@
 -- What falls within a find: the moves of its subscriber whose commits come between its first look
--- and its last. A move renews the levels up to its highest.
+-- and its last, and the visits by which a move erases old addresses. A move renews the levels
+-- up to its highest.
 -- Key laws: `no_entry_meets_the_top`.
-use Rattle.std.specs.Prelude.{◌≡◌, ℕ, ◌-◌, ◌<◌, ◌≤◌, ◌^◌, List, Some, slice_get}
+use Rattle.std.specs.Prelude.{◌≡◌, ℕ, ◌-◌, ◌<◌, ◌≤◌, ◌^◌, List, None, Some, slice_get}
 use Rattle.directory.specs.Settings.{Setting}
-use Rattle.directory.specs.Histories.{before, History, puts_to}
+use Rattle.directory.specs.Histories.{before, History, puts_to, through}
 use Rattle.directory.specs.Courses.{Move}
 use Rattle.directory.specs.Puts.{course_in}
 use Rattle.directory.specs.Legal.{IsLegal}
@@ -12,6 +13,8 @@ use Rattle.directory.specs.Looks.{first_of, IsFind, last_of}
 use Rattle.directory.specs.Standing.{number}
 use Rattle.directory.specs.declared.answers.Found.TheVariants.{Again}
 use Rattle.directory.specs.declared.answers.Why.TheVariants.{NoEntry}
+use Rattle.directory.specs.Writes.{entry_at, visit_of}
+use Rattle.trail_laws.specs.Phases.{moves_begun}
 use Rattle.trail_laws.specs.Rightness.{ReadsTop}
 
 -- the moves that a subscriber has begun, in order
@@ -26,8 +29,14 @@ pub record IsWithin (setting : Setting) (sub : ℕ) (history : History) (first l
   pub by : move.number ≤ number sub (before last history)
   pub is : slice_get (moves_of setting sub history) (move.number - 1) ≡ Some move
 
--- where a find met no address at all, a move that renews the top level was committed within it
--- (`no_entry_meets_the_top`)
+-- the visit with this ticket erases an address of a level, while this move is the last that is begun
+abbrev pub IsErasure : Setting → ℕ → History → Move → ℕ → ℕ → Type 0
+IsErasure setting sub history move level ticket =
+    (cluster : ℕ) × (slice_get history ticket ≡ Some (visit_of sub (entry_at level cluster None)))
+    × (moves_begun setting sub (through ticket history) ≡ move.number)
+
+-- where a find met no address at all, a move that renews the top level was committed within it, and
+-- erased an address of that level (`no_entry_meets_the_top`)
 abbrev pub NoEntryMeetsTop : Type 0
 NoEntryMeetsTop =
     (setting : Setting) (history : History) (actor : ℕ) (call : FindCall) (weight : ℕ)
@@ -36,3 +45,5 @@ NoEntryMeetsTop =
     → IsFind setting history actor call (Again NoEntry weight) tickets
     → (move : Move) × (move.renewed ≡ setting.top)
     × IsWithin setting call.sub history (first_of tickets) (last_of tickets) move
+    × ((ticket : ℕ) × (first_of tickets ≤ ticket) × (ticket < last_of tickets)
+    × IsErasure setting call.sub history move setting.top ticket)

@@ -2,18 +2,14 @@
 ghost use Rattle.busy_finds.specs.Altogether.{MissedFindsAreFew};
 ghost use Rattle.busy_finds.specs.Within.{NoEntryMeetsTop};
 
-use directory::{commits_are_moves, legal_is_amid, read_of_legal, told_by_writes};
-use trail_laws::front_of_history_is_legal;
+use crate::below::laws_below;
 
-/// Where a find met no address at all, a move that renews the top level was committed within it.
+/// Where a find met no address at all, a move that renews the top level was committed within it, and
+/// erased an address of that level within it.
 pub fn no_entry_meets_the_top()
     ensures { NoEntryMeetsTop }
 {
-    legal_is_amid();
-    read_of_legal();
-    told_by_writes();
-    commits_are_moves();
-    front_of_history_is_legal();
+    laws_below();
 }
 
 /// Of finds of a subscriber that follow one another no more met no address than moves of the

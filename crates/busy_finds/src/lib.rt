@@ -4,6 +4,7 @@
 #![tactic(auto)]
 
 mod again;
+mod below;
 mod examples;
 mod outcomes;
 mod plans;

@@ -3,14 +3,7 @@ ghost use Rattle.busy_finds.specs.Altogether.{FindsInTurnAreBounded};
 ghost use Rattle.busy_finds.specs.Levels.{FindsEndByLevel, FindsKeepAnyStretch, FindsKeepOwnStretch};
 ghost use Rattle.busy_finds.specs.Prices.{EveryFindIsBounded, FindsBetweenCommits, FindsHaveTheirPrice};
 
-use directory::{
-    cell_after, commits_are_moves, legal_is_amid, read_of_legal, same_key_means, told_by_writes,
-};
-use stretch_laws::reading_is_bounded;
-use trail_laws::{
-    coming_stands, entries_tell, front_of_history_is_legal, levels_stay_near, marks_lead,
-    marks_tell, passage_is_open, phases_cover,
-};
+use crate::below::laws_below;
 
 /// No find weighs more than its price, whatever falls within it and whatever it answers: the
 /// stretch times its distance, or times the greatest threshold that a move within it reached; twice
@@ -23,21 +16,7 @@ pub fn every_find_has_its_price()
     ensures between { FindsBetweenCommits }
     ensures bounded { EveryFindIsBounded }
 {
-    legal_is_amid();
-    read_of_legal();
-    told_by_writes();
-    commits_are_moves();
-    cell_after();
-    same_key_means();
-    front_of_history_is_legal();
-    levels_stay_near();
-    marks_tell();
-    entries_tell();
-    coming_stands();
-    phases_cover();
-    marks_lead();
-    passage_is_open();
-    reading_is_bounded();
+    laws_below();
 }
 
 /// Finds of a subscriber that follow one another, as those of one caller do, weigh in all at most
@@ -58,19 +37,5 @@ pub fn finds_end_by_level()
     ensures own { FindsKeepOwnStretch }
     ensures any { FindsKeepAnyStretch }
 {
-    legal_is_amid();
-    read_of_legal();
-    told_by_writes();
-    commits_are_moves();
-    cell_after();
-    same_key_means();
-    front_of_history_is_legal();
-    levels_stay_near();
-    marks_tell();
-    entries_tell();
-    coming_stands();
-    phases_cover();
-    marks_lead();
-    passage_is_open();
-    reading_is_bounded();
+    laws_below();
 }

@@ -103,6 +103,7 @@ SHORT = {"redis": "rhsxpabedc", "etcd": "hsabemc"}
 
 
 def play_part(servers, room, plans, letter, is_short):
+    """Whether the part could be played here; exits where it fails."""
     folder = os.path.join(room, letter)
     os.mkdir(folder)
     try:
@@ -112,15 +113,21 @@ def play_part(servers, room, plans, letter, is_short):
             play_loads(servers, folder, plans, letter, SIZES[letter, servers.word][not is_short])
     except records.Differs as differs:
         sys.exit(f"store: {servers.word} ({letter}): {differs}")
+    except rust.LeftOut as why:
+        print(f"store: {servers.word} ({letter}): left out, since {why}", flush=True)
+        return False
+    return True
 
 
 def run(word, room, is_short, wanted):
-    """Runs the parts over a store; exits where one fails. Redis servers that are killed have a journal, and are others."""
+    """Runs the parts over a store, and gives the letters of those that were left out; exits where one fails. Redis servers that
+    are killed have a journal, and are others."""
     plans = Networks()
     letters = [letter for letter in ALL[word] if letter in (wanted or (SHORT if is_short else ALL)[word])]
+    left_out = []
     for has_journal in (False, True):
         some = [letter for letter in letters if (word == "redis" and letter == "c") == has_journal]
         if some:
             with Servers(word, os.path.join(room, f"servers{has_journal:d}"), has_journal=has_journal) as servers:
-                for letter in some:
-                    play_part(servers, room, plans, letter, is_short)
+                left_out += [letter for letter in some if not play_part(servers, room, plans, letter, is_short)]
+    return left_out

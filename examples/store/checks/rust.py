@@ -13,6 +13,10 @@ NETWORK = TOP / "examples/networks/nsfnet.txt"
 THREADS = 8
 
 
+class LeftOut(Exception):
+    """A part that can't be played here, and why."""
+
+
 class Moves(threading.Thread):
     """Moves handsets in turn, until it is ended."""
 
@@ -37,7 +41,7 @@ def find_all(description, subs, finds):
 
 def check(servers, text, plan, finds):
     if not BUILT.exists():
-        return "the finder in Rust isn't built (cargo build --release --examples), and is left out"
+        raise LeftOut("the finder in Rust isn't built: cargo build --release --examples")
     first, _ = directories(servers, plan, text, "x")
     handsets = [first.join(node) for node in range(6)]
     handsets[5].leave()

@@ -1,36 +1,10 @@
-use Rattle.busy_finds.proofs.Beyond.{PriceLaws}
 use Rattle.busy_finds.proofs.Bounded.{every-bounded}
 use Rattle.busy_finds.proofs.ByStretch.{between-commits, have-price}
 use Rattle.busy_finds.proofs.prices.every_find_has_its_price.Goals as goal
 
 pub returns : goal.returns
-returns c =
-    let laws : PriceLaws = record {
-      marks = record {
-        facts = record {
-          writes = record {
-            amid = c.legal_is_amid.ensures;
-            entries = c.read_of_legal.ensures.entries;
-            told = c.told_by_writes.ensures.commits;
-          };
-          fronts = c.front_of_history_is_legal.ensures;
-          commits_are = c.commits_are_moves.ensures.commits;
-        };
-        stands = c.commits_are_moves.ensures.stands;
-        inside = c.levels_stay_near.ensures.inside;
-        marks = c.marks_tell.ensures.marks;
-        coming = c.coming_stands.ensures;
-        phases = c.phases_cover.ensures;
-        addresses = c.marks_lead.ensures.addresses;
-        top = c.entries_tell.ensures.top;
-        cells = c.cell_after.ensures;
-        keys = c.same_key_means.ensures;
-      };
-      entries = c.entries_tell.ensures.entries;
-      opens = c.passage_is_open.ensures;
-      reading = c.reading_is_bounded.ensures;
-    } in record {
-      price = have-price laws;
-      between = between-commits laws;
-      bounded = every-bounded laws (have-price laws);
-    }
+returns c = record {
+  price = have-price c.laws_below.ensures;
+  between = between-commits c.laws_below.ensures;
+  bounded = every-bounded c.laws_below.ensures (have-price c.laws_below.ensures);
+}

@@ -1,36 +1,10 @@
-use Rattle.busy_finds.proofs.Beyond.{PriceLaws}
 use Rattle.busy_finds.proofs.Levels.{end-by-level}
 use Rattle.busy_finds.proofs.Own.{any-stretch, own-stretch}
 use Rattle.busy_finds.proofs.prices.finds_end_by_level.Goals as goal
 
 pub returns : goal.returns
-returns c =
-    let laws : PriceLaws = record {
-      marks = record {
-        facts = record {
-          writes = record {
-            amid = c.legal_is_amid.ensures;
-            entries = c.read_of_legal.ensures.entries;
-            told = c.told_by_writes.ensures.commits;
-          };
-          fronts = c.front_of_history_is_legal.ensures;
-          commits_are = c.commits_are_moves.ensures.commits;
-        };
-        stands = c.commits_are_moves.ensures.stands;
-        inside = c.levels_stay_near.ensures.inside;
-        marks = c.marks_tell.ensures.marks;
-        coming = c.coming_stands.ensures;
-        phases = c.phases_cover.ensures;
-        addresses = c.marks_lead.ensures.addresses;
-        top = c.entries_tell.ensures.top;
-        cells = c.cell_after.ensures;
-        keys = c.same_key_means.ensures;
-      };
-      entries = c.entries_tell.ensures.entries;
-      opens = c.passage_is_open.ensures;
-      reading = c.reading_is_bounded.ensures;
-    } in record {
-      levels = end-by-level laws;
-      own = own-stretch laws (end-by-level laws);
-      any = any-stretch laws (end-by-level laws);
-    }
+returns c = record {
+  levels = end-by-level c.laws_below.ensures;
+  own = own-stretch c.laws_below.ensures (end-by-level c.laws_below.ensures);
+  any = any-stretch c.laws_below.ensures (end-by-level c.laws_below.ensures);
+}

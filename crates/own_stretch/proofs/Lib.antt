@@ -1,0 +1,4 @@
+mod Greatest
+mod Units
+mod Least
+mod PlanLaws

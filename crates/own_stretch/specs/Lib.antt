@@ -1,0 +1,2 @@
+pub mod OwnStretch
+pub mod Plans
