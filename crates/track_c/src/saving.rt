@@ -10,7 +10,8 @@ use crate::handle::TrackHandle;
 use crate::object::{Mover, Object};
 use crate::plans::network_in;
 use crate::telling::{done, tell};
-use handset::{Handset, StateFault, StateRefusal};
+use handset::{Handset, StateFault, StateRefusal, states_come_back};
+use region_plan::plan_is_sound;
 use std::alloc::{AllocError, Global};
 
 // Why words are no state.
@@ -33,12 +34,23 @@ impl Mover {
         self.handset.state_length(&self.network.plan)
     }
 
+    // Its words are loaded as it is. The call does nothing.
+    fn comes_back(&self)
+        ensures { ComesBack (seen_mover self.now) }
+    {
+        states_come_back();
+        plan_is_sound(&self.network.plan);
+        // This tells the proof that the subscriber is a number of 32 bits.
+        self.handset.sub();
+    }
+
     // Writes its state over words.
     fn save(&self, alloc: Global, words: &mut [u64]) -> Result<(), Fault>
         ensures written { IsWritten (saved (length words.old) (seen_mover self.now)) result words.old
             words.new }
         ensures back { ComesBack (seen_mover self.now) }
     {
+        self.comes_back();
         if words.len() != self.state_length() as usize {
             return Err(Fault::NoRoom);
         }
