@@ -108,6 +108,34 @@ static void is_listed(const char *call, uint32_t code, uint32_t listed) {
 
 static track_handle *any(void) { return &handles[draw(HANDLES)]; }
 
+/* The state that was saved last. */
+enum { MOST_SAVED = 128 };
+static uint64_t saved[MOST_SAVED];
+static size_t saved_count;
+
+static void save(track_handle *at) {
+    uint32_t length = 0, code = track_mover_length(at, &length);
+    is_listed("track_mover_length", code, of_handle);
+    size_t room = draw(4) ? length : draw(MOST_SAVED + 1);
+    if (room > MOST_SAVED) return;
+    code = track_mover_save(at, saved, room);
+    is_listed("track_mover_save", code, of_handle | CAN(TRACK_NO_ROOM));
+    if (code == TRACK_OK) saved_count = room;
+}
+
+/* Loads it, at times cut, made longer, or with another word. */
+static uint32_t load(track_handle *plan, track_handle *to) {
+    uint64_t given[MOST_SAVED];
+    size_t words = draw(4) ? saved_count : draw(MOST_SAVED + 1);
+    memcpy(given, saved, sizeof given);
+    if (draw(2)) given[draw(MOST_SAVED)] = draw(2) ? number() : word();
+    uint32_t code = track_mover_load(plan, given, words, to);
+    is_listed("track_mover_load", code,
+              of_handle | CAN(TRACK_FULL_HANDLE) | CAN(TRACK_SHORT_STATE) | CAN(TRACK_GARBLED_STATE) | CAN(TRACK_NO_NODE) |
+                  CAN(TRACK_MIXED_STATE));
+    return code;
+}
+
 static void make(void) {
     uint8_t given[MOST_TEXT];
     track_refusal refusal = {0, 0, 0};
@@ -116,7 +144,7 @@ static void make(void) {
     track_handle before = *to;
     uint32_t code;
     if (plan == to) return;
-    switch (draw(5)) {
+    switch (draw(6)) {
     case 0:
         code = track_plan_read(given, text(given), to, &refusal);
         is_listed("track_plan_read", code, CAN(TRACK_OK) | CAN(TRACK_FULL_HANDLE) | CAN(TRACK_BAD_NETWORK));
@@ -134,6 +162,7 @@ static void make(void) {
         code = track_finder_new(plan, number(), number(), number(), to);
         is_listed("track_finder_new", code, of_handle | CAN(TRACK_FULL_HANDLE) | CAN(TRACK_NO_NODE) | CAN(TRACK_NO_SUBSCRIBER));
         break;
+    case 4: code = load(plan, to); break;
     default:
         code = track_mover_new(plan, number(), number(), to);
         is_listed("track_mover_new", code, of_handle | CAN(TRACK_FULL_HANDLE) | CAN(TRACK_NO_NODE));
@@ -148,7 +177,7 @@ static void ask(track_handle *at) {
     track_answer answer;
     track_place place;
     uint32_t node;
-    switch (draw(6)) {
+    switch (draw(7)) {
     case 0: is_listed("track_plan_sizes", track_plan_sizes(at, &sizes), of_handle); break;
     case 1: is_listed("track_plan_start", track_plan_start(at, number(), &node), of_handle | CAN(TRACK_NO_SUBSCRIBER)); break;
     case 2:
@@ -158,6 +187,7 @@ static void ask(track_handle *at) {
         break;
     case 3: is_listed("track_finder_next", track_finder_next(at, &cell), of_handle | CAN(TRACK_ENDED)); break;
     case 4: is_listed("track_finder_answer", track_finder_answer(at, &answer), of_handle | CAN(TRACK_LOOKING)); break;
+    case 5: save(at); break;
     default: is_listed("track_mover_place", track_mover_place(at, &place), of_handle);
     }
 }

@@ -51,16 +51,22 @@ static const track_edge edges[] = {{0, 1, 2}, {1, 2, 3}, {2, 0, 1}};
     } while (0)
 
 static void play(void) {
-    track_handle plan = TRACK_EMPTY, other = TRACK_EMPTY, built = TRACK_EMPTY, finder = TRACK_EMPTY, mover = TRACK_EMPTY;
+    track_handle plan = TRACK_EMPTY, other = TRACK_EMPTY, built = TRACK_EMPTY, finder = TRACK_EMPTY, mover = TRACK_EMPTY,
+                 again = TRACK_EMPTY;
     track_refusal refusal;
     track_put put;
     track_cell cell;
     track_answer answer;
+    uint64_t state[64];
+    uint32_t count;
     MAKE(plan, track_plan_read((const uint8_t *)text, sizeof text - 1, &plan, &refusal));
     MAKE(other, track_plan_share(&plan, &other));
     MAKE(built, track_plan_build(3, 2, edges, 3, &built, &refusal));
     MAKE(finder, track_finder_new(&plan, 3, 0, 2, &finder));
     MAKE(mover, track_mover_new(&other, 0, 0, &mover));
+    check(track_mover_length(&mover, &count) == TRACK_OK && count <= 64, "length");
+    if (track_mover_save(&mover, state, count) == TRACK_NO_MEMORY) check(track_mover_save(&mover, state, count) == TRACK_OK, "save");
+    MAKE(again, track_mover_load(&plan, state, count, &again));
     check(track_close(&plan) == TRACK_OK, "close");
     for (uint32_t to = 5; to; to--) {
         check(track_mover_move(&mover, to) == TRACK_OK, "move");
@@ -69,7 +75,7 @@ static void play(void) {
     while (track_finder_next(&finder, &cell) == TRACK_OK) check(track_finder_saw(&finder, 0) == TRACK_OK, "saw");
     check(track_finder_answer(&finder, &answer) == TRACK_OK && answer.kind == TRACK_AGAIN, "answer");
     check(track_close(&other) == TRACK_OK && track_close(&built) == TRACK_OK, "close");
-    check(track_close(&finder) == TRACK_OK && track_close(&mover) == TRACK_OK, "close");
+    check(track_close(&finder) == TRACK_OK && track_close(&mover) == TRACK_OK && track_close(&again) == TRACK_OK, "close");
 }
 
 int main(void) {

@@ -195,6 +195,19 @@ static void write_on(track_handle *mover, uint32_t most) {
     snprintf(told, sizeof told, "%u after %u", code, made);
 }
 
+/* The words of a state. */
+static uint64_t state[MOST_STATE];
+
+/* Whether two movers have the same state. */
+static bool same(track_handle *one, track_handle *other) {
+    uint64_t words[2][MOST_STATE];
+    uint32_t counts[2] = {0, 0};
+    if (track_mover_length(one, &counts[0]) || track_mover_length(other, &counts[1])) return false;
+    if (counts[0] != counts[1] || counts[0] > MOST_STATE) return false;
+    if (track_mover_save(one, words[0], counts[0]) || track_mover_save(other, words[1], counts[1])) return false;
+    return !memcmp(words[0], words[1], counts[0] * sizeof *words[0]);
+}
+
 /* Calls on movers. */
 static bool play_mover(char **w) {
     if (!strcmp(w[0], "mover")) {
@@ -211,6 +224,18 @@ static bool play_mover(char **w) {
         tell(track_mover_made(handle(w[1])));
     } else if (!strcmp(w[0], "write")) {
         write_on(handle(w[1]), number(w[2]));
+    } else if (!strcmp(w[0], "length")) {
+        uint32_t length = 77, code = track_mover_length(handle(w[1]), &length);
+        snprintf(told, sizeof told, "%u %u", code, length);
+    } else if (!strcmp(w[0], "save")) {
+        tell(track_mover_save(handle(w[1]), state, number(w[2])));
+    } else if (!strcmp(w[0], "set")) {
+        state[number(w[1])] = strtoull(w[2], 0, 0);
+        tell(0);
+    } else if (!strcmp(w[0], "load")) {
+        tell(track_mover_load(handle(w[1]), state, number(w[2]), handle(w[3])));
+    } else if (!strcmp(w[0], "same")) {
+        snprintf(told, sizeof told, "%s", same(handle(w[1]), handle(w[2])) ? "yes" : "no");
     } else if (!strcmp(w[0], "place")) {
         track_place p = {0, 0, 0, 0};
         uint32_t code = track_mover_place(handle(w[1]), &p);

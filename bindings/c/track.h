@@ -54,7 +54,11 @@ enum track_code {
     TRACK_PAST_END = 16,     /* there are no more */
     TRACK_BAD_WORD = 17,     /* the cell can't hold this word: nothing packs to it, or it names a node that the
                                 plan hasn't */
-    TRACK_BAD_FIELDS = 18    /* no word has these fields */
+    TRACK_BAD_FIELDS = 18,   /* no word has these fields */
+    TRACK_NO_ROOM = 19,      /* the state has another number of words than there is room for */
+    TRACK_SHORT_STATE = 20,  /* there are fewer words than a state for this plan has */
+    TRACK_GARBLED_STATE = 21,/* no mover over a plan of this size has just these words */
+    TRACK_MIXED_STATE = 22   /* levels, numbers or weights don't go with one another, or with the plan */
 };
 
 /* A plan, a finder or a mover; TRACK_EMPTY before its first use. */
@@ -229,6 +233,23 @@ uint32_t track_mover_made(track_handle *mover);
 
 /* Where a mover stands. TRACK_EMPTY_HANDLE, TRACK_OTHER_KIND. */
 uint32_t track_mover_place(track_handle *mover, track_place *place);
+
+/* A mover outlives its process by its state: `count` words, from which a mover is loaded that is as this one
+ * was, at rest or in the middle of a step. A state has 11 words, two for each level, and one for each node of
+ * the subscriber's trail, so at most 11 + 2 * levels + nodes; it goes with the plan that it was saved over. */
+
+/* How many words the state of a mover has now; each put may change it. TRACK_EMPTY_HANDLE, TRACK_OTHER_KIND. */
+uint32_t track_mover_length(track_handle *mover, uint32_t *count);
+
+/* Writes the state of a mover into `words`, of which there are `count`: just as many as track_mover_length
+ * tells. TRACK_EMPTY_HANDLE, TRACK_OTHER_KIND; TRACK_NO_ROOM; TRACK_NO_MEMORY. */
+uint32_t track_mover_save(track_handle *mover, uint64_t *words, size_t count);
+
+/* The mover of a state, over the plan that it was saved over, into `mover`. Words that are no state for this
+ * plan are refused, and nothing of them is taken; a state of another plan may be one for this plan too.
+ * TRACK_FULL_HANDLE; TRACK_EMPTY_HANDLE, TRACK_OTHER_KIND of `plan`; TRACK_SHORT_STATE; TRACK_GARBLED_STATE;
+ * TRACK_NO_NODE: it names a node that the plan hasn't; TRACK_MIXED_STATE; TRACK_NO_MEMORY. */
+uint32_t track_mover_load(track_handle *plan, const uint64_t *words, size_t count, track_handle *mover);
 
 /* ---- Words ---- */
 

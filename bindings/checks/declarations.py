@@ -70,7 +70,7 @@ def rust_type(words, names):
 
 def lent(kind, names):
     """What an argument is lent as: a slice is a pointer and a count."""
-    of = re.fullmatch(r"&\[(\w+)\]", kind)
+    of = re.fullmatch(r"&(?:mut )?\[(\w+)\]", kind)
     return [rust_type(f"&{of[1]}", names), "size"] if of else [rust_type(kind, names)]
 
 

@@ -23,6 +23,10 @@ def begun():
     return plan, cells, mover
 
 
+def reloaded(them, change):
+    return track.Mover.load(them[0], change(them[2].save()))
+
+
 def closed(it):
     it.close()
     return it
@@ -50,6 +54,10 @@ REFUSALS = [
     (lambda: track.read_mark(2**64 - 1), track.BadWord),
     (lambda: track.read_entry(2**64 - 1), track.BadWord),
     (lambda: track.pack_mark(track.Gone(1, 2**32 - 1)), track.BadFields),
+    (lambda: reloaded(opened(), lambda state: state[:11]), track.ShortState),
+    (lambda: reloaded(opened(), lambda state: state + [4]), track.GarbledState),
+    (lambda: reloaded(opened(), lambda state: [0, 4, *state[2:]]), track.NoNode),
+    (lambda: reloaded(opened(), lambda state: [*state[:6], 9, *state[7:]]), track.MixedState),
 ]
 MARKS = [None, track.Here(0), track.Here(7, off=True), track.Gone(3, 2), track.Coming(2**32 - 1, 1023)]
 ADDRESSES = [None, track.Address(0, 0), track.Address(2**32 - 1, 1023)]
@@ -96,6 +104,18 @@ class Calls(unittest.TestCase):
         mover.run(fails_once)
         self.assertEqual(puts[1], puts[2])
         self.assertEqual(mover.place, track.Place(0, 1, 1, False))
+
+    def test_a_mover_outlives_its_process(self):
+        for made in range(12):
+            plan, cells, mover = opened()
+            mover.move(0)
+            for _ in range(made):
+                if mover.next() is not None:
+                    mover.made()
+            again = track.Mover.load(plan, mover.save())
+            self.assertEqual((again.place, again.next(), again.save()), (mover.place, mover.next(), mover.save()))
+            again.run(cells.__setitem__)
+            self.assertEqual(again.place, track.Place(0, 0, 1, False))
 
     def test_objects_outlive_their_plan(self):
         plan, cells, mover = opened()

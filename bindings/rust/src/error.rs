@@ -66,6 +66,14 @@ pub enum Error {
     BadWord,
     /// No word says this.
     BadFields,
+    /// The state has another number of words than there is room for.
+    NoRoom,
+    /// There are fewer words than a state for this plan has.
+    ShortState,
+    /// No mover over a plan of this size has just these words.
+    GarbledState,
+    /// Levels, numbers or weights of the state don't go with one another, or with the plan.
+    MixedState,
     /// A code that this package doesn't know, of another version of the library.
     Other(u32),
 }
@@ -105,6 +113,10 @@ impl fmt::Display for Error {
             Error::PastEnd => "there are no more",
             Error::BadWord => "the cell can't hold this word",
             Error::BadFields => "no word says this",
+            Error::NoRoom => "there is room for another number of words",
+            Error::ShortState => "the state has too few words for this plan",
+            Error::GarbledState => "the words are no mover's over a plan of this size",
+            Error::MixedState => "the parts of the state don't go together, or with this plan",
         })
     }
 }
@@ -149,6 +161,10 @@ pub(crate) fn check(code: u32) -> Result<(), Error> {
         16 => Error::PastEnd,
         17 => Error::BadWord,
         18 => Error::BadFields,
+        19 => Error::NoRoom,
+        20 => Error::ShortState,
+        21 => Error::GarbledState,
+        22 => Error::MixedState,
         other => Error::Other(other),
     })
 }

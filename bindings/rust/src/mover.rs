@@ -46,6 +46,12 @@ impl Mover {
         self.0.made_put()
     }
 
+    /// The state: words of which [`Plan::load`](crate::Plan::load) makes a mover that is as this one, at rest or in the
+    /// middle of a step. [`Error::NoMemory`].
+    pub fn save(&self) -> Result<Vec<u64>, Error> {
+        self.0.save()
+    }
+
     /// Where the subscriber stands.
     pub fn place(&self) -> Result<Place, Error> {
         let it = self.0.place()?;

@@ -87,4 +87,23 @@ impl Plan {
     pub fn mover(&self, sub: u32, node: u32) -> Result<Mover, Error> {
         Ok(Mover::new(self.handle.mover(sub, node)?))
     }
+
+    /// The mover of a state that [`Mover::save`] told, over the plan that it was saved over. Where the words are no state
+    /// for this plan: [`Error::ShortState`], [`Error::GarbledState`], [`Error::NoNode`], [`Error::MixedState`].
+    ///
+    /// ```
+    /// # fn main() -> Result<(), track::Error> {
+    /// let plan = track::Plan::read(b"track 1\nnodes 2\nk 2\nedge 0 1 4\nsub 0\ncallers 1\n")?;
+    /// let mut mover = plan.mover(0, 0)?;
+    /// mover.move_to(1)?;
+    /// let state = mover.save()?;
+    /// let again = plan.load(&state)?;
+    /// assert_eq!(again.next_put()?, mover.next_put()?);
+    /// assert_eq!(plan.load(&state[1..]).err(), Some(track::Error::ShortState));
+    /// # Ok(())
+    /// # }
+    /// ```
+    pub fn load(&self, state: &[u64]) -> Result<Mover, Error> {
+        Ok(Mover::new(self.handle.load(state)?))
+    }
 }

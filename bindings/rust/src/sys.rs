@@ -116,6 +116,14 @@ extern "C" {
     fn track_mover_next(mover: *mut Raw, put: *mut PutFields) -> u32;
     fn track_mover_made(mover: *mut Raw) -> u32;
     fn track_mover_place(mover: *mut Raw, place: *mut PlaceFields) -> u32;
+    fn track_mover_length(mover: *mut Raw, count: *mut u32) -> u32;
+    fn track_mover_save(mover: *mut Raw, words: *mut u64, count: usize) -> u32;
+    fn track_mover_load(
+        plan: *mut Raw,
+        words: *const u64,
+        count: usize,
+        mover: *mut Raw,
+    ) -> u32;
     fn track_mark_read(word: u64, fields: *mut WordFields) -> u32;
     fn track_mark_pack(fields: *const WordFields, word: *mut u64) -> u32;
     fn track_entry_read(word: u64, fields: *mut WordFields) -> u32;
@@ -238,6 +246,19 @@ impl Handle {
 
     pub fn made_put(&self) -> Result<(), Error> {
         check(unsafe { track_mover_made(self.0.get()) })
+    }
+
+    pub fn save(&self) -> Result<Vec<u64>, Error> {
+        let count: u32 = self.told(|mover, count| unsafe { track_mover_length(mover, count) })?;
+        let mut words = vec![0; count as usize];
+        check(unsafe { track_mover_save(self.0.get(), words.as_mut_ptr(), words.len()) })?;
+        Ok(words)
+    }
+
+    pub fn load(&self, words: &[u64]) -> Result<Self, Error> {
+        Self::made(|mover| unsafe {
+            track_mover_load(self.0.get(), words.as_ptr(), words.len(), mover)
+        })
     }
 
     pub fn place(&self) -> Result<PlaceFields, Error> {

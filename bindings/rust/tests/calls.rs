@@ -144,6 +144,27 @@ fn a_put_that_fails_comes_again() {
 }
 
 #[test]
+fn a_mover_outlives_its_process() {
+    let (plan, _, mut mover) = opened();
+    mover.move_to(0).expect("a move");
+    while mover.next_put().expect("a put").is_some() {
+        let state = mover.save().expect("a state");
+        let again = plan.load(&state).expect("a mover");
+        assert_eq!(
+            (again.next_put(), again.place(), again.save()),
+            (mover.next_put(), mover.place(), Ok(state))
+        );
+        mover.made().expect("a put");
+    }
+    let mut state = mover.save().expect("a state");
+    assert_eq!(plan.load(&state[..11]).err(), Some(Error::ShortState));
+    state[1] = 4;
+    assert_eq!(plan.load(&state).err(), Some(Error::NoNode));
+    state[1] = 1 << 32;
+    assert_eq!(plan.load(&state).err(), Some(Error::GarbledState));
+}
+
+#[test]
 fn edges_make_the_same_plan() {
     let edges: Vec<Edge> = (0..3)
         .map(|a| Edge {

@@ -10,3 +10,5 @@ mod Settling
 mod Made
 mod Begun
 mod Committing
+mod Saved
+mod Loaded

@@ -6,3 +6,4 @@ pub mod Trails
 pub mod StageLaws
 pub mod Entries
 pub mod NextEntries
+pub mod States

@@ -1,4 +1,5 @@
 mod Boxed
 mod EdgeLaws
+mod Loading
 mod Pairs
 mod Reading

@@ -5,6 +5,7 @@ pub mod Finds
 pub mod Handles
 pub mod Held
 pub mod Moves
+pub mod Saving
 pub mod Openings
 pub mod Owned
 pub mod Plans

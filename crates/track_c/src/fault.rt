@@ -44,6 +44,14 @@ pub enum Fault {
     BadWord,
     /// No word has these fields.
     BadFields,
+    /// The state has another number of words than there is room for.
+    NoRoom,
+    /// There are fewer words than a state for this plan has.
+    ShortState,
+    /// No handset over a plan of this size has just these words.
+    GarbledState,
+    /// The levels, numbers or weights of the state don't go with one another, or with the plan.
+    MixedState,
 }
 
 impl Fault {
@@ -70,6 +78,10 @@ impl Fault {
             Fault::PastEnd => 16,
             Fault::BadWord => 17,
             Fault::BadFields => 18,
+            Fault::NoRoom => 19,
+            Fault::ShortState => 20,
+            Fault::GarbledState => 21,
+            Fault::MixedState => 22,
         }
     }
 }

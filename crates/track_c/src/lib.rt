@@ -11,5 +11,6 @@ mod movers;
 mod object;
 mod openings;
 mod plans;
+mod saving;
 mod telling;
 mod words;

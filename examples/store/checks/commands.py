@@ -27,8 +27,7 @@ def run_program(room):
     lines = re.search(r"^    import json, live\n(?:^    .*\n)+", (HERE / "README.md").read_text(encoding="utf-8"), flags=re.M)[0]
     text = re.sub(r"^    ", "", lines, flags=re.M)
     paths = os.environ | {"PYTHONPATH": os.pathsep.join(map(str, (HERE, HERE.parent.parent / "bindings/python/src")))}
-    before = "from checks.replaying import stand_in\nstand_in()\n"
-    ran = subprocess.run([sys.executable, "-c", before + text], cwd=room, env=paths, stdout=subprocess.PIPE, text=True, check=False)
+    ran = subprocess.run([sys.executable, "-c", text], cwd=room, env=paths, stdout=subprocess.PIPE, text=True, check=False)
     return ran.stdout
 
 

@@ -12,7 +12,6 @@ from checks import commands, handsets, outages, records, rust, schedules
 from checks.loads import Crew, Faults
 from checks.actors import Load
 from checks.plants import PLANTS
-from checks.replaying import stand_in
 from checks.servers import Servers
 
 TOP = pathlib.Path(__file__).resolve().parents[3]
@@ -123,7 +122,6 @@ def play_part(servers, room, plans, letter, is_short):
 def run(word, room, is_short, wanted):
     """Runs the parts over a store, and gives the letters of those that were left out; exits where one fails. Redis servers that
     are killed have a journal, and are others."""
-    stand_in()
     plans = Networks()
     letters = [letter for letter in ALL[word] if letter in (wanted or (SHORT if is_short else ALL)[word])]
     left_out = []

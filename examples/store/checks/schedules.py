@@ -9,7 +9,7 @@ import stores
 import track
 
 from checks.handsets import Puts, must
-from checks.replaying import ReplayingMover
+from checks.stepping import SteppedMover, cells_of
 
 WAITING, ENDED = "waiting", "ended"
 
@@ -100,20 +100,6 @@ class Process(threading.Thread):
             self.network.end(self.name)
 
 
-def cells_of(plan, words):
-    """What the cells hold after the steps of a stand-in's state, but for those that hold 0."""
-    puts, sub, node, *begun = words
-    cells, mover = dict(plan.opening(sub, node)), track.Mover(plan, sub, node)
-    for place, step in enumerate(begun):
-        mover.move(step - 2)
-        made = 0
-        while (put := mover.next()) and (place + 1 < len(begun) or made < puts):
-            cells[put.cell] = put.word
-            mover.made()
-            made += 1
-    return {cell: word for cell, word in cells.items() if word}, cells
-
-
 def play(description, plan, choose, losses):
     """One schedule; how many puts were answered."""
     owner = live.Directory(plan, stores.connect(description))
@@ -138,10 +124,10 @@ def play(description, plan, choose, losses):
         must(told == (put, state.words), f"step {state.step} was made as {told} and as {(put, state.words)}")
     latest = owner.take_over(handset.sub).latest
     must(latest.step >= max(made, default=0), f"step {max(made, default=0)} was answered as made, and the latest is {latest.step}")
-    if track.Mover is ReplayingMover:
-        holding, touched = cells_of(plan, latest.words[1:])
-        found = {cell: word for cell in touched if (word := owner.store.look(cell)[0])}
-        must(found == holding, f"the cells aren't those of the latest state: {set(found.items()) ^ set(holding.items())}")
+    holding, is_own = cells_of(plan, latest.words[1:])
+    must(is_own, f"the words of the latest state aren't those of its steps: {latest.words}")
+    found = {cell: owner.store.look(cell)[0] for cell in holding}
+    must(found == holding, f"the cells aren't those of the latest state: {set(found.items()) ^ set(holding.items())}")
     for it in (owner, *each):
         it.close()
     return len(made)
@@ -150,8 +136,12 @@ def play(description, plan, choose, losses):
 def check(servers, text, plan, count):
     description = stores.set_up(servers.word, servers.addresses, text, "s")
     answered = 0
-    for number in range(count):
-        choose = random.Random(f"schedule {number}")
-        answered += play(description, plan, choose, choose.choice([0.0, 0.1, 0.3]))
+    plain, track.Mover = track.Mover, SteppedMover
+    try:
+        for number in range(count):
+            choose = random.Random(f"schedule {number}")
+            answered += play(description, plan, choose, choose.choice([0.0, 0.1, 0.3]))
+    finally:
+        track.Mover = plain
     return (f"{count} schedules of three processes with one handset and a network that loses and delays: {answered} puts, each made "
             "in one way")

@@ -99,7 +99,24 @@ class BadFields(TrackError, ValueError):
     """No word has these fields."""
 
 
+class NoRoom(TrackError):
+    """The state has another number of words than there is room for."""
+
+
+class ShortState(TrackError, ValueError):
+    """There are fewer words than a state for this plan has."""
+
+
+class GarbledState(TrackError, ValueError):
+    """No mover over a plan of this size has just these words."""
+
+
+class MixedState(TrackError, ValueError):
+    """The levels, numbers or weights of the state don't go with one another, or with the plan."""
+
+
 BY_CODE: dict[int, type[TrackError]] = {
     1: NoMemory, 2: EmptyHandle, 3: OtherKind, 4: FullHandle, 6: NoNode, 7: NoSubscriber, 8: SamePlace, 9: UnderWay,
     10: IsOff, 11: NumbersSpent, 12: Already, 13: AtRest, 14: Ended, 15: Looking, 16: PastEnd, 17: BadWord, 18: BadFields,
+    19: NoRoom, 20: ShortState, 21: GarbledState, 22: MixedState,
 }

@@ -1,9 +1,9 @@
 """Subscribers that move: what a move or a switch writes next."""
 from __future__ import annotations
 
-from typing import Callable, NamedTuple, Optional
+from typing import Callable, NamedTuple, Optional, Sequence
 
-from ._library import Owner, PlaceFields, PutFields, calls, must
+from ._library import Owner, PlaceFields, PutFields, calls, must, u32, u64, word
 from .cells import Cell, Put, put_of
 from .errors import AtRest
 from .plans import Plan
@@ -24,6 +24,25 @@ class Mover(Owner):
     def __init__(self, plan: Plan, sub: int, node: int) -> None:
         super().__init__()
         must(calls.track_mover_new(plan._handle, sub, node, self._handle))
+
+    @classmethod
+    def load(cls, plan: Plan, state: Sequence[int]) -> Mover:
+        """The mover of a state that `save` told, over the plan that it was saved over. Raises ShortState, GarbledState, NoNode,
+        MixedState, where the words are no state for this plan; NoMemory; OverflowError, where one has more than 64 bits."""
+        mover = cls.__new__(cls)
+        Owner.__init__(mover)
+        words = (u64 * len(state))(*map(word.from_param, state))
+        must(calls.track_mover_load(plan._handle, words, len(state), mover._handle))
+        return mover
+
+    def save(self) -> list[int]:
+        """The state: words of 64 bits, of which `load` makes a mover that is as this one, at rest or in the middle of a step. Raises
+        NoMemory."""
+        count = u32()
+        must(calls.track_mover_length(self._handle, count))
+        words = (u64 * count.value)()
+        must(calls.track_mover_save(self._handle, words, count.value))
+        return list(words)
 
     def move(self, to: int) -> None:
         """Begins a move. Raises NoNode, SamePlace, UnderWay, IsOff, NumbersSpent."""
