@@ -44,6 +44,12 @@ pub enum Fault {
     BadWord,
     /// No word has these fields.
     BadFields,
+    /// A number is past its limit.
+    TooMany,
+    /// The pass has no room for so many visits.
+    Unreserved,
+    /// Another member was inside a node on the way.
+    Held,
 }
 
 impl Fault {
@@ -70,6 +76,9 @@ impl Fault {
             Fault::PastEnd => 16,
             Fault::BadWord => 17,
             Fault::BadFields => 18,
+            Fault::TooMany => 19,
+            Fault::Unreserved => 20,
+            Fault::Held => 21,
         }
     }
 }

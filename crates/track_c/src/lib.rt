@@ -2,14 +2,18 @@
 //! bindings/c/track.h says of each export what it takes and answers.
 #![tactic(auto)]
 
+mod callers;
 mod cells;
+mod crews;
 mod edges;
 mod fault;
 mod finders;
 mod handle;
+mod members;
 mod movers;
 mod object;
 mod openings;
 mod plans;
+mod subscribers;
 mod telling;
 mod words;
