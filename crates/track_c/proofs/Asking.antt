@@ -1,12 +1,13 @@
 -- How the parts of a call over a crew come together: what is answered where a handle is empty, and
 -- where a crew was made, or not.
-use Rattle.std.proofs.Common.{◌≡◌, ◌⊎◌, ℕ, List, refl, sym, subst, inl, inr}
-use Rattle.std.specs.Prelude.{Result, Ok, Err}
+use Rattle.std.proofs.Common.{◌≡◌, ◌⊎◌, ◌∙◌, ℕ, Bool, true, false, List, ap, refl, sym, subst, inl, inr}
+use Rattle.std.specs.Prelude.{Option, Some, None, Result, Err}
+use Rattle.std.specs.Option.{is_some}
 use Rattle.directory.specs.Finds.{FindCall}
 use Rattle.track_c.specs.Callers.{IsFindOf, caller_in}
-use Rattle.track_c.specs.Crews.{IsCrewAnswer, MakesCrew}
-use Rattle.track_c.specs.Faults.{Answer, TellsWithMemory, code_of}
-use Rattle.track_c.specs.Held.{Held, IsMade, PlanHeld, into, nothing, plan_in, seen_made}
+use Rattle.track_c.specs.Crews.{HandsNext, IsCrewAnswer, MakesCrew, crew_in, handing, with_pass_left}
+use Rattle.track_c.specs.Faults.{Answer, TellsWithMemory, and_then, code_of}
+use Rattle.track_c.specs.Held.{Held, IsMade, PlanHeld, into, nothing, plan_in, seen, seen_made}
 use Rattle.track_c.specs.Subscribers.{IsStepOf, subscriber_in}
 use Rattle.track_c.specs.declared.fault.Fault.{Fault}
 use Rattle.track_c.specs.declared.fault.Fault.TheVariants.{EmptyHandle, NoMemory}
@@ -17,7 +18,7 @@ pub no-plan-crew : (starts : List ℕ) (callers code : ℕ) (plan now : Held) �
     → now ≡ nothing → code ≡ code_of EmptyHandle → MakesCrew (plan_in plan) starts callers code now
 no-plan-crew starts callers code plan now is empty told =
     subst (λ (h : Held). MakesCrew (plan_in h) starts callers code now) (sym is)
-    (inr (Err EmptyHandle, (refl, (told, empty))))
+    (inr (Err EmptyHandle, refl, (told, empty)))
 
 -- what was made, or not, is told where the handle was empty
 pub crew-told : (asked : Answer PlanHeld) (starts : List ℕ) (callers code : ℕ)
@@ -39,7 +40,7 @@ crew-told asked starts callers code made old now empty is is_refused is_filled =
     told : IsCrewAnswer asked starts callers (seen_made made)
         → TellsWithMemory (seen_made made) code nothing now
         → MakesCrew asked starts callers code now
-    told answers (inl tells) = inr (seen_made made, (answers, tells))
+    told answers (inl tells) = inr (seen_made made, answers, tells)
     told answers (inr wanting) = inl wanting
 
 -- an empty handle has no find
@@ -53,3 +54,23 @@ pub no-subscriber-step : (before now : Held) → before ≡ nothing → now ≡ 
     → IsStepOf (subscriber_in before) (Err EmptyHandle) before now
 no-subscriber-step before now is empty =
     subst (λ (h : Held). IsStepOf (subscriber_in h) (Err EmptyHandle) h now) (sym is) (refl, empty)
+
+-- an empty handle has no next member
+pub no-crew-next : (crew now member : Held) (actor code : ℕ) → crew ≡ nothing → now ≡ nothing
+    → code ≡ code_of EmptyHandle → HandsNext code (handing crew member actor) (handing now member actor)
+no-crew-next crew now member actor code is empty told =
+    inr (
+      EmptyHandle,
+      told,
+      ap (λ (h : Held). handing h member actor) (empty ∙ sym is),
+      inr (ap (λ (h : Held). and_then (crew_in h) with_pass_left) is),
+    )
+
+-- a handle that isn't full holds nothing
+pub not-full : (full : Bool) (inside : Option Object) → full ≡ is_some inside → full ≡ false
+    → seen inside ≡ nothing
+not-full full None tied not = refl
+not-full full (Some object) tied not = absurd (true-false (sym tied ∙ not))
+  where
+    true-false : true ≡ false → ⊥
+    true-false e = cc

@@ -4,15 +4,17 @@
 use Rattle.std.specs.Prelude.{◌≡◌, ◌⊎◌, ◌<◌, ◌≤◌, ◌+◌, ℕ, nat_lt, if◌then◌else◌, All, List, [], ◌∷◌, ◌++◌, length, Ok, Err}
 use Rattle.directory.specs.Settings.{start}
 use Rattle.handset.specs.Beginning.{handset_at}
+use Rattle.handset.specs.Condition.{HandsetData}
 use Rattle.region_plan.specs.Plan.{PlanData, nodes_of}
+use Rattle.station.specs.Handsets.{IsHandsetOf}
 use Rattle.station.specs.Opening.{setup_of}
-use Rattle.station.specs.Passes.{AreFresh, PassData, TrackerData, actor_of}
+use Rattle.station.specs.Passes.{AreFresh, PassData, TrackerData, actor_of, fresh_view}
 use Rattle.station.specs.Setup.{setting_in, subs_in}
 use Rattle.track_c.specs.Faults.{Answer, Tells, and_then, code_of}
 use Rattle.track_c.specs.Held.{Held, PlanHeld, nothing, a_caller, a_crew, a_subscriber}
 use Rattle.track_c.specs.Members.{CrewHeld}
 use Rattle.track_c.specs.declared.fault.Fault.{Fault}
-use Rattle.track_c.specs.declared.fault.Fault.TheVariants.{EmptyHandle, FullHandle, NoMemory, NoNode, NoSubscriber, OtherKind, PastEnd, TooMany}
+use Rattle.track_c.specs.declared.fault.Fault.TheVariants.{EmptyHandle, NoMemory, NoNode, NoSubscriber, OtherKind, PastEnd, TooMany}
 
 -- the crew that is held, if one is
 abbrev pub crew_in : Held → Answer CrewHeld
@@ -55,6 +57,17 @@ MakesCrew asked starts callers code now =
     ⊎ ((answer : Answer Held) × IsCrewAnswer asked starts callers answer
     × Tells answer code nothing now)
 
+-- the handset of a subscriber that has done nothing
+abbrev pub handset_of : TrackerData → ℕ → HandsetData
+handset_of tracker actor =
+    handset_at tracker.setup.plan actor (start (setting_in tracker.setup) actor)
+
+-- a subscriber's, which goes with its pass
+pub record IsNewHandset (tracker : TrackerData) (actor : ℕ) (handset : HandsetData) : Type 0 where
+  pub sub : actor < subs_in tracker.setup
+  pub exact : handset ≡ handset_of tracker actor
+  pub own : IsHandsetOf tracker.setup (fresh_view tracker.setup actor) handset
+
 -- what the member with this pass holds: the first actors are the subscribers
 abbrev pub member_of : TrackerData → PassData → Held
 member_of tracker pass =
@@ -62,29 +75,18 @@ member_of tracker pass =
     then a_subscriber (record {
       tracker = tracker;
       pass = pass;
-      handset = handset_at tracker.setup.plan (actor_of pass)
-          (start (setting_in tracker.setup) (actor_of pass));
+      handset = handset_of tracker (actor_of pass);
     })
     else a_caller (record { tracker = tracker; pass = pass })
 
--- a crew, where it has a pass left
-abbrev pub unless_spent : CrewHeld → List PassData → Answer CrewHeld
-unless_spent crew [] = Err PastEnd
-unless_spent crew (pass ∷ more) = Ok crew
-
-abbrev pub with_pass_left : CrewHeld → Answer CrewHeld
-with_pass_left crew = unless_spent crew crew.passes
-
--- the crew that a member is asked of, for a handle that is empty
-abbrev pub crew_asked : Held → Held → Answer CrewHeld
-crew_asked nothing held = and_then (crew_in held) with_pass_left
-crew_asked full held = Err FullHandle
-
--- the two handles and the place that such a call is lent
+-- the two handles and the place that a call for the next member is lent
 pub record Handing : Type 0 where
   pub crew : Held
   pub member : Held
   pub actor : ℕ
+
+abbrev pub handing : Held → Held → ℕ → Handing
+handing crew member actor = record { crew = crew; member = member; actor = actor }
 
 -- the last pass of a crew is handed out to its actor
 pub record HandsOut (crew : CrewHeld) (now : Handing) : Type 0 where
@@ -95,8 +97,26 @@ pub record HandsOut (crew : CrewHeld) (now : Handing) : Type 0 where
   pub member_is : now.member ≡ member_of crew.tracker pass
   pub actor_is : now.actor ≡ actor_of pass
 
--- a call that asks for the next member told this code
-abbrev pub HandsNext : Answer CrewHeld → ℕ → Handing → Handing → Type 0
-HandsNext (Ok crew) code before now =
-    ((code ≡ code_of NoMemory) × (now ≡ before)) ⊎ ((code ≡ 0) × HandsOut crew now)
-HandsNext (Err fault) code before now = (code ≡ code_of fault) × (now ≡ before)
+-- so it is of what a handle holds
+abbrev pub HandsOf : Answer CrewHeld → Handing → Type 0
+HandsOf (Ok crew) now = HandsOut crew now
+HandsOf (Err fault) now = ⊥
+
+-- a crew, where it has a pass left
+abbrev pub unless_spent : CrewHeld → List PassData → Answer CrewHeld
+unless_spent crew [] = Err PastEnd
+unless_spent crew (pass ∷ more) = Ok crew
+
+abbrev pub with_pass_left : CrewHeld → Answer CrewHeld
+with_pass_left crew = unless_spent crew crew.passes
+
+-- why a crew hands out no member
+abbrev pub IsHandFault : Answer CrewHeld → Fault → Type 0
+IsHandFault asked fault = (fault ≡ NoMemory) ⊎ (and_then asked with_pass_left ≡ Err fault)
+
+-- a call for the next member, into a handle that was empty, told this code
+abbrev pub HandsNext : ℕ → Handing → Handing → Type 0
+HandsNext code before now =
+    ((code ≡ 0) × HandsOf (crew_in before.crew) now)
+    ⊎ ((fault : Fault) × (code ≡ code_of fault) × (now ≡ before)
+    × IsHandFault (crew_in before.crew) fault)

@@ -73,6 +73,50 @@ impl Caller {
     }
 }
 
+impl Subscriber {
+    // Room for so many visits.
+    fn reserve(&mut self, visits: u64) -> Result<(), Fault>
+        ensures shared { self.new.shared ≡ self.old.shared }
+        ensures handset { self.new.handset ≡ self.old.handset }
+        ensures room { MatchResult result
+            (λ _. reserved visits self.old.pass ≡ Ok self.new.pass)
+            (λ fault. (self.new.pass ≡ self.old.pass)
+            × ((fault ≡ NoMemory) ⊎ (reserved visits self.old.pass ≡ Err fault))) }
+    {
+        reserve_for(&mut self.pass, visits)
+    }
+}
+
+// Room for so many visits of the actor of an object.
+fn reserve_in(object: &mut Object, visits: u64) -> Result<(), Fault>
+    ensures { MatchResult result
+        (λ _. after_reserve visits (seen_object object.old) ≡ Ok (seen_object object.new))
+        (λ fault. (seen_object object.new ≡ seen_object object.old)
+        × ((fault ≡ NoMemory) ⊎ (after_reserve visits (seen_object object.old) ≡ Err fault))) }
+{
+    match object {
+        Object::Caller(caller) => caller.reserve(visits),
+        Object::Subscriber(subscriber) => subscriber.reserve(visits),
+        Object::Plan(_) | Object::Finder(_) | Object::Mover(_) | Object::Crew(_) => {
+            Err(Fault::OtherKind)
+        }
+    }
+}
+
+/// Sees to room for so many visits of a caller or a subscriber.
+#[unsafe(no_mangle)]
+pub extern "C" fn track_actor_reserve(alloc: Global, actor: &mut TrackHandle, visits: u64) -> u32
+    ensures { TellsWithMemory (after_reserve visits (held actor.old)) result (held actor.old)
+        (held actor.new) }
+{
+    let Some(mut object) = actor.take(alloc) else {
+        return Fault::EmptyHandle.code();
+    };
+    let made = reserve_in(&mut object, visits);
+    actor.put(object);
+    done(made)
+}
+
 // The outcome of a find, for C.
 fn tell_outcome(outcome: Result<Found, FindFault>) -> Result<TrackAnswer, Fault>
     ensures { result ≡ outcome_told outcome }

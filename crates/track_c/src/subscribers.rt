@@ -1,7 +1,9 @@
 //! Subscribers of a crew: moves and switches, put by put, over the tracker that it shares.
-ghost use Rattle.std.specs.Prelude.{◌≡◌, Err, MatchResult, None, Ok, OnErr};
+ghost use Rattle.std.specs.Prelude.{◌≡◌, [], Err, MatchResult, None, Ok, Some};
 ghost use Rattle.std.specs.Arc.{arc_value};
 ghost use Rattle.handset.specs.Beginning.{begin_move, move_fault, switch_fault};
+ghost use Rattle.handset.specs.declared.stage.Stage.TheVariants.{Switching};
+ghost use Rattle.region_plan.specs.Settings.{setting_of};
 ghost use Rattle.station.specs.Handsets.{IsHandsetOf};
 ghost use Rattle.station.specs.Passes.{IsPassOf};
 ghost use Rattle.tracker_calls.specs.Moves.{HasStepped, IsStepFault};
@@ -42,7 +44,79 @@ fn put_of(shared: &Shared, pass: &mut Pass, handset: &mut Handset) -> Result<u64
     }
 }
 
+// A move begins, of a handset that is its pass's own.
+fn begin_of(shared: &Shared, pass: &Pass, handset: &mut Handset, to: u32) -> Result<(), MoveFault>
+    requires own { IsHandsetOf shared.now.tracker.setup pass.now.view handset.old }
+    ensures own { IsHandsetOf shared.now.tracker.setup pass.now.view handset.new }
+    ensures begun { MatchResult result
+        (λ _. (move_fault shared.now.tracker.setup.plan handset.old to ≡ None)
+        × (handset.new
+        ≡ begin_move (setting_of shared.now.tracker.setup.plan []) handset.old to))
+        (λ fault. (move_fault shared.now.tracker.setup.plan handset.old to ≡ Some fault)
+        × (handset.new ≡ handset.old)) }
+{
+    let _ = pass;
+    let network = &*shared.network;
+    match handset.begin(&network.plan, &network.distances, to) {
+        Ok(()) => Ok(()),
+        Err(fault) => Err(fault),
+    }
+}
+
+// A switch begins, of a handset that is its pass's own.
+fn switch_of(
+    shared: &Shared,
+    pass: &Pass,
+    handset: &mut Handset,
+    off: bool,
+) -> Result<(), SwitchFault>
+    requires own { IsHandsetOf shared.now.tracker.setup pass.now.view handset.old }
+    ensures own { IsHandsetOf shared.now.tracker.setup pass.now.view handset.new }
+    ensures begun { MatchResult result
+        (λ _. (switch_fault handset.old off ≡ None)
+        × (handset.new ≡ record handset.old { stage = Switching off }))
+        (λ fault. (switch_fault handset.old off ≡ Some fault)
+        × (handset.new ≡ handset.old)) }
+{
+    let _ = shared;
+    let _ = pass;
+    match handset.switch(off) {
+        Ok(()) => Ok(()),
+        Err(fault) => Err(fault),
+    }
+}
+
 impl Subscriber {
+    // Begins a move.
+    fn begin(&mut self, to: u32) -> Result<(), Fault>
+        ensures { MatchResult result
+            (λ _. begun_move to (seen_subscriber self.old)
+            ≡ Ok (a_subscriber (seen_subscriber self.new)))
+            (λ fault. (begun_move to (seen_subscriber self.old) ≡ Err fault)
+            × (seen_subscriber self.new ≡ seen_subscriber self.old)) }
+    {
+        self.reveal();
+        match begin_of(&self.shared, &self.pass, &mut self.handset, to) {
+            Ok(()) => Ok(()),
+            Err(fault) => Err(refused_move(fault)),
+        }
+    }
+
+    // Begins a switch.
+    fn switch(&mut self, off: bool) -> Result<(), Fault>
+        ensures { MatchResult result
+            (λ _. begun_switch off (seen_subscriber self.old)
+            ≡ Ok (a_subscriber (seen_subscriber self.new)))
+            (λ fault. (begun_switch off (seen_subscriber self.old) ≡ Err fault)
+            × (seen_subscriber self.new ≡ seen_subscriber self.old)) }
+    {
+        self.reveal();
+        match switch_of(&self.shared, &self.pass, &mut self.handset, off) {
+            Ok(()) => Ok(()),
+            Err(fault) => Err(refused_switch(fault)),
+        }
+    }
+
     // One put: its ticket.
     fn step(&mut self) -> Result<u64, StepFault>
         ensures shared { self.new.shared ≡ self.old.shared }
@@ -50,6 +124,42 @@ impl Subscriber {
     {
         self.reveal();
         put_of(&self.shared, &mut self.pass, &mut self.handset)
+    }
+}
+
+// The subscriber of an object begins a move.
+fn move_in(object: &mut Object, to: u32) -> Result<(), Fault>
+    ensures { MatchResult result
+        (λ _. and_then (subscriber_in (seen_object object.old)) (begun_move to)
+        ≡ Ok (seen_object object.new))
+        (λ fault. (and_then (subscriber_in (seen_object object.old)) (begun_move to) ≡ Err fault)
+        × (seen_object object.new ≡ seen_object object.old)) }
+{
+    match object {
+        Object::Subscriber(subscriber) => subscriber.begin(to),
+        Object::Plan(_)
+        | Object::Finder(_)
+        | Object::Mover(_)
+        | Object::Crew(_)
+        | Object::Caller(_) => Err(Fault::OtherKind),
+    }
+}
+
+// The subscriber of an object begins a switch.
+fn switch_in(object: &mut Object, off: bool) -> Result<(), Fault>
+    ensures { MatchResult result
+        (λ _. and_then (subscriber_in (seen_object object.old)) (begun_switch off)
+        ≡ Ok (seen_object object.new))
+        (λ fault. (and_then (subscriber_in (seen_object object.old)) (begun_switch off) ≡ Err fault)
+        × (seen_object object.new ≡ seen_object object.old)) }
+{
+    match object {
+        Object::Subscriber(subscriber) => subscriber.switch(off),
+        Object::Plan(_)
+        | Object::Finder(_)
+        | Object::Mover(_)
+        | Object::Crew(_)
+        | Object::Caller(_) => Err(Fault::OtherKind),
     }
 }
 
@@ -78,6 +188,38 @@ fn step_in(object: &mut Object) -> Result<u64, Fault>
         | Object::Crew(_)
         | Object::Caller(_) => Err(Fault::OtherKind),
     }
+}
+
+/// Begins a move of a subscriber to a node.
+#[unsafe(no_mangle)]
+pub extern "C" fn track_subscriber_move(alloc: Global, subscriber: &mut TrackHandle, to: u32) -> u32
+    ensures { Tells (and_then (subscriber_in (held subscriber.old)) (begun_move to)) result
+        (held subscriber.old) (held subscriber.new) }
+{
+    let Some(mut object) = subscriber.take(alloc) else {
+        return Fault::EmptyHandle.code();
+    };
+    let begun = move_in(&mut object, to);
+    subscriber.put(object);
+    done(begun)
+}
+
+/// Begins a switch of a subscriber off, or on.
+#[unsafe(no_mangle)]
+pub extern "C" fn track_subscriber_switch(
+    alloc: Global,
+    subscriber: &mut TrackHandle,
+    off: bool,
+) -> u32
+    ensures { Tells (and_then (subscriber_in (held subscriber.old)) (begun_switch off)) result
+        (held subscriber.old) (held subscriber.new) }
+{
+    let Some(mut object) = subscriber.take(alloc) else {
+        return Fault::EmptyHandle.code();
+    };
+    let begun = switch_in(&mut object, off);
+    subscriber.put(object);
+    done(begun)
 }
 
 /// Makes the next put of a move or a switch: its ticket.
