@@ -105,6 +105,9 @@ impl fmt::Display for Error {
             Error::PastEnd => "there are no more",
             Error::BadWord => "the cell can't hold this word",
             Error::BadFields => "no word says this",
+            Error::CountTooLarge => "there may not be so many",
+            Error::Unreserved => "there is no room for so many visits",
+            Error::Held => "another member of the crew was inside a node just then",
         })
     }
 }
@@ -149,6 +152,9 @@ pub(crate) fn check(code: u32) -> Result<(), Error> {
         16 => Error::PastEnd,
         17 => Error::BadWord,
         18 => Error::BadFields,
+        19 => Error::CountTooLarge,
+        20 => Error::Unreserved,
+        21 => Error::Held,
         other => Error::Other(other),
     })
 }

@@ -1,6 +1,6 @@
 //! The plan of a network: its levels, clusters and homes.
 use crate::sys::{EdgeFields, Handle, Sizes};
-use crate::{Error, Finder, Mover, Put};
+use crate::{Crew, Error, Finder, Mover, Put};
 
 /// An edge of a network: it joins two nodes in both directions.
 #[derive(Clone, Copy, Debug, PartialEq, Eq, Hash)]
@@ -86,5 +86,12 @@ impl Plan {
     /// The one mover of a subscriber, at rest at its start node. [`Error::NoNode`].
     pub fn mover(&self, sub: u32, node: u32) -> Result<Mover, Error> {
         Ok(Mover::new(self.handle.mover(sub, node)?))
+    }
+
+    /// A directory in memory for the threads of one program: 1 to 64 subscribers, which start at these nodes, and at most 64
+    /// callers. [`Error::NoSubscriber`] where there is none, [`Error::CountTooLarge`], [`Error::NoNode`], [`Error::NoMemory`].
+    pub fn crew(&self, starts: &[u32], callers: u32) -> Result<Crew, Error> {
+        // A crew of more than 64 is refused, so that the count is small.
+        Ok(Crew::new(self.handle.crew(starts, callers)?, starts.len() as u32))
     }
 }

@@ -25,7 +25,7 @@ caller_in other = Err faults.OtherKind
 -- a pass with room for so many visits; all that it has seen and these are at most 2^56
 abbrev pub reserved : ℕ → PassData → Answer PassData
 reserved visits pass =
-    if nat_lt (2 ^ 56) (length pass.view.seen + visits) then Err faults.TooMany
+    if nat_lt (2 ^ 56) (length pass.view.seen + visits) then Err faults.CountTooLarge
     else Ok (record pass { spare = max pass.spare visits })
 
 -- what is held, with that room

@@ -14,7 +14,7 @@ use Rattle.track_c.specs.Faults.{Answer, Tells, and_then, code_of}
 use Rattle.track_c.specs.Held.{Held, PlanHeld, nothing, a_caller, a_crew, a_subscriber}
 use Rattle.track_c.specs.Members.{CrewHeld}
 use Rattle.track_c.specs.declared.fault.Fault.{Fault}
-use Rattle.track_c.specs.declared.fault.Fault.TheVariants.{EmptyHandle, NoMemory, NoNode, NoSubscriber, OtherKind, PastEnd, TooMany}
+use Rattle.track_c.specs.declared.fault.Fault.TheVariants.{EmptyHandle, NoMemory, NoNode, NoSubscriber, OtherKind, PastEnd, CountTooLarge}
 
 -- the crew that is held, if one is
 abbrev pub crew_in : Held → Answer CrewHeld
@@ -32,7 +32,7 @@ pub record IsNewCrew (plan : PlanData) (starts : List ℕ) (callers : ℕ) (crew
 -- why there is none: the first of these that holds
 abbrev pub IsCrewFault : PlanData → List ℕ → ℕ → Fault → Type 0
 IsCrewFault plan starts callers NoSubscriber = length starts ≡ 0
-IsCrewFault plan starts callers TooMany =
+IsCrewFault plan starts callers CountTooLarge =
     (1 ≤ length starts) × (length starts ≤ 64 → 64 < callers)
 IsCrewFault plan starts callers NoNode =
     (1 ≤ length starts) × (length starts ≤ 64) × (callers ≤ 64)

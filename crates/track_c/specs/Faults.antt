@@ -3,7 +3,7 @@
 -- by their clauses.
 use Rattle.std.specs.Prelude.{◌≡◌, ◌⊎◌, ℕ, Result, Ok, Err}
 use Rattle.track_c.specs.declared.fault.Fault.{Fault}
-use Rattle.track_c.specs.declared.fault.Fault.TheVariants.{NoMemory, EmptyHandle, OtherKind, FullHandle, BadNetwork, NoNode, NoSubscriber, SamePlace, UnderWay, IsOff, NumbersSpent, Already, AtRest, Ended, Looking, PastEnd, BadWord, BadFields, TooMany, Unreserved, Held}
+use Rattle.track_c.specs.declared.fault.Fault.TheVariants.{NoMemory, EmptyHandle, OtherKind, FullHandle, BadNetwork, NoNode, NoSubscriber, SamePlace, UnderWay, IsOff, NumbersSpent, Already, AtRest, Ended, Looking, PastEnd, BadWord, BadFields, CountTooLarge, Unreserved, Held}
 
 -- the code of a fault
 abbrev pub code_of : Fault → ℕ
@@ -25,7 +25,7 @@ code_of Looking = 15
 code_of PastEnd = 16
 code_of BadWord = 17
 code_of BadFields = 18
-code_of TooMany = 19
+code_of CountTooLarge = 19
 code_of Unreserved = 20
 code_of Held = 21
 

@@ -33,7 +33,7 @@ fn reserve_for(pass: &mut Pass, visits: u64) -> Result<(), Fault>
 {
     let seen = pass.seen();
     if visits > MOST_VISITS || seen > MOST_VISITS - visits {
-        return Err(Fault::TooMany);
+        return Err(Fault::CountTooLarge);
     }
     match pass.reserve(visits) {
         Ok(()) => Ok(()),

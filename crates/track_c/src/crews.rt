@@ -46,7 +46,7 @@ fn crew_over(
         return Err(Fault::NoSubscriber);
     }
     if starts.len() > 64 || callers > 64 {
-        return Err(Fault::TooMany);
+        return Err(Fault::CountTooLarge);
     }
     if !are_nodes(starts, network.plan.nodes()) {
         return Err(Fault::NoNode);

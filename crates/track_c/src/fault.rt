@@ -45,7 +45,7 @@ pub enum Fault {
     /// No word has these fields.
     BadFields,
     /// A number is past its limit.
-    TooMany,
+    CountTooLarge,
     /// The pass has no room for so many visits.
     Unreserved,
     /// Another member was inside a node on the way.
@@ -76,7 +76,7 @@ impl Fault {
             Fault::PastEnd => 16,
             Fault::BadWord => 17,
             Fault::BadFields => 18,
-            Fault::TooMany => 19,
+            Fault::CountTooLarge => 19,
             Fault::Unreserved => 20,
             Fault::Held => 21,
         }

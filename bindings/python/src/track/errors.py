@@ -99,7 +99,20 @@ class BadFields(TrackError, ValueError):
     """No word has these fields."""
 
 
+class CountTooLarge(TrackError, ValueError):
+    """There may not be so many."""
+
+
+class Unreserved(TrackError):
+    """There is no room for so many visits."""
+
+
+class Held(TrackError):
+    """Another member of the crew was inside a node just then."""
+
+
 BY_CODE: dict[int, type[TrackError]] = {
     1: NoMemory, 2: EmptyHandle, 3: OtherKind, 4: FullHandle, 6: NoNode, 7: NoSubscriber, 8: SamePlace, 9: UnderWay,
     10: IsOff, 11: NumbersSpent, 12: Already, 13: AtRest, 14: Ended, 15: Looking, 16: PastEnd, 17: BadWord, 18: BadFields,
+    19: CountTooLarge, 20: Unreserved, 21: Held,
 }
