@@ -66,6 +66,12 @@ pub enum Error {
     BadWord,
     /// No word says this.
     BadFields,
+    /// There may not be so many.
+    CountTooLarge,
+    /// There is no room for so many visits.
+    Unreserved,
+    /// Another member of the crew was inside a node just then.
+    Held,
     /// A code that this package doesn't know, of another version of the library.
     Other(u32),
 }

@@ -92,6 +92,9 @@ impl Plan {
     /// callers. [`Error::NoSubscriber`] where there is none, [`Error::CountTooLarge`], [`Error::NoNode`], [`Error::NoMemory`].
     pub fn crew(&self, starts: &[u32], callers: u32) -> Result<Crew, Error> {
         // A crew of more than 64 is refused, so that the count is small.
-        Ok(Crew::new(self.handle.crew(starts, callers)?, starts.len() as u32))
+        Ok(Crew::new(
+            self.handle.crew(starts, callers)?,
+            starts.len() as u32,
+        ))
     }
 }
