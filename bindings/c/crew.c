@@ -8,7 +8,7 @@
 #include <stdlib.h>
 #include <string.h>
 
-enum { NODES = 6, SUBS = 3, CALLERS = 3, MOVES = 20, FINDS = 60, ROOM = 4096 };
+enum { NODES = 6, SUBS = 3, CALLERS = 3, MOVES = 100, FINDS = 300, ROOM = 4096 };
 
 static const char text[] =
     "track 1\nnodes 6\nk 2\nedge 0 1 2\nedge 1 2 3\nedge 2 3 1\nedge 3 4 2\nedge 4 5 5\nedge 5 0 4\nsub 0\ncallers 1\n";
