@@ -3,7 +3,8 @@
  * The library decides: which cell a find looks at next and what its answer is, what a move writes
  * next and in which order, what the cells of a new subscriber hold. The caller keeps the cells: one
  * 64-bit word a cell, in memory, in Redis, in etcd, wherever a cell is read and written in one step.
- * A cell that nobody has written holds 0.
+ * A cell that nobody has written holds 0. Or the library keeps them, for the threads of one program:
+ * see "Crews".
  *
  * Link libtrack.a (bindings/build makes it) or libtrack.so. The library calls malloc, realloc and
  * free, and nothing else.
@@ -20,7 +21,7 @@
  *
  * CODES. Each call answers TRACK_OK, or why it did nothing. Unless it answers TRACK_OK, every
  * handle and every place that it was lent are as before, but for the `track_refusal` beside
- * TRACK_BAD_NETWORK. Where several causes hold, the first in the call's list is answered; TRACK_NO_MEMORY
+ * TRACK_BAD_NETWORK, and for the looks that a caller made before TRACK_HELD. Where several causes hold, the first in the call's list is answered; TRACK_NO_MEMORY
  * may come in the place of any answer of a call that lists it, but not of TRACK_FULL_HANDLE.
  */
 #ifndef TRACK_H
