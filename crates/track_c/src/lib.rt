@@ -1,4 +1,5 @@
-//! The directory's decisions for C: plans, finders and movers, whose cells the caller keeps.
+//! The directory's decisions for C: plans, finders and movers, whose cells the caller keeps; and crews,
+//! whose members share a tracker.
 //! bindings/c/track.h says of each export what it takes and answers.
 #![tactic(auto)]
 
