@@ -211,6 +211,41 @@ static void step(track_handle *at) {
     }
 }
 
+/* A crew's calls over any two handles: a crew that is made may take its subscribers and callers from anywhere. */
+static void join_crew(void) {
+    uint32_t starts[] = {number(), number(), number()}, its = 0;
+    track_answer answer;
+    uint64_t ticket;
+    track_handle *one = any(), *other = any();
+    if (one == other) return;
+    switch (draw(7)) {
+    case 0:
+        is_listed("track_crew_new", track_crew_new(one, starts, (size_t)draw(4), draw(9) ? draw(4) : number(), other),
+                  of_handle | CAN(TRACK_FULL_HANDLE) | CAN(TRACK_NO_SUBSCRIBER) | CAN(TRACK_COUNT_TOO_LARGE) | CAN(TRACK_NO_NODE));
+        break;
+    case 1:
+        is_listed("track_crew_next", track_crew_next(one, other, &its), of_handle | CAN(TRACK_FULL_HANDLE) | CAN(TRACK_PAST_END));
+        break;
+    case 2:
+        is_listed("track_actor_reserve", track_actor_reserve(one, draw(9) ? draw(500) : UINT64_MAX - draw(9)),
+                  of_handle | CAN(TRACK_COUNT_TOO_LARGE));
+        break;
+    case 3:
+        is_listed("track_caller_find", track_caller_find(one, number(), number(), &answer),
+                  of_handle | CAN(TRACK_NO_NODE) | CAN(TRACK_NO_SUBSCRIBER) | CAN(TRACK_UNRESERVED));
+        break;
+    case 4:
+        is_listed("track_subscriber_move", track_subscriber_move(one, number()),
+                  of_handle | CAN(TRACK_NO_NODE) | CAN(TRACK_SAME_PLACE) | CAN(TRACK_UNDER_WAY) | CAN(TRACK_IS_OFF));
+        break;
+    case 5:
+        is_listed("track_subscriber_switch", track_subscriber_switch(one, draw(2)), of_handle | CAN(TRACK_UNDER_WAY) | CAN(TRACK_ALREADY));
+        break;
+    default:
+        is_listed("track_subscriber_step", track_subscriber_step(one, &ticket), of_handle | CAN(TRACK_AT_REST) | CAN(TRACK_UNRESERVED));
+    }
+}
+
 static void say(void) {
     track_fields fields = {number(), number(), number()};
     uint64_t packed = word(), again = 0;
@@ -228,11 +263,12 @@ static void say(void) {
 }
 
 static void make_one_call(void) {
-    uint64_t which = draw(32);
+    uint64_t which = draw(40);
     if (which < 4) make();
     else if (which < 15) ask(any());
     else if (which < 27) step(any());
     else if (which < 30) say();
+    else if (which < 38) join_crew();
     else is_listed("track_close", track_close(any()), CAN(TRACK_OK) | CAN(TRACK_EMPTY_HANDLE));
 }
 

@@ -53,6 +53,10 @@ static const track_edge edges[] = {{0, 1, 2}, {1, 2, 3}, {2, 0, 1}};
 static void play(void) {
     track_handle plan = TRACK_EMPTY, other = TRACK_EMPTY, built = TRACK_EMPTY, finder = TRACK_EMPTY, mover = TRACK_EMPTY,
                  again = TRACK_EMPTY;
+    track_handle crew = TRACK_EMPTY, members[] = {TRACK_EMPTY, TRACK_EMPTY, TRACK_EMPTY}, none = TRACK_EMPTY;
+    const uint32_t starts[] = {0, 5};
+    uint32_t number;
+    uint64_t ticket;
     track_refusal refusal;
     track_put put;
     track_cell cell;
@@ -67,6 +71,18 @@ static void play(void) {
     check(track_mover_length(&mover, &count) == TRACK_OK && count <= 64, "length");
     if (track_mover_save(&mover, state, count) == TRACK_NO_MEMORY) check(track_mover_save(&mover, state, count) == TRACK_OK, "save");
     MAKE(again, track_mover_load(&plan, state, count, &again));
+    MAKE(crew, track_crew_new(&plan, starts, 2, 1, &crew));
+    for (uint32_t left = 3; left--;) {
+        MAKE(members[left], track_crew_next(&crew, &members[left], &number));
+        check(number == left, "a member was lost");
+    }
+    check(track_crew_next(&crew, &none, &number) == TRACK_PAST_END && track_close(&crew) == TRACK_OK, "the end of a crew");
+    MAKE(members[0], track_actor_reserve(&members[0], 1000));
+    MAKE(members[2], track_actor_reserve(&members[2], 1000));
+    check(track_subscriber_move(&members[0], 3) == TRACK_OK, "move");
+    while (track_subscriber_step(&members[0], &ticket) == TRACK_OK) {}
+    check(track_caller_find(&members[2], 0, 0, &answer) == TRACK_OK && answer.node == 3, "find");
+    for (uint32_t i = 0; i < 3; i++) check(track_close(&members[i]) == TRACK_OK, "close");
     check(track_close(&plan) == TRACK_OK, "close");
     for (uint32_t to = 5; to; to--) {
         check(track_mover_move(&mover, to) == TRACK_OK, "move");

@@ -3,7 +3,8 @@
  * The library decides: which cell a find looks at next and what its answer is, what a move writes
  * next and in which order, what the cells of a new subscriber hold. The caller keeps the cells: one
  * 64-bit word a cell, in memory, in Redis, in etcd, wherever a cell is read and written in one step.
- * A cell that nobody has written holds 0.
+ * A cell that nobody has written holds 0. Or the library keeps them, for the threads of one program:
+ * see "Crews".
  *
  * Link libtrack.a (bindings/build makes it) or libtrack.so. The library calls malloc, realloc and
  * free, and nothing else.
@@ -20,7 +21,7 @@
  *
  * CODES. Each call answers TRACK_OK, or why it did nothing. Unless it answers TRACK_OK, every
  * handle and every place that it was lent are as before, but for the `track_refusal` beside
- * TRACK_BAD_NETWORK. Where several causes hold, the first in the call's list is answered; TRACK_NO_MEMORY
+ * TRACK_BAD_NETWORK, and for the looks that a caller made before TRACK_HELD. Where several causes hold, the first in the call's list is answered; TRACK_NO_MEMORY
  * may come in the place of any answer of a call that lists it, but not of TRACK_FULL_HANDLE.
  */
 #ifndef TRACK_H
@@ -58,10 +59,13 @@ enum track_code {
     TRACK_NO_ROOM = 19,      /* the state has another number of words than there is room for */
     TRACK_SHORT_STATE = 20,  /* there are fewer words than a state for this plan has */
     TRACK_GARBLED_STATE = 21,/* no mover over a plan of this size has just these words */
-    TRACK_MIXED_STATE = 22   /* levels, numbers or weights don't go with one another, or with the plan */
+    TRACK_MIXED_STATE = 22,  /* levels, numbers or weights don't go with one another, or with the plan */
+    TRACK_COUNT_TOO_LARGE = 23, /* there may not be so many */
+    TRACK_UNRESERVED = 24,   /* there is no room for so many visits: reserve some, and call again */
+    TRACK_HELD = 25          /* another member of the crew was inside a node just then: call again */
 };
 
-/* A plan, a finder or a mover; TRACK_EMPTY before its first use. */
+/* A plan, a finder, a mover, a crew, a caller or a subscriber; TRACK_EMPTY before its first use. */
 typedef struct {
     bool full;
     void *at;
@@ -250,6 +254,47 @@ uint32_t track_mover_save(track_handle *mover, uint64_t *words, size_t count);
  * TRACK_FULL_HANDLE; TRACK_EMPTY_HANDLE, TRACK_OTHER_KIND of `plan`; TRACK_SHORT_STATE; TRACK_GARBLED_STATE;
  * TRACK_NO_NODE: it names a node that the plan hasn't; TRACK_MIXED_STATE; TRACK_NO_MEMORY. */
 uint32_t track_mover_load(track_handle *plan, const uint64_t *words, size_t count, track_handle *mover);
+
+/* ---- Crews: a directory whose cells the library keeps in memory, for the threads of one program ----
+ *
+ * A crew is the subscribers and the callers of one such directory. track_crew_new makes it, track_crew_next
+ * hands out its members one by one, and each then goes to a thread of its own. A look, and a put, is a
+ * visit: a member reserves room for its visits before it makes them, 8 bytes each. No call waits: where
+ * another member is inside a node at that moment, the answer is TRACK_HELD. */
+
+/* A crew over a plan: `count` subscribers, 1 to 64, of which subscriber i starts at starts[i], and 0 to 64
+ * callers. TRACK_FULL_HANDLE; TRACK_EMPTY_HANDLE, TRACK_OTHER_KIND of `plan`; TRACK_NO_SUBSCRIBER where
+ * `count` is 0; TRACK_COUNT_TOO_LARGE; TRACK_NO_NODE; TRACK_NO_MEMORY. */
+uint32_t track_crew_new(track_handle *plan, const uint32_t *starts, size_t count, uint32_t callers,
+                        track_handle *crew);
+
+/* The next member of a crew, and its number: the callers, from the last one on, and then the subscribers,
+ * from the last one on, whose numbers are 0 to `count` - 1. A member goes on after the crew is closed.
+ * TRACK_FULL_HANDLE of `member`; TRACK_EMPTY_HANDLE, TRACK_OTHER_KIND of `crew`; TRACK_PAST_END where all
+ * are handed out; TRACK_NO_MEMORY, and the member is handed out by a later call. */
+uint32_t track_crew_next(track_handle *crew, track_handle *member, uint32_t *number);
+
+/* Sees to room for so many visits of a caller or a subscriber, from here on; room that is there counts.
+ * TRACK_EMPTY_HANDLE, TRACK_OTHER_KIND; TRACK_COUNT_TOO_LARGE where these and all visits that it knows of
+ * are more than 2^56; TRACK_NO_MEMORY. */
+uint32_t track_actor_reserve(track_handle *actor, uint64_t visits);
+
+/* Finds a subscriber from a node. TRACK_EMPTY_HANDLE, TRACK_OTHER_KIND; TRACK_NO_NODE; TRACK_NO_SUBSCRIBER;
+ * TRACK_UNRESERVED where there is less room than the most looks of such a find; TRACK_HELD. With the last
+ * the looks made so far have used their room. */
+uint32_t track_caller_find(track_handle *caller, uint32_t from, uint32_t sub, track_answer *answer);
+
+/* Begins a move to a node. TRACK_EMPTY_HANDLE, TRACK_OTHER_KIND; TRACK_NO_NODE; TRACK_SAME_PLACE;
+ * TRACK_UNDER_WAY; TRACK_IS_OFF; TRACK_NUMBERS_SPENT. */
+uint32_t track_subscriber_move(track_handle *subscriber, uint32_t to);
+
+/* Begins a switch off, or on where `off` is false. TRACK_EMPTY_HANDLE, TRACK_OTHER_KIND;
+ * TRACK_UNDER_WAY; TRACK_ALREADY. */
+uint32_t track_subscriber_switch(track_handle *subscriber, bool off);
+
+/* Makes the next put of what was begun, and tells its ticket: how many visits of all came before it.
+ * TRACK_EMPTY_HANDLE, TRACK_OTHER_KIND; TRACK_AT_REST where none is left; TRACK_UNRESERVED; TRACK_HELD. */
+uint32_t track_subscriber_step(track_handle *subscriber, uint64_t *ticket);
 
 /* ---- Words ---- */
 

@@ -1,5 +1,5 @@
 #!/usr/bin/env python3
-"""Runs the programs of docs/EMBEDDING.md: that of Python says what the page says, and that of C finds the same.
+"""Runs the programs of docs/EMBEDDING.md: those of Python say what the page says, and that of C finds the same.
 Usage: bindings/checks/embedding.py FOLDER      which has libtrack.a and libtrack.so"""
 import os
 import pathlib
@@ -46,6 +46,9 @@ def main():
     told = run([sys.executable, "-B", "-c", program(page, "**Python**", "It prints")], env={**os.environ, **names}).strip()
     if f"`{told}`" not in page:
         sys.exit(f"embedding: the program of Python prints {told}, and the page has something else")
+    told = run([sys.executable, "-B", "-c", program(page, "## A directory that the library keeps", "It prints 1.")], env={**os.environ, **names})
+    if told != "1\n":
+        sys.exit(f"embedding: the program of a crew prints {told!r}")
     with tempfile.TemporaryDirectory() as room:
         source = pathlib.Path(room) / "finder.c"
         source.write_text(program(page, "**C**", "Each call answers a code") + CELLS, encoding="utf-8")

@@ -141,6 +141,31 @@ class Calls(unittest.TestCase):
             thread.join()
         self.assertEqual(found, [3] * 800)
 
+    def test_a_crew_is_refused(self):
+        plan, _, _ = opened()
+        for starts, cause in [([], track.NoSubscriber), ([0] * 65, track.CountTooLarge), ([4], track.NoNode)]:
+            with self.subTest(starts=starts), self.assertRaises(cause):
+                track.Crew(plan, starts, 1)
+
+    def test_members_of_a_crew_move_and_find(self):
+        plan, _, _ = opened()
+        crew = track.Crew(plan, [3], 1)
+        caller, subscriber = crew.next(), crew.next()
+        self.assertIsNone(crew.next())
+        self.assertEqual((caller.number, subscriber.number), (1, 0))
+        with self.assertRaises(track.Unreserved):
+            caller.find(0, 0)
+        caller.reserve(1000)
+        subscriber.reserve(1000)
+        subscriber.move(1)
+        puts = threading.Thread(target=lambda: list(iter(subscriber.step, None)))
+        puts.start()
+        puts.join()
+        self.assertEqual(caller.find(0, 0)[:3], (1, 1, False))
+        subscriber.switch(True)
+        with self.assertRaises(track.UnderWay):
+            subscriber.switch(True)
+
 
 if __name__ == "__main__":
     unittest.main()

@@ -74,6 +74,12 @@ pub enum Error {
     GarbledState,
     /// Levels, numbers or weights of the state don't go with one another, or with the plan.
     MixedState,
+    /// There may not be so many.
+    CountTooLarge,
+    /// There is no room for so many visits.
+    Unreserved,
+    /// Another member of the crew was inside a node just then.
+    Held,
     /// A code that this package doesn't know, of another version of the library.
     Other(u32),
 }
@@ -117,6 +123,9 @@ impl fmt::Display for Error {
             Error::ShortState => "the state has too few words for this plan",
             Error::GarbledState => "the words are no mover's over a plan of this size",
             Error::MixedState => "the parts of the state don't go together, or with this plan",
+            Error::CountTooLarge => "there may not be so many",
+            Error::Unreserved => "there is no room for so many visits",
+            Error::Held => "another member of the crew was inside a node just then",
         })
     }
 }
@@ -165,6 +174,9 @@ pub(crate) fn check(code: u32) -> Result<(), Error> {
         20 => Error::ShortState,
         21 => Error::GarbledState,
         22 => Error::MixedState,
+        23 => Error::CountTooLarge,
+        24 => Error::Unreserved,
+        25 => Error::Held,
         other => Error::Other(other),
     })
 }

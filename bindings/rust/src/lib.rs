@@ -48,6 +48,7 @@
 #![deny(unsafe_code, missing_docs)]
 
 mod cells;
+mod crew;
 mod error;
 mod finder;
 mod mover;
@@ -56,6 +57,7 @@ mod plan;
 mod sys;
 
 pub use cells::{Address, Cell, Mark, Put};
+pub use crew::{Caller, Crew, Member, Subscriber};
 pub use error::{Cause, Error};
 pub use finder::{Answer, Finder, Outcome, Why};
 pub use mover::{Mover, Place};

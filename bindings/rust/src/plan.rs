@@ -1,6 +1,6 @@
 //! The plan of a network: its levels, clusters and homes.
 use crate::sys::{EdgeFields, Handle, Sizes};
-use crate::{Error, Finder, Mover, Put};
+use crate::{Crew, Error, Finder, Mover, Put};
 
 /// An edge of a network: it joins two nodes in both directions.
 #[derive(Clone, Copy, Debug, PartialEq, Eq, Hash)]
@@ -105,5 +105,15 @@ impl Plan {
     /// ```
     pub fn load(&self, state: &[u64]) -> Result<Mover, Error> {
         Ok(Mover::new(self.handle.load(state)?))
+    }
+
+    /// A directory in memory for the threads of one program: 1 to 64 subscribers, which start at these nodes, and at most 64
+    /// callers. [`Error::NoSubscriber`] where there is none, [`Error::CountTooLarge`], [`Error::NoNode`], [`Error::NoMemory`].
+    pub fn crew(&self, starts: &[u32], callers: u32) -> Result<Crew, Error> {
+        // A crew of more than 64 is refused, so that the count is small.
+        Ok(Crew::new(
+            self.handle.crew(starts, callers)?,
+            starts.len() as u32,
+        ))
     }
 }

@@ -124,6 +124,19 @@ extern "C" {
         count: usize,
         mover: *mut Raw,
     ) -> u32;
+    fn track_crew_new(
+        plan: *mut Raw,
+        starts: *const u32,
+        count: usize,
+        callers: u32,
+        crew: *mut Raw,
+    ) -> u32;
+    fn track_crew_next(crew: *mut Raw, member: *mut Raw, number: *mut u32) -> u32;
+    fn track_actor_reserve(actor: *mut Raw, visits: u64) -> u32;
+    fn track_caller_find(caller: *mut Raw, from: u32, sub: u32, answer: *mut AnswerFields) -> u32;
+    fn track_subscriber_move(subscriber: *mut Raw, to: u32) -> u32;
+    fn track_subscriber_switch(subscriber: *mut Raw, off: bool) -> u32;
+    fn track_subscriber_step(subscriber: *mut Raw, ticket: *mut u64) -> u32;
     fn track_mark_read(word: u64, fields: *mut WordFields) -> u32;
     fn track_mark_pack(fields: *const WordFields, word: *mut u64) -> u32;
     fn track_entry_read(word: u64, fields: *mut WordFields) -> u32;
@@ -263,6 +276,38 @@ impl Handle {
 
     pub fn place(&self) -> Result<PlaceFields, Error> {
         self.told(|mover, place| unsafe { track_mover_place(mover, place) })
+    }
+
+    pub fn crew(&self, starts: &[u32], callers: u32) -> Result<Self, Error> {
+        let (first, count) = (starts.as_ptr(), starts.len());
+        Self::made(|crew| unsafe { track_crew_new(self.0.get(), first, count, callers, crew) })
+    }
+
+    pub fn next_member(&self) -> Result<(Self, u32), Error> {
+        let mut number = 0;
+        let member =
+            Self::made(|member| unsafe { track_crew_next(self.0.get(), member, &mut number) })?;
+        Ok((member, number))
+    }
+
+    pub fn reserve(&self, visits: u64) -> Result<(), Error> {
+        check(unsafe { track_actor_reserve(self.0.get(), visits) })
+    }
+
+    pub fn find(&self, from: u32, sub: u32) -> Result<AnswerFields, Error> {
+        self.told(|caller, answer| unsafe { track_caller_find(caller, from, sub, answer) })
+    }
+
+    pub fn begin_move(&self, to: u32) -> Result<(), Error> {
+        check(unsafe { track_subscriber_move(self.0.get(), to) })
+    }
+
+    pub fn begin_switch(&self, off: bool) -> Result<(), Error> {
+        check(unsafe { track_subscriber_switch(self.0.get(), off) })
+    }
+
+    pub fn step(&self) -> Result<u64, Error> {
+        self.told(|subscriber, ticket| unsafe { track_subscriber_step(subscriber, ticket) })
     }
 }
 

@@ -1,7 +1,10 @@
 //! What calls refuse, what stands after a refusal, and what words say: tables that one function plays.
 use std::collections::HashMap;
 
-use track::{Address, Cause, Cell, Edge, Error, Mark, Mover, Outcome, Place, Plan, Put};
+use track::{
+    Address, Caller, Cause, Cell, Edge, Error, Mark, Member, Mover, Outcome, Place, Plan, Put,
+    Subscriber,
+};
 
 const LINE: &[u8] =
     b"track 2\nnodes 4\nk 2\nedge 0 1 1\nedge 1 2 1\nedge 2 3 1\nsub 3\ncallers 1\n";
@@ -226,4 +229,49 @@ fn words() {
     ] {
         assert_eq!(Address::pack(address).and_then(Address::read), Ok(address));
     }
+}
+
+/// A crew of the line of four: one subscriber at node 3, and one caller.
+fn crew_of_two() -> (Subscriber, Caller) {
+    let plan = Plan::read(LINE).expect("a plan");
+    let mut crew = plan.crew(&[3], 1).expect("a crew");
+    let first = crew.next_member().expect("a member");
+    let second = crew.next_member().expect("a member");
+    assert!(crew.next_member().expect("an end").is_none());
+    match (first, second) {
+        (Some(Member::Caller(1, caller)), Some(Member::Subscriber(0, subscriber))) => {
+            (subscriber, caller)
+        }
+        _ => panic!("the caller comes first"),
+    }
+}
+
+#[test]
+fn a_crew_is_refused() {
+    let plan = Plan::read(LINE).expect("a plan");
+    assert_eq!(plan.crew(&[], 1).err(), Some(Error::NoSubscriber));
+    assert_eq!(plan.crew(&[0; 65], 1).err(), Some(Error::CountTooLarge));
+    assert_eq!(plan.crew(&[4], 1).err(), Some(Error::NoNode));
+}
+
+#[test]
+fn members_of_a_crew_move_and_find_on_threads_of_their_own() {
+    let (mut subscriber, mut caller) = crew_of_two();
+    assert_eq!(caller.find(0, 0).err(), Some(Error::Unreserved));
+    caller.reserve(1000).expect("room");
+    subscriber.reserve(1000).expect("room");
+    subscriber.move_to(1).expect("a move");
+    assert_eq!(subscriber.move_to(2), Err(Error::UnderWay));
+    let mover = std::thread::spawn(move || {
+        while subscriber.step().expect("a put").is_some() {}
+        subscriber
+    });
+    mover.join().expect("a thread");
+    let answer = caller.find(0, 0).expect("an answer");
+    let wanted = Outcome::At {
+        node: 1,
+        number: 1,
+        off: false,
+    };
+    assert_eq!(answer.outcome, wanted);
 }

@@ -1,3 +1,4 @@
+mod Asking
 mod Boxed
 mod EdgeLaws
 mod Loading

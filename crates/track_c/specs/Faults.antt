@@ -3,7 +3,7 @@
 -- by their clauses.
 use Rattle.std.specs.Prelude.{◌≡◌, ◌⊎◌, ℕ, Result, Ok, Err}
 use Rattle.track_c.specs.declared.fault.Fault.{Fault}
-use Rattle.track_c.specs.declared.fault.Fault.TheVariants.{NoMemory, EmptyHandle, OtherKind, FullHandle, BadNetwork, NoNode, NoSubscriber, SamePlace, UnderWay, IsOff, NumbersSpent, Already, AtRest, Ended, Looking, PastEnd, BadWord, BadFields, NoRoom, ShortState, GarbledState, MixedState}
+use Rattle.track_c.specs.declared.fault.Fault.TheVariants.{NoMemory, EmptyHandle, OtherKind, FullHandle, BadNetwork, NoNode, NoSubscriber, SamePlace, UnderWay, IsOff, NumbersSpent, Already, AtRest, Ended, Looking, PastEnd, BadWord, BadFields, NoRoom, ShortState, GarbledState, MixedState, CountTooLarge, Unreserved, Held}
 
 -- the code of a fault
 abbrev pub code_of : Fault → ℕ
@@ -29,6 +29,9 @@ code_of NoRoom = 19
 code_of ShortState = 20
 code_of GarbledState = 21
 code_of MixedState = 22
+code_of CountTooLarge = 23
+code_of Unreserved = 24
+code_of Held = 25
 
 -- an answer, or why there is none
 abbrev pub Answer : Type 0 → Type 0

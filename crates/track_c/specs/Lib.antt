@@ -1,13 +1,17 @@
+pub mod Callers
+pub mod Crews
 pub mod Edges
 pub mod Facts
 pub mod Faults
 pub mod Finds
 pub mod Handles
 pub mod Held
+pub mod Members
 pub mod Moves
 pub mod Saving
 pub mod Openings
 pub mod Owned
 pub mod Plans
+pub mod Subscribers
 pub mod Told
 pub mod Words

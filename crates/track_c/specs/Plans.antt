@@ -12,7 +12,7 @@ use Rattle.net_reader.specs.declared.fault.InputFault.{InputFault}
 use Rattle.region_plan.specs.Plan.{levels_of, nodes_of}
 use Rattle.region_plan.specs.Regions.{plan_of}
 use Rattle.track_c.specs.Faults.{Answer, code_of}
-use Rattle.track_c.specs.Held.{Held, PlanHeld, a_finder, a_mover, a_plan, nothing, seen_network, seen_object}
+use Rattle.track_c.specs.Held.{Held, PlanHeld, a_caller, a_crew, a_finder, a_mover, a_plan, a_subscriber, nothing, seen_network, seen_object}
 use Rattle.track_c.specs.declared.fault.Fault.{Fault}
 use Rattle.track_c.specs.declared.fault.Fault.TheVariants.{BadNetwork, EmptyHandle, FullHandle, NoMemory, NoSubscriber}
 use Rattle.track_c.specs.declared.object.Network.{Network}
@@ -106,6 +106,9 @@ closing_code nothing = code_of EmptyHandle
 closing_code (a_plan plan) = 0
 closing_code (a_finder finder) = 0
 closing_code (a_mover mover) = 0
+closing_code (a_crew crew) = 0
+closing_code (a_caller caller) = 0
+closing_code (a_subscriber subscriber) = 0
 
 -- the same plan
 abbrev pub same_plan : PlanHeld → Answer Held

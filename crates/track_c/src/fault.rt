@@ -52,6 +52,12 @@ pub enum Fault {
     GarbledState,
     /// The levels, numbers or weights of the state don't go with one another, or with the plan.
     MixedState,
+    /// A number is past its limit.
+    CountTooLarge,
+    /// The pass has no room for so many visits.
+    Unreserved,
+    /// Another member was inside a node on the way.
+    Held,
 }
 
 impl Fault {
@@ -82,6 +88,9 @@ impl Fault {
             Fault::ShortState => 20,
             Fault::GarbledState => 21,
             Fault::MixedState => 22,
+            Fault::CountTooLarge => 23,
+            Fault::Unreserved => 24,
+            Fault::Held => 25,
         }
     }
 }

@@ -108,7 +108,11 @@ fn next_in(object: &Object) -> Result<TrackCell, Fault>
 {
     match object {
         Object::Finder(finder) => finder.next_cell(),
-        Object::Plan(_) | Object::Mover(_) => Err(Fault::OtherKind),
+        Object::Plan(_)
+        | Object::Mover(_)
+        | Object::Crew(_)
+        | Object::Caller(_)
+        | Object::Subscriber(_) => Err(Fault::OtherKind),
     }
 }
 
@@ -122,7 +126,11 @@ fn read_in(object: &mut Object, word: u64) -> Result<(), Fault>
 {
     match object {
         Object::Finder(finder) => finder.read(word),
-        Object::Plan(_) | Object::Mover(_) => Err(Fault::OtherKind),
+        Object::Plan(_)
+        | Object::Mover(_)
+        | Object::Crew(_)
+        | Object::Caller(_)
+        | Object::Subscriber(_) => Err(Fault::OtherKind),
     }
 }
 
@@ -132,7 +140,11 @@ fn found_in(object: &Object) -> Result<TrackAnswer, Fault>
 {
     match object {
         Object::Finder(finder) => finder.found(),
-        Object::Plan(_) | Object::Mover(_) => Err(Fault::OtherKind),
+        Object::Plan(_)
+        | Object::Mover(_)
+        | Object::Crew(_)
+        | Object::Caller(_)
+        | Object::Subscriber(_) => Err(Fault::OtherKind),
     }
 }
 

@@ -27,7 +27,7 @@ pub struct TrackPlace {
 }
 
 // Why a move doesn't begin.
-fn refused_move(fault: MoveFault) -> Fault
+pub fn refused_move(fault: MoveFault) -> Fault
     ensures { result ≡ move_refusal fault }
 {
     match fault {
@@ -40,7 +40,7 @@ fn refused_move(fault: MoveFault) -> Fault
 }
 
 // Why a switch doesn't begin.
-fn refused_switch(fault: SwitchFault) -> Fault
+pub fn refused_switch(fault: SwitchFault) -> Fault
     ensures { result ≡ switch_refusal fault }
 {
     match fault {
@@ -144,7 +144,11 @@ fn move_in(object: &mut Object, to: u32) -> Result<(), Fault>
 {
     match object {
         Object::Mover(mover) => mover.begin(to),
-        Object::Plan(_) | Object::Finder(_) => Err(Fault::OtherKind),
+        Object::Plan(_)
+        | Object::Finder(_)
+        | Object::Crew(_)
+        | Object::Caller(_)
+        | Object::Subscriber(_) => Err(Fault::OtherKind),
     }
 }
 
@@ -158,7 +162,11 @@ fn switch_in(object: &mut Object, off: bool) -> Result<(), Fault>
 {
     match object {
         Object::Mover(mover) => mover.switch(off),
-        Object::Plan(_) | Object::Finder(_) => Err(Fault::OtherKind),
+        Object::Plan(_)
+        | Object::Finder(_)
+        | Object::Crew(_)
+        | Object::Caller(_)
+        | Object::Subscriber(_) => Err(Fault::OtherKind),
     }
 }
 
@@ -168,7 +176,11 @@ fn next_in(object: &Object) -> Result<TrackPut, Fault>
 {
     match object {
         Object::Mover(mover) => mover.next_put(),
-        Object::Plan(_) | Object::Finder(_) => Err(Fault::OtherKind),
+        Object::Plan(_)
+        | Object::Finder(_)
+        | Object::Crew(_)
+        | Object::Caller(_)
+        | Object::Subscriber(_) => Err(Fault::OtherKind),
     }
 }
 
@@ -182,7 +194,11 @@ fn made_in(object: &mut Object) -> Result<(), Fault>
 {
     match object {
         Object::Mover(mover) => mover.made(),
-        Object::Plan(_) | Object::Finder(_) => Err(Fault::OtherKind),
+        Object::Plan(_)
+        | Object::Finder(_)
+        | Object::Crew(_)
+        | Object::Caller(_)
+        | Object::Subscriber(_) => Err(Fault::OtherKind),
     }
 }
 
@@ -192,7 +208,11 @@ fn place_in(object: &Object) -> Result<TrackPlace, Fault>
 {
     match object {
         Object::Mover(mover) => mover.stand(),
-        Object::Plan(_) | Object::Finder(_) => Err(Fault::OtherKind),
+        Object::Plan(_)
+        | Object::Finder(_)
+        | Object::Crew(_)
+        | Object::Caller(_)
+        | Object::Subscriber(_) => Err(Fault::OtherKind),
     }
 }
 

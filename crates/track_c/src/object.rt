@@ -5,6 +5,7 @@ ghost use Rattle.handset.specs.Condition.{GoesWith};
 ghost use Rattle.walk.specs.Walks.{IsWalkOver};
 ghost use Rattle.track_c.specs.Facts.{facts};
 
+use crate::members::{Caller, Crew, Subscriber};
 use distances::Distances;
 use handset::Handset;
 use region_plan::Plan;
@@ -44,4 +45,7 @@ pub enum Object {
     Plan(Arc<Network, Global>),
     Finder(Finder),
     Mover(Mover),
+    Crew(Crew),
+    Caller(Caller),
+    Subscriber(Subscriber),
 }

@@ -80,7 +80,11 @@ fn opening_in(object: &Object, sub: u32, node: u32, index: u32) -> Result<TrackP
 {
     match object {
         Object::Plan(network) => network.opening(sub, node, index),
-        Object::Finder(_) | Object::Mover(_) => Err(Fault::OtherKind),
+        Object::Finder(_)
+        | Object::Mover(_)
+        | Object::Crew(_)
+        | Object::Caller(_)
+        | Object::Subscriber(_) => Err(Fault::OtherKind),
     }
 }
 

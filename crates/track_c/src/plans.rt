@@ -181,7 +181,11 @@ pub fn network_in(object: &Object) -> Result<Arc<Network, Global>, Fault>
             Ok(network) => Ok(network),
             Err(AllocError) => Err(Fault::NoMemory),
         },
-        Object::Finder(_) | Object::Mover(_) => Err(Fault::OtherKind),
+        Object::Finder(_)
+        | Object::Mover(_)
+        | Object::Crew(_)
+        | Object::Caller(_)
+        | Object::Subscriber(_) => Err(Fault::OtherKind),
     }
 }
 
@@ -198,7 +202,11 @@ fn sizes_in(object: &Object) -> Result<TrackSizes, Fault>
 {
     match object {
         Object::Plan(network) => Ok(network.sizes()),
-        Object::Finder(_) | Object::Mover(_) => Err(Fault::OtherKind),
+        Object::Finder(_)
+        | Object::Mover(_)
+        | Object::Crew(_)
+        | Object::Caller(_)
+        | Object::Subscriber(_) => Err(Fault::OtherKind),
     }
 }
 
@@ -208,7 +216,11 @@ fn start_in(object: &Object, sub: u32) -> Result<u32, Fault>
 {
     match object {
         Object::Plan(network) => network.start(sub),
-        Object::Finder(_) | Object::Mover(_) => Err(Fault::OtherKind),
+        Object::Finder(_)
+        | Object::Mover(_)
+        | Object::Crew(_)
+        | Object::Caller(_)
+        | Object::Subscriber(_) => Err(Fault::OtherKind),
     }
 }
 

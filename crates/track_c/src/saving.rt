@@ -70,7 +70,11 @@ fn length_in(object: &Object) -> Result<u32, Fault>
 {
     match object {
         Object::Mover(mover) => Ok(mover.state_length()),
-        Object::Plan(_) | Object::Finder(_) => Err(Fault::OtherKind),
+        Object::Plan(_)
+        | Object::Finder(_)
+        | Object::Crew(_)
+        | Object::Caller(_)
+        | Object::Subscriber(_) => Err(Fault::OtherKind),
     }
 }
 
@@ -82,7 +86,11 @@ fn save_in(alloc: Global, object: &Object, words: &mut [u64]) -> Result<(), Faul
 {
     match object {
         Object::Mover(mover) => mover.save(alloc, words),
-        Object::Plan(_) | Object::Finder(_) => Err(Fault::OtherKind),
+        Object::Plan(_)
+        | Object::Finder(_)
+        | Object::Crew(_)
+        | Object::Caller(_)
+        | Object::Subscriber(_) => Err(Fault::OtherKind),
     }
 }
 

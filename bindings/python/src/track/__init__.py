@@ -2,6 +2,7 @@
 from .cells import (
     Address, Cell, CellKind, Coming, Gone, Here, Mark, Put, pack_entry, pack_mark, read_entry, read_mark,
 )
+from .crews import Caller, Crew, Subscriber
 from .errors import *  # noqa: F401,F403
 from .errors import Cause, TrackError
 from .finders import Again, Finder, Found, Why
@@ -9,6 +10,6 @@ from .movers import Mover, Place
 from .plans import Plan
 
 __all__ = [
-    "Address", "Again", "Cause", "Cell", "CellKind", "Coming", "Finder", "Found", "Gone", "Here", "Mark", "Mover", "Place", "Plan",
-    "Put", "TrackError", "Why", "pack_entry", "pack_mark", "read_entry", "read_mark",
+    "Address", "Again", "Caller", "Cause", "Cell", "CellKind", "Coming", "Crew", "Finder", "Found", "Gone", "Here", "Mark", "Mover", "Place", "Plan",
+    "Put", "Subscriber", "TrackError", "Why", "pack_entry", "pack_mark", "read_entry", "read_mark",
 ]

@@ -115,8 +115,21 @@ class MixedState(TrackError, ValueError):
     """The levels, numbers or weights of the state don't go with one another, or with the plan."""
 
 
+class CountTooLarge(TrackError, ValueError):
+    """There may not be so many."""
+
+
+class Unreserved(TrackError):
+    """There is no room for so many visits."""
+
+
+class Held(TrackError):
+    """Another member of the crew was inside a node just then."""
+
+
 BY_CODE: dict[int, type[TrackError]] = {
     1: NoMemory, 2: EmptyHandle, 3: OtherKind, 4: FullHandle, 6: NoNode, 7: NoSubscriber, 8: SamePlace, 9: UnderWay,
     10: IsOff, 11: NumbersSpent, 12: Already, 13: AtRest, 14: Ended, 15: Looking, 16: PastEnd, 17: BadWord, 18: BadFields,
     19: NoRoom, 20: ShortState, 21: GarbledState, 22: MixedState,
+    23: CountTooLarge, 24: Unreserved, 25: Held,
 }

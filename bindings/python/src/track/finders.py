@@ -41,6 +41,14 @@ class Again(NamedTuple):
     weight: int
 
 
+def answer_of(told: AnswerFields) -> Union[Found, Again]:
+    level = told.level if told.climbed else None
+    if told.kind == _AGAIN:
+        why = Why(told.why)
+        return Again(why, told.node if why is Why.EMPTY_MARK else None, level, told.weight)
+    return Found(told.node, told.number, told.kind == _OFF, level, told.weight)
+
+
 class Finder(Owner):
     """A find of a subscriber from a node, step by step. It goes on after its plan is closed. Raises NoNode, NoSubscriber (`sub` isn't
     below `subs`, where subscribers are counted), NoMemory."""
@@ -66,11 +74,7 @@ class Finder(Owner):
         """The answer. Raises Looking while there is none."""
         told = AnswerFields()
         must(calls.track_finder_answer(self._handle, told))
-        level = told.level if told.climbed else None
-        if told.kind == _AGAIN:
-            why = Why(told.why)
-            return Again(why, told.node if why is Why.EMPTY_MARK else None, level, told.weight)
-        return Found(told.node, told.number, told.kind == _OFF, level, told.weight)
+        return answer_of(told)
 
     def run(self, look: Callable[[Cell], int]) -> Union[Found, Again]:
         """All looks that are left, by `look`, which reads a cell; and the answer. If it raises, the find can go on: a look changes
