@@ -134,7 +134,7 @@ def same_plans(outcomes: list[Outcome]) -> list[str]:
     for outcome in outcomes:
         if outcome.plan:
             alike.setdefault(repr(outcome.plan.levels), []).append(outcome.name)
-    return [f"{' and '.join(names)} have the same clusters here, so their columns differ in what is proved at most"
+    return [f"{' and '.join(names)} have the same clusters here, so their columns are alike but for what is proved"
             for names in alike.values() if len(names) > 1]
 
 
