@@ -206,6 +206,8 @@ def play_words(ground):
         status, out, err = at_terminal(ground, words)
         wants(words, (status, out, bool(err)), (2, "", True))
         wants(words, (KIT_LINE if words == ["--version"] else "./track WORD < INPUT") in err, True)
+    _, _, err = at_terminal(ground, ["cover", "file"])
+    wants("a file as a word", err.startswith("track: cover reads standard input: ./track cover < file\n"), True)
     wants("nothing is built", ground.deeds(), [])
     ground.run("cover")
     for words, waits in ((["cover"], "an input"), (["check"], "an input, a line 'report' and a report"), (["make", *"123456"], None)):

@@ -59,7 +59,7 @@ def graph_of(root: Xml.Element) -> Xml.Element:
         raise BadText("it has several graphs, or graphs within nodes, or hyperedges")
     directed = graphs[0].get("edgedefault") == "directed"
     if any(edge.get("directed", "true" if directed else "false") == "true" for edge in parts(graphs[0], "edge")):
-        raise BadText("its edges are directed, and a message may go both ways along an edge")
+        raise BadText("its edges are directed, and a message may go both ways along an edge; edgedefault='undirected' says so")
     return graphs[0]
 
 

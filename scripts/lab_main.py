@@ -57,7 +57,7 @@ def answer(words: argparse.Namespace, program: Program, progress: Progress) -> N
     outcomes = study.outcomes(kinds)
     rows = [row_of(outcome, network) for outcome in outcomes]
     head = head_of(words, site, network, wishes, study.count)
-    notes = site.notes + crowded(rows)
+    notes = site.notes + crowded(rows) + same_plans(outcomes)
     progress.close()
     sys.stdout.write("\n".join([*head, *("note: " + note for note in notes), ""]) + "\n")
     sys.stdout.write(lab_table.table_text(rows) + f"\n{lab_table.cheapest_words(rows)}\n\n" + lab_table.nodes_text(rows, site.names))
@@ -126,6 +126,16 @@ class Study:
             self.progress.finish()
         self.progress.begin("weighing the others")
         return outcomes
+
+
+def same_plans(outcomes: list[Outcome]) -> list[str]:
+    """Which columns are of the same clusters and homes, and so of the same numbers but the bound."""
+    alike: dict[str, list[str]] = {}
+    for outcome in outcomes:
+        if outcome.plan:
+            alike.setdefault(repr(outcome.plan.levels), []).append(outcome.name)
+    return [f"{' and '.join(names)} have the same clusters here, so their columns are alike but for what is proved"
+            for names in alike.values() if len(names) > 1]
 
 
 def crowded(rows: list[Row]) -> list[str]:

@@ -14,7 +14,7 @@ h1 { font-size: 1.5rem } h2 { font-size: 1.15rem; margin-top: 2.2rem }
 .wide { overflow-x: auto } table { border-collapse: collapse; font-size: .82rem; font-variant-numeric: tabular-nums }
 th, td { padding: .18rem .55rem; text-align: right; white-space: nowrap } th:first-child, td:first-child { text-align: left }
 thead th { border-bottom: 1px solid #999 } tr.group th { padding-top: .8rem; text-align: left; color: #0072b2 }
-.names th, .names td { text-align: left } td.inner { padding-left: 1.6rem } th.first, td.first { border-left: 1px solid #ccc }
+.names th, .names td { text-align: left } .names td + td { white-space: normal } td.inner { padding-left: 1.6rem } th.first, td.first { border-left: 1px solid #ccc }
 svg { max-width: 100%; height: auto } .maps { display: flex; flex-wrap: wrap; gap: .6rem }
 .note { background: #fff3d6; padding: .5rem .8rem }
 """
@@ -39,9 +39,9 @@ MODEL = [
 ]
 
 CAPTIONS = {
-    "finds": "How far finds travelled for each unit of distance. The scale is of powers.",
+    "finds": "How far finds travelled for each unit of distance. The scale is logarithmic.",
     "finds-by-distance": "The same by distance: near finds on the left, far ones on the right. A directory is made for the left.",
-    "moves": "What moves weighed for each unit of distance moved, by two models. The scale is of powers.",
+    "moves": "What moves weighed for each unit of distance moved, by two models. The scale is logarithmic.",
     "in-all": "What moves and finds come to in all, for so many finds a move, by the means of this load. Where a line crosses 1 "
               "the two are even.",
     "visits": "How the visits fall to nodes: a line that is flat spreads its load, a steep one has few nodes do the work.",

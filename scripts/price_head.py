@@ -54,7 +54,8 @@ def winning(prices, others):
         until = [first_loss(prices, network, "away", "near", "everybody") for network in group]
         hold(all(cheapest_at(prices, network, "away", "near") for network in group), "it is then the cheapest of all somewhere")
         parts.append(f"from {span(until)} on with {span([low, high], '{:,}'.format)} nodes")
-    return ("**It wins** where subscribers are away from home and are called from nearby: on all networks here but the two research "
+    return ("**It wins** where subscribers are away from home, which is just some node to them, and are called from nearby, within an "
+            "eighth of the greatest distance or from the nearest node: on all networks here but the two research "
             f"networks it costs less than a home register from {in_words(min(since))} to {in_words(max(since))} such finds a move on, "
             f"and it is the cheapest of the four ways below until telling everybody is cheaper, {', '.join(parts[:-1])}, and {parts[-1]}.")
 

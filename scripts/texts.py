@@ -1,6 +1,7 @@
 """Reads what `track` reads and writes: inputs, with the first fault of the first bad line; plans; and reports. From
 docs/FORMATS.md, for the scripts of examples/ and bench/; the program has its own reader, and this one is no part of it."""
 import math
+import os
 import sys
 from collections import namedtuple
 
@@ -409,10 +410,15 @@ def load_text(path, read):
 
 
 def ends_clearly(main):
-    """Runs a script: what is wrong with its input or its files is one line on standard error, and status 1."""
+    """Runs a script: what is wrong with its input or its files is one line on standard error, and status 1. Where the reader of its
+    standard output went away, as `head` does, it ends without a word."""
     try:
         main()
         sys.stdout.flush()
+    except BrokenPipeError:
+        os.dup2(os.open(os.devnull, os.O_WRONLY), sys.stdout.fileno())  # what is left is written at the exit
+        sys.exit(1)
     except (BadText, OSError) as bad:
-        print(f"{sys.argv[0]}: {bad}", file=sys.stderr)
+        told = bad if isinstance(bad, BadText) or not bad.filename else f"{bad.filename}: {bad.strerror}"
+        print(f"{sys.argv[0]}: {told}", file=sys.stderr)
         sys.exit(1)

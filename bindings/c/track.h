@@ -123,7 +123,9 @@ typedef struct {
 enum track_answer_kind {
     TRACK_AT = 0,   /* the subscriber is at node, and on */
     TRACK_OFF = 1,  /* it is at node, and off */
-    TRACK_AGAIN = 2 /* a move fell within the find: make it again */
+    TRACK_AGAIN = 2 /* a move fell within the find: make it again. A find of a subscriber that was never
+                       opened answers so too, with TRACK_NO_ENTRY, however often it is made: know which
+                       are open, or set a limit */
 };
 
 enum track_why {

@@ -8,22 +8,6 @@ import sys
 import tempfile
 
 TOP = pathlib.Path(__file__).resolve().parents[2]
-# Cells for the program of C, whose page leaves them to the reader.
-CELLS = """
-#include <string.h>
-static struct { track_cell cell; uint64_t word; } kept[64];
-static int count;
-uint64_t read_cell(const track_cell *cell) {
-    for (int i = count - 1; i >= 0; i--)
-        if (memcmp(&kept[i].cell, cell, sizeof *cell) == 0)
-            return kept[i].word;
-    return 0;
-}
-void write_cell(const track_cell *cell, uint64_t word) {
-    kept[count].cell = *cell;
-    kept[count++].word = word;
-}
-"""
 
 
 def program(page, first, last):
@@ -51,7 +35,7 @@ def main():
         sys.exit(f"embedding: the program of a crew prints {told!r}")
     with tempfile.TemporaryDirectory() as room:
         source = pathlib.Path(room) / "finder.c"
-        source.write_text(program(page, "**C**", "Each call answers a code") + CELLS, encoding="utf-8")
+        source.write_text(program(page, "**C**", "Each call answers a code"), encoding="utf-8")
         run(["gcc", "-Wall", "-Wextra", "-Werror", "-I", TOP / "bindings/c", "-o", f"{room}/finder", source, library / "libtrack.a"])
         told = run([f"{room}/finder"])
     if told != "kind 0 node 1 number 1\n":

@@ -100,8 +100,8 @@ class Panel {
     say(part("find-of"), `subscriber ${call.sub}, from ${this.called(call.start)}`);
     say(part("known"), known[ticket] ?? "none");
     say(part("weight"), `${weight[ticket]}`);
-    say(part("level-met"), level[ticket] ?? "none yet");
     const done = call.last === ticket;
+    say(part("level-met"), level[ticket] ?? (done ? "none" : "none yet"));
     const distance = done && !call.again ? `; the distance is ${call.distance}` : "";
     say(part("answer"), done ? `${answerText(call)}${distance}` : "none yet");
   }

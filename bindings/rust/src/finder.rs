@@ -5,7 +5,8 @@ use crate::{Cell, Error};
 /// A find under way. It goes on after its plan is dropped.
 pub struct Finder(Handle);
 
-/// Why a find is to be made again: in each case a move of its subscriber fell within it.
+/// Why a find is to be made again: in each case a move of its subscriber fell within it. A find of a subscriber that was
+/// never opened answers [`Why::NoEntry`] however often it is made: know which are open, or set a limit.
 #[derive(Clone, Copy, Debug, PartialEq, Eq, Hash)]
 pub enum Why {
     /// The mark at this node was empty.

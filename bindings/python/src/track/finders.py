@@ -14,7 +14,8 @@ _AT, _OFF, _AGAIN = range(3)
 
 
 class Why(IntEnum):
-    """Why a find is to be made again: in each case a move of its subscriber fell within it."""
+    """Why a find is to be made again: in each case a move of its subscriber fell within it. A find of a subscriber that was never
+    opened answers NO_ENTRY however often it is made: know which are open, or set a limit."""
 
     EMPTY_MARK = 1
     NO_ENTRY = 2
