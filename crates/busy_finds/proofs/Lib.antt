@@ -13,6 +13,7 @@ mod Cleaning
 mod Between
 mod Past
 mod NoEntry
+mod Ahead
 mod Chase
 mod Emptied
 mod Beyond
