@@ -73,7 +73,7 @@ module _ (laws : PriceLaws) (setting : Setting) (history : History) (actor : ℕ
   Follows t (chases chase node) = (since : ℕ) × (place : ℕ) × IsChasing t since place node
   Follows t (ended found) = Answers t found
 
-  mark-tells : (t node : ℕ) (mark : PresenceMark) → node < setting.nodes → seen_at t node ≡ mark
+  pub mark-tells : (t node : ℕ) (mark : PresenceMark) → node < setting.nodes → seen_at t node ≡ mark
       → MarkTells setting call.sub (before t history) node mark
   mark-tells t node mark within is = subst (MarkTells setting call.sub (before t history) node) is
       (laws.marks.marks setting call.sub (before t history) few (legally t) node within)
@@ -223,7 +223,7 @@ module _ (laws : PriceLaws) (setting : Setting) (history : History) (actor : ℕ
     pub past_then : ArePastAt its.cleaning.move.number (suc was.ticket)
     pub not_yet : ArePastAt its.cleaning.move.number since → ⊥
 
-  pub purged-since : (t since place node : ℕ) → t < length history → IsChasing t since place node → seen_at t node ≡ Empty
+  pub purged-since : (t since place node : ℕ) → t ≤ length history → IsChasing t since place node → seen_at t node ≡ Empty
       → IsPurgedSince since place t
   purged-since t since place node low now empty = record {
     was = purged;
@@ -315,8 +315,8 @@ empty-meets laws setting history actor call node weight tickets few inside legal
     chasing = told_end.2.2
 
     is : IsPurgedSince laws setting history actor call first few inside legal since place last
-    is = purged-since laws setting history actor call first few inside legal last since place node told_end.1 chasing
-        told_end.2.3
+    is = purged-since laws setting history actor call first few inside legal last since place node
+        (omega (arith, told_end.1)) chasing told_end.2.3
 
     its_number : ℕ
     its_number = is.its.cleaning.move.number

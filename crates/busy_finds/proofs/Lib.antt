@@ -16,6 +16,7 @@ mod NoEntry
 mod Ahead
 mod Chase
 mod Emptied
+mod Chased
 mod Beyond
 mod Price
 mod ByStretch

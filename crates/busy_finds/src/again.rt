@@ -1,5 +1,5 @@
 //! Laws of finds that are to be made again.
-ghost use Rattle.busy_finds.specs.Again.{EmptyMeetsPurge};
+ghost use Rattle.busy_finds.specs.Again.{ChasedMeetsCommits, EmptyMeetsPurge};
 ghost use Rattle.busy_finds.specs.Altogether.{MissedFindsAreFew};
 ghost use Rattle.busy_finds.specs.Within.{NoEntryMeetsTop};
 
@@ -17,6 +17,14 @@ pub fn no_entry_meets_the_top()
 /// the look at which the find's chase began.
 pub fn empty_meets_a_purge()
     ensures { EmptyMeetsPurge }
+{
+    laws_below();
+}
+
+/// Where a find's chase took too many hops, at least three moves were committed since the look at which
+/// it began.
+pub fn chased_meets_commits()
+    ensures { ChasedMeetsCommits }
 {
     laws_below();
 }
