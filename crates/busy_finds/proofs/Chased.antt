@@ -1,6 +1,4 @@
--- Where a chase took too many hops, three moves were committed since it began: each hop takes a Gone that stood there
--- from those that lead beyond its place, or leads beyond what was committed there; but one, over the Coming of the last
--- move that was begun there.
+-- Where a chase took too many hops, at least three moves were committed since it began.
 use Rattle.std.proofs.Common.{◌≡◌, ◌⊎◌, inl, inr, ℕ, zero, suc, ◌+◌, ◌-◌, ◌<◌, ◌≤◌, ◌^◌, Bool, true, false, cond, List, [], ◌∷◌, Option, Some, None, length, refl, sym, ap, ◌∙◌, subst, arith}
 use Rattle.std.specs.Prelude.{slice_get}
 use Rattle.std.proofs.lemmas.Bool.{cases_eq, cases_lt}
@@ -29,16 +27,8 @@ use Rattle.busy_finds.proofs.Emptied.{address-so, coming-begins, coming-so, gone
 use Rattle.busy_finds.proofs.Fronts.{number-more}
 use Rattle.busy_finds.proofs.Looks.{Climbed, climbed-more, climbed-none, IsMetAt, looks-end, met-at}
 use Rattle.busy_finds.proofs.Past.{past-later}
-use Rattle.busy_finds.proofs.Tickets.{begun, begun-more, coming-apart, coming-is, count, count-begun, gone-is, gone-since, IsComing, IsGone, its_legal, none-gone, stands-in, stands-there, stop_at}
-
--- a Gone that is read makes its number known, and what was known
-knows-up-to : (number q : ℕ) (known : Option ℕ) → number ≤ q → is_known number (known_with q known) ≡ true
-knows-up-to number q None h = grind (arith, nat_tests, h)
-knows-up-to number q (Some known) h = grind (arith, nat_tests, h)
-
-knows-still : (number q : ℕ) (known : Option ℕ) → is_known number known ≡ true → is_known number (known_with q known) ≡ true
-knows-still number q None h = cc
-knows-still number q (Some known) h = grind (arith, nat_tests, h)
+use Rattle.busy_finds.proofs.Tickets.{begun, begun-more, coming-is, count, count-begun, gone-is, gone-since, IsComing, IsGone, its_legal, none-gone, stands-in, stands-there, stop_at}
+use Rattle.busy_finds.proofs.Hops.{begins-counted, coming-counted, committed, gone-counted, IsCounted, IsSpent}
 
 module _ (laws : PriceLaws) (setting : Setting) (history : History) (actor : ℕ) (call : FindCall) (first : ℕ)
     (few : setting.nodes ≤ 2 ^ 16) (inside : call.from < setting.nodes) (legal : IsLegal setting call.sub history) where
@@ -48,30 +38,8 @@ module _ (laws : PriceLaws) (setting : Setting) (history : History) (actor : ℕ
   abbrev pub count_at : ℕ → ℕ
   count_at t = count laws.marks setting call.sub history few legal t
 
-  abbrev pub begun_at : ℕ → ℕ
-  begun_at t = begun laws.marks setting call.sub history few legal t
-
-  abbrev pub stop_no : ℕ → ℕ
-  stop_no place = stop_at laws.marks setting call.sub history few legal place
-
   abbrev pub seen_at : ℕ → ℕ → PresenceMark
   seen_at t node = mark_seen setting call.sub (before t history) node
-
-  abbrev pub left_ahead : ℕ → ℕ → ℕ
-  left_ahead since place = ahead (λ node. seen_at since node) place setting.nodes
-
-  -- whether the Coming of the last move that was begun where the chase began can still be read as one that isn't known
-  abbrev pub IsSpent : ℕ → ℕ → ℕ → Option ℕ → Type 0
-  IsSpent since t place known =
-      (is_known (begun_at since) known ≡ true) ⊎ ((suc place ≡ begun_at since) ⊎ (begun_at since < begun_at t))
-
-  -- how many hops a chase has made, and at most makes
-  pub record IsCounted (t since place node : ℕ) (known : Option ℕ) (hops : ℕ) : Type 0 where
-    pub extra : ℕ
-    pub bound : hops + left_ahead since place ≤ left_ahead since 0 + (place - count_at since) + extra
-    pub once : (extra ≡ 0) ⊎ ((extra ≡ 1) × IsSpent since t place known)
-    pub back : (x from : ℕ) → t ≤ x → is_known place known ≡ false → seen_at x node ≡ Coming place from
-        → (hops ≡ 0) × (place ≤ begun_at since)
 
   abbrev pub Answers : ℕ → Found → Type 0
   Answers t (At node number level weight) = Unit {0}
@@ -83,22 +51,13 @@ module _ (laws : PriceLaws) (setting : Setting) (history : History) (actor : ℕ
 
   abbrev pub IsUnderWay : ℕ → Chase → ℕ → Type 0
   IsUnderWay t chase node = (since : ℕ) × (place : ℕ) × (hops : ℕ) × Chases t since place node
-      × IsCounted t since place node chase.known hops × (hops + chase.hops_left ≡ most_hops setting)
+      × IsCounted laws setting history actor call first few inside legal t since place node chase.known hops × (hops + chase.hops_left ≡ most_hops setting)
 
   abbrev pub Counts : ℕ → Pursuit → Type 0
   Counts t at_origin = ⊥
   Counts t (climbs known weight reader later) = Climbed setting history call first t weight (reader ∷ later)
   Counts t (chases chase node) = IsUnderWay t chase node
   Counts t (ended found) = Answers t found
-
-  -- a chase that begins
-  begins-counted : (t place node : ℕ) (known : Option ℕ) → place ≤ begun_at t → IsCounted t t place node known 0
-  begins-counted t place node known low = record {
-    extra = 0;
-    bound = omega (arith, ahead-falls (λ v. seen_at t v) 0 place setting.nodes (omega arith));
-    once = inl refl;
-    back = λ x from later unknown comes. (refl, low);
-  }
 
   climb-so : (t : ℕ) (known : Option ℕ) (weight : ℕ) (left : List Reader)
       → Climbed setting history call first t weight left → Counts t (climb known weight left)
@@ -114,7 +73,7 @@ module _ (laws : PriceLaws) (setting : Setting) (history : History) (actor : ℕ
   origin-so t at (Coming p from) is =
       let chasing : Chases t t (p - 1) from =
       coming-begins laws setting history actor call first few inside legal t p from at is in
-      (t, p - 1, 0, chasing, begins-counted t (p - 1) from None chasing.known_then, omega arith)
+      (t, p - 1, 0, chasing, begins-counted laws setting history actor call first few inside legal t (p - 1) from None chasing.known_then, omega arith)
 
   entry-so : (t u : ℕ) (known : Option ℕ) (weight : ℕ) (reader : Reader) (left : List Reader) → first ≤ t → t < u
       → slice_get history u ≡ Some (look_by actor (Entry reader.level reader.cluster call.sub))
@@ -129,11 +88,11 @@ module _ (laws : PriceLaws) (setting : Setting) (history : History) (actor : ℕ
       let chasing : Chases u u address.number address.node =
       address-so laws setting history actor call first few inside legal u reader address (omega (arith, low, later))
       (omega (arith, met.high)) is_look e in
-      (u, address.number, 0, chasing, begins-counted u address.number address.node known chasing.known_then, omega arith)
+      (u, address.number, 0, chasing, begins-counted laws setting history actor call first few inside legal u address.number address.node known chasing.known_then, omega arith)
 
   -- one more hop, or one too many
   hop-so : (t since place to hops : ℕ) (known level : Option ℕ) (weight left node : ℕ) → Chases t since place to
-      → IsCounted t since place to known (suc hops) → hops + left ≡ most_hops setting → place ≤ count_at t
+      → IsCounted laws setting history actor call first few inside legal t since place to known (suc hops) → hops + left ≡ most_hops setting → place ≤ count_at t
       → Counts t (hop setting known level weight left node to)
   hop-so t since place to hops known level weight zero node chasing counted total low = (
     since,
@@ -152,222 +111,14 @@ module _ (laws : PriceLaws) (setting : Setting) (history : History) (actor : ℕ
     ),
   )
     where
-      at_once : (counted.extra ≡ 0) ⊎ ((counted.extra ≡ 1) × IsSpent since t place known) → counted.extra ≤ 1
+      at_once : (counted.extra ≡ 0) ⊎ ((counted.extra ≡ 1) × IsSpent laws setting history actor call first few inside legal since t place known) → counted.extra ≤ 1
       at_once (inl none) = omega (arith, none)
       at_once (inr one) = omega (arith, one.0)
   hop-so t since place to hops known level weight (suc left) node chasing counted total low =
       (since, place, suc hops, chasing, counted, omega (arith, total))
 
   module _ (t u since place node hops : ℕ) (chase : Chase) (now : Chases t since place node)
-      (counted : IsCounted t since place node chase.known hops) (later : t ≤ u) (low : u ≤ length history) where
-    N : ℕ
-    N = count_at since
-
-    falls : (next : ℕ) → place ≤ next → left_ahead since next ≤ left_ahead since place
-    falls next h = ahead-falls (λ v. seen_at since v) place next setting.nodes h
-
-    begun-since : begun_at since ≤ begun_at u
-    begun-since = begun-more laws.marks setting call.sub history few legal since u (omega (arith, now.by, later))
-
-    begun-later : begun_at t ≤ begun_at u
-    begun-later = begun-more laws.marks setting call.sub history few legal t u later
-
-    known_low : place ≤ begun_at u
-    known_low = omega (arith, now.known_then, begun-later)
-
-    -- over a Gone
-    gone-counted : (q to : ℕ) → seen_at u node ≡ Gone q to → place < q → to ≡ stop_no q
-        → IsCounted u since q to (known_with q chase.known) (suc hops)
-    gone-counted q to is above goes = record {
-      extra = counted.extra;
-      bound = elim (cases_lt (count_at since) q) [
-        | inl new ↦ omega (arith, counted.bound, falls q (omega (arith, above)), new, above)
-        | inr old ↦
-            let there : seen_at since node ≡ Gone q to =
-            gone-since laws.marks setting call.sub history few legal node q to since u (omega (arith, now.by, later)) low old is in
-            omega (
-              arith,
-              counted.bound,
-              ahead-drops (λ v. seen_at since v) place q q to node setting.nodes now.within above (omega arith) there,
-              above,
-            )
-      ];
-      once = at_once counted.once;
-      back = λ x from h unknown comes.
-          let clash : true ≡ false = sym (knows-up-to q q chase.known (omega arith)) ∙ unknown in cc;
-    }
-      where
-        at_once : (counted.extra ≡ 0) ⊎ ((counted.extra ≡ 1) × IsSpent since t place chase.known)
-            → (counted.extra ≡ 0) ⊎ ((counted.extra ≡ 1) × IsSpent since u q (known_with q chase.known))
-        at_once (inl none) = inl none
-        at_once (inr (one, inl known)) = inr (one, inl (knows-still (begun_at since) q chase.known known))
-        at_once (inr (one, inr (inl there))) =
-            inr (one, inl (knows-up-to (begun_at since) q chase.known (omega (arith, there, above))))
-        at_once (inr (one, inr (inr newer))) = inr (one, inr (inr (omega (arith, newer, begun-later))))
-
-    -- over a Coming
-    module _ (q from : ℕ) (is : seen_at u node ≡ Coming q from) (unknown : is_known q chase.known ≡ false) where
-      comes : IsComing laws.marks setting call.sub history few legal u node q from
-      comes = coming-is laws.marks setting call.sub history few legal u node q from
-          (mark-tells laws setting history actor call first few inside legal u node (Coming q from) now.within is)
-
-      -- it isn't where it leads
-      moving : node ≡ from → ⊥
-      moving same = coming-apart laws.marks setting call.sub history few legal u node q from now.within is (sym same)
-
-      -- where all that was begun was committed, and the node was left before, it had a Gone
-      left-before : place < count_at since → q - 1 ≡ count_at since → begun_at since ≡ count_at since
-          → left_ahead since (q - 1) + 1 ≤ left_ahead since place
-      left-before early last done = at_mark (seen_at since node) refl
-        where
-          standing-apart : node ≡ standing setting call.sub (before since history) → ⊥
-          standing-apart here = moving (here ∙ (stands-there laws.marks setting call.sub history few legal since
-              ∙ (ap (λ n. stop_no n) (sym last) ∙ sym comes.leads)))
-
-          tells : (mark : PresenceMark) → seen_at since node ≡ mark
-              → MarkTells setting call.sub (before since history) node mark
-          tells mark e = mark-tells laws setting history actor call first few inside legal since node mark now.within e
-
-          since_low : since ≤ length history
-          since_low = omega (arith, now.by, later, low)
-
-          at_mark : (mark : PresenceMark) → seen_at since node ≡ mark
-              → left_ahead since (q - 1) + 1 ≤ left_ahead since place
-          at_mark Empty e = absurd (no-empty e)
-            where
-              no-empty : seen_at since node ≡ Empty → ⊥
-              no-empty e =
-                  let then : Chases since since place node = record {
-                    low = now.low;
-                    by = omega arith;
-                    begins = now.begins;
-                    there = now.there;
-                    within = now.within;
-                    known_then = omega (arith, early, done);
-                    above = now.above;
-                  } in
-                  let purged : IsPurgedSince laws setting history actor call first few inside legal since place since =
-                  purged-since laws setting history actor call first few inside legal since since place node since_low then e in
-                  purged.not_yet (past-later laws.marks setting call.sub history few legal _ (suc purged.was.ticket) since
-                  (omega (arith, purged.was.by)) since_low purged.past_then)
-          at_mark (Here p) e = absurd (standing-apart (tells (Here p) e).0)
-          at_mark (Off p) e = absurd (standing-apart (tells (Off p) e).0)
-          at_mark (Coming r other) e =
-              elim (coming-is laws.marks setting call.sub history few legal since node r other (tells (Coming r other) e)).by [
-                | inl new ↦ absurd (omega (
-                  arith,
-                  new,
-                  done,
-                  (coming-is laws.marks setting call.sub history few legal since node r other (tells (Coming r other) e)).last,
-                ))
-                | inr old ↦ absurd (standing-apart old.1)
-              ]
-          at_mark (Gone g to) e =
-              let gone : IsGone laws.marks setting call.sub history few legal since node g to =
-              gone-is laws.marks setting call.sub history few legal since node g to (tells (Gone g to) e) in
-              ahead-drops (λ v. seen_at since v) place (q - 1) g to node setting.nodes now.within
-              (gone-on laws.marks setting call.sub history few legal since place node g to since_low
-              (omega (arith, early, count-begun laws.marks setting call.sub history few legal since)) now.there now.within e)
-              (omega (arith, gone.by, last)) e
-
-      -- the Coming that is read isn't that of an earlier move
-      not-back : (x back : ℕ) → u ≤ x → seen_at x from ≡ Coming (q - 1) back → ⊥
-      not-back x back h again =
-          let then : IsComing laws.marks setting call.sub history few legal x from (q - 1) back =
-          coming-is laws.marks setting call.sub history few legal x from (q - 1) back
-          (mark-tells laws setting history actor call first few inside legal x from (Coming (q - 1) back) comes.inside again) in
-          absurd (omega (
-            arith,
-            then.last,
-            comes.last,
-            comes.some,
-            begun-more laws.marks setting call.sub history few legal u x h,
-          ))
-
-      counts : (extra : ℕ) → suc hops + left_ahead since (q - 1) ≤ left_ahead since 0 + (q - 1 - count_at since) + extra
-          → (extra ≡ 0) ⊎ ((extra ≡ 1) × IsSpent since u (q - 1) chase.known)
-          → IsCounted u since (q - 1) from chase.known (suc hops)
-      counts extra bound once = record {
-        extra = extra;
-        bound = bound;
-        once = once;
-        back = λ x back h new again. absurd (not-back x back h again);
-      }
-
-      last-begun : q ≡ begun_at since → suc (q - 1) ≡ begun_at since
-      last-begun same = omega (arith, same, comes.some)
-
-      -- it is that of the last move that was begun where the chase began
-      over-last : q ≡ begun_at since → place < q → IsCounted u since (q - 1) from chase.known (suc hops)
-      over-last same early = at_once counted.once
-        where
-          at_once : (counted.extra ≡ 0) ⊎ ((counted.extra ≡ 1) × IsSpent since t place chase.known)
-              → IsCounted u since (q - 1) from chase.known (suc hops)
-          at_once (inl none) = counts 1
-              (omega (arith, counted.bound, none, falls (q - 1) (omega (arith, early)), early))
-              (inr (refl, inr (inl (last-begun same))))
-          at_once (inr (one, inl known)) =
-              let clash : true ≡ false =
-              sym known ∙ (ap (λ n. is_known n chase.known) (sym same) ∙ unknown) in cc
-          at_once (inr (one, inr (inl there))) =
-              absurd (moving (now.there ∙ (ap (λ n. stop_no n)
-              (let e : place ≡ q - 1 = omega (arith, there, same) in e) ∙ sym comes.leads)))
-          at_once (inr (one, inr (inr newer))) = absurd (omega (arith, newer, begun-later, same, comes.last))
-
-      -- it is that of a later move
-      over-later : begun_at since < q → place < q → IsCounted u since (q - 1) from chase.known (suc hops)
-      over-later newer early = counts counted.extra bound (at_once counted.once)
-        where
-          before_that : place < q - 1
-          before_that = elim (cases_eq place (q - 1)) [
-            | inl same ↦ absurd (moving (now.there ∙ (ap (λ n. stop_no n) same ∙ sym comes.leads)))
-            | inr apart ↦ omega (arith, apart, early)
-          ]
-
-          fewer : left_ahead since (q - 1) ≤ left_ahead since place
-          fewer = falls (q - 1) (omega (arith, before_that))
-
-          were : count_at since ≤ begun_at since
-          were = count-begun laws.marks setting call.sub history few legal since
-
-          bound : suc hops + left_ahead since (q - 1) ≤ left_ahead since 0 + (q - 1 - count_at since) + counted.extra
-          bound = elim (cases_lt (count_at since) (q - 1)) [
-            | inl above ↦ omega (arith, counted.bound, fewer, above, before_that)
-            | inr below ↦
-                let drop : left_ahead since (q - 1) + 1 ≤ left_ahead since place =
-                left-before (omega (arith, below, before_that, were, newer)) (omega (arith, below, were, newer))
-                (omega (arith, below, were, newer)) in
-                omega (arith, counted.bound, drop, below, before_that)
-          ]
-
-          at_once : (counted.extra ≡ 0) ⊎ ((counted.extra ≡ 1) × IsSpent since t place chase.known)
-              → (counted.extra ≡ 0) ⊎ ((counted.extra ≡ 1) × IsSpent since u (q - 1) chase.known)
-          at_once (inl none) = inl none
-          at_once (inr (one, spent)) = inr (one, inr (inr (omega (arith, newer, comes.last))))
-
-      coming-counted : IsCounted u since (q - 1) from chase.known (suc hops)
-      coming-counted = elim (cases_eq place q) [
-        | inl same ↦
-            let back : (hops ≡ 0) × (place ≤ begun_at since) =
-            counted.back u from later (subst (λ n. is_known n chase.known ≡ false) (sym same) unknown)
-            (is ∙ ap (λ n. Coming n from) (sym same)) in
-            let last : q ≡ begun_at since = omega (arith, back.1, same, comes.last, begun-since) in
-            counts 1
-            (omega (arith, back.0, ahead-falls (λ v. seen_at since v) 0 (q - 1) setting.nodes (omega arith)))
-            (inr (refl, inr (inl (last-begun last))))
-        | inr apart ↦ elim (cases_eq q (begun_at since)) [
-          | inl last ↦ over-last last (omega (arith, apart, known_low, comes.last))
-          | inr other ↦ over-later (omega (arith, other, comes.last, begun-since))
-              (omega (arith, apart, known_low, comes.last))
-        ]
-      ]
-
-      committed : q - 1 ≤ count_at u
-      committed = elim comes.by [
-        | inl early ↦ omega (arith, early)
-        | inr late ↦ omega (arith, late.0)
-      ]
-
+      (counted : IsCounted laws setting history actor call first few inside legal t since place node chase.known hops) (later : t ≤ u) (low : u ≤ length history) where
     mark-so : hops + chase.hops_left ≡ most_hops setting → (mark : PresenceMark) → seen_at u node ≡ mark
         → Counts u (after_mark setting chase node mark)
     mark-so total Empty is = tt
@@ -381,7 +132,7 @@ module _ (laws : PriceLaws) (setting : Setting) (history : History) (actor : ℕ
         gone-after laws setting history actor call first few inside legal t u since place chase node now later low q to is in
         hop-so u since q to hops (known_with q chase.known) chase.level chase.weight chase.hops_left node
         (gone-so laws setting history actor call first few inside legal t u since place chase node now later low q to is)
-        (gone-counted q to is above gone.goes) total gone.by
+        (gone-counted laws setting history actor call first few inside legal t u since place node hops chase now counted later low q to is above gone.goes) total gone.by
     mark-so total (Coming q from) is = at_test (is_known q chase.known) refl
       where
         at_test : (b : Bool) → is_known q chase.known ≡ b
@@ -390,7 +141,8 @@ module _ (laws : PriceLaws) (setting : Setting) (history : History) (actor : ℕ
         at_test true unknown = tt
         at_test false unknown = hop-so u since (q - 1) from hops chase.known chase.level chase.weight chase.hops_left node
             (coming-so laws setting history actor call first few inside legal t u since place chase node now later low q from is)
-            (coming-counted q from is unknown) total (committed q from is unknown)
+            (coming-counted laws setting history actor call first few inside legal t u since place node hops chase now counted later low q from is unknown) total
+            (committed laws setting history actor call first few inside legal t u since place node hops chase now counted later low q from is unknown)
 
   pub look-so : (t u : ℕ) (pursuit : Pursuit) (key : Key) → first ≤ t → t < u
       → slice_get history u ≡ Some (look_by actor key) → key_of call pursuit ≡ Some key

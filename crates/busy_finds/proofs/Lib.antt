@@ -16,6 +16,7 @@ mod NoEntry
 mod Ahead
 mod Chase
 mod Emptied
+mod Hops
 mod Chased
 mod Beyond
 mod Price
@@ -28,3 +29,4 @@ mod Levels
 mod Own
 mod LineOwn
 mod Missed
+mod Repeated

@@ -29,7 +29,7 @@ use Rattle.trail_laws.specs.Trail.{answers, IsLed, mark_seen, MarkTells}
 use Rattle.busy_finds.specs.LawsBelow.{MarkLaws}
 use Rattle.busy_finds.specs.Within.{moves_of}
 use Rattle.busy_finds.proofs.Fronts.{committed-by, legal-at, more-moves, moves-in-place, number-more}
-use Rattle.busy_finds.proofs.Moves.{AreInPlace, stop-after, stop-inside, stop-kept, stop_of}
+use Rattle.busy_finds.proofs.Moves.{AreInPlace, stop-after, stop-kept, stop_of}
 use Rattle.busy_finds.proofs.Sums.{travelled, travelled-step}
 
 -- what stands in a front stands in the whole
@@ -385,27 +385,3 @@ module _ (laws : MarkLaws) (setting : Setting) (sub : ℕ) (history : History) (
             sym put.2 ∙ (ap (λ h. mark_seen setting sub h (stop_at j)) (sym more) ∙ is) in
             let next = gone-put t found.0 (stop_at j) put.0 q to found.1 put.1 mark in omega (arith, below, next.1)
       ]
-
-  -- a Coming isn't where it comes from
-  pub coming-apart : (t node q from : ℕ) → node < setting.nodes → mark_at t node ≡ Coming q from → from ≢ node
-  coming-apart t node q from inside is same = elim tells.3 [
-    | inl early ↦
-        let begins : begun t ≡ suc (count t) = omega (arith, tells.0, early.0) in
-        let comes = coming-there t begins in
-        let here : node ≡ stop_at (begun t) =
-        laws.one setting sub (before t history) few (its_legal t) node (stop_at (begun t)) q comes.0 from comes.1 inside
-        (stop-in (begun t) (begun-low t)) is comes.2 in
-        let found = slice_get-within its_moves (count t) (omega (arith, begins, begun-low t)) in
-        (placed.each (count t) found.0 found.1).apart
-        (sym (stop-after (start setting sub) its_moves (count t) found.0 found.1)
-        ∙ (ap (λ n. stop_at n) (sym begins) ∙ (sym here ∙ (sym same ∙ (early.1 ∙ stands-there t)))))
-    | inr late ↦
-        let clash : Coming q from ≡ Gone q node = sym is ∙ (ap (λ n. mark_at t n) (sym same) ∙ late.2) in cc
-  ]
-    where
-      tells : MarkTells setting sub (before t history) node (Coming q from)
-      tells = subst (MarkTells setting sub (before t history) node) is
-          (laws.marks setting sub (before t history) few (its_legal t) node inside)
-
-      stop-in : (place : ℕ) → place ≤ length its_moves → stop_at place < setting.nodes
-      stop-in place low = stop-inside its_moves placed place low

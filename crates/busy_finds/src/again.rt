@@ -1,6 +1,6 @@
 //! Laws of finds that are to be made again.
 ghost use Rattle.busy_finds.specs.Again.{ChasedMeetsCommits, EmptyMeetsPurge};
-ghost use Rattle.busy_finds.specs.Altogether.{MissedFindsAreFew};
+ghost use Rattle.busy_finds.specs.Altogether.{AgainsAreFew, ChasedFindsAreFew, MissedFindsAreFew};
 ghost use Rattle.busy_finds.specs.Within.{NoEntryMeetsTop};
 
 use crate::below::laws_below;
@@ -37,4 +37,15 @@ pub fn missed_finds_are_few()
     laws_below();
     empty_meets_a_purge();
     no_entry_meets_the_top();
+}
+
+/// Of finds of a subscriber that follow one another the chases of no more took too many hops than a
+/// third of its commits, and no more are to be made again than moves renewed the top level and a third
+/// of the commits.
+pub fn agains_are_few()
+    ensures chased { ChasedFindsAreFew }
+    ensures all { AgainsAreFew }
+{
+    missed_finds_are_few();
+    chased_meets_commits();
 }
