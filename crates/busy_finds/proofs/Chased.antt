@@ -1,8 +1,6 @@
 -- Where a chase took too many hops, at least three moves were committed since it began.
-use Rattle.std.proofs.Common.{◌≡◌, ◌⊎◌, inl, inr, ℕ, zero, suc, ◌+◌, ◌-◌, ◌<◌, ◌≤◌, ◌^◌, Bool, true, false, cond, List, [], ◌∷◌, Option, Some, None, length, refl, sym, ap, ◌∙◌, subst, arith}
+use Rattle.std.proofs.Common.{◌≡◌, ◌⊎◌, inl, inr, ℕ, zero, suc, ◌+◌, ◌-◌, ◌<◌, ◌≤◌, ◌^◌, Bool, true, false, cond, List, [], ◌∷◌, Option, Some, None, length, refl, sym, subst, arith}
 use Rattle.std.specs.Prelude.{slice_get}
-use Rattle.std.proofs.lemmas.Bool.{cases_eq, cases_lt}
-use Rattle.std.proofs.lemmas.Bool.Decides.{nat_tests}
 use Rattle.std.proofs.lemmas.Option.{slice_get_within}
 use Rattle.entry_word.specs.declared.address.Address.{Address}
 use Rattle.entry_word.specs.declared.mark.PresenceMark.{PresenceMark}
@@ -13,21 +11,18 @@ use Rattle.directory.specs.Settings.{levels, Setting}
 use Rattle.directory.specs.Histories.{before, cell, History}
 use Rattle.directory.specs.Finds.{after_entry, after_mark, after_origin, after_word, at_origin, Chase, chases, climb, climbs, ended, FindCall, hop, is_known, key_of, known_with, most_hops, Pursuit, Reader}
 use Rattle.directory.specs.Legal.{IsLegal}
-use Rattle.directory.specs.Looks.{first_of, IsFind, last_of, look_by}
+use Rattle.directory.specs.Looks.{first_of, last_of, look_by}
 use Rattle.directory.specs.Standing.{standing}
 use Rattle.directory.specs.declared.answers.Found.{Found}
 use Rattle.directory.specs.declared.answers.Found.TheVariants.{At, Off as OffAt, Again}
 use Rattle.directory.specs.declared.answers.Why.TheVariants.{Empty as EmptyAt, NoEntry, Chased}
-use Rattle.trail_laws.specs.Trail.{entry_seen, mark_seen, MarkTells}
+use Rattle.trail_laws.specs.Trail.{entry_seen, mark_seen}
 use Rattle.busy_finds.specs.Again.{BeginsChase, ChasedMeetsCommits}
 use Rattle.busy_finds.specs.LawsBelow.{PriceLaws}
-use Rattle.busy_finds.proofs.Ahead.{ahead, ahead-drops, ahead-falls, ahead-few}
-use Rattle.busy_finds.proofs.Chase.{gone-on}
-use Rattle.busy_finds.proofs.Emptied.{address-so, coming-begins, coming-so, gone-after, gone-so, IsChasing, IsPurgedSince, mark-tells, purged-since}
-use Rattle.busy_finds.proofs.Fronts.{number-more}
+use Rattle.busy_finds.proofs.Ahead.{ahead-few}
+use Rattle.busy_finds.proofs.Emptied.{address-so, coming-begins, coming-so, gone-after, gone-so, IsChasing, mark-tells}
 use Rattle.busy_finds.proofs.Looks.{Climbed, climbed-more, climbed-none, IsMetAt, looks-end, met-at}
-use Rattle.busy_finds.proofs.Past.{past-later}
-use Rattle.busy_finds.proofs.Tickets.{begun, begun-more, coming-is, count, count-begun, gone-is, gone-since, IsComing, IsGone, its_legal, none-gone, stands-in, stands-there, stop_at}
+use Rattle.busy_finds.proofs.Tickets.{count, gone-is, IsGone, none-gone, stands-in}
 use Rattle.busy_finds.proofs.Hops.{begins-counted, coming-counted, committed, gone-counted, IsCounted, IsSpent}
 
 module _ (laws : PriceLaws) (setting : Setting) (history : History) (actor : ℕ) (call : FindCall) (first : ℕ)

@@ -1,34 +1,22 @@
 -- How many hops a chase can make: each takes a Gone that stood where the chase began from those that lead beyond its
 -- place, or leads beyond what was committed there; but one, over the Coming of the last move that was begun there.
-use Rattle.std.proofs.Common.{◌≡◌, ◌⊎◌, inl, inr, ℕ, zero, suc, ◌+◌, ◌-◌, ◌<◌, ◌≤◌, ◌^◌, Bool, true, false, cond, List, [], ◌∷◌, Option, Some, None, length, refl, sym, ap, ◌∙◌, subst, arith}
-use Rattle.std.specs.Prelude.{slice_get}
+use Rattle.std.proofs.Common.{◌≡◌, ◌⊎◌, inl, inr, ℕ, suc, ◌+◌, ◌-◌, ◌<◌, ◌≤◌, ◌^◌, true, false, Option, Some, None, length, refl, sym, ap, ◌∙◌, subst, arith}
 use Rattle.std.proofs.lemmas.Bool.{cases_eq, cases_lt}
 use Rattle.std.proofs.lemmas.Bool.Decides.{nat_tests}
-use Rattle.std.proofs.lemmas.Option.{slice_get_within}
-use Rattle.entry_word.specs.declared.address.Address.{Address}
 use Rattle.entry_word.specs.declared.mark.PresenceMark.{PresenceMark}
 use Rattle.entry_word.specs.declared.mark.PresenceMark.TheVariants.{Empty, Here, Gone, Coming, Off}
-use Rattle.entry_word.specs.declared.visit.Key.{Key}
-use Rattle.entry_word.specs.declared.visit.Key.TheVariants.{Entry, Presence}
-use Rattle.directory.specs.Settings.{levels, Setting}
-use Rattle.directory.specs.Histories.{before, cell, History}
-use Rattle.directory.specs.Finds.{after_entry, after_mark, after_origin, after_word, at_origin, Chase, chases, climb, climbs, ended, FindCall, hop, is_known, key_of, known_with, most_hops, Pursuit, Reader}
+use Rattle.directory.specs.Settings.{Setting}
+use Rattle.directory.specs.Histories.{before, History}
+use Rattle.directory.specs.Finds.{Chase, FindCall, is_known, known_with}
 use Rattle.directory.specs.Legal.{IsLegal}
-use Rattle.directory.specs.Looks.{first_of, IsFind, last_of, look_by}
 use Rattle.directory.specs.Standing.{standing}
-use Rattle.directory.specs.declared.answers.Found.{Found}
-use Rattle.directory.specs.declared.answers.Found.TheVariants.{At, Off as OffAt, Again}
-use Rattle.directory.specs.declared.answers.Why.TheVariants.{Empty as EmptyAt, NoEntry, Chased}
-use Rattle.trail_laws.specs.Trail.{entry_seen, mark_seen, MarkTells}
-use Rattle.busy_finds.specs.Again.{BeginsChase}
+use Rattle.trail_laws.specs.Trail.{mark_seen, MarkTells}
 use Rattle.busy_finds.specs.LawsBelow.{PriceLaws}
-use Rattle.busy_finds.proofs.Ahead.{ahead, ahead-drops, ahead-falls, ahead-few}
+use Rattle.busy_finds.proofs.Ahead.{ahead, ahead-drops, ahead-falls}
 use Rattle.busy_finds.proofs.Chase.{coming-apart, gone-on}
-use Rattle.busy_finds.proofs.Emptied.{address-so, coming-begins, coming-so, gone-after, gone-so, IsChasing, IsPurgedSince, mark-tells, purged-since}
-use Rattle.busy_finds.proofs.Fronts.{number-more}
-use Rattle.busy_finds.proofs.Looks.{Climbed, climbed-more, climbed-none, IsMetAt, looks-end, met-at}
+use Rattle.busy_finds.proofs.Emptied.{IsChasing, IsPurgedSince, mark-tells, purged-since}
 use Rattle.busy_finds.proofs.Past.{past-later}
-use Rattle.busy_finds.proofs.Tickets.{begun, begun-more, coming-is, count, count-begun, gone-is, gone-since, IsComing, IsGone, its_legal, none-gone, stands-in, stands-there, stop_at}
+use Rattle.busy_finds.proofs.Tickets.{begun, begun-more, coming-is, count, count-begun, gone-is, gone-since, IsComing, IsGone, stands-there, stop_at}
 
 -- a Gone that is read makes its number known, and what was known
 knows-up-to : (number q : ℕ) (known : Option ℕ) → number ≤ q → is_known number (known_with q known) ≡ true

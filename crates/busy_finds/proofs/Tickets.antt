@@ -310,13 +310,15 @@ module _ (laws : MarkLaws) (setting : Setting) (sub : ℕ) (history : History) (
         arith,
         (placed.each (count t) its.0 its.1).its_number,
         ap (λ (c : Commit). c.number) its.2,
-      ) in
-      (is_next, omega (
-        arith,
+      ) in (
         is_next,
-        ap length listed,
-        length-append (commits sub (before t history)) (record { number = q; from = node; to = to } ∷ []),
-      ))
+        omega (
+          arith,
+          is_next,
+          ap length listed,
+          length-append (commits sub (before t history)) (record { number = q; from = node; to = to } ∷ []),
+        ),
+      )
 
   -- so one whose move was committed before stood there before
   pub gone-since : (node q to t u : ℕ) → t ≤ u → u ≤ length history → q ≤ count t → mark_at u node ≡ Gone q to
