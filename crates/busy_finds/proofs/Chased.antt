@@ -36,6 +36,10 @@ module _ (laws : PriceLaws) (setting : Setting) (history : History) (actor : ℕ
   abbrev pub seen_at : ℕ → ℕ → PresenceMark
   seen_at t node = mark_seen setting call.sub (before t history) node
 
+  abbrev pub HasCounts : ℕ → ℕ → ℕ → ℕ → Option ℕ → ℕ → Type 0
+  HasCounts t since place node known hops =
+      IsCounted laws setting history actor call first few inside legal t since place node known hops
+
   abbrev pub Answers : ℕ → Found → Type 0
   Answers t (At node number level weight) = Unit {0}
   Answers t (OffAt node number level weight) = Unit {0}
@@ -46,7 +50,7 @@ module _ (laws : PriceLaws) (setting : Setting) (history : History) (actor : ℕ
 
   abbrev pub IsUnderWay : ℕ → Chase → ℕ → Type 0
   IsUnderWay t chase node = (since : ℕ) × (place : ℕ) × (hops : ℕ) × Chases t since place node
-      × IsCounted laws setting history actor call first few inside legal t since place node chase.known hops × (hops + chase.hops_left ≡ most_hops setting)
+      × HasCounts t since place node chase.known hops × (hops + chase.hops_left ≡ most_hops setting)
 
   abbrev pub Counts : ℕ → Pursuit → Type 0
   Counts t at_origin = ⊥
@@ -67,8 +71,14 @@ module _ (laws : PriceLaws) (setting : Setting) (history : History) (actor : ℕ
   origin-so t at (Gone p to) is = climb-so t (Some p) 0 _ (climbed-none setting history call first t)
   origin-so t at (Coming p from) is =
       let chasing : Chases t t (p - 1) from =
-      coming-begins laws setting history actor call first few inside legal t p from at is in
-      (t, p - 1, 0, chasing, begins-counted laws setting history actor call first few inside legal t (p - 1) from None chasing.known_then, omega arith)
+      coming-begins laws setting history actor call first few inside legal t p from at is in (
+        t,
+        p - 1,
+        0,
+        chasing,
+        begins-counted laws setting history actor call first few inside legal t (p - 1) from None chasing.known_then,
+        omega arith,
+      )
 
   entry-so : (t u : ℕ) (known : Option ℕ) (weight : ℕ) (reader : Reader) (left : List Reader) → first ≤ t → t < u
       → slice_get history u ≡ Some (look_by actor (Entry reader.level reader.cluster call.sub))
@@ -82,12 +92,19 @@ module _ (laws : PriceLaws) (setting : Setting) (history : History) (actor : ℕ
       met-at setting history call first t 0 (levels setting) c.passed left reader c.all c.empty in
       let chasing : Chases u u address.number address.node =
       address-so laws setting history actor call first few inside legal u reader address (omega (arith, low, later))
-      (omega (arith, met.high)) is_look e in
-      (u, address.number, 0, chasing, begins-counted laws setting history actor call first few inside legal u address.number address.node known chasing.known_then, omega arith)
+      (omega (arith, met.high)) is_look e in (
+        u,
+        address.number,
+        0,
+        chasing,
+        begins-counted laws setting history actor call first few inside legal u address.number address.node known
+            chasing.known_then,
+        omega arith,
+      )
 
   -- one more hop, or one too many
   hop-so : (t since place to hops : ℕ) (known level : Option ℕ) (weight left node : ℕ) → Chases t since place to
-      → IsCounted laws setting history actor call first few inside legal t since place to known (suc hops) → hops + left ≡ most_hops setting → place ≤ count_at t
+      → HasCounts t since place to known (suc hops) → hops + left ≡ most_hops setting → place ≤ count_at t
       → Counts t (hop setting known level weight left node to)
   hop-so t since place to hops known level weight zero node chasing counted total low = (
     since,
@@ -106,14 +123,15 @@ module _ (laws : PriceLaws) (setting : Setting) (history : History) (actor : ℕ
     ),
   )
     where
-      at_once : (counted.extra ≡ 0) ⊎ ((counted.extra ≡ 1) × IsSpent laws setting history actor call first few inside legal since t place known) → counted.extra ≤ 1
+      at_once : (counted.extra ≡ 0) ⊎ ((counted.extra ≡ 1)
+          × IsSpent laws setting history actor call first few inside legal since t place known) → counted.extra ≤ 1
       at_once (inl none) = omega (arith, none)
       at_once (inr one) = omega (arith, one.0)
   hop-so t since place to hops known level weight (suc left) node chasing counted total low =
       (since, place, suc hops, chasing, counted, omega (arith, total))
 
   module _ (t u since place node hops : ℕ) (chase : Chase) (now : Chases t since place node)
-      (counted : IsCounted laws setting history actor call first few inside legal t since place node chase.known hops) (later : t ≤ u) (low : u ≤ length history) where
+      (counted : HasCounts t since place node chase.known hops) (later : t ≤ u) (low : u ≤ length history) where
     mark-so : hops + chase.hops_left ≡ most_hops setting → (mark : PresenceMark) → seen_at u node ≡ mark
         → Counts u (after_mark setting chase node mark)
     mark-so total Empty is = tt
@@ -124,20 +142,29 @@ module _ (laws : PriceLaws) (setting : Setting) (history : History) (actor : ℕ
         gone-is laws.marks setting call.sub history few legal u node q to
         (mark-tells laws setting history actor call first few inside legal u node (Gone q to) now.within is) in
         let above : place < q =
-        gone-after laws setting history actor call first few inside legal t u since place chase node now later low q to is in
+        gone-after laws setting history actor call first few inside legal t u since place chase node now later low
+        q to is in
         hop-so u since q to hops (known_with q chase.known) chase.level chase.weight chase.hops_left node
-        (gone-so laws setting history actor call first few inside legal t u since place chase node now later low q to is)
-        (gone-counted laws setting history actor call first few inside legal t u since place node hops chase now counted later low q to is above gone.goes) total gone.by
+        (gone-so laws setting history actor call first few inside legal t u since place chase node now later low
+        q to is)
+        (gone-counted laws setting history actor call first few inside legal t u since place node hops chase now counted later low
+        q to is above gone.goes)
+        total gone.by
     mark-so total (Coming q from) is = at_test (is_known q chase.known) refl
       where
         at_test : (b : Bool) → is_known q chase.known ≡ b
             → Counts u (cond b (ended (At node q chase.level chase.weight))
             (hop setting chase.known chase.level chase.weight chase.hops_left node from))
         at_test true unknown = tt
-        at_test false unknown = hop-so u since (q - 1) from hops chase.known chase.level chase.weight chase.hops_left node
-            (coming-so laws setting history actor call first few inside legal t u since place chase node now later low q from is)
-            (coming-counted laws setting history actor call first few inside legal t u since place node hops chase now counted later low q from is unknown) total
-            (committed laws setting history actor call first few inside legal t u since place node hops chase now counted later low q from is unknown)
+        at_test false unknown =
+            hop-so u since (q - 1) from hops chase.known chase.level chase.weight chase.hops_left node
+            (coming-so laws setting history actor call first few inside legal t u since place chase node now later low
+            q from is)
+            (coming-counted laws setting history actor call first few inside legal t u since place node hops chase now counted later low
+            q from is unknown)
+            total
+            (committed laws setting history actor call first few inside legal t u since place node hops chase now counted later low
+            q from is unknown)
 
   pub look-so : (t u : ℕ) (pursuit : Pursuit) (key : Key) → first ≤ t → t < u
       → slice_get history u ≡ Some (look_by actor key) → key_of call pursuit ≡ Some key
@@ -147,8 +174,8 @@ module _ (laws : PriceLaws) (setting : Setting) (history : History) (actor : ℕ
       let e : Entry reader.level reader.cluster call.sub ≡ key = cc in
       subst (λ k. Counts u (after_word setting call (climbs known weight reader left)
       (cell setting (before u history) k))) e
-      (entry-so t u known weight reader left low later (subst (λ k. slice_get history u ≡ Some (look_by actor k)) (sym e) is_look)
-      now (entry_seen setting call.sub (before u history) reader.level reader.cluster) refl)
+      (entry-so t u known weight reader left low later
+      (subst (λ k. slice_get history u ≡ Some (look_by actor k)) (sym e) is_look) now (entry_seen setting call.sub (before u history) reader.level reader.cluster) refl)
   look-so t u (chases chase node) key low later is_look wanted (since, place, hops, now, counted, total) =
       let e : Presence node call.sub ≡ key = cc in
       subst (λ k. Counts u (after_word setting call (chases chase node) (cell setting (before u history) k))) e
@@ -175,12 +202,14 @@ chased-meets laws setting history actor call weight tickets few inside legal fin
         (after_word setting call at_origin (cell setting (before t history) k))) e
         (origin-so laws setting history actor call first few inside legal t is_first _ refl)
 
-    told_end : (first ≤ last) × Answers laws setting history actor call first few inside legal last (Again Chased weight)
+    told_end : (first ≤ last)
+        × Answers laws setting history actor call first few inside legal last (Again Chased weight)
     told_end = looks-end setting history actor call last
         (λ t pursuit. (first ≤ t) × Counts laws setting history actor call first few inside legal t pursuit)
         (λ t u pursuit key later by is_look wanted now. (
           omega (arith, now.0, later),
-          look-so laws setting history actor call first few inside legal t u pursuit key now.0 later is_look wanted now.1,
+          look-so laws setting history actor call first few inside legal t u pursuit key now.0 later is_look wanted
+              now.1,
         ))
         tickets find (omega arith)
         (λ t key is_first by is_look wanted. (omega (arith, is_first), origin-at t key is_first wanted))

@@ -63,7 +63,8 @@ module _ (laws : PriceLaws) (setting : Setting) (history : History) (actor : ℕ
   abbrev Answers : ℕ → Found → Type 0
   Answers t (At node number level weight) = Unit {0}
   Answers t (OffAt node number level weight) = Unit {0}
-  Answers t (Again (EmptyAt node) weight) = (since : ℕ) × (place : ℕ) × IsChasing t since place node × (seen_at t node ≡ Empty)
+  Answers t (Again (EmptyAt node) weight) =
+      (since : ℕ) × (place : ℕ) × IsChasing t since place node × (seen_at t node ≡ Empty)
   Answers t (Again NoEntry weight) = Unit {0}
   Answers t (Again Chased weight) = Unit {0}
 
@@ -145,7 +146,8 @@ module _ (laws : PriceLaws) (setting : Setting) (history : History) (actor : ℕ
   hop-so t known level weight zero node to since place so = tt
   hop-so t known level weight (suc left) node to since place so = (since, place, so)
 
-  module _ (t u since place : ℕ) (chase : Chase) (node : ℕ) (now : IsChasing t since place node) (later : t ≤ u) (low : u ≤ length history) where
+  module _ (t u since place : ℕ) (chase : Chase) (node : ℕ) (now : IsChasing t since place node) (later : t ≤ u)
+      (low : u ≤ length history) where
     pub known-now : place ≤ begun_at u
     known-now = omega (arith, now.known_then, begun-more laws.marks setting call.sub history few legal t u later)
 
@@ -207,8 +209,8 @@ module _ (laws : PriceLaws) (setting : Setting) (history : History) (actor : ℕ
       let e : Entry reader.level reader.cluster call.sub ≡ key = cc in
       subst (λ k. Follows u (after_word setting call (climbs known weight reader left)
       (cell setting (before u history) k))) e
-      (entry-so t u known weight reader left low later (subst (λ k. slice_get history u ≡ Some (look_by actor k)) (sym e) is_look)
-      now (entry_seen setting call.sub (before u history) reader.level reader.cluster) refl)
+      (entry-so t u known weight reader left low later
+      (subst (λ k. slice_get history u ≡ Some (look_by actor k)) (sym e) is_look) now (entry_seen setting call.sub (before u history) reader.level reader.cluster) refl)
   look-so t u (chases chase node) key low later is_look wanted now =
       let e : Presence node call.sub ≡ key = cc in
       subst (λ k. Follows u (after_word setting call (chases chase node) (cell setting (before u history) k))) e
@@ -223,8 +225,8 @@ module _ (laws : PriceLaws) (setting : Setting) (history : History) (actor : ℕ
     pub past_then : ArePastAt its.cleaning.move.number (suc was.ticket)
     pub not_yet : ArePastAt its.cleaning.move.number since → ⊥
 
-  pub purged-since : (t since place node : ℕ) → t ≤ length history → IsChasing t since place node → seen_at t node ≡ Empty
-      → IsPurgedSince since place t
+  pub purged-since : (t since place node : ℕ) → t ≤ length history → IsChasing t since place node
+      → seen_at t node ≡ Empty → IsPurgedSince since place t
   purged-since t since place node low now empty = record {
     was = purged;
     its = purge;
@@ -280,7 +282,8 @@ empty-meets laws setting history actor call node weight tickets few inside legal
     last = last_of tickets
 
     told_end : (first ≤ last) × (last < length history)
-        × ((since : ℕ) × (place : ℕ) × IsChasing laws setting history actor call first few inside legal last since place node
+        × ((since : ℕ) × (place : ℕ)
+        × IsChasing laws setting history actor call first few inside legal last since place node
         × (mark_seen setting call.sub (before last history) node ≡ Empty))
     told_end = looks-end setting history actor call last
         (λ t pursuit. (first ≤ t) × (t < length history)
@@ -288,7 +291,8 @@ empty-meets laws setting history actor call node weight tickets few inside legal
         (λ t u pursuit key later by is_look wanted now. (
           omega (arith, now.0, later),
           slice_get_within history u (look_by actor key) is_look,
-          look-so laws setting history actor call first few inside legal t u pursuit key now.0 later is_look wanted now.2,
+          look-so laws setting history actor call first few inside legal t u pursuit key now.0 later is_look wanted
+              now.2,
         ))
         tickets find (omega arith) (λ t key is_first by is_look wanted. (
           omega (arith, is_first),

@@ -23,7 +23,8 @@ knows-up-to : (number q : ℕ) (known : Option ℕ) → number ≤ q → is_know
 knows-up-to number q None h = grind (arith, nat_tests, h)
 knows-up-to number q (Some known) h = grind (arith, nat_tests, h)
 
-knows-still : (number q : ℕ) (known : Option ℕ) → is_known number known ≡ true → is_known number (known_with q known) ≡ true
+knows-still : (number q : ℕ) (known : Option ℕ) → is_known number known ≡ true
+    → is_known number (known_with q known) ≡ true
 knows-still number q None h = cc
 knows-still number q (Some known) h = grind (arith, nat_tests, h)
 
@@ -95,7 +96,8 @@ module _ (laws : PriceLaws) (setting : Setting) (history : History) (actor : ℕ
         | inl new ↦ omega (arith, counted.bound, falls q (omega (arith, above)), new, above)
         | inr old ↦
             let there : seen_at since node ≡ Gone q to =
-            gone-since laws.marks setting call.sub history few legal node q to since u (omega (arith, now.by, later)) low old is in
+            gone-since laws.marks setting call.sub history few legal node q to since u
+            (omega (arith, now.by, later)) low old is in
             omega (
               arith,
               counted.bound,

@@ -48,8 +48,8 @@ module _ (meets : ChasedMeetsCommits) (setting : Setting) (history : History) (s
     each-thrice (last_of find.tickets) later turns,
     sum_by-cons (λ (f : MadeFind). chased_once f.found) find later,
     commits-within find.actor find.call.from find.found find.tickets inside
-        (subst (λ s. IsFind setting history find.actor (record { from = find.call.from; sub = s }) find.found find.tickets)
-        same is),
+        (subst (λ s. IsFind setting history find.actor (record { from = find.call.from; sub = s }) find.found
+        find.tickets) same is),
     number-more sub earliest (first_of find.tickets) history after,
   )
 

@@ -82,8 +82,8 @@ missed_once (Again Chased weight) = 0
 abbrev pub top_once : Setting → Move → ℕ
 top_once setting move = if move.renewed == setting.top then 1 else 0
 
--- of finds of a subscriber in turn no more met no address, or a node that was emptied, than moves of
--- the subscriber renewed the top level (`missed_finds_are_few`)
+-- of finds of a subscriber in turn no more met no address, or a node that was emptied, than moves
+-- of the subscriber renewed the top level (`missed_finds_are_few`)
 abbrev pub MissedFindsAreFew : Type 0
 MissedFindsAreFew =
     (setting : Setting) (history : History) (sub : ℕ) (finds : List MadeFind)
