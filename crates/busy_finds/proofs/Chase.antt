@@ -1,10 +1,12 @@
 -- A chase by places: along it the weight so far and the moves from its place to the last commit never come to more.
-use Rattle.std.proofs.Common.{◌≡◌, inl, inr, ℕ, zero, suc, ◌+◌, ◌-◌, ◌<◌, ◌≤◌, ◌^◌, Bool, true, false, cond, Option, Some, None, length, refl, sym, ap, ◌∙◌, subst, arith}
+use Rattle.std.proofs.Common.{◌≡◌, ◌≢◌, List, inl, inr, ℕ, zero, suc, ◌+◌, ◌-◌, ◌<◌, ◌≤◌, ◌^◌, Bool, true, false, cond, Option, Some, None, length, refl, sym, ap, ◌∙◌, subst, arith}
 use Rattle.std.proofs.lemmas.Bool.{cases_eq, cases_lt}
 use Rattle.std.proofs.lemmas.Bool.Decides.{nat_tests}
 use Rattle.entry_word.specs.declared.mark.PresenceMark.{PresenceMark}
 use Rattle.entry_word.specs.declared.mark.PresenceMark.TheVariants.{Empty, Here, Gone, Coming, Off}
-use Rattle.directory.specs.Settings.{Setting}
+use Rattle.directory.specs.Settings.{Setting, start}
+use Rattle.directory.specs.Courses.{Move}
+use Rattle.directory.specs.StepLaws.{slice_get-within}
 use Rattle.directory.specs.Finds.{after_mark, at_origin, Chase, chases, climbs, ended, found_weight, hop, is_known, known_with, Pursuit}
 use Rattle.directory.specs.Histories.{before, History}
 use Rattle.directory.specs.Legal.{IsLegal}
@@ -13,13 +15,50 @@ use Rattle.directory.specs.declared.answers.Found.TheVariants.{At}
 use Rattle.trail_laws.specs.Trail.{HasMetric, MarkTells}
 use Rattle.busy_finds.specs.LawsBelow.{MarkLaws}
 use Rattle.busy_finds.proofs.Fronts.{number-more}
-use Rattle.busy_finds.proofs.Moves.{stop-inside}
+use Rattle.busy_finds.proofs.Moves.{stop-after, stop-inside}
 use Rattle.busy_finds.proofs.Sums.{travelled, travelled-more, way-within}
 use Rattle.busy_finds.proofs.Tickets.{begun, begun-few, begun-low, begun-more, coming-is, coming-there, count, count-begun, gone-is, gone-later, IsComing, IsGone, its_legal, its_moves, mark_at, none-gone, placed, stands-there, stop_at}
 
 knows-it : (q : ℕ) (known : Option ℕ) → is_known q (known_with q known) ≡ true
 knows-it q None = grind (arith, nat_tests)
 knows-it q (Some known) = grind (arith, nat_tests)
+
+-- a Coming isn't where it comes from
+module _ (laws : MarkLaws) (setting : Setting) (sub : ℕ) (history : History) (few : setting.nodes ≤ 2 ^ 16)
+    (legal : IsLegal setting sub history) where
+  abbrev begun_by : ℕ → ℕ
+  begun_by t = begun laws setting sub history few legal t
+
+  abbrev stop_of_no : ℕ → ℕ
+  stop_of_no place = stop_at laws setting sub history few legal place
+
+  abbrev moves_there : List Move
+  moves_there = its_moves laws setting sub history few legal
+
+  pub coming-apart : (t node q from : ℕ) → node < setting.nodes
+      → mark_at laws setting sub history few legal t node ≡ Coming q from → from ≢ node
+  coming-apart t node q from inside is same = elim tells.3 [
+    | inl early ↦
+        let begins : begun_by t ≡ suc (count laws setting sub history few legal t) = omega (arith, tells.0, early.0) in
+        let low : begun_by t ≤ length moves_there = begun-low laws setting sub history few legal t in
+        let comes = coming-there laws setting sub history few legal t begins in
+        let here : node ≡ stop_of_no (begun_by t) =
+        laws.one setting sub (before t history) few (its_legal laws setting sub history few legal t) node
+        (stop_of_no (begun_by t)) q comes.0 from comes.1 inside
+        (stop-inside moves_there (placed laws setting sub history few legal) (begun_by t) low) is comes.2 in
+        let found = slice_get-within moves_there (count laws setting sub history few legal t) (omega (arith, begins, low)) in
+        ((placed laws setting sub history few legal).each (count laws setting sub history few legal t) found.0 found.1).apart
+        (sym (stop-after (start setting sub) moves_there (count laws setting sub history few legal t) found.0 found.1)
+        ∙ (ap (λ n. stop_of_no n) (sym begins)
+        ∙ (sym here ∙ (sym same ∙ (early.1 ∙ stands-there laws setting sub history few legal t)))))
+    | inr late ↦
+        let clash : Coming q from ≡ Gone q node =
+        sym is ∙ (ap (λ n. mark_at laws setting sub history few legal t n) (sym same) ∙ late.2) in cc
+  ]
+    where
+      tells : MarkTells setting sub (before t history) node (Coming q from)
+      tells = subst (MarkTells setting sub (before t history) node) is
+          (laws.marks setting sub (before t history) few (its_legal laws setting sub history few legal t) node inside)
 
 -- a Gone leads to a later stop
 pub gone-on : (laws : MarkLaws) (setting : Setting) (sub : ℕ) (history : History) (few : setting.nodes ≤ 2 ^ 16)

@@ -51,12 +51,10 @@ module _ (laws : PriceLaws) (setting : Setting) (history : History) (actor : ℕ
   legally t = its_legal laws.marks setting call.sub history few legal t
 
   -- a chase at a stop, and where it began
-  pub record IsChasing (t node : ℕ) : Type 0 where
-    pub since : ℕ
+  pub record IsChasing (t since place node : ℕ) : Type 0 where
     pub low : first ≤ since
     pub by : since ≤ t
     pub begins : BeginsChase setting history actor call first since
-    pub place : ℕ
     pub there : node ≡ stop_no place
     pub within : node < setting.nodes
     pub known_then : place ≤ begun_at t
@@ -65,17 +63,18 @@ module _ (laws : PriceLaws) (setting : Setting) (history : History) (actor : ℕ
   abbrev Answers : ℕ → Found → Type 0
   Answers t (At node number level weight) = Unit {0}
   Answers t (OffAt node number level weight) = Unit {0}
-  Answers t (Again (EmptyAt node) weight) = IsChasing t node × (seen_at t node ≡ Empty)
+  Answers t (Again (EmptyAt node) weight) =
+      (since : ℕ) × (place : ℕ) × IsChasing t since place node × (seen_at t node ≡ Empty)
   Answers t (Again NoEntry weight) = Unit {0}
   Answers t (Again Chased weight) = Unit {0}
 
   abbrev Follows : ℕ → Pursuit → Type 0
   Follows t at_origin = ⊥
   Follows t (climbs known weight reader later) = Climbed setting history call first t weight (reader ∷ later)
-  Follows t (chases chase node) = IsChasing t node
+  Follows t (chases chase node) = (since : ℕ) × (place : ℕ) × IsChasing t since place node
   Follows t (ended found) = Answers t found
 
-  mark-tells : (t node : ℕ) (mark : PresenceMark) → node < setting.nodes → seen_at t node ≡ mark
+  pub mark-tells : (t node : ℕ) (mark : PresenceMark) → node < setting.nodes → seen_at t node ≡ mark
       → MarkTells setting call.sub (before t history) node mark
   mark-tells t node mark within is = subst (MarkTells setting call.sub (before t history) node) is
       (laws.marks.marks setting call.sub (before t history) few (legally t) node within)
@@ -85,38 +84,38 @@ module _ (laws : PriceLaws) (setting : Setting) (history : History) (actor : ℕ
   climb-so t known weight [] c = tt
   climb-so t known weight (reader ∷ left) c = c
 
-  origin-so : (t : ℕ) → t ≡ first → (mark : PresenceMark) → seen_at t call.from ≡ mark
-      → Follows t (after_origin setting call mark)
-  origin-so t at Empty is = climb-so t None 0 _ (climbed-none setting history call first t)
-  origin-so t at (Here p) is = tt
-  origin-so t at (Off p) is = tt
-  origin-so t at (Gone p to) is = climb-so t (Some p) 0 _ (climbed-none setting history call first t)
-  origin-so t at (Coming p from) is =
+  -- where the origin says that the subscriber is coming
+  pub coming-begins : (t p from : ℕ) → t ≡ first → seen_at t call.from ≡ Coming p from → IsChasing t t (p - 1) from
+  coming-begins t p from at is =
       let comes : IsComing laws.marks setting call.sub history few legal t call.from p from =
       coming-is laws.marks setting call.sub history few legal t call.from p from
       (mark-tells t call.from (Coming p from) inside is) in record {
-        since = t;
         low = omega (arith, at);
         by = omega arith;
         begins = inl (at, (p, from, is));
-        place = p - 1;
         there = comes.leads;
         within = comes.inside;
         known_then = omega (arith, comes.last);
         above = λ latest past. omega (arith, past.comings call.from p from inside is);
       }
 
+  origin-so : (t : ℕ) → t ≡ first → (mark : PresenceMark) → seen_at t call.from ≡ mark
+      → Follows t (after_origin setting call mark)
+  origin-so t at Empty is = climb-so t None 0 _ (climbed-none setting history call first t)
+  origin-so t at (Here p) is = tt
+  origin-so t at (Off p) is = tt
+  origin-so t at (Gone p to) is = climb-so t (Some p) 0 _ (climbed-none setting history call first t)
+  origin-so t at (Coming p from) is = (t, p - 1, coming-begins t p from at is)
+
   -- where an entry has an address
-  address-so : (u : ℕ) (reader : Reader) (address : Address) → first ≤ u → reader.level ≤ setting.top
+  pub address-so : (u : ℕ) (reader : Reader) (address : Address) → first ≤ u → reader.level ≤ setting.top
       → slice_get history u ≡ Some (look_by actor (Entry reader.level reader.cluster call.sub))
       → entry_seen setting call.sub (before u history) reader.level reader.cluster ≡ Some address
-      → IsChasing u address.node
+      → IsChasing u u address.number address.node
   address-so u reader address low level is_look held = record {
-    since = u;
     low = low;
     by = omega arith;
     begins = inr (reader.level, reader.cluster, address, is_look, held);
-    place = address.number;
     there = told.3
         ∙ (ap (λ n. stop_of n (moves_of setting call.sub (before u history)) address.number)
         (start-kept setting (course_at (start setting call.sub)) (steps_in (puts_to call.sub (before u history))))
@@ -140,45 +139,44 @@ module _ (laws : PriceLaws) (setting : Setting) (history : History) (actor : ℕ
   entry-so t u known weight reader left low later is_look c (Some address) e =
       let met : IsMetAt setting history call first t 0 (levels setting) c.passed reader =
       met-at setting history call first t 0 (levels setting) c.passed left reader c.all c.empty in
-      address-so u reader address (omega (arith, low, later)) (omega (arith, met.high)) is_look e
+      (u, address.number, address-so u reader address (omega (arith, low, later)) (omega (arith, met.high)) is_look e)
 
-  hop-so : (t : ℕ) (known level : Option ℕ) (weight left node to : ℕ) → IsChasing t to
-      → Follows t (hop setting known level weight left node to)
-  hop-so t known level weight zero node to so = tt
-  hop-so t known level weight (suc left) node to so = so
+  hop-so : (t : ℕ) (known level : Option ℕ) (weight left node to since place : ℕ)
+      → IsChasing t since place to → Follows t (hop setting known level weight left node to)
+  hop-so t known level weight zero node to since place so = tt
+  hop-so t known level weight (suc left) node to since place so = (since, place, so)
 
-  module _ (t u : ℕ) (chase : Chase) (node : ℕ) (now : IsChasing t node) (later : t ≤ u) (low : u ≤ length history) where
-    known-now : now.place ≤ begun_at u
+  module _ (t u since place : ℕ) (chase : Chase) (node : ℕ) (now : IsChasing t since place node) (later : t ≤ u)
+      (low : u ≤ length history) where
+    pub known-now : place ≤ begun_at u
     known-now = omega (arith, now.known_then, begun-more laws.marks setting call.sub history few legal t u later)
 
     -- at another stop
-    at-stop : (place to : ℕ) → to ≡ stop_no place → to < setting.nodes → place ≤ begun_at u
-        → ((latest : ℕ) → ArePastAt latest now.since → latest ≤ place) → IsChasing u to
-    at-stop place to there within known_then above = record {
-      since = now.since;
+    at-stop : (next to : ℕ) → to ≡ stop_no next → to < setting.nodes → next ≤ begun_at u
+        → ((latest : ℕ) → ArePastAt latest since → latest ≤ next) → IsChasing u since next to
+    at-stop next to there within known_then above = record {
       low = now.low;
       by = omega (arith, now.by, later);
       begins = now.begins;
-      place = place;
       there = there;
       within = within;
       known_then = known_then;
       above = above;
     }
 
-    gone-so : (q to : ℕ) → seen_at u node ≡ Gone q to → IsChasing u to
+    pub gone-after : (q to : ℕ) → seen_at u node ≡ Gone q to → place < q
+    gone-after q to is =
+        gone-on laws.marks setting call.sub history few legal u place node q to low known-now now.there now.within is
+
+    pub gone-so : (q to : ℕ) → seen_at u node ≡ Gone q to → IsChasing u since q to
     gone-so q to is =
         let gone : IsGone laws.marks setting call.sub history few legal u node q to =
         gone-is laws.marks setting call.sub history few legal u node q to (mark-tells u node (Gone q to) now.within is) in
         at-stop q to gone.goes gone.inside
         (omega (arith, gone.by, count-begun laws.marks setting call.sub history few legal u))
-        (λ latest past. omega (
-          arith,
-          now.above latest past,
-          gone-on laws.marks setting call.sub history few legal u now.place node q to low known-now now.there now.within is,
-        ))
+        (λ latest past. omega (arith, now.above latest past, gone-after q to is))
 
-    coming-so : (q from : ℕ) → seen_at u node ≡ Coming q from → IsChasing u from
+    pub coming-so : (q from : ℕ) → seen_at u node ≡ Coming q from → IsChasing u since (q - 1) from
     coming-so q from is =
         let comes : IsComing laws.marks setting call.sub history few legal u node q from =
         coming-is laws.marks setting call.sub history few legal u node q from
@@ -186,21 +184,22 @@ module _ (laws : PriceLaws) (setting : Setting) (history : History) (actor : ℕ
         at-stop (q - 1) from comes.leads comes.inside (omega (arith, comes.last))
         (λ latest past. omega (
           arith,
-          (past-later laws.marks setting call.sub history few legal latest now.since u (omega (arith, now.by, later)) low
+          (past-later laws.marks setting call.sub history few legal latest since u (omega (arith, now.by, later)) low
               past).comings node q from now.within is,
         ))
 
     mark-so : (mark : PresenceMark) → seen_at u node ≡ mark → Follows u (after_mark setting chase node mark)
-    mark-so Empty is = (at-stop now.place node now.there now.within known-now now.above, is)
+    mark-so Empty is = (since, place, at-stop place node now.there now.within known-now now.above, is)
     mark-so (Here p) is = tt
     mark-so (Off p) is = tt
-    mark-so (Gone q to) is = hop-so u _ chase.level chase.weight chase.hops_left node to (gone-so q to is)
+    mark-so (Gone q to) is = hop-so u _ chase.level chase.weight chase.hops_left node to since q (gone-so q to is)
     mark-so (Coming q from) is = at_test (is_known q chase.known)
       where
         at_test : (b : Bool) → Follows u (cond b (ended (At node q chase.level chase.weight))
             (hop setting chase.known chase.level chase.weight chase.hops_left node from))
         at_test true = tt
-        at_test false = hop-so u chase.known chase.level chase.weight chase.hops_left node from (coming-so q from is)
+        at_test false = hop-so u chase.known chase.level chase.weight chase.hops_left node from since (q - 1)
+            (coming-so q from is)
 
   pub look-so : (t u : ℕ) (pursuit : Pursuit) (key : Key) → first ≤ t → t < u
       → slice_get history u ≡ Some (look_by actor key) → key_of call pursuit ≡ Some key
@@ -210,40 +209,69 @@ module _ (laws : PriceLaws) (setting : Setting) (history : History) (actor : ℕ
       let e : Entry reader.level reader.cluster call.sub ≡ key = cc in
       subst (λ k. Follows u (after_word setting call (climbs known weight reader left)
       (cell setting (before u history) k))) e
-      (entry-so t u known weight reader left low later (subst (λ k. slice_get history u ≡ Some (look_by actor k)) (sym e) is_look)
-      now (entry_seen setting call.sub (before u history) reader.level reader.cluster) refl)
+      (entry-so t u known weight reader left low later
+      (subst (λ k. slice_get history u ≡ Some (look_by actor k)) (sym e) is_look) now (entry_seen setting call.sub (before u history) reader.level reader.cluster) refl)
   look-so t u (chases chase node) key low later is_look wanted now =
       let e : Presence node call.sub ≡ key = cc in
       subst (λ k. Follows u (after_word setting call (chases chase node) (cell setting (before u history) k))) e
-      (mark-so t u chase node now (omega (arith, later))
+      (mark-so t u now.0 now.1 chase node now.2 (omega (arith, later))
       (omega (arith, slice_get_within history u (look_by actor key) is_look)) (seen_at u node) refl)
   look-so t u (ended found) key low later is_look wanted now = cc
 
+  -- what purged a stop was a later move that wasn't past where the chase began
+  pub record IsPurgedSince (since place t : ℕ) : Type 0 where
+    pub was : WasPurged laws.marks setting call.sub history few legal place t
+    pub its : IsPurging laws.marks setting call.sub history few legal was.ticket
+    pub past_then : ArePastAt its.cleaning.move.number (suc was.ticket)
+    pub not_yet : ArePastAt its.cleaning.move.number since → ⊥
+
+  pub purged-since : (t since place node : ℕ) → t ≤ length history → IsChasing t since place node
+      → seen_at t node ≡ Empty → IsPurgedSince since place t
+  purged-since t since place node low now empty = record {
+    was = purged;
+    its = purge;
+    past_then = cleaned-past laws.marks setting call.sub history few legal purged.ticket
+        (omega (arith, purged.by, low)) purge.cleaning purge.above;
+    not_yet = λ past. absurd (omega (
+      arith,
+      now.above purge.cleaning.move.number past,
+      purged.later_move,
+      purge.cleaning.last,
+    ));
+  }
+    where
+      purged : WasPurged laws.marks setting call.sub history few legal place t
+      purged = purged-before laws.marks setting call.sub history few legal place t (omega (arith, low))
+          now.known_then (ap (λ n. seen_at t n) (sym now.there) ∙ empty)
+
+      purge : IsPurging laws.marks setting call.sub history few legal purged.ticket
+      purge = purging laws.marks setting call.sub history few legal purged.ticket _ purged.writes _ refl
+
 pub empty-meets : PriceLaws → EmptyMeetsPurge
 empty-meets laws setting history actor call node weight tickets few inside legal find = (
-  its.cleaning.move,
-  chasing.since,
+  is.its.cleaning.move,
+  since,
   chasing.low,
   chasing.begins,
   record {
-    is = its.cleaning.is;
-    top = its.tops;
-    ticket = was.ticket;
-    after = elim (cases_lt was.ticket chasing.since) [
-      | inl early ↦ absurd (not_yet (past-later laws.marks setting call.sub history few legal its.cleaning.move.number
-          (suc was.ticket) chasing.since (omega (arith, early)) (omega (arith, chasing.by, told_end.1)) past_then))
+    is = is.its.cleaning.is;
+    top = is.its.tops;
+    ticket = is.was.ticket;
+    after = elim (cases_lt is.was.ticket since) [
+      | inl early ↦ absurd (is.not_yet (past-later laws.marks setting call.sub history few legal its_number
+          (suc is.was.ticket) since (omega (arith, early)) (omega (arith, chasing.by, told_end.1)) is.past_then))
       | inr late ↦ late
     ];
-    by = was.by;
+    by = is.was.by;
     purges = (
-      was.writes.visit ∙ ap (λ n. Some (visit_of call.sub (mark_at n Empty))) (sym chasing.there),
-      its.cleaning.last,
+      is.was.writes.visit ∙ ap (λ n. Some (visit_of call.sub (mark_at n Empty))) (sym chasing.there),
+      is.its.cleaning.last,
     );
     stays = λ later after by. ap (λ n. mark_seen setting call.sub (before later history) n) chasing.there
-        ∙ was.stays later after by;
-    past = past-later laws.marks setting call.sub history few legal its.cleaning.move.number (suc was.ticket) last
-        (omega (arith, was.by)) (omega (arith, told_end.1)) past_then;
-    not_yet = not_yet;
+        ∙ is.was.stays later after by;
+    past = past-later laws.marks setting call.sub history few legal its_number (suc is.was.ticket) last
+        (omega (arith, is.was.by)) (omega (arith, told_end.1)) is.past_then;
+    not_yet = is.not_yet;
   },
 )
   where
@@ -254,7 +282,8 @@ empty-meets laws setting history actor call node weight tickets few inside legal
     last = last_of tickets
 
     told_end : (first ≤ last) × (last < length history)
-        × (IsChasing laws setting history actor call first few inside legal last node
+        × ((since : ℕ) × (place : ℕ)
+        × IsChasing laws setting history actor call first few inside legal last since place node
         × (mark_seen setting call.sub (before last history) node ≡ Empty))
     told_end = looks-end setting history actor call last
         (λ t pursuit. (first ≤ t) × (t < length history)
@@ -262,7 +291,8 @@ empty-meets laws setting history actor call node weight tickets few inside legal
         (λ t u pursuit key later by is_look wanted now. (
           omega (arith, now.0, later),
           slice_get_within history u (look_by actor key) is_look,
-          look-so laws setting history actor call first few inside legal t u pursuit key now.0 later is_look wanted now.2,
+          look-so laws setting history actor call first few inside legal t u pursuit key now.0 later is_look wanted
+              now.2,
         ))
         tickets find (omega arith) (λ t key is_first by is_look wanted. (
           omega (arith, is_first),
@@ -279,20 +309,18 @@ empty-meets laws setting history actor call node weight tickets few inside legal
             (after_word setting call at_origin (cell setting (before t history) k))) e
             (origin-so laws setting history actor call first few inside legal t is_first _ refl)
 
-    chasing : IsChasing laws setting history actor call first few inside legal last node
-    chasing = told_end.2.0
+    since : ℕ
+    since = told_end.2.0
 
-    was : WasPurged laws.marks setting call.sub history few legal chasing.place last
-    was = purged-before laws.marks setting call.sub history few legal chasing.place last (omega (arith, told_end.1))
-        chasing.known_then
-        (ap (λ n. mark_seen setting call.sub (before last history) n) (sym chasing.there) ∙ told_end.2.1)
+    place : ℕ
+    place = told_end.2.1
 
-    its : IsPurging laws.marks setting call.sub history few legal was.ticket
-    its = purging laws.marks setting call.sub history few legal was.ticket _ was.writes _ refl
+    chasing : IsChasing laws setting history actor call first few inside legal last since place node
+    chasing = told_end.2.2
 
-    past_then : Past laws.marks setting call.sub history few legal its.cleaning.move.number (suc was.ticket)
-    past_then = cleaned-past laws.marks setting call.sub history few legal was.ticket
-        (omega (arith, was.by, told_end.1)) its.cleaning its.above
+    is : IsPurgedSince laws setting history actor call first few inside legal since place last
+    is = purged-since laws setting history actor call first few inside legal last since place node
+        (omega (arith, told_end.1)) chasing told_end.2.3
 
-    not_yet : Past laws.marks setting call.sub history few legal its.cleaning.move.number chasing.since → ⊥
-    not_yet past = absurd (omega (arith, chasing.above its.cleaning.move.number past, was.later_move, its.cleaning.last))
+    its_number : ℕ
+    its_number = is.its.cleaning.move.number

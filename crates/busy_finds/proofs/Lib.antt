@@ -13,8 +13,11 @@ mod Cleaning
 mod Between
 mod Past
 mod NoEntry
+mod Ahead
 mod Chase
 mod Emptied
+mod Hops
+mod Chased
 mod Beyond
 mod Price
 mod ByStretch
@@ -26,3 +29,4 @@ mod Levels
 mod Own
 mod LineOwn
 mod Missed
+mod Repeated

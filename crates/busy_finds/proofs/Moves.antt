@@ -1,5 +1,5 @@
 -- The moves of a course by their places: which number each has, and where it begins and leads.
-use Rattle.std.proofs.Common.{◌≡◌, ◌⊎◌, inl, inr, ℕ, zero, suc, ◌+◌, ◌<◌, ◌≤◌, true, false, List, [], ◌∷◌, ◌++◌, Some, length, map, take, fold, refl, sym, ap, ◌∙◌, subst, append_assoc, arith, Bool}
+use Rattle.std.proofs.Common.{◌≡◌, ◌≢◌, ◌⊎◌, inl, inr, ℕ, zero, suc, ◌+◌, ◌<◌, ◌≤◌, true, false, List, [], ◌∷◌, ◌++◌, Some, length, map, take, fold, refl, sym, ap, ◌∙◌, subst, append_assoc, arith, Bool}
 use Rattle.std.specs.Prelude.{cond, nat_le, slice_get, slice_index}
 use Rattle.std.proofs.lemmas.Bool.Decides.{nat_tests}
 use Rattle.std.proofs.lemmas.List.{append-nil, get_or_append_left, length-map, map-append}
@@ -21,6 +21,7 @@ pub record IsAt (setting : Setting) (begin : ℕ) (moves : List Move) (i : ℕ) 
   pub weight : move.weight ≡ setting.distance (stop_of begin moves i) move.to
   pub low : move.renewed ≤ setting.top
   pub inside : move.to < setting.nodes
+  pub apart : move.to ≢ stop_of begin moves i
 
 -- moves that are each at their place
 pub record AreInPlace (setting : Setting) (begin : ℕ) (moves : List Move) : Type 0 where
@@ -70,6 +71,7 @@ place-push setting begin moves move are is = record {
           weight = its.weight ∙ ap (λ n. setting.distance n other.to) (sym same);
           low = its.low;
           inside = its.inside;
+          apart = λ h. its.apart (h ∙ same);
         }
     | inr last ↦
         let same : stop_of begin (moves ++ move ∷ []) i ≡ stop_of begin moves i =
@@ -82,6 +84,7 @@ place-push setting begin moves move are is = record {
           weight = its.weight ∙ ap (λ n. setting.distance n other.to) (sym same);
           low = its.low;
           inside = its.inside;
+          apart = λ h. its.apart (h ∙ same);
         }
   ];
 }
@@ -96,6 +99,7 @@ place-step setting course (move_to node) are may =
       weight = ap (λ n. setting.distance n node) (stop-whole course.start course.moves);
       low = highest-low _ setting.top;
       inside = may.inside;
+      apart = λ h. may.moving (h ∙ sym (stop-whole course.start course.moves));
     })
 place-step setting course switch_off are may = are
 place-step setting course switch_on are may = are

@@ -104,7 +104,15 @@ pub no-entry : MarkLaws → NoEntryMeetsTop
 no-entry laws setting history actor call weight tickets few reads inside legal find = (
   its,
   same_top,
-  record { after = after_first; by = omega (arith, cleaned.done, number-more call.sub (suc e) last history (omega (arith, erased.2, was.2))); is = cleaned.is },
+  record {
+    after = after_first;
+    by = omega (
+      arith,
+      cleaned.done,
+      number-more call.sub (suc e) last history (omega (arith, erased.2, was.2)),
+    );
+    is = cleaned.is;
+  },
   (
     e,
     erased.1,

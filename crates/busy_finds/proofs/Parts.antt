@@ -18,7 +18,7 @@ use Rattle.busy_finds.proofs.Kept.{early, late}
 use Rattle.busy_finds.proofs.Tickets.{in-front, mapped-at}
 
 -- what stands in joined lists stands in one of them
-pub in-parts : {A : Type 0} (xs ys : List A) (k : ℕ) (x : A) → slice_get (xs ++ ys) k ≡ Some x
+pub in-parts : (xs ys : List Write) (k : ℕ) (x : Write) → slice_get (xs ++ ys) k ≡ Some x
     → (slice_get xs k ≡ Some x) ⊎ ((j : ℕ) × (k ≡ length xs + j) × (slice_get ys j ≡ Some x))
 in-parts [] ys k x h = let e : k ≡ 0 + k = omega arith in inr (k, e, h)
 in-parts (y ∷ xs) ys zero x h = inl h

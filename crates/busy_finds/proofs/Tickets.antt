@@ -3,7 +3,7 @@
 use Rattle.std.proofs.Common.{◌≡◌, ◌≢◌, ◌⊎◌, inl, inr, ℕ, zero, suc, ◌+◌, ◌-◌, ◌<◌, ◌≤◌, ◌^◌, Bool, true, false, cond, List, [], ◌∷◌, ◌++◌, Option, Some, None, length, map, take, refl, sym, ap, ◌∙◌, subst, arith, length-append}
 use Rattle.std.specs.Prelude.{slice_get}
 use Rattle.std.specs.List.{cons_option, last_or}
-use Rattle.std.proofs.lemmas.Bool.{cases_lt, eq-eqb}
+use Rattle.std.proofs.lemmas.Bool.{cases_eq, cases_lt, eq-eqb}
 use Rattle.std.proofs.lemmas.List.{take_all}
 use Rattle.std.proofs.lemmas.Option.{slice_get_within}
 use Rattle.entry_word.specs.Marks.{mark_in}
@@ -28,7 +28,7 @@ use Rattle.trail_laws.specs.Phases.{moves_begun}
 use Rattle.trail_laws.specs.Trail.{answers, IsLed, mark_seen, MarkTells}
 use Rattle.busy_finds.specs.LawsBelow.{MarkLaws}
 use Rattle.busy_finds.specs.Within.{moves_of}
-use Rattle.busy_finds.proofs.Fronts.{committed-by, legal-at, more-moves, moves-in-place}
+use Rattle.busy_finds.proofs.Fronts.{committed-by, legal-at, more-moves, moves-in-place, number-more}
 use Rattle.busy_finds.proofs.Moves.{AreInPlace, stop-after, stop-kept, stop_of}
 use Rattle.busy_finds.proofs.Sums.{travelled, travelled-step}
 
@@ -295,6 +295,53 @@ module _ (laws : MarkLaws) (setting : Setting) (sub : ℕ) (history : History) (
       by_act a e = ap (λ x. commits sub (record { actor = visit.actor; act = x } ∷ [])) e
           ∙ rw (eq-eqb sub sub refl, mark) refl
 
+  -- and its number is the next one
+  pub gone-put : (t : ℕ) (visit : Visit) (node word q to : ℕ) → slice_get history t ≡ Some visit
+      → visit.act ≡ Put (Presence node sub) word → mark_in word ≡ Gone q to → (q ≡ suc (count t)) × (count (suc t) ≡ q)
+  gone-put t visit node word q to found act mark =
+      let more : before (suc t) history ≡ before t history ++ visit ∷ [] = take-more history t visit found in
+      let listed : commits sub (before (suc t) history)
+      ≡ commits sub (before t history) ++ record { number = q; from = node; to = to } ∷ [] =
+      ap (commits sub) more ∙ commits-more (before t history) visit node word q to act mark in
+      let its = commit-is (suc t) (count t) (record { number = q; from = node; to = to })
+      (ap (λ cs. slice_get cs (count t)) listed ∙ slice_get-right (commits sub (before t history)) _ (count t) 0
+      (omega arith)) in
+      let is_next : q ≡ suc (count t) = omega (
+        arith,
+        (placed.each (count t) its.0 its.1).its_number,
+        ap (λ (c : Commit). c.number) its.2,
+      ) in (
+        is_next,
+        omega (
+          arith,
+          is_next,
+          ap length listed,
+          length-append (commits sub (before t history)) (record { number = q; from = node; to = to } ∷ []),
+        ),
+      )
+
+  -- so one whose move was committed before stood there before
+  pub gone-since : (node q to t u : ℕ) → t ≤ u → u ≤ length history → q ≤ count t → mark_at u node ≡ Gone q to
+      → mark_at t node ≡ Gone q to
+  gone-since node q to t zero h low done is = let e : t ≡ 0 = omega (arith, h) in ap (λ n. mark_at n node) e ∙ is
+  gone-since node q to t (suc u) h low done is = elim (cases_eq t (suc u)) [
+    | inl same ↦ ap (λ n. mark_at n node) same ∙ is
+    | inr apart ↦
+        let found = slice_get-within history u (omega (arith, low)) in
+        let more : before (suc u) history ≡ before u history ++ found.0 ∷ [] = take-more history u found.0 found.1 in
+        elim (put-there (before u history) found.0 node) [
+          | inl same ↦ gone-since node q to t u (omega (arith, h, apart)) (omega (arith, low)) done
+              (sym same ∙ (ap (λ xs. mark_seen setting sub xs node) (sym more) ∙ is))
+          | inr put ↦ absurd (omega (
+            arith,
+            (gone-put u found.0 node put.0 q to found.1 put.1
+                (sym put.2 ∙ (ap (λ xs. mark_seen setting sub xs node) (sym more) ∙ is))).0,
+            done,
+            number-more sub t u history (omega (arith, h, apart)),
+          ))
+        ]
+  ]
+
   -- a visit is one commit at most
   count-step : (t : ℕ) (visit : Visit) → slice_get history t ≡ Some visit → count (suc t) ≤ suc (count t)
   count-step t visit h =
@@ -338,18 +385,5 @@ module _ (laws : MarkLaws) (setting : Setting) (sub : ℕ) (history : History) (
         | inr put ↦
             let mark : mark_in put.0 ≡ Gone q to =
             sym put.2 ∙ (ap (λ h. mark_seen setting sub h (stop_at j)) (sym more) ∙ is) in
-            let listed : commits sub (before (suc t) history)
-            ≡ commits sub (before t history) ++ record { number = q; from = stop_at j; to = to } ∷ [] =
-            ap (commits sub) more ∙ commits-more (before t history) found.0 (stop_at j) put.0 q to put.1 mark in
-            let its = commit-is (suc t) (count t) (record { number = q; from = stop_at j; to = to })
-            (ap (λ cs. slice_get cs (count t)) listed ∙ slice_get-right (commits sub (before t history)) _ (count t) 0
-            (omega arith)) in
-            omega (
-              arith,
-              (placed.each (count t) its.0 its.1).its_number,
-              ap (λ (c : Commit). c.number) its.2,
-              ap length listed,
-              length-append (commits sub (before t history)) (record { number = q; from = stop_at j; to = to } ∷ []),
-              below,
-            )
+            let next = gone-put t found.0 (stop_at j) put.0 q to found.1 put.1 mark in omega (arith, below, next.1)
       ]

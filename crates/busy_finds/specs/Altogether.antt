@@ -1,7 +1,7 @@
 -- Finds of one subscriber that follow one another, as those of one caller do: what they weigh in
 -- all. Each move is charged to one of them at most, and what a subscriber's moves gather is in all
 -- at most what it moved, once for each level.
--- Key laws: `finds_in_turn_are_bounded`, `missed_finds_are_few`.
+-- Key laws: `finds_in_turn_are_bounded`, `missed_finds_are_few`, `agains_are_few`.
 use Rattle.std.specs.Prelude.{◌≡◌, ℕ, ◌+◌, ◌*◌, ◌<◌, ◌≤◌, ◌==◌, ◌^◌, if◌then◌else◌, List, [], ◌∷◌, sum_by}
 use Rattle.directory.specs.Settings.{levels, Setting}
 use Rattle.directory.specs.Histories.{before, History}
@@ -9,7 +9,7 @@ use Rattle.directory.specs.Courses.{Move}
 use Rattle.directory.specs.Legal.{IsLegal}
 use Rattle.directory.specs.Finds.{FindCall, found_weight}
 use Rattle.directory.specs.Looks.{first_of, IsFind, last_of}
-use Rattle.directory.specs.Standing.{passage, standing}
+use Rattle.directory.specs.Standing.{number, passage, standing}
 use Rattle.directory.specs.declared.answers.Found.{Found}
 use Rattle.directory.specs.declared.answers.Found.TheVariants.{At, Off as OffAt, Again}
 use Rattle.directory.specs.declared.answers.Why.TheVariants.{Empty as EmptyAt, NoEntry, Chased}
@@ -82,8 +82,8 @@ missed_once (Again Chased weight) = 0
 abbrev pub top_once : Setting → Move → ℕ
 top_once setting move = if move.renewed == setting.top then 1 else 0
 
--- of finds of a subscriber in turn no more met no address, or a node that was emptied, than moves of
--- the subscriber renewed the top level (`missed_finds_are_few`)
+-- of finds of a subscriber in turn no more met no address, or a node that was emptied, than moves
+-- of the subscriber renewed the top level (`missed_finds_are_few`)
 abbrev pub MissedFindsAreFew : Type 0
 MissedFindsAreFew =
     (setting : Setting) (history : History) (sub : ℕ) (finds : List MadeFind)
@@ -91,3 +91,36 @@ MissedFindsAreFew =
     → AreInTurn setting history sub 0 finds
     → sum_by (λ find. missed_once find.found) finds
     ≤ sum_by (top_once setting) (moves_of setting sub history)
+
+-- 1 for an answer that a chase took too many hops, and 0 for another
+abbrev pub chased_once : Found → ℕ
+chased_once (At node number level weight) = 0
+chased_once (OffAt node number level weight) = 0
+chased_once (Again (EmptyAt node) weight) = 0
+chased_once (Again NoEntry weight) = 0
+chased_once (Again Chased weight) = 1
+
+-- 1 for an answer that a find is to be made again, and 0 for another
+abbrev pub again_once : Found → ℕ
+again_once (At node number level weight) = 0
+again_once (OffAt node number level weight) = 0
+again_once (Again why weight) = 1
+
+-- of finds of a subscriber in turn, the chases of no more took too many hops than a third of its
+-- commits (`agains_are_few`)
+abbrev pub ChasedFindsAreFew : Type 0
+ChasedFindsAreFew =
+    (setting : Setting) (history : History) (sub : ℕ) (finds : List MadeFind)
+    → setting.nodes ≤ 2 ^ 16 → IsLegal setting sub history
+    → AreInTurn setting history sub 0 finds
+    → 3 * sum_by (λ find. chased_once find.found) finds ≤ number sub history
+
+-- and no more of them are to be made again than its moves that renewed the top level and a third of
+-- its commits (`agains_are_few`)
+abbrev pub AgainsAreFew : Type 0
+AgainsAreFew =
+    (setting : Setting) (history : History) (sub : ℕ) (finds : List MadeFind)
+    → setting.nodes ≤ 2 ^ 16 → ReadsTop setting → IsLegal setting sub history
+    → AreInTurn setting history sub 0 finds
+    → 3 * sum_by (λ find. again_once find.found) finds
+    ≤ 3 * sum_by (top_once setting) (moves_of setting sub history) + number sub history

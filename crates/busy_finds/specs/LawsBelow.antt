@@ -3,7 +3,7 @@
 use Rattle.directory.specs.Statements.{CellAfter, CommitsAreMoves, CommitsAreTold, EntriesAreLeft, LegalIsAmid, MarksAreLeft, SameKey, StandsAtStop}
 use Rattle.stretch_laws.specs.Costs.{ReadingIsBounded}
 use Rattle.trail_laws.specs.Phases.{ComingStands, PhasesCover}
-use Rattle.trail_laws.specs.Trail.{AddressesLead, EntriesTell, MarksTell, TopHasEntry}
+use Rattle.trail_laws.specs.Trail.{AddressesLead, EntriesTell, MarksTell, OneComing, TopHasEntry}
 use Rattle.trail_laws.specs.Ways.{PassagesAreOpen, StandsInside}
 use Rattle.trail_laws.specs.Within.{HistoryFrontsAreLegal}
 
@@ -26,6 +26,7 @@ pub record MarkLaws : Type 0 where
   pub stands : StandsAtStop
   pub inside : StandsInside
   pub marks : MarksTell
+  pub one : OneComing
   pub coming : ComingStands
   pub phases : PhasesCover
   pub addresses : AddressesLead

@@ -45,8 +45,8 @@ IsPurge setting sub history move node ticket =
     (slice_get history ticket ≡ Some (visit_of sub (mark_at node Empty)))
     × (moves_begun setting sub (through ticket history) ≡ move.number)
 
--- the moves up to one with this number are past: they are committed, no node says that the subscriber
--- is coming by one of them, and each address is that move's or a later one's
+-- the moves up to one with this number are past: they are committed, no node says that the
+-- subscriber is coming by one of them, and each address is that move's or a later one's
 pub record ArePast (setting : Setting) (sub : ℕ) (seen : History) (latest : ℕ) : Type 0 where
   pub committed : latest ≤ number sub seen
   pub addresses : (level cluster : ℕ) (address : Address) → level ≤ setting.top

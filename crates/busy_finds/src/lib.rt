@@ -10,7 +10,10 @@ mod outcomes;
 mod plans;
 mod prices;
 
-pub use again::{empty_meets_a_purge, missed_finds_are_few, no_entry_meets_the_top};
+pub use again::{
+    agains_are_few, chased_meets_commits, empty_meets_a_purge, missed_finds_are_few,
+    no_entry_meets_the_top,
+};
 pub use examples::line_price;
 pub use outcomes::plan_outcomes_are_priced;
 pub use plans::{plan_finds_are_bounded, plan_finds_in_turn_are_bounded, plans_gather_half};

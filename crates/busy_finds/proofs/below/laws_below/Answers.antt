@@ -16,6 +16,7 @@ returns c = record {
     stands = c.commits_are_moves.ensures.stands;
     inside = c.levels_stay_near.ensures.inside;
     marks = c.marks_tell.ensures.marks;
+    one = c.marks_tell.ensures.one;
     coming = c.coming_stands.ensures;
     phases = c.phases_cover.ensures;
     addresses = c.marks_lead.ensures.addresses;
