@@ -5,9 +5,9 @@ pub mod Finds
 pub mod Handles
 pub mod Held
 pub mod Moves
-pub mod Saving
 pub mod Openings
 pub mod Owned
 pub mod Plans
+pub mod Saving
 pub mod Told
 pub mod Words
