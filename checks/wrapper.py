@@ -81,6 +81,8 @@ class Ground:
 
     def start(self, *words, **more):
         how = {"stdin": subprocess.DEVNULL, "stdout": subprocess.PIPE, "stderr": subprocess.PIPE, "text": True}
+        # A shell that was begun in the background, as a gate may be, leaves Ctrl-C ignored to whatever it starts.
+        how["preexec_fn"] = lambda: signal.signal(signal.SIGINT, signal.SIG_DFL)
         return subprocess.Popen([self.top / "track", *words], env=self.environment(**more), start_new_session=True, **how)
 
     def run(self, *words, **more):
