@@ -99,7 +99,7 @@ impl Plan {
     /// let state = mover.save()?;
     /// let again = plan.load(&state)?;
     /// assert_eq!(again.next_put()?, mover.next_put()?);
-    /// assert_eq!(plan.load(&state[1..]).err(), Some(track::Error::ShortState));
+    /// assert_eq!(plan.load(&state[..11]).err(), Some(track::Error::ShortState));
     /// # Ok(())
     /// # }
     /// ```

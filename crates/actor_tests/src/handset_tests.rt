@@ -84,7 +84,7 @@ fn shows_write(rt: &impl Abort, alloc: Global, place: usize, visit: Option<Visit
 
 // What is seen of a handset: its subscriber, its place, its number, its weight, and whether it is
 // off.
-fn state(handset: &Handset) -> (u32, u32, u32, u64, bool) {
+fn seen(handset: &Handset) -> (u32, u32, u32, u64, bool) {
     (
         handset.sub(),
         handset.place(),
@@ -94,7 +94,19 @@ fn state(handset: &Handset) -> (u32, u32, u32, u64, bool) {
     )
 }
 
-// A write of a handset, as many as are left up to a limit, or a look at it.
+// Makes it again of the words of its state, and tells how many they are.
+fn reload(rt: &impl Abort, alloc: Global, handset: &mut Handset, plan: &Plan) -> u32
+    requires { GoesWith plan.now handset.old }
+    ensures { GoesWith plan.now handset.new }
+{
+    let count = handset.state_length(plan);
+    let words = handset.state(alloc).expect(rt, "memory");
+    *handset = Handset::of_state(alloc, plan, &words).expect(rt, "state");
+    count
+}
+
+// A write of a handset, as many as are left up to a limit, the words of its state, the handset that
+// is made of them in its place, or a look at it.
 fn play_write(
     rt: &impl Abort,
     alloc: Global,
@@ -111,11 +123,13 @@ fn play_write(
     match name {
         "write" => shows_write(rt, alloc, place, write(handset, plan), wanted),
         "writes" => same_shown(rt, alloc, place, &write_all(handset, plan, limit), wanted),
-        _ => same_shown(rt, alloc, place, &state(handset), wanted),
+        "state" => same_shown(rt, alloc, place, &handset.state(alloc), wanted),
+        "reload" => same_shown(rt, alloc, place, &reload(rt, alloc, handset, plan), wanted),
+        _ => same_shown(rt, alloc, place, &seen(handset), wanted),
     }
 }
 
-// What begins: a move or a switch; or else a write or a look.
+// What begins: a move or a switch; or else a write, its state or a look.
 fn play_row(
     rt: &impl Abort,
     alloc: Global,
@@ -186,6 +200,8 @@ fn on_the_line(rt: HostRuntime) -> Result<(), Fail> {
         write>(0, 0, 0, 0, Some(Some(Address { number: 1, node: 2 })))|\
         write>(0, 1, 0, 0, Some(Some(Address { number: 1, node: 2 })))|\
         look>(0, 3, 0, 1, false)|\
+        state>Ok([0, 3, 0, 0, 3, 0, 1, 3, 2, 1, 1, 3, 3, 3, 0, 0, 1, 3])|\
+        reload>18|\
         write>(0, 3, 0, Some(Gone { number: 1, to: 2 }))|\
         look>(0, 2, 1, 1, false)|\
         write>(0, 2, 0, Some(Here { number: 1 }))|\

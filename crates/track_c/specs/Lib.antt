@@ -8,10 +8,10 @@ pub mod Handles
 pub mod Held
 pub mod Members
 pub mod Moves
-pub mod Saving
 pub mod Openings
 pub mod Owned
 pub mod Plans
+pub mod Saving
 pub mod Subscribers
 pub mod Told
 pub mod Words
