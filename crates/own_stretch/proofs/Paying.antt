@@ -76,7 +76,8 @@ pub pay-is : (setting : Setting) (node level cluster : ℕ) (paid : Paid) {weigh
     → far ≡ farthest setting (reader_at level cluster) → gap ≡ 2 * setting.threshold level - 2
     → passed ≡ paid.passed + 2 * weight → met ≡ passed + 2 * far + gap → most ≡ max paid.most met
     → ◌≡◌ {A = Paid} (record { passed = passed; most = most }) (pay setting node paid (reader_at level cluster))
-pay-is setting node level cluster paid {weight} {far} {gap} {passed} {met} {most} some weighs away between on meets greater =
+pay-is setting node level cluster paid {weight} {far} {gap} {passed} {met} {most} some weighs away between on meets
+    greater =
     ap₂ {A = ℕ} {B = ℕ} {C = Paid} (λ p m. record { passed = p; most = m })
     (omega (arith, on, weighs))
     (omega (arith, greater, meets, on, weighs, away, between, some))

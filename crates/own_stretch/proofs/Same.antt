@@ -73,7 +73,9 @@ pub all-any : (plan : PlanData) (starts : List ℕ) (from : ℕ) {own any most :
 all-any plan starts from some all own any greater =
     let top : levels_of plan ≡ suc (levels_of plan - 1) = omega (arith, some) in
     greater
-    ∙ (ap₂ max (own ∙ ap (greatest_below (λ other. greatest_below (stretch_between (bare plan) other) (nodes_of plan))) all)
+    ∙ (ap₂ max (own
+    ∙ ap (greatest_below (λ other. greatest_below (stretch_between (bare plan) other) (nodes_of plan))) all)
     (any
-    ∙ ap₂ (λ levels count. greatest_below (λ other. greatest_below (stretch_past (bare plan) other) levels) count) top all)
+    ∙ ap₂ (λ levels count. greatest_below (λ other. greatest_below (stretch_past (bare plan) other) levels) count)
+    top all)
     ∙ any-same plan starts)

@@ -1,6 +1,6 @@
 -- What the code keeps while it computes a plan's own stretches: how far the farthest node that is
--- homed at each cluster is, what readers so far cost a node, and what it pays up to each level. Only
--- the private functions of this crate speak of them.
+-- homed at each cluster is, what readers so far cost a node, and what it pays up to each level.
+-- Only the private functions of this crate speak of them.
 -- Key law: `own_stretches` (it computes the numbers of `OwnStretch`).
 use Rattle.std.specs.Prelude.{◌≡◌, ℕ, ◌+◌, ◌-◌, ◌*◌, ◌<◌, ◌≤◌, ◌^◌, List, [], ◌∷◌, flat_map, length, map, max, slice_index, slice_index_or}
 use Rattle.directory.specs.Finds.{Reader}

@@ -61,7 +61,8 @@ fn pay_level(plan: &Plan, far: &[u64], node: u32, level: u32, before: Paid) -> P
     requires level { level < levels_of plan.now }
     requires far { AreFarthest plan.now level far.now }
     requires small { IsSmall level before }
-    ensures paid { result ≡ pay_all (bare plan.now) node before (readers_at (bare plan.now) node level) }
+    ensures paid { result
+        ≡ pay_all (bare plan.now) node before (readers_at (bare plan.now) node level) }
     ensures small { IsSmall (level + 1) result }
 {
     // What readers weigh is bounded.

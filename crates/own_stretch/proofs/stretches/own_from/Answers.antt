@@ -24,7 +24,8 @@ pub loop-to-preserved : goal.loop-to-preserved
 loop-to-preserved c = elim c.if-to-from.branch [
   | then-to-from w ↦
       rw w.own-is (greatest-more (stretch_between (bare c.args.plan.now) c.args.from) c.loop-to.to
-      c.loop-to.invariant (between-apart (bare c.args.plan.now) c.args.from c.loop-to.to (λ e. w.if-to-from.true (sym e))
+      c.loop-to.invariant (between-apart (bare c.args.plan.now) c.args.from c.loop-to.to
+      (λ e. w.if-to-from.true (sym e))
       (w.between-distance.ensures
       ∙ (ap (λ table. dist table c.args.from c.loop-to.to) (sym c.requires.belongs)
       ∙ sym (its-distance c.args.plan.now c.args.from c.loop-to.to c.requires.node
