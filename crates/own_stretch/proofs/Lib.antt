@@ -2,3 +2,10 @@ mod Greatest
 mod Units
 mod Least
 mod PlanLaws
+mod Same
+mod Paying
+mod Small
+mod Filling
+mod Climbing
+mod Between
+mod Light

@@ -1,2 +1,3 @@
 pub mod OwnStretch
 pub mod Plans
+pub mod Tables

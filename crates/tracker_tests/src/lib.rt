@@ -1,4 +1,4 @@
-//! Tests of the shared tracker, of whole calls, and of the bound on their weights.
+//! Tests of the shared tracker, of whole calls, and of what bounds their weights.
 #![tactic(auto)]
 
 #[cfg(test)]
@@ -21,5 +21,7 @@ mod scripts;
 mod station_tests;
 #[cfg(test)]
 mod steps;
+#[cfg(test)]
+mod stretch_tests;
 #[cfg(test)]
 mod thread_tests;
