@@ -4,8 +4,8 @@
 First each example of examples/false-bounds: the program is to write its .replay, and a claim that seems likely is to fail there,
 with the numbers that it fails by. Then made loads of two kinds, those of `make` and those of scripts/loads.py: no find may weigh
 more than the plan's stretch times its distance, the least at any of its tickets, and what the moves within had gathered, and
-twice the passage that was open before it; with the distance before its first look it is held to the sharper price, and the finds
-of a caller in all to theirs. An Again that met no entry has a move within that renews the top level, with its commit and an
+twice the passage that was open before it; with the distance before its first look it is held to the sharper price, and to the
+plan's own stretches, and the finds of a caller in all to theirs. An Again that met no entry has a move within that renews the top level, with its commit and an
 erasure of that level. One that met an Empty has the move that put it, whose first Empty and last erasure come after the look at
 which the chase began. One whose chase was given up has three commits within the chase. No two of a caller have the same move.
 
@@ -44,6 +44,7 @@ class Story:
     def __init__(self, text):
         self.said = texts.read_input(text)
         self.plan = texts.read_plan(written("cover", text).decode())
+        self.own, self.any_find = map(int, written("stretch", text).split()[3::2])
         self.report = texts.read_report(written("replay", text).decode())
         self.top = len(self.plan.levels) - 1
         self.network = directory.Network(self.said.nodes, self.said.edges)
@@ -119,16 +120,22 @@ class Story:
                       self.open_passage(find.sub, find.last), within)
 
 
+def bounds_of(story, priced):
+    """What a find may weigh, by each bound on it."""
+    stretch, within, passages = story.plan.stretch, priced.within, 2 * priced.first_open
+    gathered, moved = sum(move.gathered for move in within), sum(move.weight for move in within)
+    reach = max([priced.first_apart] + [threshold(move.level) for move in within])
+    yield "what the moves within had gathered", stretch * (priced.least_apart + gathered) + passages
+    yield "the threshold that they reached", (stretch - 7) * reach + passages + moved
+    yield "the plan's own stretch of any find", story.any_find * reach + passages + moved
+    if not within:
+        yield "the plan's own stretch", story.own * priced.first_apart + passages
+
+
 def bounded(story, priced):
     """What keeps a find from its bounds; nothing where it is within them."""
-    weight, within, stretch = priced.find.weight, priced.within, story.plan.stretch
-    gathered, moved = sum(move.gathered for move in within), sum(move.weight for move in within)
-    if weight > stretch * (priced.least_apart + gathered) + 2 * priced.first_open:
-        return f"{weight} > {stretch} * ({priced.least_apart} + {gathered}) + 2 * {priced.first_open}"
-    reach = max([priced.first_apart] + [threshold(move.level) for move in within])
-    if weight > (stretch - 7) * reach + 2 * priced.first_open + moved:
-        return f"{weight} > {stretch - 7} * {reach} + 2 * {priced.first_open} + {moved}"
-    return None
+    weight = priced.find.weight
+    return next((f"weighs {weight}, and by {name} {bound}" for name, bound in bounds_of(story, priced) if weight > bound), None)
 
 
 def charge(story, priced):
