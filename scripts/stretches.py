@@ -1,30 +1,41 @@
 """A plan's own stretches, by their definitions (docs/DIRECTORY.md, "What every find pays") and apart from the program."""
-from itertools import accumulate
+from collections import namedtuple
+
+from texts import BadText
+
+# The stretch of all plans of its degree and reach, its own, and its own of any find.
+Stretches = namedtuple("Stretches", "printed own any_find")
+
+
+def read_stretches(text):
+    """What the line of stretches says."""
+    fields = text.split()
+    if fields[::2] != ["stretch", "own", "any"]:
+        raise BadText(f"no line of stretches: {text.strip()}")
+    return Stretches(*map(int, fields[1::2]))
 
 
 def farthest(setting, level, cluster):
     """How far the farthest node whose home a cluster is stands from its leader."""
     leader = setting.leader(level, cluster)
-    homed = (node for node in range(setting.plan.nodes) if setting.home(level, node) == cluster)
+    homed = (node for node, home in enumerate(setting.plan.levels[level].homes) if home == cluster)
     return max((setting.network.distance(leader, node) for node in homed), default=0)
 
 
-def cost_at(setting, node, level, passed):
-    """What a find from a node pays at most that ends at a level, and what it has passed once it has read that level too."""
-    dearest = 0
-    for cluster in setting.readers[level][node]:
-        passed += 2 * setting.inside[level][cluster][node]
-        dearest = max(dearest, passed + 2 * farthest(setting, level, cluster) + 2 * setting.threshold(level) - 2)
-    return max(passed, dearest), passed
+def farthest_of_all(setting):
+    """The same for each cluster of each level."""
+    return [[farthest(setting, i, c) for c in range(len(level.clusters))] for i, level in enumerate(setting.plan.levels)]
 
 
-def costs_from(setting, node):
+def costs_from(setting, far, node):
     """What a find from a node pays at most up to each level."""
-    costs, passed = [], 0
+    costs, passed, dearest = [], 0, 0
     for level in range(setting.top + 1):
-        cost, passed = cost_at(setting, node, level, passed)
-        costs.append(cost)
-    return list(accumulate(costs, max))
+        for cluster in setting.readers[level][node]:
+            passed += 2 * setting.inside[level][cluster][node]
+            dearest = max(dearest, passed + 2 * far[level][cluster] + 2 * setting.threshold(level) - 2)
+        costs.append(max(passed, dearest))
+    return costs
 
 
 def level_for(setting, distance):
@@ -37,13 +48,14 @@ def units_of(weight, unit):
     return -(-weight // unit)
 
 
-def own_stretches(setting):
-    """The own stretch of a plan, and that of any find."""
+def stretches_of(setting):
+    """The stretches of a plan."""
     own = any_find = 0
+    far = farthest_of_all(setting)
     for node in range(setting.plan.nodes):
-        costs = costs_from(setting, node)
+        costs = costs_from(setting, far, node)
         apart = [setting.network.distance(node, other) for other in range(setting.plan.nodes) if other != node]
         own = max([own] + [units_of(costs[level_for(setting, d)] + d, d) for d in apart])
         past = [units_of(costs[min(i + 1, setting.top)], setting.threshold(i)) + 1 for i in range(setting.top + 1)]
         any_find = max(any_find, *past)
-    return own, max(own, any_find)
+    return Stretches(setting.plan.stretch, own, max(own, any_find))
