@@ -51,11 +51,11 @@ def charges(story):
     charged = set()
     for priced in story.finds:
         if isinstance(priced.find, texts.Again):
-            number, why = charge(story, priced)
-            key = (priced.find.actor, priced.find.sub, number)
-            if why or key in charged:
-                return why or f"two Agains of caller {priced.find.actor} are charged to move {number}"
-            if number:
+            to = charge(story, priced)
+            key = (priced.find.actor, priced.find.sub, to.number)
+            if to.why or key in charged:
+                return to.why or f"two Agains of caller {priced.find.actor} are charged to move {to.number}"
+            if to.number:
                 charged.add(key)
     return None
 

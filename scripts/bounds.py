@@ -28,7 +28,7 @@ class Story:
             if isinstance(call, texts.Moved) and call.actor == sub:
                 gathered = [so_far + call.weight for so_far in gathered]
                 level = max((i for i, so_far in enumerate(gathered) if so_far >= self.setting.threshold(i)), default=0)
-                confirm = own[own.index(call.commit) + 1]
+                confirm = min(ticket for ticket in own if ticket > call.commit)
                 moves.append(Move(call.start, call.to, call.weight, level, gathered[level], call.commit, confirm))
                 gathered[:level + 1] = [0] * (level + 1)
         return moves
@@ -68,6 +68,8 @@ class Story:
                 walk.step(cells, ticket)
                 if walk.place[0] == "chase":
                     return ticket
+                if walk.answer:
+                    return None
         return None
 
     def standing(self, sub, ticket):
@@ -99,22 +101,46 @@ def bounds_of(story, priced):
         yield "the plan's own stretch", story.own_stretches.own * priced.first_apart + passages
 
 
-def charge(story, priced):
-    """The number of the move that an Again is charged to, 0 where its chase was given up; and what keeps it from that, if anything."""
-    find, moves = priced.find, story.moves[priced.find.sub]
-    if find.why == "none":
-        for number, move in enumerate(moves, 1):
-            if move in priced.within and any(find.first < t < find.last for t in story.erased(find.sub, number, story.top)):
-                return number, None
-        return 0, "no entry, and no move within that erases an address of the top level"
-    since = story.chase_began(find)
-    if find.why == "chased":
-        commits = sum(since < move.commit for move in priced.within)
-        return 0, None if commits >= 3 else f"chased, with {commits} commits since {since}"
+def least_bound(story, priced):
+    """The least of the bounds on a find: by what, and what it may weigh."""
+    return min(bounds_of(story, priced), key=lambda bound: bound[1])
+
+
+Charge = namedtuple("Charge", "number commits why")  # the move's number, else the commits within a chase, or why there is neither
+
+
+def charged_to_top(story, priced):
+    """The move that an Again is charged to which met no address."""
+    find = priced.find
+    for number, move in enumerate(story.moves[find.sub], 1):
+        if move in priced.within and any(find.first < t < find.last for t in story.erased(find.sub, number, story.top)):
+            return Charge(number, [], None)
+    return Charge(0, [], "no entry, and no move within that erases an address of the top level")
+
+
+def charged_to_purge(story, find, since):
+    """The move that an Again is charged to which read that a node is empty."""
     node = int(find.why.split()[1])
-    number = max((d for d in story.emptied(find.sub) if d.put.place == node and d.ticket < find.last), key=lambda d: d.ticket).number
-    first = min(deed.ticket for deed in story.emptied(find.sub) if deed.number == number)
+    emptied = [deed for deed in story.emptied(find.sub) if deed.ticket < find.last]
+    number = max((deed for deed in emptied if deed.put.place == node), key=lambda deed: deed.ticket, default=Deed(0, None, 0)).number
+    if not number:
+        return Charge(0, [], f"empty, and no move emptied node {node} before")
+    first = min(deed.ticket for deed in emptied if deed.number == number)
     erased = story.erased(find.sub, number)
-    if moves[number - 1].level < story.top or first < since or (erased and max(erased) < since):
-        return number, f"empty since move {number}, which empties from {first} on and erases at {erased}, chased since {since}"
-    return number, None
+    if story.moves[find.sub][number - 1].level < story.top or first < since or (erased and max(erased) < since):
+        return Charge(number, [], f"empty since move {number}, which empties from {first} on and erases at {erased}, chased since {since}")
+    return Charge(number, [], None)
+
+
+def charge(story, priced):
+    """What an Again is charged to."""
+    find = priced.find
+    if find.why == "none":
+        return charged_to_top(story, priced)
+    since = story.chase_began(find)
+    if since is None:
+        return Charge(0, [], f"{find.why}, and the directory's own find by these tickets didn't chase")
+    if find.why != "chased":
+        return charged_to_purge(story, find, since)
+    commits = [move.commit for move in priced.within if since < move.commit]
+    return Charge(0, commits, None if len(commits) >= 3 else f"chased, with {len(commits)} commits since {since}")
