@@ -21,7 +21,7 @@ from program import OURS, tried_program  # noqa: E402
 from texts import BadText, ends_clearly  # noqa: E402
 
 PROGRAM = tried_program()
-PROGRESS = re.compile(r"^lab: .+, [\d,]+ of [\d,]+ calls\n", re.M)
+PROGRESS = re.compile(r"^lab: (?:.+, [\d,]+ of [\d,]+ calls|(?:measuring|writing|making|drawing|weighing) .+)\n", re.M)
 
 
 def blocks_of(page):
