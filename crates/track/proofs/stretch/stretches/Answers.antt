@@ -30,8 +30,8 @@ returns c =
     ∙ ap (λ (p : PlanData). any_stretch_of (setting_of p contents.homes)) same in
     IfOk-weaker c.stretch_text.result _ _ (λ text is. record {
       text_is = is ∙ ap (λ (p : PlanData). stretch_text_of p found) same
-      ∙ ap (λ (number : ℕ). stretch_text_of plan (record { own = number; any = found.any })) own
-      ∙ ap (λ (number : ℕ). stretch_text_of plan
-        (record { own = own_stretch_of (plan_setting plan contents); any = number })) any;
+          ∙ ap (λ (number : ℕ). stretch_text_of plan (record { own = number; any = found.any })) own
+          ∙ ap (λ (number : ℕ). stretch_text_of plan
+          (record { own = own_stretch_of (plan_setting plan contents); any = number })) any;
       bound = c.plan_finds_keep_own_stretch.ensures plan contents.homes few bounds;
     }) c.stretch_text.ensures
