@@ -4,8 +4,8 @@
 First each example of examples/false-bounds: the program is to write its .replay, and a claim that seems likely is to fail there,
 with the numbers that it fails by. Then made loads of two kinds, those of `make` and those of scripts/loads.py: no find may weigh
 more than the plan's stretch times its distance, the least at any of its tickets, and what the moves within had gathered, and
-twice the passage that was open before it; with the distance before its first look it is held to the sharper price, and the finds
-of a caller in all to theirs. An Again that met no entry has a move within that renews the top level, with its commit and an
+twice the passage that was open before it; with the distance before its first look it is held to the sharper price, and to the
+plan's own stretches, and the finds of a caller in all to theirs. An Again that met no entry has a move within that renews the top level, with its commit and an
 erasure of that level. One that met an Empty has the move that put it, whose first Empty and last erasure come after the look at
 which the chase began. One whose chase was given up has three commits within the chase. No two of a caller have the same move.
 
@@ -14,142 +14,36 @@ program, ./track where it isn't set."""
 import pathlib
 import subprocess
 import sys
-from collections import defaultdict, namedtuple
+from collections import defaultdict
 
 sys.path.insert(0, str(pathlib.Path(__file__).resolve().parent.parent / "scripts"))
 import directory  # noqa: E402
 import loads  # noqa: E402
+import stretches  # noqa: E402
 import texts  # noqa: E402
+from bounds import Story, bounds_of, charge  # noqa: E402
 from program import tried_program  # noqa: E402
 
 PROGRAM = tried_program()
 FALSE = pathlib.Path("examples/false-bounds")
-Move = namedtuple("Move", "start to weight level gathered commit confirm")
-Deed = namedtuple("Deed", "ticket put number")  # number: of the put's move, and 0 of a switch
-Priced = namedtuple("Priced", "find first_apart last_apart least_apart first_open last_open within")
-
-
 def written(word, text):
     """What the program writes for an input."""
     return subprocess.run([PROGRAM, *word.split()], input=text, stdout=subprocess.PIPE, check=True).stdout
 
 
-def threshold(level):
-    return 1 if level == 0 else 2 ** (level - 1)
-
-
-class Story:
-    """An input with its plan and its report: the moves of each subscriber, and its finds with what their price is made of."""
-
-    def __init__(self, text):
-        self.said = texts.read_input(text)
-        self.plan = texts.read_plan(written("cover", text).decode())
-        self.report = texts.read_report(written("replay", text).decode())
-        self.top = len(self.plan.levels) - 1
-        self.network = directory.Network(self.said.nodes, self.said.edges)
-        self.setting = directory.Setting(self.network, self.plan)
-        self.moves = [self.moves_of(sub) for sub in range(len(self.said.homes))]
-        self.deeds = [self.deeds_of(sub) for sub in range(len(self.said.homes))]
-        self.finds = [self.priced(call) for call in self.report.calls if isinstance(call, (texts.Found, texts.Again))]
-
-    def moves_of(self, sub):
-        """The moves of a subscriber, each with the highest level that it renews and what that had gathered with it."""
-        own = [ticket for ticket, actor in enumerate(self.report.order) if actor == sub]
-        gathered, moves = [0] * (self.top + 1), []
-        for call in self.report.calls:
-            if isinstance(call, texts.Moved) and call.actor == sub:
-                gathered = [so_far + call.weight for so_far in gathered]
-                level = max((i for i, so_far in enumerate(gathered) if so_far >= threshold(i)), default=0)
-                confirm = own[own.index(call.commit) + 1]
-                moves.append(Move(call.start, call.to, call.weight, level, gathered[level], call.commit, confirm))
-                gathered[:level + 1] = [0] * (level + 1)
-        return moves
-
-    def tickets_of(self, actor):
-        """The tickets of an actor's visits."""
-        return [ticket for ticket, visitor in enumerate(self.report.order) if visitor == actor]
-
-    def deeds_of(self, sub):
-        """The puts of a subscriber, each with its ticket and the number of its move."""
-        course, tickets, deeds = directory.Course(self.setting, self.said.homes[sub]), iter(self.tickets_of(sub)), []
-        for call in self.report.calls:
-            if isinstance(call, texts.Moved) and call.actor == sub:
-                puts, _ = course.move(call.to)
-                deeds += [Deed(ticket, put, course.number) for put, ticket in zip(puts, tickets)]
-            elif isinstance(call, texts.Switched) and call.actor == sub:
-                deeds += [Deed(ticket, put, 0) for put, ticket in zip(course.switch(call.off), tickets)]
-        return deeds
-
-    def erased(self, sub, number, level=None):
-        """The tickets at which a move erases an address, of a level where one is named."""
-        return [deed.ticket for deed in self.deeds[sub] if deed.number == number and deed.put.kind == "entry"
-                and deed.put.word is None and level in (None, deed.put.place[0])]
-
-    def emptied(self, sub):
-        """The puts by which a subscriber's moves empty a mark."""
-        return [deed for deed in self.deeds[sub] if deed.put.word == ("Empty",)]
-
-    def chase_began(self, find):
-        """The ticket of the look at which a find's chase began, by its looks made once more; nothing where it never chased."""
-        walk, cells = directory.Walk(self.setting, find.start, find.sub), directory.Cells(self.setting, self.said.homes)
-        deeds = list(self.deeds[find.sub])
-        for ticket in self.tickets_of(find.actor):
-            if find.first <= ticket <= find.last:
-                while deeds and deeds[0].ticket < ticket:
-                    cells.put(find.sub, deeds.pop(0).put)
-                walk.step(cells, ticket)
-                if walk.place[0] == "chase":
-                    return ticket
-        return None
-
-    def standing(self, sub, ticket):
-        """Where a subscriber stands before a ticket."""
-        return next((move.to for move in reversed(self.moves[sub]) if move.commit < ticket), self.said.homes[sub])
-
-    def open_passage(self, sub, ticket):
-        """The passage that is open before a ticket, 0 where none is."""
-        return sum(move.weight for move in self.moves[sub] if move.commit < ticket <= move.confirm)
-
-    def priced(self, find):
-        """A find with its distances, its open passages, and the moves that were committed within it."""
-        within = [move for move in self.moves[find.sub] if find.first < move.commit < find.last]
-        stands = [self.standing(find.sub, find.first)] + [move.to for move in within]
-        apart = [self.network.distance(find.start, node) for node in stands]
-        return Priced(find, apart[0], apart[-1], min(apart), self.open_passage(find.sub, find.first),
-                      self.open_passage(find.sub, find.last), within)
+def story_of(text):
+    """What the program makes of an input, with what its finds may weigh."""
+    said = texts.read_input(text)
+    plan = texts.read_plan(written("cover", text).decode())
+    setting = directory.Setting(directory.Network(said.nodes, said.edges), plan)
+    own_stretches = stretches.read_stretches(written("stretch", text).decode())
+    return Story(said, setting, texts.read_report(written("replay", text).decode()), own_stretches)
 
 
 def bounded(story, priced):
     """What keeps a find from its bounds; nothing where it is within them."""
-    weight, within, stretch = priced.find.weight, priced.within, story.plan.stretch
-    gathered, moved = sum(move.gathered for move in within), sum(move.weight for move in within)
-    if weight > stretch * (priced.least_apart + gathered) + 2 * priced.first_open:
-        return f"{weight} > {stretch} * ({priced.least_apart} + {gathered}) + 2 * {priced.first_open}"
-    reach = max([priced.first_apart] + [threshold(move.level) for move in within])
-    if weight > (stretch - 7) * reach + 2 * priced.first_open + moved:
-        return f"{weight} > {stretch - 7} * {reach} + 2 * {priced.first_open} + {moved}"
-    return None
-
-
-def charge(story, priced):
-    """The number of the move that an Again is charged to, 0 where its chase was given up; and what keeps it from that, if anything."""
-    find, moves = priced.find, story.moves[priced.find.sub]
-    if find.why == "none":
-        for number, move in enumerate(moves, 1):
-            if move in priced.within and any(find.first < t < find.last for t in story.erased(find.sub, number, story.top)):
-                return number, None
-        return 0, "no entry, and no move within that erases an address of the top level"
-    since = story.chase_began(find)
-    if find.why == "chased":
-        commits = sum(since < move.commit for move in priced.within)
-        return 0, None if commits >= 3 else f"chased, with {commits} commits since {since}"
-    node = int(find.why.split()[1])
-    number = max((d for d in story.emptied(find.sub) if d.put.place == node and d.ticket < find.last), key=lambda d: d.ticket).number
-    first = min(deed.ticket for deed in story.emptied(find.sub) if deed.number == number)
-    erased = story.erased(find.sub, number)
-    if moves[number - 1].level < story.top or first < since or (erased and max(erased) < since):
-        return number, f"empty since move {number}, which empties from {first} on and erases at {erased}, chased since {since}"
-    return number, None
+    weight = priced.find.weight
+    return next((f"weighs {weight}, and by {name} {bound}" for name, bound in bounds_of(story, priced) if weight > bound), None)
 
 
 def charges(story):
@@ -157,11 +51,11 @@ def charges(story):
     charged = set()
     for priced in story.finds:
         if isinstance(priced.find, texts.Again):
-            number, why = charge(story, priced)
-            key = (priced.find.actor, priced.find.sub, number)
-            if why or key in charged:
-                return why or f"two Agains of caller {priced.find.actor} are charged to move {number}"
-            if number:
+            to = charge(story, priced)
+            key = (priced.find.actor, priced.find.sub, to.number)
+            if to.why or key in charged:
+                return to.why or f"two Agains of caller {priced.find.actor} are charged to move {to.number}"
+            if to.number:
                 charged.add(key)
     return None
 
@@ -174,8 +68,8 @@ def in_all(story):
             sums[priced.find.actor, priced.find.sub][place] += part
     for (_, sub), (weight, apart, passages) in sums.items():
         moved = sum(move.weight for move in story.moves[sub])
-        if weight > story.plan.stretch * (apart + (story.top + 1) * moved) + 2 * passages:
-            return f"{weight} in all > {story.plan.stretch} * ({apart} + {story.top + 1} * {moved}) + 2 * {passages}"
+        if weight > story.setting.plan.stretch * (apart + (story.top + 1) * moved) + 2 * passages:
+            return f"{weight} in all > {story.setting.plan.stretch} * ({apart} + {story.top + 1} * {moved}) + 2 * {passages}"
     return None
 
 
@@ -185,8 +79,8 @@ def by_weight_moved(story, apart):
     """That a find weighs at most the stretch times its distance and the weight of the moves within, and twice the passage."""
     for priced in story.finds:
         moved, base = sum(move.weight for move in priced.within), getattr(priced, apart)
-        if priced.find.weight > story.plan.stretch * (base + moved) + 2 * priced.first_open:
-            return f"{priced.find.weight} > {story.plan.stretch} * ({base} + {moved}), {len(priced.within)} moves within"
+        if priced.find.weight > story.setting.plan.stretch * (base + moved) + 2 * priced.first_open:
+            return f"{priced.find.weight} > {story.setting.plan.stretch} * ({base} + {moved}), {len(priced.within)} moves within"
     return None
 
 
@@ -202,8 +96,8 @@ def passage_at_last(story):
     """That the passage may be told at the last look."""
     for priced in story.finds:
         gathered = sum(move.gathered for move in priced.within)
-        if priced.find.weight > story.plan.stretch * (priced.last_apart + gathered) + 2 * priced.last_open:
-            return f"{priced.find.weight} > {story.plan.stretch} * ({priced.last_apart} + {gathered}) + 2 * {priced.last_open}"
+        if priced.find.weight > story.setting.plan.stretch * (priced.last_apart + gathered) + 2 * priced.last_open:
+            return f"{priced.find.weight} > {story.setting.plan.stretch} * ({priced.last_apart} + {gathered}) + 2 * {priced.last_open}"
     return None
 
 
@@ -260,7 +154,7 @@ def check_false_bounds():
         text = (FALSE / f"{name}.txt").read_bytes()
         if written("replay", text) != (FALSE / f"{name}.replay").read_bytes():
             sys.exit(f"{name}: another report")
-        story = Story(text)
+        story = story_of(text)
         broken = claim(story)
         if not broken:
             sys.exit(f"{name}: the claim holds: {claim.__doc__}")
@@ -296,7 +190,7 @@ def main():
     check_false_bounds()
     finds = met = agains = 0
     for seed in range(1, count + 1):
-        story = Story((made if seed % 2 else told)(seed))
+        story = story_of((made if seed % 2 else told)(seed))
         held(story, f"load {seed}")
         finds += len(story.finds)
         met += sum(bool(priced.within) for priced in story.finds)

@@ -2,7 +2,7 @@
 """Runs what pages tell their readers to type, and holds what comes to what the pages show. A block of lines that are indented by
 four spaces and begin with '$ ' is such: a line '$ COMMAND' is run by sh, and the lines after it, up to the next command, are what it
 writes to standard output and standard error. '...' at the end of a block stands for whatever else it writes. A line '[STATUS]'
-after them is its exit status, where that isn't 0.
+after them is its exit status, where that isn't 0. What the lab says of its progress, on a slow machine alone, isn't looked at.
 
 Usage, at the top of the repository: bench/check_pages.py PAGE..
 
@@ -21,6 +21,7 @@ from program import OURS, tried_program  # noqa: E402
 from texts import BadText, ends_clearly  # noqa: E402
 
 PROGRAM = tried_program()
+PROGRESS = re.compile(r"^lab: (?:.+, [\d,]+ of [\d,]+ calls|(?:measuring|writing|making|drawing|weighing) .+)\n", re.M)
 
 
 def blocks_of(page):
@@ -64,7 +65,7 @@ def run(command, folder):
         command = re.sub(r"(?<![\w/])\./track\b", lambda _: PROGRAM, command)
     done = subprocess.run(["sh", "-c", command], cwd=folder, stdin=subprocess.DEVNULL, stdout=subprocess.PIPE,
                           stderr=subprocess.STDOUT, check=False)
-    return done.stdout.decode(errors="replace"), done.returncode
+    return PROGRESS.sub("", done.stdout.decode(errors="replace")), done.returncode
 
 
 def agrees(lines, wanted):

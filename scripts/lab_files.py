@@ -127,7 +127,7 @@ def records_of_rows(answer: Answer) -> list[dict]:
     rivals = rivals_of(answer.rows)
     records = []
     for row in answer.rows:
-        record = {name: getattr(row, name) for name in ("name", "covers", "k", "levels", "degree", "stretch")}
+        record = {name: getattr(row, name) for name in ("name", "covers", "k", "levels", "degree", "own_stretch", "any_stretch")}
         for kind in ("quiet", "met", "all_finds"):
             found = getattr(row, kind)
             record |= {f"{kind}": found.number, f"{kind}_median": number_or_none(found.median),

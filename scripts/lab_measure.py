@@ -29,7 +29,8 @@ class Row:
     k: int | None
     levels: int | None
     degree: int | None
-    stretch: int | None
+    own_stretch: int | None
+    any_stretch: int | None
     quiet: Spread
     met: Spread
     all_finds: Spread
@@ -93,7 +94,8 @@ def row_of(outcome: Outcome, network: directory.Network) -> Row:
         k=outcome.kind.k if outcome.kind else None,
         levels=len(outcome.plan.levels) if outcome.plan else None,
         degree=outcome.plan.degree if outcome.plan else None,
-        stretch=outcome.plan.stretch if outcome.plan else None,
+        own_stretch=outcome.stretches.own if outcome.stretches else None,
+        any_stretch=outcome.stretches.any_find if outcome.stretches else None,
         quiet=spread_of([find for find in found if own and not find.met], network),
         met=spread_of([find for find in found if find.met], network),
         all_finds=spread_of(found, network),

@@ -7,11 +7,23 @@ import directory
 from lab_load import Part, Wishes
 from lab_networks import Site
 from program import Program
+from stretches import Stretches, read_stretches
 from texts import BadText, Plan, read_plan
 from timed import Found, Moved, TimedMachine
 from weights import costs_text
 
-WORDS = {"cover": ("cover", "replay"), "mean": ("meancover", "meanreplay")}
+
+
+@dataclass(frozen=True)
+class Words:
+    """The words of the program for one kind of covers."""
+
+    plan: str
+    report: str
+    stretch: str
+
+
+WORDS = {"cover": Words("cover", "replay", "stretch"), "mean": Words("meancover", "meanreplay", "meanstretch")}
 
 
 @dataclass(frozen=True)
@@ -35,6 +47,7 @@ class Outcome:
     name: str
     kind: Kind | None = None
     plan: Plan | None = None
+    stretches: Stretches | None = None
     found: list[Found] = field(default_factory=list)
     moved: list[Moved] = field(default_factory=list)
     visits: list[int] = field(default_factory=list)  # by node
@@ -44,10 +57,20 @@ class Outcome:
     late: float = 0.0  # by how much of its planned time the load ended after it
 
 
+def bare_input(site: Site, k: int) -> str:
+    """An input without calls on the network."""
+    lines = ["track 2", f"nodes {site.nodes}", f"k {k}"] + [f"edge {a} {b} {weight}" for a, b, weight in site.edges]
+    return "\n".join(lines + ["sub 0", "callers 0"]) + "\n"
+
+
 def plan_of(program: Program, site: Site, kind: Kind) -> Plan:
     """The plan that the program makes for the network."""
-    lines = ["track 2", f"nodes {site.nodes}", f"k {kind.k}"] + [f"edge {a} {b} {weight}" for a, b, weight in site.edges]
-    return read_plan(program.ask(WORDS[kind.covers][0], "\n".join(lines + ["sub 0", "callers 0"]) + "\n"))
+    return read_plan(program.ask(WORDS[kind.covers].plan, bare_input(site, kind.k)))
+
+
+def stretches_of(program: Program, site: Site, kind: Kind) -> Stretches:
+    """The stretches that the program tells of this plan."""
+    return read_stretches(program.ask(WORDS[kind.covers].stretch, bare_input(site, kind.k)))
 
 
 def head_of(site: Site, words: str) -> list[str]:
@@ -67,7 +90,7 @@ class Runner:
     def run(self, kind: Kind, plan: Plan, parts: list[Part], tell) -> Outcome:
         """The load over a plan; ends the lab where the program replays it otherwise."""
         setting, nodes = directory.Setting(self.network, plan), self.site.nodes
-        outcome = Outcome(kind.name(), kind, plan, visits=[0] * nodes, cells=[0] * nodes)
+        outcome = Outcome(kind.name(), kind, plan, stretches_of(self.program, self.site, kind), visits=[0] * nodes, cells=[0] * nodes)
         spent = planned = last = 0
         for at, part in enumerate(parts, 1):
             machine = TimedMachine(setting, part, self.wishes)
@@ -88,7 +111,7 @@ class Runner:
 
     def hold(self, kind: Kind, machine: TimedMachine, text: str) -> None:
         """The program's replay has to be what the lab saw; its costs, which are those of `cover`, too."""
-        word, path = WORDS[kind.covers][1], self.program.path
+        word, path = WORDS[kind.covers].report, self.program.path
         if self.program.ask(word, text) != machine.report():
             raise BadText(f"{path} {word} writes another report of {kind.name()} than the lab saw; the two don't agree")
         if kind.covers == "cover" and self.program.ask("costs", text) != costs_text(machine.accounts):

@@ -63,7 +63,7 @@ def table_lines(rivals: dict[str, Row]) -> list[tuple[str, list[Line]]]:
         ("the plan", [
             ("  levels", lambda row: count(row.levels)),
             ("  clusters at a node and level, most", lambda row: count(row.degree)),
-            ("  proved of quiet finds: at most", lambda row: count(row.stretch)),
+            ("  proved of quiet finds: at most", lambda row: count(row.own_stretch)),
         ]),
         ("finds: weight over distance", [
             *spread_lines("  quiet", lambda row: row.quiet),

@@ -156,8 +156,8 @@ def weights_table(prices, network, movers):
         for kind in KINDS:
             spread = [getattr(row, f"{kind}_{share}") for share in ("median", "95", "most")]
             cells += [short(find_ratio(row, kind)), " / ".join(map(short, spread))]
-        cells += [str(row.stretch) if row.stretch else "", short(row.messages / row.moved)]
-        rows.append(cells + [short(row.written / row.moved) if row.stretch else ""])
+        cells += [str(row.own_stretch) if row.own_stretch else "", short(row.messages / row.moved)]
+        rows.append(cells + [short(row.written / row.moved) if row.own_stretch else ""])
     return table(head, rows)
 
 
@@ -170,7 +170,7 @@ def bounds_table(prices, networks):
             return short(max(max(row.near_most, row.far_most) for movers in MOVERS
                              for way, row in prices.of(network, movers).items() if way in ways))
         covers = [row.way for row in prices.covers(network, "away")]
-        rows.append([prices.title(network), str(prices.of(network, "away")["k 2"].stretch)]
+        rows.append([prices.title(network), str(prices.of(network, "away")["k 2"].own_stretch)]
                     + [most(ways) for ways in (["k 2"], covers, ["home register"], ["pointers"])])
     return table(head, rows)
 

@@ -5,6 +5,7 @@ from collections import namedtuple
 from directory import Cells, Course, Network, Setting, Walk
 from loads import Draw
 from rivals import Rivals, origins
+from stretches import read_stretches
 from texts import MOST_BYTES, BadText, read_plan
 from weights import Account, at_share, costs_text, write_weight
 
@@ -51,11 +52,19 @@ class Ground:
         reach = max(self.reach, min(row[v] for v in self.near[home]))
         return [[v for v in near if row[v] <= reach] for near in self.near]
 
+    def text(self, k):
+        """An input without calls on the network."""
+        head = [f"track {1 if self.nodes <= 256 else 2}", f"nodes {self.nodes}", f"k {k}"]
+        lines = head + [f"edge {a} {b} {weight}" for a, b, weight in self.edges] + ["sub 0", "callers 0"]
+        return "\n".join(lines) + "\n"
+
     def setting(self, program, cover):
         """The setting of the plan that the program makes."""
-        head = [f"track {1 if self.nodes <= 256 else 2}", f"nodes {self.nodes}", f"k {cover.k}"]
-        lines = head + [f"edge {a} {b} {weight}" for a, b, weight in self.edges] + ["sub 0", "callers 0"]
-        return Setting(self.network, read_plan(program.ask("meancover" if cover.mean else "cover", "\n".join(lines) + "\n")))
+        return Setting(self.network, read_plan(program.ask("meancover" if cover.mean else "cover", self.text(cover.k))))
+
+    def own_stretch(self, program, cover):
+        """How many times its distance a quiet find over this plan weighs at most, as the program tells."""
+        return read_stretches(program.ask("meanstretch" if cover.mean else "stretch", self.text(cover.k))).own
 
 
 class Load:
@@ -112,8 +121,8 @@ class Load:
 class Price:
     """What the moves and finds of a load weigh in one of the ways, call by call."""
 
-    def __init__(self, stretch=0, degree=0):
-        self.stretch, self.degree = stretch, degree
+    def __init__(self, own_stretch=0, degree=0):
+        self.own_stretch, self.degree = own_stretch, degree
         self.messages, self.finds = [], {kind: [] for kind in KINDS}
         self.written, self.purged = [], []  # of the directory alone
 
@@ -128,7 +137,7 @@ class Weighed:
         self.courses = [Course(self.setting, start) for start in load.starts]
         self.accounts = [Account() for _ in range(SUBS)]
         self.walks, self.order = [], []
-        self.price = Price(self.setting.plan.stretch, self.setting.plan.degree)
+        self.price = Price(load.ground.own_stretch(program, cover), self.setting.plan.degree)
         for call in load.calls:
             (self.find if call.kind in KINDS else self.move)(call)
         text = self.text()
@@ -187,7 +196,7 @@ class Weighed:
 
 # Rows: what is kept of a load.
 
-Row = namedtuple("Row", "network nodes movers way stretch degree moves moved messages written purged halves "
+Row = namedtuple("Row", "network nodes movers way own_stretch degree moves moved messages written purged halves "
                         "near_finds near_distance near_weight near_median near_95 near_most "
                         "far_finds far_distance far_weight far_median far_95 far_most")
 TEXTS = ("network", "movers", "way")
@@ -210,7 +219,7 @@ def row_of(load, way, price):
         ratios = sorted(weight / distance for weight, distance in zip(price.finds[kind], load.distances[kind]))
         finds += [len(ratios), sum(load.distances[kind]), sum(price.finds[kind])]
         finds += [round(at_share(ratios, share), 2) for share in (0.5, 0.95, 1)]
-    return Row(load.ground.name, load.ground.nodes, load.movers, way, price.stretch, price.degree, len(load.moved), sum(load.moved),
+    return Row(load.ground.name, load.ground.nodes, load.movers, way, price.own_stretch, price.degree, len(load.moved), sum(load.moved),
                sum(price.messages), sum(price.written), sum(price.purged), round(halves_of(load, price), 3), *finds)
 
 

@@ -45,14 +45,14 @@ class Program:
     def __init__(self, path: str | None = None):
         self.path, self.called = path or program_path(), False
 
-    def ask(self, word: str, text: str) -> str:
-        """What the program writes to an input."""
+    def ask(self, words: str, text: str) -> str:
+        """What the program writes to an input, by a word or by more."""
         shown = subprocess.PIPE if self.called else None
         try:
-            ran = subprocess.run([self.path, word], input=text.encode(), stdout=subprocess.PIPE, stderr=shown, check=False)
+            ran = subprocess.run([self.path, *words.split()], input=text.encode(), stdout=subprocess.PIPE, stderr=shown, check=False)
         except OSError as bad:
             raise BadText(f"the program {self.path} doesn't run: {bad.strerror}") from None
         self.called = True
         if ran.returncode != 0:
-            raise BadText(f"{self.path} {word} ended with status {ran.returncode}")
+            raise BadText(f"{self.path} {words} ended with status {ran.returncode}")
         return ran.stdout.decode("latin-1")

@@ -3,12 +3,16 @@
 -- Key law: `line_price`.
 use Rattle.std.specs.Prelude.{ℕ, List, [], ◌∷◌, ◌++◌, replicate}
 use Rattle.directory.specs.Courses.{move_to}
+use Rattle.directory.specs.Finds.{FindCall}
 use Rattle.directory.specs.Histories.{History}
 use Rattle.directory.specs.Orders.{history_of, Scripts}
 use Rattle.plan_laws.specs.Examples.{line_scripts, line_setting}
-use Rattle.stretch_laws.specs.Examples.{line_call}
 
--- a move from node 3 to node 2, and a find from node 0
+-- a find of the subscriber from node 0
+abbrev pub line_call : FindCall
+line_call = record { from = 0; sub = 0 }
+
+-- a move from node 3 to node 2, and this find
 abbrev pub line_meeting : Scripts
 line_meeting = line_scripts (move_to 2 ∷ []) (line_call ∷ [])
 

@@ -1,13 +1,12 @@
 //! An example that meets what the laws ask.
 ghost use Rattle.std.specs.Prelude.{◌≡◌, ◌+◌, ◌++◌, [], ◌∷◌, Some, replicate};
-ghost use Rattle.busy_finds.specs.Examples.{line_meeting, meeting_history, meeting_order};
+ghost use Rattle.busy_finds.specs.Examples.{line_call, line_meeting, meeting_history, meeting_order};
 ghost use Rattle.busy_finds.specs.Levels.{cost_up_to, IsOwnStretch, level_for};
 ghost use Rattle.busy_finds.specs.Prices.{GathersHalf, gathered_within, greatest_threshold, moves_within, price, weight_of};
 ghost use Rattle.directory.specs.Histories.{before};
 ghost use Rattle.directory.specs.Outcomes.{outcome_of};
 ghost use Rattle.directory.specs.declared.answers.Done.TheVariants.{Moved, Found as FoundBy};
 ghost use Rattle.plan_laws.specs.Examples.{line_setting};
-ghost use Rattle.stretch_laws.specs.Examples.{line_call};
 
 use crate::plans::plans_gather_half;
 use plan_laws::line_has_its_plan;

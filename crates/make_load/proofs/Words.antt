@@ -10,7 +10,7 @@ use Rattle.std.specs.Str.{bytes_eq}
 use Rattle.std.specs.Str.Parse.{AllDigits, digits_value}
 use Rattle.std.proofs.lemmas.Str.{digit_value_digit}
 use Rattle.word_line.specs.declared.command.Command.{Command}
-use Rattle.word_line.specs.declared.command.Command.TheVariants.{Cover, Replay, Census, Costs, Check, Run, Make, Trial, ToJson, FromJson, ReplayJson, MeanCover, MeanReplay}
+use Rattle.word_line.specs.declared.command.Command.TheVariants.{Cover, Replay, Census, Costs, Stretch, Check, Run, Make, Trial, ToJson, FromJson, ReplayJson, MeanCover, MeanReplay, MeanStretch}
 use Rattle.word_line.specs.declared.load.Load.{Load}
 use Rattle.word_line.specs.Forms.{◌>>=◌, actor_numbers, alone, command_of, is_sound, load_of, network_numbers, number_in, number_of, plain_command, sound_alone}
 use Rattle.make_load.specs.Load.{IsLoad}
@@ -154,6 +154,7 @@ load_in Cover = None
 load_in Replay = None
 load_in Census = None
 load_in Costs = None
+load_in Stretch = None
 load_in Check = None
 load_in Run = None
 load_in ToJson = None
@@ -161,6 +162,7 @@ load_in FromJson = None
 load_in ReplayJson = None
 load_in MeanCover = None
 load_in MeanReplay = None
+load_in MeanStretch = None
 load_in (Make load) = Some load
 load_in (Trial load) = Some load
 
@@ -183,6 +185,7 @@ plain-name name =
     or_named _ Replay _ refl (
     or_named _ Census _ refl (
     or_named _ Costs _ refl (
+    or_named _ Stretch _ refl (
     or_named _ Check _ refl (
     or_named _ Run _ refl (
     or_named _ ToJson _ refl (
@@ -190,7 +193,8 @@ plain-name name =
     or_named _ ReplayJson _ refl (
     or_named _ MeanCover _ refl (
     or_named _ MeanReplay _ refl (
-    no-command)))))))))))
+    or_named _ MeanStretch _ refl (
+    no-command)))))))))))))
 
 without : (found : Option Command) (words : List (List ℕ)) (command : Command) (load : Load) → IsPlain found
     → alone found words ≡ Some command → load_in command ≡ Some load → IsLoad load

@@ -1,3 +1,4 @@
 pub mod OwnStretch
 pub mod Plans
+pub mod StretchText
 pub mod Tables

@@ -1,5 +1,4 @@
 pub mod Tracking
 pub mod Costs
 pub mod Plans
-pub mod Examples
 pub mod NearOutcomes

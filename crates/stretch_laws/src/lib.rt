@@ -5,7 +5,6 @@
 
 mod bounds;
 mod costs;
-mod examples;
 mod laws;
 mod outcomes;
 mod plans;
@@ -16,7 +15,6 @@ pub use costs::{
     current_address_after_confirm, new_address_before_commit, old_address_before_commit,
     reading_is_bounded,
 };
-pub use examples::{line_costs, line_tracks};
 pub use laws::{quiet_finds_are_near, resting_finds_are_nearer};
 pub use outcomes::{outcomes_are_near, plan_outcomes_are_near};
 pub use plans::{plan_finds_are_near, plans_track};

@@ -1,7 +1,7 @@
 -- The text that answers bytes, by the command: that of the plan of the input's network, the report
 -- of what becomes of its calls under its order, or under one that threads made, the census at their
--- end, what its moves cost, the input or its report as JSON, or the line that refuses the input;
--- the plan and the report are there over mean covers too. To a text that has an input and a report
+-- end, what its moves cost, the plan's stretches, the input or its report as JSON, or the line that
+-- refuses the input; plan, report and stretches are there over mean covers too. To a text that has an input and a report
 -- the verdict on it answers, and to JSON the input that it tells. And the text of a command that
 -- reads nothing: a made input, or the summary of its replay. Key laws: `bytes_have_one_text`,
 -- `runs_are_replayed` (a replay under the order that a run printed writes the same).
@@ -31,6 +31,10 @@ use Rattle.report_text.specs.SummaryText.{summary_of}
 use Rattle.move_cost.specs.Costs.{cost_lines}
 use Rattle.move_cost.specs.CostText.{costs_text_of}
 use Rattle.move_cost.specs.Rate.{IsWithinRate}
+use Rattle.own_stretch.specs.OwnStretch.{any_stretch_of, own_stretch_of}
+use Rattle.own_stretch.specs.Plans.{BoundWeights}
+use Rattle.own_stretch.specs.StretchText.{stretch_text_of}
+use Rattle.own_stretch.specs.declared.stretches.OwnStretches.{OwnStretches}
 use Rattle.input_text.specs.Listing.{ListingValue, listing_text}
 use Rattle.json_form.specs.TextOfJson.{IsListed, IsNoJson, IsShapeless}
 use Rattle.json_form.specs.Inputs.{input_json_of}
@@ -45,7 +49,7 @@ use Rattle.report_check.specs.Inputs.{network_of, plan_for}
 use Rattle.report_check.specs.Verdicts.{verdict_of}
 use Rattle.report_check.specs.VerdictText.{verdict_line_of}
 use Rattle.word_line.specs.declared.command.Command.{Command}
-use Rattle.word_line.specs.declared.command.Command.TheVariants.{Cover, Replay, Census, Costs, Check, Run, Make, Trial, ToJson, FromJson, ReplayJson, MeanCover, MeanReplay}
+use Rattle.word_line.specs.declared.command.Command.TheVariants.{Cover, Replay, Census, Costs, Stretch, Check, Run, Make, Trial, ToJson, FromJson, ReplayJson, MeanCover, MeanReplay, MeanStretch}
 use Rattle.track.specs.declared.status.Status.{Status}
 use Rattle.track.specs.declared.status.Status.TheVariants.{Done, Refused, Unsound}
 
@@ -166,6 +170,20 @@ pub record IsCostText (contents : Contents) (text : List ℕ) : Type 0 where
   pub within : All (IsWithinRate (2 * contents.k - 1) (levels_of (plan_for contents)))
       (cost_lines (setting_for contents) (scripts_of contents))
 
+-- a plan's own stretches, over an input
+abbrev pub stretches_over : PlanData → Contents → OwnStretches
+stretches_over plan contents = record {
+  own = own_stretch_of (plan_setting plan contents);
+  any = any_stretch_of (plan_setting plan contents);
+}
+
+-- the text tells how many times its distance a find over a plan may weigh: as the plan's text does,
+-- and by the plan's own stretches, which bound what finds weigh
+pub record IsStretchText (plan : PlanData) (contents : Contents) (text : List ℕ) : Type 0 where
+  pub text_is : text ≡ stretch_text_of plan (stretches_over plan contents)
+  pub bound : BoundWeights plan contents.homes (stretches_over plan contents).own
+      (stretches_over plan contents).any
+
 -- whether a command is served, with threads or without
 abbrev pub is_served : Bool → Command → Bool
 is_served threads Run = threads
@@ -199,12 +217,14 @@ IsResult Cover contents text = IsPlanText contents text
 IsResult Replay contents text = IsReport contents text
 IsResult Census contents text = IsCensusText contents text
 IsResult Costs contents text = IsCostText contents text
+IsResult Stretch contents text = IsStretchText (plan_for contents) contents text
 IsResult Check contents text = ⊥
 IsResult ToJson contents text = text ≡ input_json_of contents
 IsResult FromJson contents text = ⊥
 IsResult ReplayJson contents text = IsReportJson contents text
 IsResult MeanCover contents text = IsMeanPlanText contents text
 IsResult MeanReplay contents text = IsReportOver (mean_plan_for contents) contents text
+IsResult MeanStretch contents text = IsStretchText (mean_plan_for contents) contents text
 IsResult Run contents text = IsRunReport contents text
 IsResult (Make load) contents text = ⊥
 IsResult (Trial load) contents text = ⊥

@@ -22,6 +22,7 @@ ghost use Rattle.track.specs.Results.{outcome_for, outcome_over};
 use crate::census::census;
 use crate::cost::cost_text;
 use crate::status::Status;
+use crate::stretch::stretches;
 use busy_finds::plan_outcomes_are_priced;
 use directory::{Outcome, all_scripts_done};
 use distances::Distances;
@@ -194,6 +195,14 @@ fn body_of(
         }
         Command::Census => Ok(Body::Text(census(alloc, input)?)),
         Command::Costs => Ok(Body::Text(cost_text(alloc, input, graph)?)),
+        Command::Stretch => {
+            let text = stretches(alloc, Covering::Phased(input.k), input, graph)?;
+            Ok(Body::Text(text))
+        }
+        Command::MeanStretch => {
+            let text = stretches(alloc, Covering::Mean(input.k), input, graph)?;
+            Ok(Body::Text(text))
+        }
         Command::ToJson => Ok(Body::Text(input_json(alloc, input)?)),
         Command::ReplayJson => Ok(Body::Json(own_replay(alloc, input, graph)?)),
         _ => unreachable!(),

@@ -5,8 +5,9 @@ ghost use Rattle.directory.specs.Census.{census};
 ghost use Rattle.move_cost.specs.Costs.{cost_lines};
 ghost use Rattle.move_cost.specs.Rate.{IsWithinRate};
 ghost use Rattle.net_reader.specs.Input.{Contents};
+ghost use Rattle.own_stretch.specs.Plans.{BoundWeights};
 ghost use Rattle.region_plan.specs.Matched.{BoundsFinds, HasFewReaders, HasSmallSum};
-ghost use Rattle.region_plan.specs.Plan.{levels_of};
+ghost use Rattle.region_plan.specs.Plan.{PlanData, levels_of};
 ghost use Rattle.report_check.specs.declared.verdict.Verdict.TheVariants.{Sound};
 ghost use Rattle.report_text.specs.ReportText.{report_of};
 ghost use Rattle.scripts.specs.Scripts.{scripts_of};
@@ -14,11 +15,11 @@ ghost use Rattle.stretch_laws.specs.NearOutcomes.{IsLineWithin};
 ghost use Rattle.stretch_laws.specs.Plans.{bound_of};
 ghost use Rattle.trail_laws.specs.Censuses.{IsCounted, who_ends_at};
 ghost use Rattle.trail_laws.specs.RightOutcomes.{IsRightLine, TellInTurn, TellRisingNumbers};
-ghost use Rattle.word_line.specs.declared.command.Command.TheVariants.{Census, Costs, Cover, MeanCover, MeanReplay, Replay, ReplayJson, Run};
+ghost use Rattle.word_line.specs.declared.command.Command.TheVariants.{Census, Costs, Cover, MeanCover, MeanReplay, MeanStretch, Replay, ReplayJson, Run, Stretch};
 ghost use Rattle.track.specs.Laws.{BytesHaveOneText, IsComplete, IsCompleteAlone, RunsAreReplayed};
 ghost use Rattle.report_check.specs.Inputs.{plan_for};
-ghost use Rattle.track.specs.Results.{IsCensusText, IsCostText, IsMeanPlanText, IsPlanText, IsReport, IsReportJson, IsReportOver, IsResult, IsRunReport};
-ghost use Rattle.track.specs.Results.{history_for, in_order, mean_plan_for, outcome_for, setting_for, verdict_for};
+ghost use Rattle.track.specs.Results.{IsCensusText, IsCostText, IsMeanPlanText, IsPlanText, IsReport, IsReportJson, IsReportOver, IsResult, IsRunReport, IsStretchText};
+ghost use Rattle.track.specs.Results.{history_for, in_order, mean_plan_for, outcome_for, setting_for, stretches_over, verdict_for};
 
 use json_form::one_text;
 use net_reader::text_says_one;
@@ -119,4 +120,18 @@ pub fn texts_tell()
         → IsResult MeanCover contents text → IsMeanPlanText contents text }
     ensures run { (contents : Contents) (text : List ℕ) → IsResult Run contents text
         → IsRunReport contents text }
+{}
+
+/// What the text of a plan's stretches tells: its own ones bound the weight of finds over it. Such a
+/// text is made of an input over either kind of covers.
+pub fn stretches_tell()
+    ensures bound { (plan : PlanData) (contents : Contents) (text : List ℕ)
+        → IsStretchText plan contents text
+        → BoundWeights plan contents.homes (stretches_over plan contents).own
+        (stretches_over plan contents).any }
+    ensures stretch { (contents : Contents) (text : List ℕ) → IsResult Stretch contents text
+        → IsStretchText (plan_for contents) contents text }
+    ensures mean_stretch { (contents : Contents) (text : List ℕ)
+        → IsResult MeanStretch contents text
+        → IsStretchText (mean_plan_for contents) contents text }
 {}

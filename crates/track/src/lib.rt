@@ -12,6 +12,7 @@ mod pieces;
 mod run;
 mod status;
 mod stop;
+mod stretch;
 mod told;
 mod top;
 mod transfer;
@@ -19,8 +20,10 @@ mod trial;
 mod writing;
 mod wrong;
 
-pub use laws::{bytes_have_one_text, complete, reports_tell, runs_are_replayed, texts_tell};
-pub use told::{told_refusals, told_results, told_sums};
+pub use laws::{
+    bytes_have_one_text, complete, reports_tell, runs_are_replayed, stretches_tell, texts_tell,
+};
+pub use told::{told_refusals, told_results, told_stretches, told_sums};
 pub use top::{command, command_with_threads};
 pub use wrong::{
     told_laws, told_numbers, wrong_counts, wrong_ends, wrong_ends_alone, wrong_faults,

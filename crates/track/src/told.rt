@@ -9,12 +9,13 @@ ghost use Rattle.net_reader.specs.declared.said.Call.TheVariants.{Move};
 ghost use Rattle.plan_laws.specs.Examples.{line_of_four, mean_line_of_four};
 ghost use Rattle.report_text.specs.PlanText.{plan_text_of};
 ghost use Rattle.report_text.specs.ReportText.{report_of};
-ghost use Rattle.word_line.specs.declared.command.Command.TheVariants.{Census, Costs, Cover, FromJson, MeanCover, MeanReplay, Replay, ReplayJson, Trial};
+ghost use Rattle.word_line.specs.declared.command.Command.TheVariants.{Census, Costs, Cover, FromJson, MeanCover, MeanReplay, Replay, ReplayJson, Stretch, Trial};
 ghost use Rattle.track.specs.declared.status.Status.{Status};
 ghost use Rattle.track.specs.Examples.{line_input};
 ghost use Rattle.track.specs.Results.{IsResult, IsText, text_alone};
 
 use json_form::one_text;
+use own_stretch::{line_of_stretches, line_stretches};
 use plan_laws::{line_has_its_mean_plan, line_has_its_plan};
 
 /// The plan of the line and its plan over mean covers; the report of a move, over either; and the
@@ -58,6 +59,16 @@ pub fn told_sums()
         ≡ Some (codes "summary moves 0 moved 0 finds 0 again 0 travelled 0 visits 0" ++ 10 ∷ []) }
 {
     line_has_its_plan();
+}
+
+/// The stretches of the line's plan.
+pub fn told_stretches()
+    ensures { (text : List ℕ) → IsResult Stretch (line_input []) text
+        → text ≡ codes "stretch 144 own 14 any 27" ++ 10 ∷ [] }
+{
+    line_has_its_plan();
+    line_of_stretches();
+    line_stretches();
 }
 
 /// Bytes that are no JSON, and JSON without the shape of an input, are each refused by their line.

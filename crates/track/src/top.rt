@@ -170,10 +170,12 @@ fn serve<S: Source, K: Sink>(
         | Command::Replay
         | Command::Census
         | Command::Costs
+        | Command::Stretch
         | Command::ToJson
         | Command::ReplayJson
         | Command::MeanCover
-        | Command::MeanReplay => perform(alloc, command, source, sink),
+        | Command::MeanReplay
+        | Command::MeanStretch => perform(alloc, command, source, sink),
     }
 }
 
@@ -203,12 +205,14 @@ fn serve_by_threads<R: Threads + Sync, S: Source, K: Sink, G: Gate>(
         | Command::Replay
         | Command::Census
         | Command::Costs
+        | Command::Stretch
         | Command::Check
         | Command::ToJson
         | Command::FromJson
         | Command::ReplayJson
         | Command::MeanCover
         | Command::MeanReplay
+        | Command::MeanStretch
         | Command::Make(_)
         | Command::Trial(_) => serve(alloc, command, source, sink),
     }
@@ -218,9 +222,10 @@ fn serve_by_threads<R: Threads + Sync, S: Source, K: Sink, G: Gate>(
 ///
 /// docs/FORMATS.md tells the forms of the words, the input, the texts and the statuses. `cover`
 /// writes the plan of the input's network, `replay` the report of what becomes of its calls under
-/// its order, `census` tells who is where at their end, and `costs` what its moves cost;
-/// `meancover` and `meanreplay` write the plan and the report over mean covers, `tojson` and
-/// `replayjson` the input and its report as JSON, and `fromjson` the input that JSON tells. `check`
+/// its order, `census` tells who is where at their end, `costs` what its moves cost, and `stretch`
+/// how many times its distance a find may weigh; `meancover`, `meanreplay` and `meanstretch` write
+/// the plan, the report and the stretches over mean covers, `tojson` and `replayjson` the input and
+/// its report as JSON, and `fromjson` the input that JSON tells. `check`
 /// reads an input and a report of it, and writes the verdict. `make` and `trial` read nothing: the
 /// one writes a made input, the other the summary of its replay. `run` needs threads
 /// ([`command_with_threads`]), and ends here as words that are no form do. Nothing is written

@@ -1,4 +1,4 @@
--- A first word that is neither of those with numbers behind it.
+-- A first word that is neither of those with numbers after it.
 use Rattle.std.proofs.Common.{◌≡◌, ℕ, ◌≤◌, ◌-◌, Bool, true, false, cond, List, [], ◌∷◌, length, map, take, drop, get_or, Option, Decides, codes, refl, sym, ap, ◌∙◌, arith, string_bytes}
 use Rattle.std.specs.Prelude.{String}
 use Rattle.std.specs.Global.{Global}

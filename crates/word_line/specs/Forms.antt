@@ -9,7 +9,7 @@ use Rattle.std.specs.List.{list_all}
 use Rattle.std.specs.Str.{bytes_eq}
 use Rattle.std.specs.Str.Parse.{digits_value}
 use Rattle.word_line.specs.declared.command.Command.{Command}
-use Rattle.word_line.specs.declared.command.Command.TheVariants.{Cover, Replay, Census, Costs, Check, Run, Make, Trial, ToJson, FromJson, ReplayJson, MeanCover, MeanReplay}
+use Rattle.word_line.specs.declared.command.Command.TheVariants.{Cover, Replay, Census, Costs, Stretch, Check, Run, Make, Trial, ToJson, FromJson, ReplayJson, MeanCover, MeanReplay, MeanStretch}
 use Rattle.word_line.specs.declared.load.Load.{Load}
 
 -- the words as bytes
@@ -81,7 +81,7 @@ load_of (start ∷ nodes ∷ k ∷ subs ∷ callers ∷ calls ∷ []) =
     load_from (network_numbers start nodes k) (actor_numbers subs callers calls)
 load_of _ = None
 
--- the command, if there is one, where no word stands behind its name
+-- the command, if there is one, where no word comes after its name
 abbrev pub alone : Option Command → List (List ℕ) → Option Command
 alone command [] = command
 alone command (word ∷ words) = None
@@ -93,6 +93,7 @@ plain_command name =
     (if bytes_eq name (codes "replay") then Some Replay else
     (if bytes_eq name (codes "census") then Some Census else
     (if bytes_eq name (codes "costs") then Some Costs else
+    (if bytes_eq name (codes "stretch") then Some Stretch else
     (if bytes_eq name (codes "check") then Some Check else
     (if bytes_eq name (codes "run") then Some Run else
     (if bytes_eq name (codes "tojson") then Some ToJson else
@@ -100,7 +101,8 @@ plain_command name =
     (if bytes_eq name (codes "replayjson") then Some ReplayJson else
     (if bytes_eq name (codes "meancover") then Some MeanCover else
     (if bytes_eq name (codes "meanreplay") then Some MeanReplay else
-    None))))))))))
+    (if bytes_eq name (codes "meanstretch") then Some MeanStretch else
+    None))))))))))))
 
 -- the command that words are
 abbrev pub command_of : List (List ℕ) → Option Command

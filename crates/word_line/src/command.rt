@@ -12,7 +12,9 @@ pub enum Command {
     Census,
     /// Write what the moves of each subscriber cost.
     Costs,
-    /// Judge the report that stands behind the input.
+    /// Write how many times its distance a find over the plan of a network may weigh.
+    Stretch,
+    /// Judge the report that comes after the input.
     Check,
     /// Write the input as JSON.
     ToJson,
@@ -24,6 +26,8 @@ pub enum Command {
     MeanCover,
     /// Write the report over that plan.
     MeanReplay,
+    /// Write how many times its distance a find over that plan may weigh.
+    MeanStretch,
     /// Write the report of the calls that threads make.
     Run,
     /// Write the input that this load makes.

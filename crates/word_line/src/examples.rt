@@ -1,6 +1,6 @@
 //! Worked examples, computed.
 ghost use Rattle.std.specs.Prelude.{◌≡◌, [], ◌∷◌, codes, Some, None};
-ghost use Rattle.word_line.specs.declared.command.Command.TheVariants.{Census, Check, Costs, Cover, FromJson, Make, MeanCover, MeanReplay, Replay, ReplayJson, Run, ToJson, Trial};
+ghost use Rattle.word_line.specs.declared.command.Command.TheVariants.{Census, Check, Costs, Cover, FromJson, Make, MeanCover, MeanReplay, MeanStretch, Replay, ReplayJson, Run, Stretch, ToJson, Trial};
 ghost use Rattle.word_line.specs.Forms.{command_of};
 
 /// Words that are a command, and words that are none.
@@ -9,6 +9,7 @@ pub fn example_words()
     ensures replay { command_of (codes "replay" ∷ []) ≡ Some Replay }
     ensures census { command_of (codes "census" ∷ []) ≡ Some Census }
     ensures costs { command_of (codes "costs" ∷ []) ≡ Some Costs }
+    ensures stretch { command_of (codes "stretch" ∷ []) ≡ Some Stretch }
     ensures check { command_of (codes "check" ∷ []) ≡ Some Check }
     ensures run { command_of (codes "run" ∷ []) ≡ Some Run }
     ensures to_json { command_of (codes "tojson" ∷ []) ≡ Some ToJson }
@@ -16,6 +17,7 @@ pub fn example_words()
     ensures replay_json { command_of (codes "replayjson" ∷ []) ≡ Some ReplayJson }
     ensures mean_cover { command_of (codes "meancover" ∷ []) ≡ Some MeanCover }
     ensures mean_replay { command_of (codes "meanreplay" ∷ []) ≡ Some MeanReplay }
+    ensures mean_stretch { command_of (codes "meanstretch" ∷ []) ≡ Some MeanStretch }
     ensures make { command_of (codes "make" ∷ codes "042" ∷ codes "2" ∷ codes "2" ∷ codes "1"
         ∷ codes "0" ∷ codes "1" ∷ [])
         ≡ Some (Make (record { start = 42; nodes = 2; k = 2; subs = 1; callers = 0; calls = 1 })) }

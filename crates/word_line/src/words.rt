@@ -78,7 +78,7 @@ fn load_of(words: &[String]) -> Option<Load>
     )
 }
 
-// The command, if there is one, where no word stands behind its name.
+// The command, if there is one, where no word comes after its name.
 fn alone(command: Option<Command>, words: &[String]) -> Option<Command>
     ensures { result ≡ alone command (bytes_of words.now) }
 {
@@ -94,6 +94,7 @@ fn plain_command(name: &str) -> Option<Command>
         "replay" => Some(Command::Replay),
         "census" => Some(Command::Census),
         "costs" => Some(Command::Costs),
+        "stretch" => Some(Command::Stretch),
         "check" => Some(Command::Check),
         "run" => Some(Command::Run),
         "tojson" => Some(Command::ToJson),
@@ -101,6 +102,7 @@ fn plain_command(name: &str) -> Option<Command>
         "replayjson" => Some(Command::ReplayJson),
         "meancover" => Some(Command::MeanCover),
         "meanreplay" => Some(Command::MeanReplay),
+        "meanstretch" => Some(Command::MeanStretch),
         _ => None,
     }
 }
@@ -118,7 +120,7 @@ fn command_of(words: &[String]) -> Option<Command>
     }
 }
 
-/// The command that the words behind the program's name are. It takes no memory.
+/// The command that the words after the program's name are. It takes no memory.
 pub fn read_words(words: &[String]) -> Result<Command, WordsFault>
     ensures { result ≡ ok_or (command_of (bytes_of words.now)) Refused }
 {

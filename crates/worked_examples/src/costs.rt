@@ -20,7 +20,7 @@ ghost use Rattle.trail_laws.specs.Trail.{IsLed, mark_seen};
 ghost use Rattle.worked_examples.specs.Examples.{find_from};
 ghost use Rattle.worked_examples.specs.Trails.{Meets};
 
-use stretch_laws::line_tracks;
+use crate::tracks::line_tracks;
 
 /// What the laws of costs say of a find that meets an address at level 0, 1 or 2, whatever the
 /// setting, over clusters 3 radii wide: at most so much, by level. Where the way from the find's

@@ -1,6 +1,6 @@
 use Rattle.std.proofs.Common.{refl, [], ◌∷◌}
 use Rattle.plan_laws.specs.Examples.{line_of_four}
-use Rattle.stretch_laws.proofs.examples.line_tracks.Goals as goal
+use Rattle.worked_examples.proofs.tracks.line_tracks.Goals as goal
 
 pub returns : goal.returns
 returns c = record {
