@@ -185,7 +185,7 @@ module _ (laws : PriceLaws) (setting : Setting) (width most_readers : ℕ) (hist
       → entry_seen setting call.sub (before u history) reader.level reader.cluster ≡ entry
       → GoesOn u (after_entry setting call known weight reader left entry)
   entry-on t u known weight reader left low later by c some None e = climb-on u known _ left by some
-      (climbed-more setting history call first t u weight reader left low (omega (arith, later)) e c)
+      (climbed-more setting history call first t u weight reader left (omega (arith, later)) e c)
   entry-on t u known weight reader left low later by c some (Some address) e =
       let met : IsMetAt setting history call first t 0 (levels setting) c.passed reader =
       met-at setting history call first t 0 (levels setting) c.passed left reader c.all c.empty in
@@ -305,11 +305,11 @@ module _ (laws : PriceLaws) (setting : Setting) (width most_readers : ℕ) (hist
   origin-on : (mark : PresenceMark) → mark_seen setting call.sub (before first history) call.from ≡ mark
       → GoesOn first (after_origin setting call mark)
   origin-on Empty is = climb-on first None 0 _ ground.order (elsewhere Empty is (inl refl))
-      (climbed-none setting history call first first)
+      (climbed-none setting history call first first (omega arith))
   origin-on (Here p) is = omega arith
   origin-on (Off p) is = omega arith
   origin-on (Gone p to) is = climb-on first (Some p) 0 _ ground.order (elsewhere (Gone p to) is (inr (p, to, refl)))
-      (climbed-none setting history call first first)
+      (climbed-none setting history call first first (omega arith))
   origin-on (Coming q from) is = coming-on q from is
 
   -- one look
