@@ -23,6 +23,7 @@ mod Price
 mod ByStretch
 mod Gathered
 mod Bounded
+mod Doubled
 mod Altogether
 mod PricedLines
 mod Levels

@@ -128,7 +128,7 @@ module _ (setting : Setting) (history : History) (call : FindCall) (first : ℕ)
   abbrev pub rows : ℕ → ℕ → List Reader
   rows from count = flat_map (λ level. row level (setting.readers level call.from)) (numbers_from from count)
 
-  in-row : (last level c : ℕ) (cs : List ℕ) → has c cs ≡ true → WereEmpty setting history call first last (row level cs)
+  pub in-row : (last level c : ℕ) (cs : List ℕ) → has c cs ≡ true → WereEmpty setting history call first last (row level cs)
       → WasEmpty setting history call first last (record { level = level; cluster = c })
   in-row last level c [] h were = cc
   in-row last level c (d ∷ cs) h were = elim (or_cases (c == d) (has c cs) h) [
@@ -140,14 +140,14 @@ module _ (setting : Setting) (history : History) (call : FindCall) (first : ℕ)
   ]
 
   -- the readers of a level, and those behind it
-  record RowWas (last from : ℕ) (later : List Reader) : Type 0 where
-    mid : ℕ
-    order : first ≤ mid
-    by : mid ≤ last
-    its : WereEmpty setting history call first mid (row from (setting.readers from call.from))
-    rest : WereEmpty setting history call mid last later
+  pub record RowWas (last from : ℕ) (later : List Reader) : Type 0 where
+    pub mid : ℕ
+    pub order : first ≤ mid
+    pub by : mid ≤ last
+    pub its : WereEmpty setting history call first mid (row from (setting.readers from call.from))
+    pub rest : WereEmpty setting history call mid last later
 
-  row-was : (last from : ℕ) (later : List Reader)
+  pub row-was : (last from : ℕ) (later : List Reader)
       → WereEmpty setting history call first last (row from (setting.readers from call.from) ++ later)
       → RowWas last from later
   row-was last from later were =

@@ -114,6 +114,22 @@ module _ (laws : PriceLaws) (setting : Setting) (width most_readers : ℕ) (hist
           ap (take n) more.1
           ∙ take-append-le n (moves_of setting call.sub (before first history)) more.0 counted
 
+  -- and where its radius is at least twice the distance, the find reads there
+  pub home-read : (level : ℕ) → level ≤ setting.top → 2 * apart ≤ radius level
+      → setting.distance (near_home level) call.from ≤ radius level
+  home-read level low reaches =
+      let home : IsNearHome level = home-near level low in
+      omega (
+        arith,
+        reaches,
+        home.near,
+        ground.tracking.halves level low,
+        ground.tracking.metric.detour (near_home level) stood_at call.from home.inside
+            (stands-in laws.marks setting call.sub history ground.few ground.legal first) ground.inside,
+        ground.tracking.metric.both_ways call.from stood_at ground.inside
+            (stands-in laws.marks setting call.sub history ground.few ground.legal first),
+      )
+
   -- a level whose home was empty was renewed by a move within
   pub renewed-within : (t level : ℕ) → t ≤ last → level ≤ setting.top
       → WasEmpty setting history call first t (record { level = level; cluster = setting.home level (near_home level) })

@@ -4,6 +4,7 @@ ghost use Rattle.busy_finds.specs.Levels.{FindsEndByLevel, FindsKeepAnyStretch, 
 ghost use Rattle.busy_finds.specs.Prices.{EveryFindIsBounded, FindsBetweenCommits, FindsHaveTheirPrice};
 
 use crate::below::laws_below;
+use crate::few::finds_meeting_few_moves;
 
 /// No find weighs more than its price, whatever falls within it and whatever it answers: the
 /// stretch times its distance, or times the greatest threshold that a move within it reached; twice
@@ -17,6 +18,7 @@ pub fn every_find_has_its_price()
     ensures bounded { EveryFindIsBounded }
 {
     laws_below();
+    finds_meeting_few_moves();
 }
 
 /// Finds of a subscriber that follow one another, as those of one caller do, weigh in all at most
