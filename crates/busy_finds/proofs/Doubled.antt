@@ -1,6 +1,6 @@
 -- No find weighs more than the stretch times its distance and what the moves within weigh, doubled for each of them: a level
 -- that reaches so far is read in vain only where a move is committed between its first look and its last.
-use Rattle.std.proofs.Common.{List, [], ap, arith, inl, inr, length, refl, subst, suc, sym, take, zero, true, ℕ, ◌*◌, ◌++◌, ◌+◌, ◌-◌, ◌<◌, ◌^◌, ◌∙◌, ◌≡◌, ◌≤◌}
+use Rattle.std.proofs.Common.{List, [], ap, arith, inl, inr, length, refl, subst, suc, sym, take, zero, true, ℕ, ◌*◌, ◌+◌, ◌-◌, ◌<◌, ◌^◌, ◌∙◌, ◌≡◌, ◌≤◌}
 use Rattle.std.proofs.Math.ListN.{drop_of_length-le}
 use Rattle.std.proofs.Math.Nat.{mul-le-mul_left, mul_left_comm}
 use Rattle.std.proofs.lemmas.Bool.{cases_lt}
@@ -15,7 +15,7 @@ use Rattle.directory.specs.Standing.{number, passage, standing}
 use Rattle.region_plan.specs.Measures.{degree_of}
 use Rattle.region_plan.specs.Settings.{setting_of}
 use Rattle.stretch_laws.specs.Plans.{PlansTrack}
-use Rattle.stretch_laws.specs.Tracking.{IsTracking, radius, stretch}
+use Rattle.stretch_laws.specs.Tracking.{radius, stretch}
 use Rattle.busy_finds.specs.FewMoves.{doubled_by, FindsMeetingFewMoves, PlanFindsMeetingFewMoves}
 use Rattle.busy_finds.specs.LawsBelow.{PriceLaws}
 use Rattle.busy_finds.specs.Plans.{distance_at}
@@ -25,7 +25,7 @@ use Rattle.busy_finds.proofs.Beyond.{Ground}
 use Rattle.busy_finds.proofs.Bounded.{and-one, once-more, stood-near}
 use Rattle.busy_finds.proofs.ByStretch.{by-stretch, ClimbsTo, in-order, spent-within}
 use Rattle.busy_finds.proofs.Fronts.{number-more}
-use Rattle.busy_finds.proofs.Looks.{Climbed, in-row, IsMetAt, row, row-was, rows, RowWas, WasEmpty, were-order, were-split, WereEmpty}
+use Rattle.busy_finds.proofs.Looks.{in-row, IsMetAt, row, row-was, rows, RowWas, WasEmpty, were-order, were-split, WereEmpty}
 use Rattle.busy_finds.proofs.Price.{doubled, find-on, home-near, home-read, near_home, radius-up, renewed-within}
 use Rattle.busy_finds.proofs.Tickets.{begun-low, count-begun}
 

@@ -31,3 +31,4 @@ mod Own
 mod LineOwn
 mod Missed
 mod Repeated
+mod Still

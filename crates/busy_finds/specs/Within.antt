@@ -2,7 +2,7 @@
 -- and its last, and the visits by which a move erases old addresses and purges the nodes that were
 -- passed. A move renews the levels up to its highest, and it is past once its traces have taken the
 -- place of those of all earlier moves.
--- Key laws: `no_entry_meets_the_top`.
+-- Key laws: `no_entry_meets_the_top`, `quiet_is_without_commits`.
 use Rattle.std.specs.Prelude.{◌≡◌, ℕ, ◌-◌, ◌<◌, ◌≤◌, ◌^◌, List, None, Some, slice_get}
 use Rattle.directory.specs.Settings.{Setting}
 use Rattle.directory.specs.Histories.{before, History, puts_to, through}
@@ -10,7 +10,7 @@ use Rattle.directory.specs.Courses.{Move}
 use Rattle.directory.specs.Puts.{course_in}
 use Rattle.directory.specs.Legal.{IsLegal}
 use Rattle.directory.specs.Finds.{FindCall}
-use Rattle.directory.specs.Looks.{first_of, IsFind, last_of}
+use Rattle.directory.specs.Looks.{first_of, IsFind, IsQuiet, last_of}
 use Rattle.directory.specs.Standing.{number}
 use Rattle.directory.specs.declared.answers.Found.TheVariants.{Again}
 use Rattle.directory.specs.declared.answers.Why.TheVariants.{NoEntry}
@@ -67,3 +67,10 @@ NoEntryMeetsTop =
     × ((ticket : ℕ) × (first_of tickets ≤ ticket) × (ticket < last_of tickets)
     × IsErasure setting call.sub history move setting.top ticket
     × ArePast setting call.sub (through ticket history) move.number)
+
+-- where nothing is put for a move of a subscriber from one ticket to another, none of its moves is
+-- committed between them; so a quiet find has no commit within it (`quiet_is_without_commits`)
+abbrev pub QuietIsWithoutCommits : Type 0
+QuietIsWithoutCommits =
+    (history : History) (sub first last : ℕ) → first ≤ last → IsQuiet history sub first last
+    → number sub (before last history) ≡ number sub (before first history)
