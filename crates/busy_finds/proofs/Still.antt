@@ -7,11 +7,12 @@ use Rattle.entry_word.specs.declared.mark.PresenceMark.TheVariants.{Empty, Here,
 use Rattle.entry_word.specs.declared.visit.Visit.{Visit}
 use Rattle.directory.specs.Histories.{before, History, is_put_for, puts_to}
 use Rattle.directory.specs.HistoryLaws.{commits-append}
-use Rattle.directory.specs.Looks.{moves_at, moves_by}
+use Rattle.directory.specs.Looks.{first_of, last_of, moves_at, moves_by}
 use Rattle.directory.specs.Puts.{ends_off, is_of_move, mark_put, node_put}
 use Rattle.directory.specs.Standing.{commit_of, commits, number}
 use Rattle.directory.specs.StepLaws.{slice_get-within, take-more}
-use Rattle.busy_finds.specs.Within.{QuietIsWithoutCommits}
+use Rattle.busy_finds.specs.Within.{QuietFindsMeetNoCommit}
+use Rattle.busy_finds.proofs.ByStretch.{in-order}
 
 -- a commit is a put of a move
 no-commit : (sub : ℕ) (seen : History) (visit : Visit) → is_of_move sub seen visit.act ≡ false
@@ -66,8 +67,10 @@ module _ (history : History) (sub : ℕ) where
       ∙ (still-step (first + k) (still (first + k) (omega arith) (omega arith))
       ∙ still-for first k (λ u low high. still u low (omega (arith, high))))
 
-pub quiet-still : QuietIsWithoutCommits
-quiet-still history sub first last order quiet =
-    let e : first + (last - first) ≡ last = omega (arith, order) in
-    ap (λ n. number sub (before n history)) (sym e)
-    ∙ still-for history sub first (last - first) (λ u low high. quiet u low (omega (arith, high, e)))
+pub quiet-still : QuietFindsMeetNoCommit
+quiet-still setting history actor call found tickets find quiet =
+    let first : ℕ = first_of tickets in
+    let last : ℕ = last_of tickets in
+    let e : first + (last - first) ≡ last = omega (arith, in-order find) in
+    ap (λ n. number call.sub (before n history)) (sym e)
+    ∙ still-for history call.sub first (last - first) (λ u low high. quiet u low (omega (arith, high, e)))

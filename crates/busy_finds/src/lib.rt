@@ -21,5 +21,5 @@ pub use outcomes::plan_outcomes_are_priced;
 pub use plans::{plan_finds_are_bounded, plan_finds_in_turn_are_bounded, plans_gather_half};
 pub use prices::{
     every_find_has_its_price, finds_end_by_level, finds_in_turn_are_bounded,
-    quiet_is_without_commits,
+    quiet_finds_meet_no_commit,
 };

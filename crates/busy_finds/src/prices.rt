@@ -2,7 +2,7 @@
 ghost use Rattle.busy_finds.specs.Altogether.{FindsInTurnAreBounded};
 ghost use Rattle.busy_finds.specs.Levels.{FindsEndByLevel, FindsKeepAnyStretch, FindsKeepOwnStretch};
 ghost use Rattle.busy_finds.specs.Prices.{EveryFindIsBounded, FindsBetweenCommits, FindsHaveTheirPrice};
-ghost use Rattle.busy_finds.specs.Within.{QuietIsWithoutCommits};
+ghost use Rattle.busy_finds.specs.Within.{QuietFindsMeetNoCommit};
 
 use crate::below::laws_below;
 use crate::few::finds_meeting_few_moves;
@@ -43,8 +43,8 @@ pub fn finds_end_by_level()
     laws_below();
 }
 
-/// Where nothing is put for a move of a subscriber from one ticket to another, none of its moves is
-/// committed between them: so what holds of finds with no commit within holds of quiet finds.
-pub fn quiet_is_without_commits()
-    ensures { QuietIsWithoutCommits }
+/// While a find is quiet none of its subscriber's moves is committed: so what holds of finds with no
+/// commit within them holds of quiet ones.
+pub fn quiet_finds_meet_no_commit()
+    ensures { QuietFindsMeetNoCommit }
 {}
