@@ -4,8 +4,8 @@
 First each example of examples/false-bounds: the program is to write its .replay, and a claim that seems likely is to fail there,
 with the numbers that it fails by. Then made loads of two kinds, those of `make` and those of scripts/loads.py: no find may weigh
 more than the plan's stretch times its distance, the least at any of its tickets, and what the moves within had gathered, and
-twice the passage that was open before it; with the distance before its first look it is held to the sharper price, and the finds
-of a caller in all to theirs. An Again that met no entry has a move within that renews the top level, with its commit and an
+twice the passage that was open before it; nor than by the moves within alone, where the stretch is doubled for each; with the
+distance before its first look it is held to the sharper price, and the finds of a caller in all to theirs. An Again that met no entry has a move within that renews the top level, with its commit and an
 erasure of that level. One that met an Empty has the move that put it, whose first Empty and last erasure come after the look at
 which the chase began. One whose chase was given up has three commits within the chase. No two of a caller have the same move.
 
@@ -128,6 +128,9 @@ def bounded(story, priced):
     reach = max([priced.first_apart] + [threshold(move.level) for move in within])
     if weight > (stretch - 7) * reach + 2 * priced.first_open + moved:
         return f"{weight} > {stretch - 7} * {reach} + 2 * {priced.first_open} + {moved}"
+    doubled = 2 ** len(within) * (priced.least_apart + moved)
+    if weight > (stretch - 7) * doubled + 2 * priced.first_open:
+        return f"{weight} > {stretch - 7} * {doubled} + 2 * {priced.first_open}, {len(within)} moves within"
     return None
 
 
