@@ -4,10 +4,11 @@
 First each example of examples/false-bounds: the program is to write its .replay, and a claim that seems likely is to fail there,
 with the numbers that it fails by. Then made loads of two kinds, those of `make` and those of scripts/loads.py: no find may weigh
 more than the plan's stretch times its distance, the least at any of its tickets, and what the moves within had gathered, and
-twice the passage that was open before it; with the distance before its first look it is held to the sharper price, and to the
-plan's own stretches, and the finds of a caller in all to theirs. An Again that met no entry has a move within that renews the top level, with its commit and an
-erasure of that level. One that met an Empty has the move that put it, whose first Empty and last erasure come after the look at
-which the chase began. One whose chase was given up has three commits within the chase. No two of a caller have the same move.
+twice the passage that was open before it; nor than by the moves within alone, where the stretch is doubled for each; with the
+distance before its first look it is held to the sharper price, and to the plan's own stretches, and the finds of a caller in all to
+theirs. An Again that met no entry has a move within that renews the top level, with its commit and an erasure of that level. One
+that met an Empty has the move that put it, whose first Empty and last erasure come after the look at which the chase began. One
+whose chase was given up has three commits within the chase. No two of a caller have the same move.
 
 Usage, at the top of the repository: bench/check_bounds.py [--long]    The loads are 200, and 10,000 with --long. TRACK names the
 program, ./track where it isn't set."""

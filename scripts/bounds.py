@@ -96,6 +96,7 @@ def bounds_of(story, priced):
     reach = max([priced.first_apart] + [story.setting.threshold(move.level) for move in within])
     yield "what the moves within had gathered", stretch * (priced.least_apart + gathered) + passages
     yield "the threshold that they reached", (stretch - 7) * reach + passages + moved
+    yield "the moves within, each of which doubles", (stretch - 7) * 2 ** len(within) * (priced.least_apart + moved) + passages
     yield "the plan's own stretch of any find", story.own_stretches.any_find * reach + passages + moved
     if not within:
         yield "the plan's own stretch", story.own_stretches.own * priced.first_apart + passages

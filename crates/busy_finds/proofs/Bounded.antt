@@ -2,6 +2,7 @@
 use Rattle.std.proofs.Common.{◌≡◌, inl, inr, ℕ, zero, suc, ◌+◌, ◌*◌, ◌<◌, ◌≤◌, ◌^◌, max, List, Some, take, sym, ap, ◌∙◌, subst, arith}
 use Rattle.std.specs.Prelude.{slice_get, sum_by}
 use Rattle.std.proofs.Math.Nat.{mul-le-mul_left}
+use Rattle.std.proofs.lemmas.Bool.{cases_lt}
 use Rattle.std.proofs.lemmas.Option.{slice_get_within}
 use Rattle.directory.specs.Settings.{Setting, start}
 use Rattle.directory.specs.Courses.{base, course_at, Move}
@@ -27,7 +28,7 @@ use Rattle.busy_finds.proofs.ByStretch.{in-dropped, in-order, spent-within}
 use Rattle.busy_finds.proofs.Sums.{travelled, travelled-more, travelled-step, way-within}
 use Rattle.busy_finds.proofs.Tickets.{begun-low, count-begun, in-front, stands-in, stands-there}
 
-once-more : (s x : ℕ) → (s + 1) * x ≡ s * x + x
+pub once-more : (s x : ℕ) → (s + 1) * x ≡ s * x + x
 once-more s x = grind arith
 
 -- the moves of a legal history reach what they renew
@@ -118,33 +119,55 @@ module _ (laws : PriceLaws) (setting : Setting) (width most_readers : ℕ) (hist
       (let e : 0 + sum_by gathers within ≡ sum_by gathers within = omega arith in e) low
 
   -- how far the subscriber comes within
-  pub stood-near : (ticket node : ℕ) → node < setting.nodes → first ≤ ticket → ticket ≤ last
-      → setting.distance node (standing setting sub (before first history))
-      ≤ setting.distance node (standing setting sub (before ticket history)) + weight_of within
-  stood-near ticket node inside since by = omega (
+  stand-near : (t u : ℕ) → first ≤ t → t ≤ u → u ≤ last
+      → setting.distance (standing setting sub (before t history)) (standing setting sub (before u history))
+      ≤ weight_of within
+  stand-near t u since later by = omega (
     arith,
-    tracking.metric.detour node (standing setting sub (before ticket history)) (standing setting sub (before first history))
-        inside (stands-in laws.marks setting sub history few legal ticket)
-        (stands-in laws.marks setting sub history few legal first),
-    tracking.metric.both_ways (standing setting sub (before ticket history)) (standing setting sub (before first history))
-        (stands-in laws.marks setting sub history few legal ticket)
-        (stands-in laws.marks setting sub history few legal first),
-    subst (λ n. setting.distance (standing setting sub (before first history)) n
-        + travelled its (number sub (before first history)) ≤ travelled its (number sub (before ticket history)))
-        (sym (stands-there laws.marks setting sub history few legal ticket))
-        (subst (λ n. setting.distance n (stop_of (start setting sub) its (number sub (before ticket history)))
-        + travelled its (number sub (before first history)) ≤ travelled its (number sub (before ticket history)))
-        (sym (stands-there laws.marks setting sub history few legal first))
-        (way-within its (moves-in-place history legal) tracking.metric (number sub (before first history))
-        (number sub (before ticket history)) (number-more sub first ticket history since) (omega (
+    subst (λ n. setting.distance (standing setting sub (before t history)) n
+        + travelled its (number sub (before t history)) ≤ travelled its (number sub (before u history)))
+        (sym (stands-there laws.marks setting sub history few legal u))
+        (subst (λ n. setting.distance n (stop_of (start setting sub) its (number sub (before u history)))
+        + travelled its (number sub (before t history)) ≤ travelled its (number sub (before u history)))
+        (sym (stands-there laws.marks setting sub history few legal t))
+        (way-within its (moves-in-place history legal) tracking.metric (number sub (before t history))
+        (number sub (before u history)) (number-more sub t u history later) (omega (
           arith,
-          count-begun laws.marks setting sub history few legal ticket,
-          begun-low laws.marks setting sub history few legal ticket,
+          count-begun laws.marks setting sub history few legal u,
+          begun-low laws.marks setting sub history few legal u,
         )))),
-    travelled-more its (number sub (before ticket history)) (number sub (before last history))
-        (number-more sub ticket last history by),
+    travelled-more its (number sub (before first history)) (number sub (before t history))
+        (number-more sub first t history since),
+    travelled-more its (number sub (before u history)) (number sub (before last history))
+        (number-more sub u last history by),
     spent-within setting sub history first last order,
   )
+
+  -- so its distance at one ticket tells that at another
+  pub stood-near : (t u node : ℕ) → node < setting.nodes → first ≤ t → t ≤ last → first ≤ u → u ≤ last
+      → setting.distance node (standing setting sub (before t history))
+      ≤ setting.distance node (standing setting sub (before u history)) + weight_of within
+  stood-near t u node inside t_since t_by u_since u_by =
+      let t_in : standing setting sub (before t history) < setting.nodes =
+      stands-in laws.marks setting sub history few legal t in
+      let u_in : standing setting sub (before u history) < setting.nodes =
+      stands-in laws.marks setting sub history few legal u in
+      let way : setting.distance (standing setting sub (before u history)) (standing setting sub (before t history))
+      ≤ weight_of within = elim (cases_lt t u) [
+        | inl later ↦ omega (
+          arith,
+          stand-near t u t_since (omega (arith, later)) u_by,
+          tracking.metric.both_ways (standing setting sub (before u history)) (standing setting sub (before t history))
+              u_in t_in,
+        )
+        | inr earlier ↦ stand-near u t u_since earlier t_by
+      ] in
+      omega (
+        arith,
+        way,
+        tracking.metric.detour node (standing setting sub (before u history)) (standing setting sub (before t history))
+            inside u_in t_in,
+      )
 
 pub every-bounded : PriceLaws → FindsHaveTheirPrice → EveryFindIsBounded
 every-bounded laws prices setting width most_readers history actor call found tickets ticket few tracking half inside legal
@@ -162,7 +185,7 @@ every-bounded laws prices setting width most_readers history actor call found ti
       reach-less laws setting width most_readers history call.sub (first_of tickets) (last_of tickets) few tracking legal
           order,
       stood-near laws setting width most_readers history call.sub (first_of tickets) (last_of tickets) few tracking legal
-          order ticket call.from inside since by,
+          order (first_of tickets) ticket call.from inside (omega arith) order since by,
     ) in
     omega (
       arith,

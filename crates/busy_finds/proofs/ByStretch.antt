@@ -2,7 +2,7 @@
 use Rattle.std.proofs.Common.{List, Some, [], ap, arith, drop, fold, inl, inr, max, refl, subst, suc, sym, take, true, zero, ℕ, ◌*◌, ◌+◌, ◌-◌, ◌<◌, ◌^◌, ◌∙◌, ◌∷◌, ◌≡◌, ◌≤◌}
 use Rattle.std.specs.Prelude.{slice_get, sum_by}
 use Rattle.std.proofs.Math.Nat.{mul-le-mul_left, mul_left_comm}
-use Rattle.std.proofs.lemmas.Bool.{cases_lt}
+use Rattle.std.proofs.lemmas.Bool.{cases_eq, cases_lt}
 use Rattle.std.proofs.lemmas.List.{append-nil, take-append-drop, take-take}
 use Rattle.std.proofs.lemmas.List.Sums.{sum_by-append}
 use Rattle.node_set.specs.Ascending.{has}
@@ -16,35 +16,54 @@ use Rattle.directory.specs.Standing.{number, passage, standing}
 use Rattle.directory.specs.declared.answers.Found.{Found}
 use Rattle.stretch_laws.specs.Tracking.{radius, stretch}
 use Rattle.busy_finds.specs.LawsBelow.{PriceLaws}
-use Rattle.busy_finds.specs.Prices.{FindsBetweenCommits, FindsHaveTheirPrice, greatest_threshold, moves_within, price, weight_of}
+use Rattle.busy_finds.specs.Prices.{FindsHaveTheirPrice, greatest_threshold, moves_within, price, weight_of}
 use Rattle.busy_finds.specs.Within.{IsWithin, moves_of}
 use Rattle.busy_finds.proofs.Beyond.{Ground}
 use Rattle.busy_finds.proofs.Fronts.{moves-in-place, number-more}
 use Rattle.busy_finds.proofs.Looks.{Climbed, in-rows, IsMetAt, looks-end, rows, WasEmpty, WereEmpty}
 use Rattle.busy_finds.proofs.Sums.{travelled}
 use Rattle.busy_finds.proofs.Tickets.{stands-in}
-use Rattle.busy_finds.proofs.Price.{doubled, find-on, home-near, near_home, radius-up, renewed-within, Terms}
+use Rattle.busy_finds.proofs.Price.{doubled, find-on, home-near, home-read, near_home, radius-up, renewed-within, Terms}
 
 -- the sum of what a find pays
 spread-out : (m w x : ℕ) → stretch w m * x ≡ 16 * (m * (w * x)) + 12 * (w * x) + 5 * x
 spread-out m w x = grind arith
 
-pub priced : (m w r x : ℕ) → r ≤ 4 * x → 4 * (m * (w * r)) + 3 * (w * r) + r + x ≤ stretch w m * x
-priced m w r x small =
+priced : (m w r x : ℕ) → 1 ≤ w → r ≤ 4 * x → 4 * (m * (w * r)) + 2 * (w * r) + r + 5 * x ≤ stretch w m * x
+priced m w r x some small =
     let wide : w * r ≤ 4 * (w * x) = omega (arith, mul-le-mul_left w small, mul_left_comm w 4 x) in
-    omega (arith, spread-out m w x, wide, mul-le-mul_left m wide, mul_left_comm m 4 (w * x), small)
+    let turned : x * w ≡ w * x = grind arith in
+    omega (
+      arith,
+      spread-out m w x,
+      wide,
+      mul-le-mul_left m wide,
+      mul_left_comm m 4 (w * x),
+      small,
+      mul-le-mul_left x some,
+      turned,
+    )
 
--- ---- the price by the stretch
+-- how high a climb goes, where it meets an address and where it meets none: no radius is more than four times a reach
+pub record ClimbsTo (setting : Setting) (history : History) (call : FindCall) (first last reach : ℕ) : Type 0 where
+  pub met : (t : ℕ) (passed : List Reader) (r : Reader) → t ≤ last
+      → 1 ≤ setting.distance call.from (standing setting call.sub (before first history))
+      → IsMetAt setting history call first t 0 (levels setting) passed r → WereEmpty setting history call first t passed
+      → radius r.level ≤ 4 * reach
+  pub missed : (t weight : ℕ) → t ≤ last
+      → 1 ≤ setting.distance call.from (standing setting call.sub (before first history))
+      → Climbed setting history call first t weight [] → radius setting.top ≤ 4 * reach
+
+-- ---- by the levels that the moves within renew
 module _ (laws : PriceLaws) (setting : Setting) (width most_readers : ℕ) (history : History) (call : FindCall)
-    (first last : ℕ) (ground : Ground setting width most_readers history call first last) (reach spent most : ℕ)
+    (first last : ℕ) (ground : Ground setting width most_readers history call first last) (reach : ℕ)
     (far_enough : setting.distance call.from (standing setting call.sub (before first history)) ≤ reach)
-    (renews : (move : Move) → IsWithin setting call.sub history first last move → radius move.renewed ≤ 2 * reach)
-    (pays : stretch width most_readers * reach + 2 * passage setting call.sub (before first history) + spent ≤ most) where
+    (renews : (move : Move) → IsWithin setting call.sub history first last move → radius move.renewed ≤ 2 * reach) where
   abbrev home_of : ℕ → ℕ
   home_of level = near_home laws setting width most_readers history call first last ground level
 
-  abbrev far_away : ℕ
-  far_away = setting.distance call.from (standing setting call.sub (before first history))
+  abbrev away : ℕ
+  away = setting.distance call.from (standing setting call.sub (before first history))
 
   reached : (t level : ℕ) → t ≤ last → level ≤ setting.top
       → WasEmpty setting history call first t (record { level = level; cluster = setting.home level (home_of level) })
@@ -53,8 +72,7 @@ module _ (laws : PriceLaws) (setting : Setting) (width most_readers : ℕ) (hist
       let within = renewed-within laws setting width most_readers history call first last ground t level by low was in
       omega (arith, radius-up level within.0.renewed within.1, renews within.0 within.2)
 
-  -- how high a climb goes
-  height : (t : ℕ) (passed : List Reader) (r : Reader) → t ≤ last → 1 ≤ far_away
+  height : (t : ℕ) (passed : List Reader) (r : Reader) → t ≤ last → 1 ≤ away
       → IsMetAt setting history call first t 0 (levels setting) passed r → radius r.level ≤ 4 * reach
   height t passed r by some met = at_level r.level (omega arith) met.high met.below
     where
@@ -64,27 +82,41 @@ module _ (laws : PriceLaws) (setting : Setting) (width most_readers : ℕ) (hist
           → radius i ≤ 4 * reach
       at_level zero under high were = let e : 2 ^ 0 ≡ 1 = omega arith in
           let one : radius 0 ≡ 1 = e in omega (arith, one, some, far_enough)
-      at_level (suc i) under high were = elim (cases_lt (radius i) (2 * far_away)) [
+      at_level (suc i) under high were = elim (cases_lt (radius i) (2 * away)) [
         | inl far ↦ omega (arith, far, doubled i, far_enough)
         | inr near ↦
             let home = home-near laws setting width most_readers history call first last ground i (omega (arith, high)) in
-            let way : setting.distance (home_of i) call.from ≤ radius i = omega (
-              arith,
-              near,
-              home.near,
-              ground.tracking.halves i (omega (arith, high)),
-              ground.tracking.metric.detour (home_of i) (standing setting call.sub (before first history)) call.from home.inside
-                  (stands-in laws.marks setting call.sub history ground.few ground.legal first) ground.inside,
-              ground.tracking.metric.both_ways call.from (standing setting call.sub (before first history)) ground.inside
-                  (stands-in laws.marks setting call.sub history ground.few ground.legal first),
-            ) in
             omega (
               arith,
               doubled i,
               reached t i by (omega (arith, high)) (were i (setting.home i (home_of i)) (omega arith) (omega arith)
-                  (ground.tracking.read i (home_of i) call.from (omega (arith, high)) home.inside ground.inside way)),
+                  (ground.tracking.read i (home_of i) call.from (omega (arith, high)) home.inside ground.inside
+                  (home-read laws setting width most_readers history call first last ground i (omega (arith, high)) near))),
             )
       ]
+
+  top-height : (t weight : ℕ) → t ≤ last → Climbed setting history call first t weight [] → radius setting.top ≤ 2 * reach
+  top-height t weight by c =
+      let home = home-near laws setting width most_readers history call first last ground setting.top (omega arith) in
+      reached t setting.top by (omega arith) (in-rows setting history call first t 0 (levels setting) setting.top
+      (setting.home setting.top (home_of setting.top)) (omega arith) (omega arith)
+      (ground.tracking.whole (home_of setting.top) call.from home.inside ground.inside)
+      (subst (λ xs. WereEmpty setting history call first t xs) (sym (c.all ∙ append-nil c.passed)) c.empty))
+
+  by-renewals : ClimbsTo setting history call first last reach
+  by-renewals = record {
+    met = λ t passed r by some met were. height t passed r by some met;
+    missed = λ t weight by some c. omega (arith, top-height t weight by c);
+  }
+
+-- ---- the price by the stretch
+module _ (laws : PriceLaws) (setting : Setting) (width most_readers : ℕ) (history : History) (call : FindCall)
+    (first last : ℕ) (ground : Ground setting width most_readers history call first last) (reach spent most : ℕ)
+    (climbs : ClimbsTo setting history call first last reach)
+    (pays : stretch width most_readers * reach + setting.distance call.from (standing setting call.sub (before first history))
+    + 2 * passage setting call.sub (before first history) + spent ≤ most + 5 * reach) where
+  abbrev far_away : ℕ
+  far_away = setting.distance call.from (standing setting call.sub (before first history))
 
   -- what the reading up to a level weighs
   reading : (level : ℕ) → level ≤ setting.top → climb_weight setting call (rows setting history call first 0 (suc level))
@@ -103,12 +135,38 @@ module _ (laws : PriceLaws) (setting : Setting) (width most_readers : ℕ) (hist
         ground.tracking.wide i (setting.home i v) v low inside reads,
       )
 
-  pub stretch-meets : (t : ℕ) (passed : List Reader) (r : Reader) (v : ℕ) → t ≤ last → 1 ≤ far_away
-      → IsMetAt setting history call first t 0 (levels setting) passed r
+  -- clusters have some width, where not all nodes are one
+  some-wide : 1 ≤ far_away → 1 ≤ width
+  some-wide some = elim (cases_eq width 0) [
+    | inl none ↦
+        let z : ℕ = standing setting call.sub (before first history) in
+        let top : ℕ = setting.home setting.top z in
+        let inside : z < setting.nodes = stands-in laws.marks setting call.sub history ground.few ground.legal first in
+        let reads : has top (setting.readers setting.top call.from) ≡ true =
+        ground.tracking.whole z call.from inside ground.inside in
+        let led : setting.leader setting.top top < setting.nodes =
+        ground.tracking.led setting.top top call.from (omega arith) ground.inside reads in
+        let nothing : width * radius setting.top ≡ 0 =
+        ap (λ n. n * radius setting.top) none ∙ (let e : 0 * radius setting.top ≡ 0 = grind arith in e) in
+        absurd (omega (
+          arith,
+          some,
+          nothing,
+          from-leader setting.top z (omega arith) inside,
+          ground.tracking.far setting.top top call.from (omega arith) ground.inside reads,
+          ground.tracking.wide setting.top top call.from (omega arith) ground.inside reads,
+          ground.tracking.metric.detour call.from (setting.leader setting.top top) z ground.inside led inside,
+          ground.tracking.metric.both_ways call.from (setting.leader setting.top top) ground.inside led,
+        ))
+    | inr wide ↦ omega (arith, wide)
+  ]
+
+  stretch-meets : (t : ℕ) (passed : List Reader) (r : Reader) (v : ℕ) → t ≤ last → 1 ≤ far_away
+      → IsMetAt setting history call first t 0 (levels setting) passed r → WereEmpty setting history call first t passed
       → v < setting.nodes → r.cluster ≡ setting.home r.level v
       → climb_weight setting call passed + 2 * way_in setting call r + 2 * setting.distance (setting.leader r.level r.cluster) v
       + 2 * setting.threshold r.level + far_away + 2 * passage setting call.sub (before first history) + spent ≤ most + 2
-  stretch-meets t passed r v by some met inside home =
+  stretch-meets t passed r v by some met were inside home =
       let level : r.level ≤ setting.top = omega (arith, met.high) in
       omega (
         arith,
@@ -117,31 +175,31 @@ module _ (laws : PriceLaws) (setting : Setting) (width most_readers : ℕ) (hist
         from-leader r.level v level inside,
         ap (λ n. setting.distance (setting.leader r.level n) v) home,
         ground.tracking.halves r.level level,
-        height t passed r by some met,
-        priced most_readers width (radius r.level) reach (height t passed r by some met),
-        ground.tracking.wide r.level r.cluster call.from level ground.inside met.reads,
+        priced most_readers width (radius r.level) reach (some-wide some) (climbs.met t passed r by some met were),
         pays,
-        far_enough,
       )
 
   -- a find without an address
-  none-paid : (t weight : ℕ) → t ≤ last → Climbed setting history call first t weight [] → weight ≤ most
-  none-paid t weight by c =
-      let home = home-near laws setting width most_readers history call first last ground setting.top (omega arith) in
-      let all : all_readers setting call.from ≡ c.passed = c.all ∙ append-nil c.passed in
-      let small : radius setting.top ≤ 2 * reach =
-      reached t setting.top by (omega arith) (in-rows setting history call first t 0 (levels setting) setting.top
-      (setting.home setting.top (home_of setting.top)) (omega arith) (omega arith)
-      (ground.tracking.whole (home_of setting.top) call.from home.inside ground.inside)
-      (subst (λ xs. WereEmpty setting history call first t xs) (sym all) c.empty)) in
-      omega (
-        arith,
-        c.weighs,
-        ap (climb_weight setting call) all,
-        reading setting.top (omega arith),
-        priced most_readers width (radius setting.top) reach (omega (arith, small)),
-        pays,
-      )
+  none-paid : (t weight : ℕ) → t ≤ last → 1 ≤ far_away → Climbed setting history call first t weight [] → weight ≤ most
+  none-paid t weight by some c = omega (
+    arith,
+    c.weighs,
+    ap (climb_weight setting call) (let all : all_readers setting call.from ≡ c.passed = c.all ∙ append-nil c.passed in all),
+    reading setting.top (omega arith),
+    priced most_readers width (radius setting.top) reach (some-wide some) (climbs.missed t weight by some c),
+    pays,
+  )
+
+  pub by-stretch : travelled (moves_of setting call.sub history) (number call.sub (before last history))
+      ≡ travelled (moves_of setting call.sub history) (number call.sub (before first history)) + spent
+      → Terms setting width most_readers history call first last spent most
+  by-stretch spends = record {
+    ground = ground;
+    spends = spends;
+    least = omega (arith, pays, spread-out most_readers width reach);
+    meets = λ t passed later r v by some all met were inside home. stretch-meets t passed r v by some met were inside home;
+    misses = λ t weight by some c. none-paid t weight by some c;
+  }
 
 -- ---- the terms of a find
 pub in-dropped : {A : Type 0} (xs : List A) (b i : ℕ) → slice_get (drop b xs) i ≡ slice_get xs (b + i)
@@ -211,54 +269,30 @@ in-order {setting} {history} {actor} {call} {found} {tickets} find =
     (λ t u pursuit key later by is_look wanted now. omega (arith, now, later)) tickets find (omega arith)
     (λ t key at_first by is_look wanted. omega (arith, at_first))
 
--- the terms of a price by the stretch
-by-stretch : (laws : PriceLaws) (setting : Setting) (width most_readers : ℕ) (history : History) (call : FindCall)
-    (first last reach spent most : ℕ) → Ground setting width most_readers history call first last
-    → setting.distance call.from (standing setting call.sub (before first history)) ≤ reach
-    → ((move : Move) → IsWithin setting call.sub history first last move → radius move.renewed ≤ 2 * reach)
-    → stretch width most_readers * reach + 2 * passage setting call.sub (before first history) + spent ≤ most
-    → travelled (moves_of setting call.sub history) (number call.sub (before last history))
-    ≡ travelled (moves_of setting call.sub history) (number call.sub (before first history)) + spent
-    → Terms setting width most_readers history call first last spent most
-by-stretch laws setting width most_readers history call first last reach spent most ground far renews pays spends = record {
-  ground = ground;
-  spends = spends;
-  least = omega (arith, far, pays, priced most_readers width 0 reach (omega arith));
-  meets = λ t passed later r v by some all met were inside home.
-      stretch-meets laws setting width most_readers history call first last ground reach spent most far renews pays t passed r
-      v by some met inside home;
-  misses = λ t weight by some c.
-      none-paid laws setting width most_readers history call first last ground reach spent most far renews pays t weight by c;
-}
-
 pub have-price : PriceLaws → FindsHaveTheirPrice
 have-price laws setting width most_readers history actor call found tickets few tracking half inside legal find =
-    find-on laws setting width most_readers history call (first_of tickets) (last_of tickets)
-    (weight_of (moves_within setting call.sub history (first_of tickets) (last_of tickets)))
-    (price setting width most_readers call (before (first_of tickets) history)
-    (moves_within setting call.sub history (first_of tickets) (last_of tickets)))
-    (by-stretch laws setting width most_readers history call (first_of tickets) (last_of tickets)
-    (max (setting.distance call.from (standing setting call.sub (before (first_of tickets) history)))
-    (greatest_threshold setting (moves_within setting call.sub history (first_of tickets) (last_of tickets)))) _ _
-    (record { few = few; tracking = tracking; inside = inside; legal = legal; order = in-order find })
+    find-on laws setting width most_readers history call (first_of tickets) (last_of tickets) (weight_of moves)
+    (price setting width most_readers call (before (first_of tickets) history) moves)
+    (by-stretch laws setting width most_readers history call (first_of tickets) (last_of tickets) ground reach
+    (weight_of moves) _
+    (by-renewals laws setting width most_readers history call (first_of tickets) (last_of tickets) ground reach
     (omega arith)
     (λ move is. omega (
       arith,
-      greatest-has setting (moves_within setting call.sub history (first_of tickets) (last_of tickets)) 0 _ move
+      greatest-has setting moves 0 _ move
           (within-listed setting call.sub history (first_of tickets) (last_of tickets) move is),
       half move.renewed (((moves-in-place history legal).each (move.number - 1) move is.is).low),
-    ))
+    )))
     (omega arith)
     (spent-within setting call.sub history (first_of tickets) (last_of tickets) (in-order find)))
     actor found tickets refl refl find
+  where
+    moves : List Move
+    moves = moves_within setting call.sub history (first_of tickets) (last_of tickets)
 
-pub between-commits : PriceLaws → FindsBetweenCommits
-between-commits laws setting width most_readers history actor call found tickets few tracking inside legal find same =
-    find-on laws setting width most_readers history call (first_of tickets) (last_of tickets) 0 _
-    (by-stretch laws setting width most_readers history call (first_of tickets) (last_of tickets)
-    (setting.distance call.from (standing setting call.sub (before (first_of tickets) history))) 0 _
-    (record { few = few; tracking = tracking; inside = inside; legal = legal; order = in-order find })
-    (omega arith)
-    (λ move is. absurd (omega (arith, is.after, is.by, same)))
-    (omega arith)
-    (omega (arith, ap (travelled (moves_of setting call.sub history)) same))) actor found tickets refl refl find
+    reach : ℕ
+    reach = max (setting.distance call.from (standing setting call.sub (before (first_of tickets) history)))
+        (greatest_threshold setting moves)
+
+    ground : Ground setting width most_readers history call (first_of tickets) (last_of tickets)
+    ground = record { few = few; tracking = tracking; inside = inside; legal = legal; order = in-order find }

@@ -65,10 +65,10 @@ module _ (laws : PriceLaws) (setting : Setting) (history : History) (actor : ℕ
 
   pub origin-so : (t : ℕ) → t ≡ first → (mark : PresenceMark) → seen_at t call.from ≡ mark
       → Counts t (after_origin setting call mark)
-  origin-so t at Empty is = climb-so t None 0 _ (climbed-none setting history call first t)
+  origin-so t at Empty is = climb-so t None 0 _ (climbed-none setting history call first t (omega (arith, at)))
   origin-so t at (Here p) is = tt
   origin-so t at (Off p) is = tt
-  origin-so t at (Gone p to) is = climb-so t (Some p) 0 _ (climbed-none setting history call first t)
+  origin-so t at (Gone p to) is = climb-so t (Some p) 0 _ (climbed-none setting history call first t (omega (arith, at)))
   origin-so t at (Coming p from) is =
       let chasing : Chases t t (p - 1) from =
       coming-begins laws setting history actor call first few inside legal t p from at is in (
@@ -86,7 +86,7 @@ module _ (laws : PriceLaws) (setting : Setting) (history : History) (actor : ℕ
       → entry_seen setting call.sub (before u history) reader.level reader.cluster ≡ entry
       → Counts u (after_entry setting call known weight reader left entry)
   entry-so t u known weight reader left low later is_look c None e = climb-so u known _ left
-      (climbed-more setting history call first t u weight reader left low (omega (arith, later)) e c)
+      (climbed-more setting history call first t u weight reader left (omega (arith, later)) e c)
   entry-so t u known weight reader left low later is_look c (Some address) e =
       let met : IsMetAt setting history call first t 0 (levels setting) c.passed reader =
       met-at setting history call first t 0 (levels setting) c.passed left reader c.all c.empty in

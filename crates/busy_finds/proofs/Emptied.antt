@@ -101,10 +101,10 @@ module _ (laws : PriceLaws) (setting : Setting) (history : History) (actor : ℕ
 
   origin-so : (t : ℕ) → t ≡ first → (mark : PresenceMark) → seen_at t call.from ≡ mark
       → Follows t (after_origin setting call mark)
-  origin-so t at Empty is = climb-so t None 0 _ (climbed-none setting history call first t)
+  origin-so t at Empty is = climb-so t None 0 _ (climbed-none setting history call first t (omega (arith, at)))
   origin-so t at (Here p) is = tt
   origin-so t at (Off p) is = tt
-  origin-so t at (Gone p to) is = climb-so t (Some p) 0 _ (climbed-none setting history call first t)
+  origin-so t at (Gone p to) is = climb-so t (Some p) 0 _ (climbed-none setting history call first t (omega (arith, at)))
   origin-so t at (Coming p from) is = (t, p - 1, coming-begins t p from at is)
 
   -- where an entry has an address
@@ -135,7 +135,7 @@ module _ (laws : PriceLaws) (setting : Setting) (history : History) (actor : ℕ
       → entry_seen setting call.sub (before u history) reader.level reader.cluster ≡ entry
       → Follows u (after_entry setting call known weight reader left entry)
   entry-so t u known weight reader left low later is_look c None e = climb-so u known _ left
-      (climbed-more setting history call first t u weight reader left low (omega (arith, later)) e c)
+      (climbed-more setting history call first t u weight reader left (omega (arith, later)) e c)
   entry-so t u known weight reader left low later is_look c (Some address) e =
       let met : IsMetAt setting history call first t 0 (levels setting) c.passed reader =
       met-at setting history call first t 0 (levels setting) c.passed left reader c.all c.empty in

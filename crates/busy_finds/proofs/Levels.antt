@@ -18,7 +18,7 @@ use Rattle.busy_finds.specs.Levels.{cost_up_to, dearest, EndsBy, farthest, farth
 use Rattle.busy_finds.specs.Prices.{moves_within, weight_of}
 use Rattle.busy_finds.specs.Within.{moves_of}
 use Rattle.busy_finds.proofs.Beyond.{Ground}
-use Rattle.busy_finds.proofs.Looks.{Climbed, in-rows, WasEmpty, IsMetAt, met-at, rows, WereEmpty, were-split}
+use Rattle.busy_finds.proofs.Looks.{Climbed, in-rows, WasEmpty, IsMetAt, met-at, rows, WereEmpty, were-order, were-since, were-split}
 use Rattle.busy_finds.proofs.ByStretch.{in-order, spent-within}
 use Rattle.busy_finds.proofs.Price.{find-on, home-near, IsNearHome, near_home, renewed-within, Terms}
 use Rattle.busy_finds.proofs.Sums.{travelled}
@@ -154,13 +154,17 @@ module _ (laws : PriceLaws) (setting : Setting) (width most_readers : ℕ) (hist
       elim (in-either setting call (readers_up_to setting call.from level)
       (rows setting history call first (suc level) (setting.top - level)) passed later r (sym all-parts ∙ all)) [
         | inl here ↦ here
-        | inr on ↦ absurd (omega (
-          arith,
-          under,
-          (met-at setting history call first t (suc level) (setting.top - level) on.0
-              later r on.2 (were-split setting history call first t (readers_up_to setting call.from level) on.0
-              (subst (λ xs. WereEmpty setting history call first t xs) on.1 were)).1).low,
-        ))
+        | inr on ↦
+            let parts = were-split setting history call first t (readers_up_to setting call.from level) on.0
+            (subst (λ xs. WereEmpty setting history call first t xs) on.1 were) in
+            absurd (omega (
+              arith,
+              under,
+              (met-at setting history call first t (suc level) (setting.top - level) on.0 later r on.2
+                  (were-since setting history call first parts.0 t on.0
+                  (were-order setting history call first parts.0 (readers_up_to setting call.from level) parts.1)
+                  parts.2)).low,
+            ))
       ]
 
   level-terms : (spent : ℕ) → travelled (moves_of setting call.sub history) (number call.sub (before last history))

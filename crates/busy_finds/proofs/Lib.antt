@@ -23,6 +23,7 @@ mod Price
 mod ByStretch
 mod Gathered
 mod Bounded
+mod Doubled
 mod Altogether
 mod PricedLines
 mod Levels
@@ -30,3 +31,4 @@ mod Own
 mod LineOwn
 mod Missed
 mod Repeated
+mod Still

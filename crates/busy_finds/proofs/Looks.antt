@@ -65,45 +65,60 @@ module _ (setting : Setting) (history : History) (actor : ℕ) (call : FindCall)
       (start t look.0 refl (omega (arith, early, by)) look.2 look.1) look.3)
 
 -- ---- the climb
-module _ (setting : Setting) (history : History) (call : FindCall) (first : ℕ) where
-  -- a reader's entry was empty at a ticket of the find
-  abbrev pub WasEmpty : ℕ → Reader → Type 0
-  WasEmpty last reader = (u : ℕ) × (first ≤ u) × (u ≤ last)
+module _ (setting : Setting) (history : History) (call : FindCall) where
+  -- a reader's entry was empty at a ticket from one on up to another
+  abbrev pub WasEmpty : ℕ → ℕ → Reader → Type 0
+  WasEmpty first last reader = (u : ℕ) × (first ≤ u) × (u ≤ last)
       × (entry_seen setting call.sub (before u history) reader.level reader.cluster ≡ None)
 
-  abbrev pub WereEmpty : ℕ → List Reader → Type 0
-  WereEmpty last [] = Unit {0}
-  WereEmpty last (reader ∷ later) = WasEmpty last reader × WereEmpty last later
+  -- and so were those of readers, one after the other
+  abbrev pub WereEmpty : ℕ → ℕ → List Reader → Type 0
+  WereEmpty first last [] = first ≤ last
+  WereEmpty first last (reader ∷ later) = (u : ℕ) × (first ≤ u)
+      × (entry_seen setting call.sub (before u history) reader.level reader.cluster ≡ None) × WereEmpty u last later
 
-  empty-later : (last more : ℕ) (readers : List Reader) → last ≤ more → WereEmpty last readers → WereEmpty more readers
-  empty-later last more [] h were = tt
-  empty-later last more (reader ∷ readers) h (was, were) =
-      ((was.0, was.1, omega (arith, h, was.2), was.3), empty-later last more readers h were)
+  pub were-order : (first last : ℕ) (readers : List Reader) → WereEmpty first last readers → first ≤ last
+  were-order first last [] were = were
+  were-order first last (reader ∷ later) were = omega (arith, were.1, were-order were.0 last later were.3)
 
-  empty-push : (last : ℕ) (readers : List Reader) (reader : Reader) → WereEmpty last readers → WasEmpty last reader
-      → WereEmpty last (readers ++ reader ∷ [])
-  empty-push last [] reader were was = (was, tt)
-  empty-push last (other ∷ readers) reader (one, were) was = (one, empty-push last readers reader were was)
+  pub were-since : (first since last : ℕ) (readers : List Reader) → first ≤ since → WereEmpty since last readers
+      → WereEmpty first last readers
+  were-since first since last [] low were = omega (arith, low, were)
+  were-since first since last (reader ∷ later) low were = (were.0, omega (arith, low, were.1), were.2, were.3)
 
+  were-push : (first last u : ℕ) (readers : List Reader) (reader : Reader) → WereEmpty first last readers → last ≤ u
+      → entry_seen setting call.sub (before u history) reader.level reader.cluster ≡ None
+      → WereEmpty first u (readers ++ reader ∷ [])
+  were-push first last u [] reader were later empty = (u, omega (arith, were, later), empty, omega arith)
+  were-push first last u (other ∷ readers) reader were later empty =
+      (were.0, were.1, were.2, were-push were.0 last u readers reader were.3 later empty)
+
+  pub were-split : (first last : ℕ) (xs ys : List Reader) → WereEmpty first last (xs ++ ys)
+      → (mid : ℕ) × WereEmpty first mid xs × WereEmpty mid last ys
+  were-split first last [] ys were = (first, omega arith, were)
+  were-split first last (x ∷ xs) ys were =
+      let rest = were-split were.0 last xs ys were.3 in (rest.0, (were.0, were.1, were.2, rest.1), rest.2)
+
+module _ (setting : Setting) (history : History) (call : FindCall) (first : ℕ) where
   -- how far a climb is: these readers are left
   pub record Climbed (last weight : ℕ) (left : List Reader) : Type 0 where
     pub passed : List Reader
     pub all : all_readers setting call.from ≡ passed ++ left
     pub weighs : weight ≡ climb_weight setting call passed
-    pub empty : WereEmpty last passed
+    pub empty : WereEmpty setting history call first last passed
 
-  pub climbed-none : (last : ℕ) → Climbed last 0 (all_readers setting call.from)
-  climbed-none last = record { passed = []; all = refl; weighs = refl; empty = tt }
+  pub climbed-none : (last : ℕ) → first ≤ last → Climbed last 0 (all_readers setting call.from)
+  climbed-none last order = record { passed = []; all = refl; weighs = refl; empty = order }
 
-  pub climbed-more : (t u weight : ℕ) (reader : Reader) (left : List Reader) → first ≤ t → t ≤ u
+  pub climbed-more : (t u weight : ℕ) (reader : Reader) (left : List Reader) → t ≤ u
       → entry_seen setting call.sub (before u history) reader.level reader.cluster ≡ None
       → Climbed t weight (reader ∷ left) → Climbed u (weight + 2 * way_in setting call reader) left
-  climbed-more t u weight reader left low h empty c = record {
+  climbed-more t u weight reader left later empty c = record {
     passed = c.passed ++ reader ∷ [];
     all = c.all ∙ sym (append_assoc c.passed (reader ∷ []) left);
     weighs = ap (λ n. n + 2 * way_in setting call reader) c.weighs
         ∙ sym (sum_by_push (λ (r : Reader). 2 * way_in setting call r) c.passed reader);
-    empty = empty-push u c.passed reader (empty-later t u c.passed h c.empty) (u, omega (arith, low, h), omega arith, empty);
+    empty = were-push setting history call first t u c.passed reader c.empty later empty;
   }
 
   -- the readers of a level, and those of some levels
@@ -113,28 +128,57 @@ module _ (setting : Setting) (history : History) (call : FindCall) (first : ℕ)
   abbrev pub rows : ℕ → ℕ → List Reader
   rows from count = flat_map (λ level. row level (setting.readers level call.from)) (numbers_from from count)
 
-  pub were-split : (last : ℕ) (xs ys : List Reader) → WereEmpty last (xs ++ ys) → WereEmpty last xs × WereEmpty last ys
-  were-split last [] ys were = (tt, were)
-  were-split last (x ∷ xs) ys (was, were) = let rest = were-split last xs ys were in ((was, rest.0), rest.1)
-
-  in-row : (last level c : ℕ) (cs : List ℕ) → has c cs ≡ true → WereEmpty last (row level cs)
-      → WasEmpty last (record { level = level; cluster = c })
+  pub in-row : (last level c : ℕ) (cs : List ℕ) → has c cs ≡ true → WereEmpty setting history call first last (row level cs)
+      → WasEmpty setting history call first last (record { level = level; cluster = c })
   in-row last level c [] h were = cc
-  in-row last level c (d ∷ cs) h (was, were) = elim (or_cases (c == d) (has c cs) h) [
-    | inl here ↦ subst (λ x. WasEmpty last (record { level = level; cluster = x })) (sym (eqb-true c d here)) was
-    | inr there ↦ in-row last level c cs there were
+  in-row last level c (d ∷ cs) h were = elim (or_cases (c == d) (has c cs) h) [
+    | inl here ↦
+        subst (λ x. WasEmpty setting history call first last (record { level = level; cluster = x }))
+        (sym (eqb-true c d here))
+        (were.0, were.1, were-order setting history call were.0 last (row level cs) were.3, were.2)
+    | inr there ↦ in-row last level c cs there (were-since setting history call first were.0 last (row level cs) were.1 were.3)
   ]
 
+  -- the readers of a level, and those behind it
+  pub record RowWas (last from : ℕ) (later : List Reader) : Type 0 where
+    pub mid : ℕ
+    pub order : first ≤ mid
+    pub by : mid ≤ last
+    pub its : WereEmpty setting history call first mid (row from (setting.readers from call.from))
+    pub rest : WereEmpty setting history call mid last later
+
+  pub row-was : (last from : ℕ) (later : List Reader)
+      → WereEmpty setting history call first last (row from (setting.readers from call.from) ++ later)
+      → RowWas last from later
+  row-was last from later were =
+      let parts = were-split setting history call first last (row from (setting.readers from call.from)) later were in
+      record {
+        mid = parts.0;
+        order = were-order setting history call first parts.0 (row from (setting.readers from call.from)) parts.1;
+        by = were-order setting history call parts.0 last later parts.2;
+        its = parts.1;
+        rest = parts.2;
+      }
+
+  in-whole : (last from c : ℕ) (later : List Reader) → has c (setting.readers from call.from) ≡ true
+      → RowWas last from later → WasEmpty setting history call first last (record { level = from; cluster = c })
+  in-whole last from c later h parts =
+      let was : WasEmpty setting history call first parts.mid (record { level = from; cluster = c }) =
+      in-row parts.mid from c (setting.readers from call.from) h parts.its in
+      (was.0, was.1, omega (arith, was.2, parts.by), was.3)
+
   pub in-rows : (last from count level c : ℕ) → from ≤ level → level < from + count
-      → has c (setting.readers level call.from) ≡ true → WereEmpty last (rows from count)
-      → WasEmpty last (record { level = level; cluster = c })
+      → has c (setting.readers level call.from) ≡ true → WereEmpty setting history call first last (rows from count)
+      → WasEmpty setting history call first last (record { level = level; cluster = c })
   in-rows last from zero level c low high h were = absurd (omega arith)
   in-rows last from (suc count) level c low high h were =
-      let parts = were-split last (row from (setting.readers from call.from)) (rows (suc from) count) were in
+      let parts : RowWas last from (rows (suc from) count) = row-was last from (rows (suc from) count) were in
       elim (cases_eq from level) [
-        | inl same ↦ in-row last level c (setting.readers level call.from) h
-            (subst (λ n. WereEmpty last (row n (setting.readers n call.from))) same parts.0)
-        | inr apart ↦ in-rows last (suc from) count level c (omega arith) (omega arith) h parts.1
+        | inl same ↦ subst (λ n. WasEmpty setting history call first last (record { level = n; cluster = c })) same
+            (in-whole last from c (rows (suc from) count)
+            (subst (λ n. has c (setting.readers n call.from) ≡ true) (sym same) h) parts)
+        | inr apart ↦ in-rows last (suc from) count level c (omega arith) (omega arith) h
+            (were-since setting history call first parts.mid last (rows (suc from) count) parts.order parts.rest)
       ]
 
   -- a reader in some list behind a row stands in the row, or behind it
@@ -193,10 +237,12 @@ module _ (setting : Setting) (history : History) (call : FindCall) (first : ℕ)
     pub weighs : (k : ℕ) → from + k ≡ r.level
         → climb_weight setting call passed + 2 * way_in setting call r ≤ climb_weight setting call (rows from (suc k))
     pub below : (level c : ℕ) → from ≤ level → level < r.level → has c (setting.readers level call.from) ≡ true
-        → WasEmpty last (record { level = level; cluster = c })
+        → WasEmpty setting history call first last (record { level = level; cluster = c })
+    pub full : (k : ℕ) → from + k ≡ r.level → (part : List Reader) × (passed ≡ rows from k ++ part)
 
   pub met-at : (last from count : ℕ) (passed later : List Reader) (r : Reader)
-      → rows from count ≡ passed ++ r ∷ later → WereEmpty last passed → IsMetAt last from count passed r
+      → rows from count ≡ passed ++ r ∷ later → WereEmpty setting history call first last passed
+      → IsMetAt last from count passed r
   met-at last from zero [] later r same were = cc
   met-at last from zero (x ∷ passed) later r same were = cc
   met-at last from (suc count) passed later r same were =
@@ -207,10 +253,13 @@ module _ (setting : Setting) (history : History) (call : FindCall) (first : ℕ)
           reads = subst (λ n. has r.cluster (setting.readers n call.from) ≡ true) (sym here.0) here.1;
           weighs = λ k at. at_first k (omega (arith, at, here.0)) here.2;
           below = λ level c low high h. absurd (omega (arith, here.0, low, high));
+          full = λ k at. none-before k (omega (arith, at, here.0));
         }
-        | inr on ↦ behind on.0 on.1 (met-at last (suc from) count on.0 later r on.2
-            (were-split last (row from (setting.readers from call.from)) on.0
-            (subst (λ xs. WereEmpty last xs) on.1 were)).1)
+        | inr on ↦
+            let parts : RowWas last from on.0 =
+            row-was last from on.0 (subst (λ xs. WereEmpty setting history call first last xs) on.1 were) in
+            behind on.0 on.1 parts (met-at last (suc from) count on.0 later r on.2
+            (were-since setting history call first parts.mid last on.0 parts.order parts.rest))
       ]
     where
       its_row : List Reader
@@ -221,19 +270,22 @@ module _ (setting : Setting) (history : History) (call : FindCall) (first : ℕ)
           → climb_weight setting call passed + 2 * way_in setting call r ≤ climb_weight setting call (rows from (suc k))
       at_first k none h = omega (arith, h, sum_by-append (λ (x : Reader). 2 * way_in setting call x) its_row (rows (suc from) k))
 
-      behind : (more : List Reader) → passed ≡ its_row ++ more → IsMetAt last (suc from) count more r
+      none-before : (k : ℕ) → k ≡ 0 → (part : List Reader) × (passed ≡ rows from k ++ part)
+      none-before k none = (passed, ap (λ n. rows from n ++ passed) (sym none))
+
+      behind : (more : List Reader) → passed ≡ its_row ++ more → RowWas last from more → IsMetAt last (suc from) count more r
           → IsMetAt last from (suc count) passed r
-      behind more e its = record {
+      behind more e parts its = record {
         low = omega (arith, its.low);
         high = omega (arith, its.high);
         reads = its.reads;
         weighs = λ k at. at_later more e its k at;
         below = λ level c low high h. elim (cases_eq from level) [
-          | inl here ↦ in-row last level c (setting.readers level call.from) h
-              (subst (λ n. WereEmpty last (row n (setting.readers n call.from))) here
-              (were-split last its_row more (subst (λ xs. WereEmpty last xs) e were)).0)
+          | inl here ↦ subst (λ n. WasEmpty setting history call first last (record { level = n; cluster = c })) here
+              (in-whole last from c more (subst (λ n. has c (setting.readers n call.from) ≡ true) (sym here) h) parts)
           | inr apart ↦ its.below level c (omega (arith, low, apart)) high h
         ];
+        full = λ k at. levels-more more e its k at;
       }
         where
           at_later : (more : List Reader) → passed ≡ its_row ++ more → IsMetAt last (suc from) count more r → (k : ℕ)
@@ -247,3 +299,10 @@ module _ (setting : Setting) (history : History) (call : FindCall) (first : ℕ)
             sum_by-append (λ (x : Reader). 2 * way_in setting call x) its_row more,
             sum_by-append (λ (x : Reader). 2 * way_in setting call x) its_row (rows (suc from) (suc k)),
           )
+
+          levels-more : (more : List Reader) → passed ≡ its_row ++ more → IsMetAt last (suc from) count more r → (k : ℕ)
+              → from + k ≡ r.level → (part : List Reader) × (passed ≡ rows from k ++ part)
+          levels-more more e its zero at = absurd (omega (arith, at, its.low))
+          levels-more more e its (suc k) at =
+              let rest = its.full k (omega (arith, at)) in
+              (rest.0, e ∙ (ap (λ xs. its_row ++ xs) rest.1 ∙ sym (append_assoc its_row (rows (suc from) k) rest.0)))

@@ -58,12 +58,12 @@ module _ (setting : Setting) (history : History) (call : FindCall) (first : ℕ)
   climb-so t known weight [] c = c
   climb-so t known weight (reader ∷ left) c = c
 
-  origin-so : (t : ℕ) (mark : PresenceMark) → Climbs t (after_origin setting call mark)
-  origin-so t Empty = climb-so t None 0 _ (climbed-none setting history call first t)
-  origin-so t (Here p) = tt
-  origin-so t (Off p) = tt
-  origin-so t (Gone p to) = climb-so t (Some p) 0 _ (climbed-none setting history call first t)
-  origin-so t (Coming p from) = tt
+  origin-so : (t : ℕ) → first ≤ t → (mark : PresenceMark) → Climbs t (after_origin setting call mark)
+  origin-so t low Empty = climb-so t None 0 _ (climbed-none setting history call first t low)
+  origin-so t low (Here p) = tt
+  origin-so t low (Off p) = tt
+  origin-so t low (Gone p to) = climb-so t (Some p) 0 _ (climbed-none setting history call first t low)
+  origin-so t low (Coming p from) = tt
 
   hop-so : (t : ℕ) (known level : Option ℕ) (weight left node to : ℕ)
       → Climbs t (hop setting known level weight left node to)
@@ -84,7 +84,7 @@ module _ (setting : Setting) (history : History) (call : FindCall) (first : ℕ)
 
   look-so : (t u : ℕ) (pursuit : Pursuit) (key : Key) → first ≤ t → t < u → key_of call pursuit ≡ Some key
       → Climbs t pursuit → Climbs u (after_word setting call pursuit (cell setting (before u history) key))
-  look-so t u at_origin key low later wanted now = origin-so u _
+  look-so t u at_origin key low later wanted now = origin-so u (omega (arith, low, later)) _
   look-so t u (climbs known weight reader left) key low later wanted now =
       let e : Entry reader.level reader.cluster call.sub ≡ key = cc in
       subst (λ k. Climbs u (after_word setting call (climbs known weight reader left)
@@ -95,7 +95,7 @@ module _ (setting : Setting) (history : History) (call : FindCall) (first : ℕ)
           → entry_seen setting call.sub (before u history) reader.level reader.cluster ≡ entry
           → Climbs u (after_entry setting call known weight reader left entry)
       at_entry None e = climb-so u known _ left
-          (climbed-more setting history call first t u weight reader left low (omega (arith, later)) e now)
+          (climbed-more setting history call first t u weight reader left (omega (arith, later)) e now)
       at_entry (Some address) e = tt
   look-so t u (chases chase node) key low later wanted now = mark-so u chase node _
   look-so t u (ended found) key low later wanted now = cc
@@ -140,7 +140,7 @@ no-entry laws setting history actor call weight tickets few reads inside legal f
         tickets find (omega arith) (λ t key is_first by is_look wanted. (
           omega (arith, is_first),
           slice_get_within history t (look_by actor key) is_look,
-          origin-so setting history call first t _,
+          origin-so setting history call first t (omega (arith, is_first)) _,
         ))
 
     before_moves : List Move

@@ -114,6 +114,22 @@ module _ (laws : PriceLaws) (setting : Setting) (width most_readers : ℕ) (hist
           ap (take n) more.1
           ∙ take-append-le n (moves_of setting call.sub (before first history)) more.0 counted
 
+  -- and where its radius is at least twice the distance, the find reads there
+  pub home-read : (level : ℕ) → level ≤ setting.top → 2 * apart ≤ radius level
+      → setting.distance (near_home level) call.from ≤ radius level
+  home-read level low reaches =
+      let home : IsNearHome level = home-near level low in
+      omega (
+        arith,
+        reaches,
+        home.near,
+        ground.tracking.halves level low,
+        ground.tracking.metric.detour (near_home level) stood_at call.from home.inside
+            (stands-in laws.marks setting call.sub history ground.few ground.legal first) ground.inside,
+        ground.tracking.metric.both_ways call.from stood_at ground.inside
+            (stands-in laws.marks setting call.sub history ground.few ground.legal first),
+      )
+
   -- a level whose home was empty was renewed by a move within
   pub renewed-within : (t level : ℕ) → t ≤ last → level ≤ setting.top
       → WasEmpty setting history call first t (record { level = level; cluster = setting.home level (near_home level) })
@@ -185,7 +201,7 @@ module _ (laws : PriceLaws) (setting : Setting) (width most_readers : ℕ) (hist
       → entry_seen setting call.sub (before u history) reader.level reader.cluster ≡ entry
       → GoesOn u (after_entry setting call known weight reader left entry)
   entry-on t u known weight reader left low later by c some None e = climb-on u known _ left by some
-      (climbed-more setting history call first t u weight reader left low (omega (arith, later)) e c)
+      (climbed-more setting history call first t u weight reader left (omega (arith, later)) e c)
   entry-on t u known weight reader left low later by c some (Some address) e =
       let met : IsMetAt setting history call first t 0 (levels setting) c.passed reader =
       met-at setting history call first t 0 (levels setting) c.passed left reader c.all c.empty in
@@ -305,11 +321,11 @@ module _ (laws : PriceLaws) (setting : Setting) (width most_readers : ℕ) (hist
   origin-on : (mark : PresenceMark) → mark_seen setting call.sub (before first history) call.from ≡ mark
       → GoesOn first (after_origin setting call mark)
   origin-on Empty is = climb-on first None 0 _ ground.order (elsewhere Empty is (inl refl))
-      (climbed-none setting history call first first)
+      (climbed-none setting history call first first (omega arith))
   origin-on (Here p) is = omega arith
   origin-on (Off p) is = omega arith
   origin-on (Gone p to) is = climb-on first (Some p) 0 _ ground.order (elsewhere (Gone p to) is (inr (p, to, refl)))
-      (climbed-none setting history call first first)
+      (climbed-none setting history call first first (omega arith))
   origin-on (Coming q from) is = coming-on q from is
 
   -- one look

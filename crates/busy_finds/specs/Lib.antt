@@ -3,6 +3,7 @@ pub mod Within
 pub mod Again
 pub mod Prices
 pub mod Plans
+pub mod FewMoves
 pub mod Altogether
 pub mod Levels
 pub mod Examples

@@ -2,7 +2,7 @@
 -- and its last, and the visits by which a move erases old addresses and purges the nodes that were
 -- passed. A move renews the levels up to its highest, and it is past once its traces have taken the
 -- place of those of all earlier moves.
--- Key laws: `no_entry_meets_the_top`.
+-- Key laws: `no_entry_meets_the_top`, `quiet_finds_meet_no_commit`.
 use Rattle.std.specs.Prelude.{◌≡◌, ℕ, ◌-◌, ◌<◌, ◌≤◌, ◌^◌, List, None, Some, slice_get}
 use Rattle.directory.specs.Settings.{Setting}
 use Rattle.directory.specs.Histories.{before, History, puts_to, through}
@@ -10,8 +10,9 @@ use Rattle.directory.specs.Courses.{Move}
 use Rattle.directory.specs.Puts.{course_in}
 use Rattle.directory.specs.Legal.{IsLegal}
 use Rattle.directory.specs.Finds.{FindCall}
-use Rattle.directory.specs.Looks.{first_of, IsFind, last_of}
+use Rattle.directory.specs.Looks.{first_of, IsFind, IsQuiet, last_of}
 use Rattle.directory.specs.Standing.{number}
+use Rattle.directory.specs.declared.answers.Found.{Found}
 use Rattle.directory.specs.declared.answers.Found.TheVariants.{Again}
 use Rattle.directory.specs.declared.answers.Why.TheVariants.{NoEntry}
 use Rattle.directory.specs.Writes.{entry_at, mark_at, visit_of}
@@ -67,3 +68,12 @@ NoEntryMeetsTop =
     × ((ticket : ℕ) × (first_of tickets ≤ ticket) × (ticket < last_of tickets)
     × IsErasure setting call.sub history move setting.top ticket
     × ArePast setting call.sub (through ticket history) move.number)
+
+-- while a find is quiet none of its subscriber's moves is committed (`quiet_finds_meet_no_commit`)
+abbrev pub QuietFindsMeetNoCommit : Type 0
+QuietFindsMeetNoCommit =
+    (setting : Setting) (history : History) (actor : ℕ) (call : FindCall) (found : Found)
+    (tickets : List ℕ) → IsFind setting history actor call found tickets
+    → IsQuiet history call.sub (first_of tickets) (last_of tickets)
+    → number call.sub (before (last_of tickets) history)
+    ≡ number call.sub (before (first_of tickets) history)

@@ -6,6 +6,7 @@
 mod again;
 mod below;
 mod examples;
+mod few;
 mod outcomes;
 mod plans;
 mod prices;
@@ -15,6 +16,10 @@ pub use again::{
     no_entry_meets_the_top,
 };
 pub use examples::line_price;
+pub use few::{finds_meeting_few_moves, plan_finds_meeting_few_moves};
 pub use outcomes::plan_outcomes_are_priced;
 pub use plans::{plan_finds_are_bounded, plan_finds_in_turn_are_bounded, plans_gather_half};
-pub use prices::{every_find_has_its_price, finds_end_by_level, finds_in_turn_are_bounded};
+pub use prices::{
+    every_find_has_its_price, finds_end_by_level, finds_in_turn_are_bounded,
+    quiet_finds_meet_no_commit,
+};

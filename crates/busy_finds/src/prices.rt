@@ -2,8 +2,10 @@
 ghost use Rattle.busy_finds.specs.Altogether.{FindsInTurnAreBounded};
 ghost use Rattle.busy_finds.specs.Levels.{FindsEndByLevel, FindsKeepAnyStretch, FindsKeepOwnStretch};
 ghost use Rattle.busy_finds.specs.Prices.{EveryFindIsBounded, FindsBetweenCommits, FindsHaveTheirPrice};
+ghost use Rattle.busy_finds.specs.Within.{QuietFindsMeetNoCommit};
 
 use crate::below::laws_below;
+use crate::few::finds_meeting_few_moves;
 
 /// No find weighs more than its price, whatever falls within it and whatever it answers: the
 /// stretch times its distance, or times the greatest threshold that a move within it reached; twice
@@ -17,6 +19,7 @@ pub fn every_find_has_its_price()
     ensures bounded { EveryFindIsBounded }
 {
     laws_below();
+    finds_meeting_few_moves();
 }
 
 /// Finds of a subscriber that follow one another, as those of one caller do, weigh in all at most
@@ -39,3 +42,9 @@ pub fn finds_end_by_level()
 {
     laws_below();
 }
+
+/// While a find is quiet none of its subscriber's moves is committed: so what holds of finds with no
+/// commit within them holds of quiet ones.
+pub fn quiet_finds_meet_no_commit()
+    ensures { QuietFindsMeetNoCommit }
+{}

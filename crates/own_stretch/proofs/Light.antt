@@ -15,10 +15,10 @@ pub record IsLight (plan : PlanData) (level node place : ℕ) (far its : List �
   pub light : inside plan level (slice_index (readers plan level node) place) node ≤ 2 ^ 35
   pub near : slice_index far (slice_index its place) ≤ 2 ^ 30
 
-pub all-light : (plan : PlanData) (level node place : ℕ) {far its : List ℕ} → IsKept plan → IsMatched plan
+pub all-light : {plan : PlanData} {level node place : ℕ} {far its : List ℕ} → IsKept plan → IsMatched plan
     → IsWithinReach plan → level < levels_of plan → node < nodes_of plan → AreFarthest plan level far
     → its ≡ readers plan level node → place < length its → IsLight plan level node place far its
-all-light plan level node place {far} {its} kept matched reached low high farthest is here =
+all-light {plan} {level} {node} {place} {far} {its} kept matched reached low high farthest is here =
     let below : place < length (readers plan level node) = omega (arith, here, ap (length {A = ℕ}) is) in
     let there : slice_index its place < clusters_of plan level = omega (
       arith,

@@ -5,7 +5,7 @@ use Rattle.std.specs.Prelude.{◌≡◌, ℕ, ◌+◌, ◌*◌, ◌<◌, ◌≤�
 use Rattle.directory.specs.Histories.{before, History}
 use Rattle.directory.specs.Legal.{IsLegal}
 use Rattle.directory.specs.Finds.{FindCall, found_weight}
-use Rattle.directory.specs.Looks.{first_of, IsFind, last_of}
+use Rattle.directory.specs.Looks.{first_of, IsFind, IsQuiet, last_of}
 use Rattle.directory.specs.Standing.{number, passage}
 use Rattle.directory.specs.declared.answers.Found.{Found}
 use Rattle.region_plan.specs.Matched.{BoundsFinds}
@@ -24,6 +24,16 @@ FindsKeepOwn plan starts own =
     → IsFind (setting_of plan starts) history actor call found tickets
     → number call.sub (before (last_of tickets) history)
     ≡ number call.sub (before (first_of tickets) history)
+    → found_weight found ≤ own * distance_at plan starts call history (first_of tickets)
+    + 2 * passage (setting_of plan starts) call.sub (before (first_of tickets) history)
+
+-- so does each quiet find
+abbrev pub QuietFindsKeepOwn : PlanData → List ℕ → ℕ → Type 0
+QuietFindsKeepOwn plan starts own =
+    (history : History) (actor : ℕ) (call : FindCall) (found : Found) (tickets : List ℕ)
+    → call.from < nodes_of plan → IsLegal (setting_of plan starts) call.sub history
+    → IsFind (setting_of plan starts) history actor call found tickets
+    → IsQuiet history call.sub (first_of tickets) (last_of tickets)
     → found_weight found ≤ own * distance_at plan starts call history (first_of tickets)
     + 2 * passage (setting_of plan starts) call.sub (before (first_of tickets) history)
 
@@ -46,6 +56,7 @@ FindsKeepAny plan starts most =
 -- over a plan these two numbers bound the weight of finds
 pub record BoundWeights (plan : PlanData) (starts : List ℕ) (own most : ℕ) : Type 0 where
   pub between : FindsKeepOwn plan starts own
+  pub quiet : QuietFindsKeepOwn plan starts own
   pub every : FindsKeepAny plan starts most
 
 -- a plan's own stretches do, where it bounds its finds (`plan_finds_keep_own_stretch`)

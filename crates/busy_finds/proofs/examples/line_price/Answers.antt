@@ -18,6 +18,7 @@ returns c = record {
   reaches = refl;
   gathers = refl;
   costs = refl;
+  doubles = refl;
   level = refl;
   dearest = refl;
   own = line-own;

@@ -2,36 +2,27 @@ use Rattle.std.proofs.Common.{ℕ, length, ◌*◌, ◌-◌, ◌≤◌, ◌∙�
 use Rattle.region_plan.specs.Plan.{inside}
 use Rattle.region_plan.specs.ReaderLaws.{readers-few}
 use Rattle.own_stretch.specs.Tables.{bare}
-use Rattle.own_stretch.proofs.Light.{all-light, IsLight}
+use Rattle.own_stretch.proofs.Light.{all-light}
 use Rattle.own_stretch.proofs.Paying.{pay-is, pay-step}
 use Rattle.own_stretch.proofs.Small.{threshold-small}
 use Rattle.own_stretch.proofs.costs.pay_level.Goals as goal
 
 pub overflow_cast-place : goal.overflow_cast-place
 overflow_cast-place c =
-    let its : IsLight c.args.plan.now c.args.level c.args.node c.loop-place.place c.args.far.now
-    c.readers-readers.result.now =
-    all-light c.args.plan.now c.args.level c.args.node c.loop-place.place c.plan_is_sound.ensures.sound
-    c.plan_is_sound.ensures.matched c.plan_is_sound.ensures.reached c.requires.level c.requires.node c.requires.far
-    c.readers-readers.ensures c.loop-place-test.true in
+    let its = all-light c.plan_is_sound.ensures.sound c.plan_is_sound.ensures.matched c.plan_is_sound.ensures.reached
+    c.requires.level c.requires.node c.requires.far c.readers-readers.ensures c.loop-place-test.true in
     omega (arith, its.few)
 
 pub overflow_mul-paid : goal.overflow_mul-paid
 overflow_mul-paid c =
-    let its : IsLight c.args.plan.now c.args.level c.args.node c.loop-place.place c.args.far.now
-    c.readers-readers.result.now =
-    all-light c.args.plan.now c.args.level c.args.node c.loop-place.place c.plan_is_sound.ensures.sound
-    c.plan_is_sound.ensures.matched c.plan_is_sound.ensures.reached c.requires.level c.requires.node c.requires.far
-    c.readers-readers.ensures c.loop-place-test.true in
+    let its = all-light c.plan_is_sound.ensures.sound c.plan_is_sound.ensures.matched c.plan_is_sound.ensures.reached
+    c.requires.level c.requires.node c.requires.far c.readers-readers.ensures c.loop-place-test.true in
     omega (arith, its.few, its.light, c.reader_weight.ensures)
 
 pub overflow_add-paid : goal.overflow_add-paid
 overflow_add-paid c =
-    let its : IsLight c.args.plan.now c.args.level c.args.node c.loop-place.place c.args.far.now
-    c.readers-readers.result.now =
-    all-light c.args.plan.now c.args.level c.args.node c.loop-place.place c.plan_is_sound.ensures.sound
-    c.plan_is_sound.ensures.matched c.plan_is_sound.ensures.reached c.requires.level c.requires.node c.requires.far
-    c.readers-readers.ensures c.loop-place-test.true in
+    let its = all-light c.plan_is_sound.ensures.sound c.plan_is_sound.ensures.matched c.plan_is_sound.ensures.reached
+    c.requires.level c.requires.node c.requires.far c.readers-readers.ensures c.loop-place-test.true in
     omega (
       arith,
       c.loop-place.invariant.passed,
@@ -45,29 +36,20 @@ overflow_add-paid c =
 
 pub bounds-far-readers : goal.bounds-far-readers
 bounds-far-readers c =
-    let its : IsLight c.args.plan.now c.args.level c.args.node c.loop-place.place c.args.far.now
-    c.readers-readers.result.now =
-    all-light c.args.plan.now c.args.level c.args.node c.loop-place.place c.plan_is_sound.ensures.sound
-    c.plan_is_sound.ensures.matched c.plan_is_sound.ensures.reached c.requires.level c.requires.node c.requires.far
-    c.readers-readers.ensures c.loop-place-test.true in
+    let its = all-light c.plan_is_sound.ensures.sound c.plan_is_sound.ensures.matched c.plan_is_sound.ensures.reached
+    c.requires.level c.requires.node c.requires.far c.readers-readers.ensures c.loop-place-test.true in
     its.known
 
 pub overflow_mul-met : goal.overflow_mul-met
 overflow_mul-met c =
-    let its : IsLight c.args.plan.now c.args.level c.args.node c.loop-place.place c.args.far.now
-    c.readers-readers.result.now =
-    all-light c.args.plan.now c.args.level c.args.node c.loop-place.place c.plan_is_sound.ensures.sound
-    c.plan_is_sound.ensures.matched c.plan_is_sound.ensures.reached c.requires.level c.requires.node c.requires.far
-    c.readers-readers.ensures c.loop-place-test.true in
+    let its = all-light c.plan_is_sound.ensures.sound c.plan_is_sound.ensures.matched c.plan_is_sound.ensures.reached
+    c.requires.level c.requires.node c.requires.far c.readers-readers.ensures c.loop-place-test.true in
     omega (arith, its.near)
 
 pub overflow_add-met : goal.overflow_add-met
 overflow_add-met c =
-    let its : IsLight c.args.plan.now c.args.level c.args.node c.loop-place.place c.args.far.now
-    c.readers-readers.result.now =
-    all-light c.args.plan.now c.args.level c.args.node c.loop-place.place c.plan_is_sound.ensures.sound
-    c.plan_is_sound.ensures.matched c.plan_is_sound.ensures.reached c.requires.level c.requires.node c.requires.far
-    c.readers-readers.ensures c.loop-place-test.true in
+    let its = all-light c.plan_is_sound.ensures.sound c.plan_is_sound.ensures.matched c.plan_is_sound.ensures.reached
+    c.requires.level c.requires.node c.requires.far c.readers-readers.ensures c.loop-place-test.true in
     omega (
       arith,
       c.loop-place.invariant.passed,
@@ -82,11 +64,8 @@ overflow_add-met c =
 
 pub overflow_add-met-in-loop-place : goal.overflow_add-met-in-loop-place
 overflow_add-met-in-loop-place c =
-    let its : IsLight c.args.plan.now c.args.level c.args.node c.loop-place.place c.args.far.now
-    c.readers-readers.result.now =
-    all-light c.args.plan.now c.args.level c.args.node c.loop-place.place c.plan_is_sound.ensures.sound
-    c.plan_is_sound.ensures.matched c.plan_is_sound.ensures.reached c.requires.level c.requires.node c.requires.far
-    c.readers-readers.ensures c.loop-place-test.true in
+    let its = all-light c.plan_is_sound.ensures.sound c.plan_is_sound.ensures.matched c.plan_is_sound.ensures.reached
+    c.requires.level c.requires.node c.requires.far c.readers-readers.ensures c.loop-place-test.true in
     omega (
       arith,
       c.loop-place.invariant.passed,
@@ -104,11 +83,8 @@ overflow_add-met-in-loop-place c =
 
 pub loop-place-preserved : goal.loop-place-preserved
 loop-place-preserved c =
-    let its : IsLight c.args.plan.now c.args.level c.args.node c.loop-place.place c.args.far.now
-    c.readers-readers.result.now =
-    all-light c.args.plan.now c.args.level c.args.node c.loop-place.place c.plan_is_sound.ensures.sound
-    c.plan_is_sound.ensures.matched c.plan_is_sound.ensures.reached c.requires.level c.requires.node c.requires.far
-    c.readers-readers.ensures c.loop-place-test.true in
+    let its = all-light c.plan_is_sound.ensures.sound c.plan_is_sound.ensures.matched c.plan_is_sound.ensures.reached
+    c.requires.level c.requires.node c.requires.far c.readers-readers.ensures c.loop-place-test.true in
     record {
       paid = pay-step (bare c.args.plan.now) c.args.node c.args.level c.loop-place.place c.readers-readers.result.now
           c.loop-place.paid c.loop-place-test.true
