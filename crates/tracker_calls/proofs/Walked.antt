@@ -2,6 +2,7 @@
 use Rattle.std.proofs.Common.{◌≡◌, ℕ, ◌<◌, ◌≤◌, List, [], ◌∷◌, ◌++◌, Some, None, length, refl, sym, ap, ◌∙◌, subst, arith}
 use Rattle.std.specs.Prelude.{flat_map, slice_get}
 use Rattle.std.proofs.lemmas.List.{length-take}
+use Rattle.busy_finds.specs.Plans.{PlanFindsAreBounded}
 use Rattle.entry_word.specs.declared.visit.Key.{Key}
 use Rattle.entry_word.specs.declared.visit.Act.TheVariants.{Look}
 use Rattle.directory.specs.Settings.{Setting}
@@ -136,11 +137,11 @@ walked-on longer through fall {setup} {begun} {call} {pass} {tried} {new} {walk}
     }
 
 -- a walk that has its answer has made its find
-pub walked-out : AnswersAreRight → QuietFindsAnswer → PlanFindsAreNear
+pub walked-out : AnswersAreRight → QuietFindsAnswer → PlanFindsAreNear → PlanFindsAreBounded
     → {setup : Setup} {begun : PassData} {call : FindCall} {pass : PassData} {walk : WalkData} (found : Found)
     → IsMatched setup.plan → call.from < nodes_in setup → call.sub < subs_in setup → IsWalked setup begun call pass walk
     → pursuit_of setup.plan walk ≡ ended found → HasFound setup begun call found pass
-walked-out answers answer near {setup} {begun} {call} {pass} found matched from known at ends =
+walked-out answers answer near priced {setup} {begun} {call} {pass} found matched from known at ends =
     let all = sym at.pursuit ∙ ends in
     let some : 1 ≤ length at.made = looked-once (setting_in setup) pass.view.seen call found at.made all in
     let its : IsFind (setting_in setup) pass.view.seen (actor_of begun) call found at.made =
@@ -150,6 +151,6 @@ walked-out answers answer near {setup} {begun} {call} {pass} found matched from 
       added = at.added;
       keeps = at.keeps;
       find = its;
-      tells = tells-rightly answers answer near setup begun matched from (at.added.legal some call.sub known) its
+      tells = tells-rightly answers answer near priced setup begun matched from (at.added.legal some call.sub known) its
           at.added.begins (at.late some);
     }

@@ -9,6 +9,7 @@ ghost use Rattle.walk.specs.Walks.{call_of, pursuit_of};
 ghost use Rattle.tracker_calls.specs.Added.{HasTried};
 ghost use Rattle.tracker_calls.specs.Finds.{HasFound, HasStopped};
 
+use busy_finds::plan_finds_are_bounded;
 use directory::{Found, histories_begin, looks_fall, own_after};
 use distances::Distances;
 use region_plan::{Plan, plan_is_sound};
@@ -41,6 +42,7 @@ pub fn walk_on(
     answers_are_right();
     again_has_its_cause();
     plan_finds_are_near();
+    plan_finds_are_bounded();
     plan_is_sound(plan);
     'looks: while walk.answer().is_none() {
         tracker.visit_walk(pass, plan, distances, walk)?;
@@ -71,6 +73,7 @@ pub fn walk_through<R: Wait>(
     answers_are_right();
     again_has_its_cause();
     plan_finds_are_near();
+    plan_finds_are_bounded();
     plan_is_sound(plan);
     'looks: while walk.answer().is_none() {
         look_when_free(rt, tracker, pass, plan, distances, walk);

@@ -1,13 +1,16 @@
 //! What whole finds over a tracker, and steps of moves, don't do, whether they end well or not:
 //! each is wrong in one part.
-ghost use Rattle.std.specs.Prelude.{◌≡◌, ◌<◌, ◌+◌, ◌++◌, [], ◌∷◌, ℕ, List, Some, None, flat_map, suc, slice_get};
+ghost use Rattle.std.specs.Prelude.{◌≡◌, ◌<◌, ◌≤◌, ◌+◌, ◌++◌, [], ◌∷◌, ℕ, List, Some, None, flat_map, suc, slice_get};
 ghost use Rattle.atomic_table.specs.Table.{State};
+ghost use Rattle.busy_finds.specs.Examples.{meeting_history};
+ghost use Rattle.busy_finds.specs.Plans.{distance_at};
+ghost use Rattle.busy_finds.specs.Prices.{gathered_within};
 ghost use Rattle.directory.specs.Courses.{move_to};
-ghost use Rattle.directory.specs.Finds.{FindCall};
+ghost use Rattle.directory.specs.Finds.{FindCall, found_weight};
 ghost use Rattle.directory.specs.Histories.{History, before, through};
 ghost use Rattle.directory.specs.Legal.{IsLegal};
 ghost use Rattle.directory.specs.Looks.{IsQuiet, first_of, last_of};
-ghost use Rattle.directory.specs.Standing.{number};
+ghost use Rattle.directory.specs.Standing.{number, passage};
 ghost use Rattle.directory.specs.Writes.{visits};
 ghost use Rattle.directory.specs.declared.answers.Found.{Found};
 ghost use Rattle.directory.specs.declared.answers.Found.TheVariants.{At, Off as OffAt, Again};
@@ -27,8 +30,8 @@ ghost use Rattle.station.specs.Views.{turn_at};
 ghost use Rattle.station.specs.declared.turns.Held.{Held};
 ghost use Rattle.station.specs.declared.view.TurnEvent.TheVariants.{Won, GivenBack, Lost};
 ghost use Rattle.station.specs.declared.view.View.{View};
-ghost use Rattle.stretch_laws.specs.Plans.{IsWithinBound};
 ghost use Rattle.station.specs.Visits.{own_nodes};
+ghost use Rattle.stretch_laws.specs.Plans.{bound_of, IsWithinBound};
 ghost use Rattle.tracker_calls.specs.Added.{HasAdded, KeepsHandsets, VisitTurns, turns_taken};
 ghost use Rattle.tracker_calls.specs.RightAnswers.{TellsRightly};
 ghost use Rattle.tracker_calls.specs.Finds.{HasFound, HasStopped};
@@ -40,10 +43,8 @@ ghost use Rattle.worked_examples.specs.Passes.{HasPass, count_by, line_setup};
 use station::events_come_within_calls;
 
 /// Answers of a find from node 2 whose subscriber rests at node 3: of another node, number or
-/// state; none at all; beyond the bound, which is told at the first look and at the last; or older
-/// than what the pass had seen. Each answer is right at the find's last look, and each quiet find
-/// has one; and one from node 2, while its subscriber has come there and hasn't confirmed it,
-/// travels at most twice the passage of 1.
+/// state; none at all; or older than what the pass had seen. Each answer is right at the find's last
+/// look, and each quiet find has one.
 pub fn wrong_answers()
     ensures node { (old : PassData) → TellsRightly line_setup old (find_from 2)
         (At 2 0 (Some 0) 5) (0 ∷ []) [] → ⊥ }
@@ -59,10 +60,22 @@ pub fn wrong_answers()
     ensures quiet { (setup : Setup) (old : PassData) (call : FindCall) (found : Found)
         (made : List ℕ) (seen : History) → TellsRightly setup old call found made seen
         → IsQuiet seen call.sub (first_of made) (last_of made) → IsAnswered found }
-    ensures far { BoundsFinds line_of_four → (old : PassData)
-        → TellsRightly line_setup old (find_from 2) (At 3 0 (Some 0) 145) (0 ∷ []) [] → ⊥ }
-    ensures passing { BoundsFinds line_of_four → (old : PassData)
-        → TellsRightly line_setup old (find_from 2) (At 2 1 None 3) (4 ∷ [])
+    ensures older { (setup : Setup) (old : PassData) (call : FindCall) (made : List ℕ)
+        (seen : History) → number call.sub old.view.seen ≡ 1
+        → TellsRightly setup old call (At 3 0 None 0) made seen → ⊥ }
+    ensures older_off { (setup : Setup) (old : PassData) (call : FindCall) (made : List ℕ)
+        (seen : History) → number call.sub old.view.seen ≡ 1
+        → TellsRightly setup old call (OffAt 3 0 None 0) made seen → ⊥ }
+{}
+
+/// What a find weighs: a quiet one from node 2 at most 144 times its distance of 1, and while its
+/// subscriber has come there and hasn't confirmed it, at most twice the passage of 1; that is told
+/// at its first look and at its last. One from node 0 within which the subscriber moves from node 3
+/// to node 2 weighs at most 144 times 3: its distance is 2 at its last look, and the move gathered
+/// 1. Told so at each of its tickets, this holds of every find.
+pub fn wrong_weights()
+    ensures far { IsWithinBound line_of_four (3 ∷ []) (find_from 2) (At 3 0 (Some 0) 145) [] → ⊥ }
+    ensures passing { IsWithinBound line_of_four (3 ∷ []) (find_from 2) (At 2 1 None 3)
         (before 4 (visits line_setting 0 (move_to 2 ∷ []))) → ⊥ }
     ensures near_first { (setup : Setup) (old : PassData) (call : FindCall) (found : Found)
         (made : List ℕ) (seen : History) → TellsRightly setup old call found made seen
@@ -72,12 +85,17 @@ pub fn wrong_answers()
         (made : List ℕ) (seen : History) → TellsRightly setup old call found made seen
         → BoundsFinds setup.plan → IsQuiet seen call.sub (first_of made) (last_of made)
         → IsWithinBound setup.plan setup.homes call found (through (last_of made) seen) }
-    ensures older { (setup : Setup) (old : PassData) (call : FindCall) (made : List ℕ)
-        (seen : History) → number call.sub old.view.seen ≡ 1
-        → TellsRightly setup old call (At 3 0 None 0) made seen → ⊥ }
-    ensures older_off { (setup : Setup) (old : PassData) (call : FindCall) (made : List ℕ)
-        (seen : History) → number call.sub old.view.seen ≡ 1
-        → TellsRightly setup old call (OffAt 3 0 None 0) made seen → ⊥ }
+    ensures busy { BoundsFinds line_of_four → (old : PassData)
+        → TellsRightly line_setup old (find_from 0) (At 2 1 (Some 1) 433)
+        (0 ∷ 1 ∷ 6 ∷ 7 ∷ 8 ∷ 9 ∷ []) meeting_history → ⊥ }
+    ensures priced { (setup : Setup) (old : PassData) (call : FindCall) (found : Found)
+        (made : List ℕ) (seen : History) (ticket : ℕ)
+        → TellsRightly setup old call found made seen → BoundsFinds setup.plan
+        → first_of made ≤ ticket → ticket ≤ last_of made
+        → found_weight found ≤ bound_of setup.plan
+        (distance_at setup.plan setup.homes call seen ticket
+        + gathered_within (setting_in setup) call.sub seen (first_of made) (last_of made))
+        (passage (setting_in setup) call.sub (before (first_of made) seen)) }
 {}
 
 /// A call that made a visit with ticket 4: it has used one of its spare, and is in no node; what it

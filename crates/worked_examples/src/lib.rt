@@ -34,7 +34,9 @@ mod words;
 mod wrong;
 
 pub use bounds::{worked_bounds, worked_callers, worked_rooms};
-pub use calls::{wrong_additions, wrong_answers, wrong_finds, wrong_steps, wrong_stops};
+pub use calls::{
+    wrong_additions, wrong_answers, wrong_finds, wrong_steps, wrong_stops, wrong_weights,
+};
 pub use cells::{worked_cells, worked_rungs, worked_words};
 pub use censuses::worked_censuses;
 pub use chases::{worked_chases, wrong_chases};

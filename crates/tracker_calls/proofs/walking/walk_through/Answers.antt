@@ -24,7 +24,8 @@ returns g c =
     let setup = c.args.tracker.now.setup in
     let at = c.looks.invariant.walked in record {
       found = walked-out c.answers_are_right.ensures c.again_has_its_cause.ensures.quiet c.plan_finds_are_near.ensures
-          c.in-Some.found (subst IsMatched c.requires.way.plan_is c.plan_is_sound.ensures.matched)
+          c.plan_finds_are_bounded.ensures.bounded c.in-Some.found
+          (subst IsMatched c.requires.way.plan_is c.plan_is_sound.ensures.matched)
           c.requires.way.goes.from c.requires.way.known at
           (answer-ends (pursuit_of setup.plan c.looks.walk) c.in-Some.found
           (sym (c.answer-2.ensures setup.plan at.goes) ∙ c.in-Some.is));

@@ -1,0 +1,2 @@
+mod Together
+mod LineRun

@@ -1,0 +1,2 @@
+pub mod WholeRuns
+pub mod Examples
