@@ -10,6 +10,7 @@ sys.dont_write_bytecode = True
 TOP = os.path.join(os.path.dirname(os.path.realpath(__file__)), "..")
 sys.path.insert(0, os.path.join(TOP, "scripts"))
 import price_plots as plots  # noqa: E402
+import price_prose as prose  # noqa: E402
 import price_tables as tables  # noqa: E402
 from price_head import head_of  # noqa: E402
 from price_networks import BLOCK, PRICED, UNITS  # noqa: E402
@@ -59,13 +60,13 @@ def weigh(name, movers, covers, program):
     return rows_of(Ground(name, *PRICED[name]()), movers, covers, program)
 
 
-def weigh_all(program, jobs):
-    """All rows, in the order of the networks."""
+def weigh_all(program, jobs, look=lambda rows: None):
+    """All rows, in the order of the networks; the rows of each load are looked at once they are weighed."""
     with ProcessPoolExecutor(jobs) as pool:
         waiting = {load[:2]: pool.submit(weigh, *load, program) for load in loads()}
         try:
             for count, (load, rows) in enumerate(waiting.items(), 1):
-                rows.result()
+                look(rows.result())
                 tell(f"{count} of {len(waiting)}: {' '.join(load)}")
         except BaseException:
             pool.shutdown(cancel_futures=True)
@@ -74,7 +75,7 @@ def weigh_all(program, jobs):
 
 
 def blocks_of(prices):
-    """The tables of the page, by the names of their marks."""
+    """The tables of the page, and sentences with numbers, by the names of their marks."""
     below = {unit: (BLOCK // unit - 1).bit_length() for unit in (*UNITS, BLOCK)}
     units = [(unit, f"unit-{unit}" if unit != BLOCK else "grid-256", below[unit]) for unit in (*UNITS, BLOCK)]
     blocks = {"head": head_of(prices, TABLED), "cheapest": tables.cheapest_table(prices, TABLED),
@@ -82,6 +83,9 @@ def blocks_of(prices):
               "bounds": tables.bounds_table(prices, TABLED), "units": tables.units_table(prices, units),
               "halves": tables.halves_words(prices.rows),
               "choice": tables.choice_table(prices, CHOICE, SMALL, [name for name in TABLED if name not in SMALL])}
+    sizes = {"small": SMALL, "large": [name for name in TABLED if name not in SMALL]}
+    blocks |= {"unknown": prose.unknown_words(prices, sizes, CHOICE), "degree": prose.degree_words(prices),
+               "dearest": prose.dearest_words(prices, TABLED), "unit": prose.units_words(prices, units), "loads": prose.loads_words()}
     for kind in KINDS:
         blocks[f"away-{kind}"] = tables.ratio_table(prices, TABLED, "away", kind)
     for name in ("nsfnet", *LARGE):
@@ -132,17 +136,22 @@ def check(rows):
                 raise BadText(f"{path} isn't what the script makes")
 
 
-def check_weights(rows, weighed):
+def compare(stored, weighed):
     """That rows are as they are weighed."""
-    stored = set(rows)
     for row in weighed:
         if row not in stored:
             raise BadText(f"{ROWS}: {row.way} for {row.movers} subscribers on {row.network} isn't what is weighed")
+
+
+def check_weights(rows, program, jobs):
+    """That rows are as they are weighed: those of a sample, or by so many processes all."""
+    stored = set(rows)
+    if jobs:
+        weighed = weigh_all(program, jobs, lambda some: compare(stored, some))
+    else:
+        weighed = [row for name, movers, covers in SAMPLE for row in weigh(name, movers, covers, program)]
+        compare(stored, weighed)
     print(f"prices: {len(rows)} rows, {len(weighed)} of them weighed anew")
-
-
-def sample(program):
-    return [row for name, movers, covers in SAMPLE for row in weigh(name, movers, covers, program)]
 
 
 def tell(words):
@@ -206,7 +215,7 @@ def main():
     if asked.check or asked.check_all:
         rows = stored_rows()
         check(rows)
-        check_weights(rows, sample(program) if asked.check else weigh_all(program, asked.jobs))
+        check_weights(rows, program, None if asked.check else asked.jobs)
         return
     if asked.write:
         store(ROWS, rows_text(weigh_all(program, asked.jobs)))

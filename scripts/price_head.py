@@ -17,6 +17,11 @@ def hold(is_so, words):
         raise BadText(f"the rows don't bear out the head of docs/PRICE.md: {words}")
 
 
+def written(words):
+    """A paragraph in the page's lines."""
+    return textwrap.fill(words, 120, break_long_words=False, break_on_hyphens=False)
+
+
 def in_words(number):
     return NUMBERS[number] if number < len(NUMBERS) else str(number)
 
@@ -104,4 +109,4 @@ def head_of(prices, networks):
     """The three sentences, and what stands between them and the tables."""
     others = [network for network in networks if network not in RESEARCH]
     told = [winning(prices, others), losing(prices, networks), covering(prices), between(prices, networks, others)]
-    return "\n\n".join(textwrap.fill(words, 120, break_long_words=False, break_on_hyphens=False) for words in told)
+    return "\n\n".join(map(written, told))

@@ -189,5 +189,7 @@ def units_table(prices, units):
 def halves_words(rows):
     """How alike the halves of the loads are."""
     least, most = min(row.halves for row in rows), max(row.halves for row in rows)
+    if least < 0.9 or most > 1.1:
+        raise BadText("the halves of a load differ by more than docs/PRICE.md says")
     return (f"The later half of a load, with ten near finds a move, weighs {least:.2f} to {most:.2f} times what the earlier half does, over\n"
-            f"all {len(rows)} rows.")
+            f"all {len(rows)} rows. So a ratio of 0.9 to 1.1 in these tables decides nothing.")

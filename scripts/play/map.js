@@ -81,6 +81,7 @@ class NetworkMap {
     this.radius = this.places.length > 300 ? 4 : this.places.length > FEW_NODES ? 5.5 : 9;
     this.layers = {};
     for (const name of LAYERS) this.layers[name] = shape(svg, "g", { class: name });
+    this.rooms = this.roomsOfNames();
     this.drawEdges();
     this.drawNodes();
     this.paths = {};
@@ -112,9 +113,35 @@ class NetworkMap {
     }
   }
 
+  /** The places of names, each at one side of its node: above it, or the first side on which it meets the fewest of the names
+      before it and of other nodes. Above many nodes, of whose names few are shown. */
+  roomsOfNames() {
+    const few = this.places.length <= FEW_NODES;
+    const dots = this.places.map(({ x, y }) => ({ x, y: y + 4, half: this.radius }));
+    const taken = [];
+    return this.places.map(({ x, y }, node) => {
+      const half = 3.8 * this.called(node).length;
+      const [far, up, down] = [half + this.radius + 3, y - this.radius - 6, y + this.radius + 15];
+      const rooms = [{ x, y: up }, { x, y: down }, { x: x + far, y: y + 4 }, { x: x - far, y: y + 4 }, { x: x + far - 8, y: up + 4 },
+        { x: x - far + 8, y: up + 4 }, { x: x + far - 8, y: down - 4 }, { x: x - far + 8, y: down - 4 }].map((room) => ({ ...room, half }));
+      const meets = (room) => [...dots, ...taken].filter((other) =>
+        Math.abs(other.x - room.x) < other.half + half && Math.abs(other.y - room.y) < 13).length
+        + (this.isOutside(room) ? 1 : 0);
+      const best = few ? rooms.reduce((one, room) => (meets(room) < meets(one) ? room : one)) : rooms[0];
+      taken.push(best);
+      return best;
+    });
+  }
+
+  /** Whether a name reaches beyond the picture. */
+  isOutside({ x, y, half }) {
+    const { width, height } = this.replay.data.map;
+    return x < half || x + half > width || y < 12 || y + 4 > height;
+  }
+
   /** The place of an edge's weight: its middle, or the first beside it where no name of a node and no other weight stands. */
   roomOn(one, other, weight) {
-    const names = this.places.map(({ x, y }, node) => ({ x, y: y - this.radius - 10, half: 3.8 * this.called(node).length }));
+    const names = this.rooms.map(({ x, y, half }) => ({ x, y: y - 4, half }));
     const weights = this.edgeWeights.map((text) => (
       { x: Number(text.getAttribute("x")), y: Number(text.getAttribute("y")) - 4, half: 3.5 * text.textContent.length }));
     const wanted = SHARES.map((share) => ({ x: one.x + share * (other.x - one.x), y: one.y + share * (other.y - one.y) }));
@@ -129,8 +156,8 @@ class NetworkMap {
       dot.dataset.node = node;
       return dot;
     });
-    this.names = this.places.map(({ x, y }, node) => {
-      const label = shape(this.layers.labels, "text", { x, y: y - this.radius - 6, "text-anchor": "middle" });
+    this.names = this.rooms.map(({ x, y }, node) => {
+      const label = shape(this.layers.labels, "text", { x, y, "text-anchor": "middle" });
       label.textContent = this.called(node);
       return label;
     });
@@ -247,8 +274,9 @@ class NetworkMap {
     }
     const items = [...levels].map(([node, some]) => [node, ranges(some), subscriber]);
     this.badges.show(items, (badge, [node, some]) => {
-      badge.setAttribute("x", this.places[node].x);
-      badge.setAttribute("y", this.places[node].y + this.radius + 15);
+      const { x, y } = this.places[node];
+      badge.setAttribute("x", x);
+      badge.setAttribute("y", this.rooms[node].y > y + this.radius ? y - this.radius - 6 : y + this.radius + 15);
       badge.style.setProperty("--own", colourOf(subscriber));
       say(badge, `@ ${some}`);
     });
