@@ -15,9 +15,9 @@ usual_numbers =
 -- the names of the commands that are a name alone
 abbrev pub names_alone : List (List ℕ)
 names_alone =
-    codes "cover" ∷ codes "replay" ∷ codes "census" ∷ codes "costs" ∷ codes "check" ∷ codes "run"
-    ∷ codes "tojson" ∷ codes "fromjson" ∷ codes "replayjson" ∷ codes "meancover"
-    ∷ codes "meanreplay" ∷ []
+    codes "cover" ∷ codes "replay" ∷ codes "census" ∷ codes "costs" ∷ codes "stretch"
+    ∷ codes "check" ∷ codes "run" ∷ codes "tojson" ∷ codes "fromjson" ∷ codes "replayjson"
+    ∷ codes "meancover" ∷ codes "meanreplay" ∷ codes "meanstretch" ∷ []
 
 -- the words that make it, with another word in the place of one number
 abbrev pub load_words : ℕ → List ℕ → List (List ℕ)

@@ -13,19 +13,21 @@ plain_named name =
     (first_or name (codes "replay") (drop 2 names_alone) (bytes_eq name (codes "replay")) _ _ refl
     (first_or name (codes "census") (drop 3 names_alone) (bytes_eq name (codes "census")) _ _ refl
     (first_or name (codes "costs") (drop 4 names_alone) (bytes_eq name (codes "costs")) _ _ refl
-    (first_or name (codes "check") (drop 5 names_alone) (bytes_eq name (codes "check")) _ _ refl
-    (first_or name (codes "run") (drop 6 names_alone) (bytes_eq name (codes "run")) _ _ refl
-    (first_or name (codes "tojson") (drop 7 names_alone) (bytes_eq name (codes "tojson")) _ _ refl
-    (first_or name (codes "fromjson") (drop 8 names_alone) (bytes_eq name (codes "fromjson")) _ _ refl
-    (first_or name (codes "replayjson") (drop 9 names_alone) (bytes_eq name (codes "replayjson")) _ _ refl
-    (first_or name (codes "meancover") (drop 10 names_alone) (bytes_eq name (codes "meancover")) _ _ refl
-    (first_or name (codes "meanreplay") (drop 11 names_alone) (bytes_eq name (codes "meanreplay")) _ _ refl
-    (none_left name))))))))))))
+    (first_or name (codes "stretch") (drop 5 names_alone) (bytes_eq name (codes "stretch")) _ _ refl
+    (first_or name (codes "check") (drop 6 names_alone) (bytes_eq name (codes "check")) _ _ refl
+    (first_or name (codes "run") (drop 7 names_alone) (bytes_eq name (codes "run")) _ _ refl
+    (first_or name (codes "tojson") (drop 8 names_alone) (bytes_eq name (codes "tojson")) _ _ refl
+    (first_or name (codes "fromjson") (drop 9 names_alone) (bytes_eq name (codes "fromjson")) _ _ refl
+    (first_or name (codes "replayjson") (drop 10 names_alone) (bytes_eq name (codes "replayjson")) _ _ refl
+    (first_or name (codes "meancover") (drop 11 names_alone) (bytes_eq name (codes "meancover")) _ _ refl
+    (first_or name (codes "meanreplay") (drop 12 names_alone) (bytes_eq name (codes "meanreplay")) _ _ refl
+    (first_or name (codes "meanstretch") (drop 13 names_alone) (bytes_eq name (codes "meanstretch")) _ _ refl
+    (none_left name))))))))))))))
 
 pub returns-clause-names : goal.returns-clause-names
 returns-clause-names c = plain_named
 
--- a plain command stands alone behind its name
+-- a plain command stands alone after its name
 alone_some : (command : Option Command) (rest : List (List ℕ)) → is_some (alone command rest) ≡ true
     → is_some command ≡ true
 alone_some command [] e = e
