@@ -31,9 +31,11 @@ const WRITTEN: &str = "replay>0 move 0 1 3 2 weight 1 first 0 commit 3 last 5\n\
         level 2 radius 4 clusters 1 phases 1\n\
         cluster 0 phase 0 leader 0 depth 3 members 0 1 2 3\nhomes 0 0 0 0\nend\n|\
         census>0 node 2 count 1 subs 0\nend 1\n|\
-        costs>0 cost 0 moves 1 moved 1 written 12 purged 0\nend\n|";
+        costs>0 cost 0 moves 1 moved 1 written 12 purged 0\nend\n|\
+        stretch>0 stretch 144 own 14 any 27\n|\
+        meanstretch>0 stretch 232 own 14 any 27\n|";
 
-// Twelve reads of 8 bytes take the input, and one more tells its end: no read comes behind it. The
+// Twelve reads of 8 bytes take the input, and one more tells its end: no read comes after it. The
 // writes have 10 bytes.
 fn each_call_of_a_word_fails<R: Threads + Sync + Abort>(
     rt: &R,

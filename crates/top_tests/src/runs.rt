@@ -15,7 +15,7 @@ pub(crate) const FOUR: &str =
 
 /// The words that read an input.
 pub(crate) const READING: &str =
-    "cover replay census costs run meancover meanreplay tojson replayjson";
+    "cover replay census costs stretch run meancover meanreplay meanstretch tojson replayjson";
 
 /// How many bytes come in a call: one, a few, and more than most lines have.
 pub(crate) const PIECES: &str = "1 7 64";
