@@ -89,6 +89,12 @@ word == "cover" && $1 == "end" {
     ended++
 }
 
+# The stretches are one line, whose own are least between commits.
+word == "stretch" {
+    if (NF != 6 || $1 != "stretch" || $3 != "own" || $5 != "any" || $4 > $6 || $6 >= $2) wrong("the stretches")
+    ended++
+}
+
 # JSON is one line: its head and its end, and how many calls it tells.
 word == "tojson" {
     if (index($0, "{\"callers\":64,\"calls\":[[\"find\",64,0,0],") != 1) wrong("the first call")
