@@ -6,6 +6,7 @@ const FEW_EDGES = 40; // with their weights
 const SHORT = 90; // too short for a weight
 const LAYERS = ["shades", "passages", "edges", "trail", "ways", "nodes", "rings", "weights", "tokens", "labels", "words"];
 const SHARES = [0.5, 0.42, 0.58, 0.34, 0.66, 0.27, 0.73]; // of an edge, where its weight may stand
+const BENDS = [34, -34, 52, -52, 20, -20, 72, -72]; // beside a way, where its words may stand
 
 function shape(parent, name, attributes = {}) {
   const made = document.createElementNS(SVG, name);
@@ -253,9 +254,20 @@ class NetworkMap {
     const open = moment.subscribers.map(({ passage }) => passage).filter(Boolean);
     this.draw("passage", open.map(({ start, to }) => arrow(this.places[start], this.places[to], 0, this.radius + 8)).join(""));
     this.weights.show(open, (text, { start, to, weight }) => {
-      this.put(text, beside(this.places[start], this.places[to], 34));
-      say(text, `passage ${weight}`);
+      const words = `passage ${weight}`;
+      this.put(text, this.roomBeside(this.places[start], this.places[to], words));
+      say(text, words);
     });
+  }
+
+  /** Where words on a way stand: beside its middle, the first place where they cover the fewest words and nodes. */
+  roomBeside(one, other, words) {
+    const half = 3.6 * words.length + 2;
+    const covered = [...boxesOf([...this.names, ...this.edgeWeights]), ...this.boxesOfNodes()];
+    const meets = ({ x, y }) => covered.filter(({ left, right, top, bottom }) =>
+      x - half < right && left < x + half && y - 9 < bottom && top < y + 8).length + (this.isOutside({ x, y, half }) ? 1 : 0);
+    const rooms = BENDS.map((bend) => beside(one, other, bend));
+    return rooms.reduce((best, room) => (meets(room) < meets(best) ? room : best));
   }
 
   put(text, { x, y }) {
@@ -340,12 +352,12 @@ class NetworkMap {
   /** What a box should leave free: the words that are seen, and the nodes. */
   covered() {
     const texts = [this.names, this.edgeWeights, this.badges.shapes, this.steps.shapes, this.weights.shapes].flat();
-    const boxes = texts.filter(({ hidden }) => !hidden).map((one) => {
-      const [x, y, half] = [Number(one.getAttribute("x")), Number(one.getAttribute("y")), 3.6 * one.textContent.length + 2];
-      return { left: x - half, right: x + half, top: y - 13, bottom: y + 4 };
-    });
+    return [...boxesOf(texts.filter(({ hidden }) => !hidden)), ...this.boxesOfNodes()];
+  }
+
+  boxesOfNodes() {
     const { radius } = this;
-    return [...boxes, ...this.places.map(({ x, y }) => ({ left: x - radius, right: x + radius, top: y - radius, bottom: y + radius }))];
+    return this.places.map(({ x, y }) => ({ left: x - radius, right: x + radius, top: y - radius, bottom: y + radius }));
   }
 
   /** Where a box of a width is put near a place: of some places round it the first that covers least. */
@@ -379,6 +391,14 @@ class NetworkMap {
     const { start, to, at } = this.replay.call(ticket);
     return [this.replay.nodeOf(this.replay.cell(ticket)), start, to, at].filter((node) => node !== undefined);
   }
+}
+
+/** What words cover. */
+function boxesOf(texts) {
+  return texts.map((one) => {
+    const [x, y, half] = [Number(one.getAttribute("x")), Number(one.getAttribute("y")), 3.6 * one.textContent.length + 2];
+    return { left: x - half, right: x + half, top: y - 13, bottom: y + 4 };
+  });
 }
 
 /** Ascending numbers with runs as ranges: 0-3, 5. */
