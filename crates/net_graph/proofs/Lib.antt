@@ -7,6 +7,8 @@ mod Placing
 mod LayingOut
 mod Relaxing
 mod Searching
+mod Rooted
+mod Nearing
 mod Connecting
 mod LeastWalks
 mod Parenting

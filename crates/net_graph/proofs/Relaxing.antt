@@ -21,8 +21,9 @@ lighter_falls through w None lighter h = absurd h
 lighter_falls through w (Some x) lighter h = omega (arith, lighter x refl)
 
 -- an arc by which an unsettled node becomes lighter
-module _ (arc : Arc) (x : ℕ) (unsettled : List Bool) (old : List (Option ℕ)) (waited waiting : List Waiting)
-    (waits : among unsettled arc.target ≡ true) (same_count : length unsettled ≡ length old)
+module _ (arc : Arc) (x radius : ℕ) (unsettled : List Bool) (old : List (Option ℕ)) (waited waiting : List Waiting)
+    (within : x + arc.weight ≤ radius) (waits : among unsettled arc.target ≡ true)
+    (same_count : length unsettled ≡ length old)
     (lighter : IsLighter (x + arc.weight) (at_node old arc.target))
     (pushed : IsPermutation (make_waiting (x + arc.weight) arc.target ∷ waited) waiting) where
   abbrev target : ℕ
@@ -48,7 +49,8 @@ module _ (arc : Arc) (x : ℕ) (unsettled : List Bool) (old : List (Option ℕ))
       (make_waiting (x + arc.weight) arc.target) pushed
       (0, omega arith, refl)
 
-  pub relaxed_to : IsRelaxed (arc ∷ []) x unsettled old (set old arc.target (Some (x + arc.weight))) waited waiting
+  pub relaxed_to : IsRelaxed (arc ∷ []) x radius unsettled old (set old arc.target (Some (x + arc.weight))) waited
+      waiting
   relaxed_to = record {
     count = length-set old arc.target (Some (x + arc.weight));
     kept = λ v settled. other_now v (λ same. let both : true ≡ false = sym waits ∙ sym (ap (among unsettled) same)
@@ -67,10 +69,10 @@ module _ (arc : Arc) (x : ℕ) (unsettled : List Bool) (old : List (Option ℕ))
   }
 
 -- one more arc
-relaxed_more : {arcs : List Arc} {arc : Arc} {x : ℕ} {unsettled : List Bool} {old mid new : List (Option ℕ)}
-    {waited between waiting : List Waiting} → IsRelaxed arcs x unsettled old mid waited between
-    → IsRelaxed (arc ∷ []) x unsettled mid new between waiting → IsRelaxed (arcs ++ arc ∷ []) x unsettled old new waited
-    waiting
+relaxed_more : {arcs : List Arc} {arc : Arc} {x radius : ℕ} {unsettled : List Bool} {old mid new : List (Option ℕ)}
+    {waited between waiting : List Waiting} → IsRelaxed arcs x radius unsettled old mid waited between
+    → IsRelaxed (arc ∷ []) x radius unsettled mid new between waiting
+    → IsRelaxed (arcs ++ arc ∷ []) x radius unsettled old new waited waiting
 relaxed_more {arcs} {arc} {x} p q = record {
   count = q.count ∙ p.count;
   kept = λ v settled. q.kept v settled ∙ p.kept v settled;
@@ -83,15 +85,16 @@ relaxed_more {arcs} {arc} {x} p q = record {
         Contains-append_right arcs (arc ∷ []),
       );
   falls = λ v w h. q.falls v w (p.falls v w h);
-  reached = λ v c has waits. grind (arith, Contains-append_cases arcs (arc ∷ []) (make_arc v c) has);
+  reached = λ v c has waits within. grind (arith, Contains-append_cases arcs (arc ∷ []) (make_arc v c) has);
   wait_on = λ w v has. q.wait_on w v (p.wait_on w v has);
   joined = λ v w here. grind (arith, q.joined v w here, p.joined v w, q.wait_on w v);
   since = λ w v has. grind (arith, q.since w v has, p.since w v, q.falls v w);
 }
 
 -- one more arc of a list
-pub relaxed_next : (arcs : List Arc) (i : ℕ) (d : Arc) {x : ℕ} {unsettled : List Bool} {old mid new : List (Option ℕ)}
-    {waited between waiting : List Waiting} → i < length arcs → IsRelaxed (take i arcs) x unsettled old mid waited
-    between → IsRelaxed (get_or arcs i d ∷ []) x unsettled mid new between waiting
-    → IsRelaxed (take (i + 1) arcs) x unsettled old new waited waiting
+pub relaxed_next : (arcs : List Arc) (i : ℕ) (d : Arc) {x radius : ℕ} {unsettled : List Bool}
+    {old mid new : List (Option ℕ)} {waited between waiting : List Waiting} → i < length arcs
+    → IsRelaxed (take i arcs) x radius unsettled old mid waited between
+    → IsRelaxed (get_or arcs i d ∷ []) x radius unsettled mid new between waiting
+    → IsRelaxed (take (i + 1) arcs) x radius unsettled old new waited waiting
 relaxed_next arcs i d below p q = grind (arith, take_more arcs i d below, relaxed_more p q)

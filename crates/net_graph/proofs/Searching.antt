@@ -1,23 +1,26 @@
--- The search as a whole: what it keeps, and that least weights are left when no unsettled node has a weight.
-use Rattle.std.proofs.Common.{rules, ◌≡◌, ◌≢◌, ◌⊎◌, ℕ, ◌+◌, ◌-◌, ◌*◌, ◌^◌, ◌<◌, ◌≤◌, Bool, true, false, cond, List, [], ◌∷◌, ◌++◌, take, Option, None, Some, length, get_or, set, replicate, refl, zero, suc, sym, ◌∙◌, ap, subst, inl, inr, arith}
+-- A search from some sources as a whole: what it keeps, and that least weights are left when no unsettled node has a
+-- weight. It goes as far as a weight fits: without an end from a root, or up to a radius.
+use Rattle.std.proofs.Common.{◌≡◌, ◌≢◌, ◌⊎◌, ℕ, ◌+◌, ◌-◌, ◌*◌, ◌<◌, ◌≤◌, Bool, true, false, cond, List, [], ◌∷◌, ◌++◌, Option, None, Some, length, set, replicate, refl, sym, ◌∙◌, ap, subst, inl, inr, arith}
 use Rattle.std.specs.Prelude.{Contains, IsPermutation}
 use Rattle.std.specs.List.{count_by}
-use Rattle.std.proofs.lemmas.List.{length-set, get_or-set_same, get_or-set_other, get_or_past, get_or-replicate, length-replicate, take_at}
-use Rattle.std.proofs.lemmas.List.Elements.{All-contains}
-use Rattle.std.proofs.lemmas.List.Sums.{sum_by-set, count_by-le-length}
+use Rattle.std.proofs.lemmas.List.{length-set, get_or-set_same, get_or-set_other, get_or_past, get_or-replicate, length-replicate}
+use Rattle.std.proofs.lemmas.List.Elements.{All-contains, Contains-append_left, Contains-push, Contains-push_cases}
+use Rattle.std.proofs.lemmas.List.Sums.{sum_by-set}
 use Rattle.std.proofs.lemmas.Bool.{cases_eq, cases_lt, cases_Bool}
-use Rattle.net_graph.specs.declared.edge.TheConstants.{MAX_NODES, MAX_WEIGHT}
+use Rattle.net_graph.specs.declared.edge.TheConstants.{MAX_WEIGHT}
 use Rattle.net_graph.specs.declared.neighbours.Arc.{Arc}
 use Rattle.net_graph.specs.declared.queue.Candidate.{Candidate}
-use Rattle.net_graph.specs.Walks.{Joins, Step, IsWalk, weight_of, IsWalkWeight, among}
+use Rattle.net_graph.specs.Walks.{Joins, Step, IsWalk, weight_of, among}
 use Rattle.net_graph.specs.Network.{Network}
-use Rattle.net_graph.specs.Trees.{at_node, AreLeastWeights}
+use Rattle.net_graph.specs.Trees.{at_node}
 use Rattle.net_graph.specs.Layout.{make_arc, IsArc, AreArcsOf}
 use Rattle.net_graph.specs.Least.{IsAtMost}
+use Rattle.net_graph.specs.Near.{HasBegun, IsReachedFrom}
 use Rattle.net_graph.specs.Queue.{Waiting, make_waiting, AreSettled, IsNextUnsettled}
 use Rattle.net_graph.specs.Search.{IsRelaxed}
 use Rattle.std.proofs.lemmas.List.Sorted.{Contains-permutation, IsPermutation-sym}
 use Rattle.net_graph.specs.WalkLaws.{among_below, walk_further, walk_begins}
+use Rattle.net_graph.proofs.Elements.{first, first_or_later, later}
 use Rattle.net_graph.proofs.Lowering.{at_most_trans, at_most_some}
 use Rattle.std.proofs.lemmas.Option.{same_Some, none-some}
 
@@ -26,18 +29,22 @@ abbrev pub unsettled_count : List Bool → ℕ
 unsettled_count unsettled = count_by (λ b. b) unsettled
 
 -- what each round of the search keeps
-pub record IsSearch (network : Network) (inside : ℕ → Bool) (root : ℕ) (unsettled : List Bool)
-    (weights : List (Option ℕ)) : Type 0 where
+pub record IsSearch (network : Network) (inside : ℕ → Bool) (sources : List ℕ) (fits : ℕ → Type 0)
+    (unsettled : List Bool) (weights : List (Option ℕ)) : Type 0 where
   pub nodes : length unsettled ≡ network.nodes
   pub count : length weights ≡ network.nodes
-  pub start : IsAtMost (at_node weights root) 0
+  pub start : (v : ℕ) → Contains sources v → IsAtMost (at_node weights v) 0
   pub inner : (v : ℕ) → among unsettled v ≡ true → inside v ≡ true
-  pub settled : (v : ℕ) → inside v ≡ true → among unsettled v ≡ false → (w : ℕ) × (at_node weights v ≡ Some w)
-  pub sound : (v w : ℕ) → at_node weights v ≡ Some w → IsWalkWeight network.edges inside root v w
+  pub settled : (v : ℕ) → inside v ≡ true → among unsettled v ≡ false → v < network.nodes
+      → (w : ℕ) × (at_node weights v ≡ Some w)
+  pub sound : (v w : ℕ) → at_node weights v ≡ Some w → IsReachedFrom network.edges inside sources v w
   pub closed : (u v w c : ℕ) → among unsettled u ≡ false → at_node weights u ≡ Some w → inside v ≡ true
-      → Joins network.edges u v c → IsAtMost (at_node weights v) (w + c)
+      → Joins network.edges u v c → fits (w + c) → IsAtMost (at_node weights v) (w + c)
   pub lightest : (u v x y : ℕ) → among unsettled u ≡ false → at_node weights u ≡ Some x → among unsettled v ≡ true
       → at_node weights v ≡ Some y → x ≤ y
+
+-- the weights that a search without an end has found fit into numbers
+pub record IsBounded (network : Network) (unsettled : List Bool) (weights : List (Option ℕ)) : Type 0 where
   pub slack : (v w : ℕ) → at_node weights v ≡ Some w
       → w + unsettled_count unsettled * MAX_WEIGHT ≤ network.nodes * MAX_WEIGHT
   pub bounded : (v w : ℕ) → at_node weights v ≡ Some w → w ≤ (network.nodes - 1) * MAX_WEIGHT
@@ -58,39 +65,123 @@ pub record IsQueue (unsettled : List Bool) (weights : List (Option ℕ)) (waitin
 true_is_not_false : {b : Bool} → b ≡ true → b ≡ false → ⊥
 true_is_not_false h k = let both : true ≡ false = sym h ∙ k in cc
 
-none_there : (n v : ℕ) {w : ℕ} → get_or (replicate n None) v None ≡ Some w → ⊥
-none_there n v {w} here = grind (arith, cases_lt, get_or-replicate, none-some, get_or_past, length-replicate)
+-- the beginning, where the sources alone have a weight
+pub unweighed : (n v w : ℕ) → at_node (replicate n None) v ≡ Some w → ⊥
+unweighed n v w here = grind (arith, cases_lt, get_or-replicate, none-some, get_or_past, length-replicate)
 
--- the beginning, where the root alone has a weight
-only_root : (n root v : ℕ) {w : ℕ} → at_node (set (replicate n None) root (Some 0)) v ≡ Some w → (v ≡ root) × (w ≡ 0)
-only_root n root v {w} here = search (
-  rules,
-  cases_eq,
-  none_there,
-  get_or-set_other,
-  length-set,
-  length-replicate,
-  cases_lt,
-  same_Some,
-  get_or-set_same,
-  none-some,
-  get_or_past,
-)
+module _ {sources : List ℕ} {weights : List (Option ℕ)} {waited waiting : List Waiting}
+    (begun : HasBegun sources weights waited) (source : ℕ) (below : source < length weights)
+    (pushed : IsPermutation (make_waiting 0 source ∷ waited) waiting) where
+  one_waits : (w v : ℕ) → Contains waiting (make_waiting w v)
+      → (make_waiting 0 source ≡ make_waiting w v) ⊎ Contains waited (make_waiting w v)
+  one_waits w v has = first_or_later (make_waiting w v) (make_waiting 0 source) waited
+      (Contains-permutation waiting (make_waiting 0 source ∷ waited) (make_waiting w v)
+      (IsPermutation-sym (make_waiting 0 source ∷ waited) waiting pushed) has)
 
-pub search_begins : (network : Network) (allowed : List Bool) (root : ℕ) → 1 ≤ network.nodes
-    → length allowed ≡ network.nodes
-    → among allowed root ≡ true
-    → IsSearch network (among allowed) root allowed (set (replicate network.nodes None) root (Some 0))
-search_begins network allowed root positive count at_root = search (
-  rules,
-  among_below,
-  length-replicate,
-  count_by-le-length,
-  length-set,
-  get_or-set_same,
-  true_is_not_false,
-  only_root,
-)
+  waits_on : (w v : ℕ) → Contains waited (make_waiting w v) → Contains waiting (make_waiting w v)
+  waits_on w v has = Contains-permutation (make_waiting 0 source ∷ waited) waiting (make_waiting w v) pushed
+      (later (make_waiting w v) (make_waiting 0 source) waited has)
+
+  here_now : at_node (set weights source (Some 0)) source ≡ Some 0
+  here_now = get_or-set_same weights source (Some 0) None below
+
+  other_now : (v : ℕ) → v ≢ source → at_node (set weights source (Some 0)) v ≡ at_node weights v
+  other_now v other = get_or-set_other weights source v (Some 0) None other
+
+  zero_now : (v w : ℕ) → at_node (set weights source (Some 0)) v ≡ Some w
+      → (w ≡ 0) × Contains (sources ++ source ∷ []) v
+  zero_now v w here = elim (cases_eq v source) [
+    | inl same ↦ (
+      same_Some w 0 (sym here ∙ ap (at_node (set weights source (Some 0))) same ∙ here_now),
+      subst (Contains (sources ++ source ∷ [])) (sym same) (Contains-push sources source),
+    )
+    | inr other ↦
+        let old = begun.zero v w (sym (other_now v other) ∙ here) in
+        (old.0, Contains-append_left sources (source ∷ []) v old.1)
+  ]
+
+  there_now : (v : ℕ) → Contains (sources ++ source ∷ []) v → at_node (set weights source (Some 0)) v ≡ Some 0
+  there_now v has = elim (cases_eq v source) [
+    | inl same ↦ ap (at_node (set weights source (Some 0))) same ∙ here_now
+    | inr other ↦ elim (Contains-push_cases sources source v has) [
+      | inl old ↦ other_now v other ∙ begun.there v old
+      | inr same ↦ absurd (other (sym same))
+    ]
+  ]
+
+  waits_now : (v : ℕ) → Contains (sources ++ source ∷ []) v → Contains waiting (make_waiting 0 v)
+  waits_now v has = elim (Contains-push_cases sources source v has) [
+    | inl old ↦ waits_on 0 v (begun.waits v old)
+    | inr same ↦ subst (λ u. Contains waiting (make_waiting 0 u)) same
+        (Contains-permutation (make_waiting 0 source ∷ waited) waiting (make_waiting 0 source) pushed
+        (first (make_waiting 0 source) waited))
+  ]
+
+  only_now : (w v : ℕ) → Contains waiting (make_waiting w v) → (w ≡ 0) × Contains (sources ++ source ∷ []) v
+  only_now w v has = elim (one_waits w v has) [
+    | inl is ↦ (
+      sym (ap (λ (u : Waiting). u.0.0) is),
+      subst (Contains (sources ++ source ∷ [])) (ap (λ (u : Waiting). u.0.1) is) (Contains-push sources source),
+    )
+    | inr old ↦ let y = begun.only w v old in (y.0, Contains-append_left sources (source ∷ []) v y.1)
+  ]
+
+  pub begun_more : HasBegun (sources ++ source ∷ []) (set weights source (Some 0)) waiting
+  begun_more = record { zero = zero_now; there = there_now; waits = waits_now; only = only_now }
+
+pub begun_none : {weights : List (Option ℕ)} → ((v w : ℕ) → at_node weights v ≡ Some w → ⊥)
+    → HasBegun [] weights []
+begun_none none = record {
+  zero = λ v w here. absurd (none v w here);
+  there = λ v has. absurd (omega (arith, has.1));
+  waits = λ v has. absurd (omega (arith, has.1));
+  only = λ w v has. absurd (omega (arith, has.1));
+}
+
+-- the sources wait, and no other node, among nodes that are all unsettled
+pub record IsReady (network : Network) (inside : ℕ → Bool) (sources : List ℕ) (unsettled : List Bool)
+    (weights : List (Option ℕ)) (waiting : List Waiting) : Type 0 where
+  pub begun : HasBegun sources weights waiting
+  pub nodes : length unsettled ≡ network.nodes
+  pub count : length weights ≡ network.nodes
+  pub inner : (v : ℕ) → among unsettled v ≡ true → inside v ≡ true
+  pub waits : (v : ℕ) → inside v ≡ true → v < network.nodes → among unsettled v ≡ true
+  pub are_inside : (v : ℕ) → Contains sources v → (inside v ≡ true) × (v < network.nodes)
+
+module _ {network : Network} {inside : ℕ → Bool} {sources : List ℕ} {unsettled : List Bool}
+    {weights : List (Option ℕ)} {waiting : List Waiting}
+    (ready : IsReady network inside sources unsettled weights waiting) where
+  begins_sound : (v w : ℕ) → at_node weights v ≡ Some w → IsReachedFrom network.edges inside sources v w
+  begins_sound v w here =
+      let y = ready.begun.zero v w here in
+      record {
+        source = v;
+        is_source = y.1;
+        walk = record { steps = []; walk = ((ready.are_inside v y.1).0, refl); sum = sym y.0 };
+      }
+
+  pub search_begins : (fits : ℕ → Type 0) → IsSearch network inside sources fits unsettled weights
+  search_begins fits = record {
+    nodes = ready.nodes;
+    count = ready.count;
+    start = λ v has. rw (ready.begun.there v has) (omega arith);
+    inner = ready.inner;
+    settled = λ v is_inside gone below. absurd (true_is_not_false (ready.waits v is_inside below) gone);
+    sound = begins_sound;
+    closed = λ u v w c gone here is_inside joined fit.
+        let y = ready.are_inside u (ready.begun.zero u w here).1 in
+        absurd (true_is_not_false (ready.waits u y.0 y.1) gone);
+    lightest = λ u v x y gone here waits there. omega (arith, (ready.begun.zero u x here).0);
+  }
+
+  pub queue_begins : IsQueue unsettled weights waiting
+  queue_begins = record {
+    below = λ w v has. omega (arith, ready.nodes, (ready.are_inside v (ready.begun.only w v has).1).1);
+    whole = λ v w still here.
+        let y = ready.begun.zero v w here in
+        subst (λ x. Contains waiting (make_waiting x v)) (sym y.0) (ready.begun.waits v y.1);
+    light = λ w v has still. rw (ready.begun.there v (ready.begun.only w v has).1) (omega arith);
+  }
 
 -- settling a node
 settled_now : (unsettled : List Bool) (x v : ℕ) → among (set unsettled x false) v ≡ false → (v ≡ x)
@@ -114,92 +205,100 @@ count_falls unsettled x waits =
 count_positive : (unsettled : List Bool) (v : ℕ) → among unsettled v ≡ true → 1 ≤ unsettled_count unsettled
 count_positive unsettled v waits = omega (arith, count_falls unsettled v waits)
 
-module _ {network : Network} {inside : ℕ → Bool} {root : ℕ} {unsettled : List Bool} {weights : List (Option ℕ)}
-    (so_far : IsSearch network inside root unsettled weights) {best : Candidate}
-    (lightest : IsLightest unsettled weights best) where
-  pub light_enough : network.nodes ≤ MAX_NODES → best.weight ≤ 2 ^ 40
-  light_enough few = omega (arith, so_far.bounded best.node best.weight lightest.weighs)
+module _ {network : Network} {inside : ℕ → Bool} {sources : List ℕ} {fits : ℕ → Type 0} {unsettled : List Bool}
+    {weights : List (Option ℕ)} (so_far : IsSearch network inside sources fits unsettled weights) {best : Candidate}
+    (lightest : IsLightest unsettled weights best) {arcs : List Arc}
+    (of_node : AreArcsOf network.nodes network.edges best.node arcs) {radius : ℕ}
+    (within : (c : ℕ) → c ≤ MAX_WEIGHT → fits (best.weight + c) → best.weight + c ≤ radius) {new : List (Option ℕ)}
+    {waited waiting : List Waiting}
+    (r : IsRelaxed arcs best.weight radius (set unsettled best.node false) weights new waited waiting) where
+  is_arc : (v c : ℕ) → Contains arcs (make_arc v c) → IsArc network.nodes (make_arc v c)
+  is_arc v c has = All-contains (IsArc network.nodes) arcs (make_arc v c) of_node.limits has
 
-  module _ {arcs : List Arc} (of_node : AreArcsOf network.nodes network.edges best.node arcs)
-      {new : List (Option ℕ)} {waited waiting : List Waiting}
-      (r : IsRelaxed arcs best.weight (set unsettled best.node false) weights new waited waiting) where
-    closed_now : (u v w c : ℕ) → among (set unsettled best.node false) u ≡ false → at_node new u ≡ Some w
-        → inside v ≡ true
-        → Joins network.edges u v c → IsAtMost (at_node new v) (w + c)
-    closed_now u v w c is_settled here inner joined =
-        let before : at_node weights u ≡ Some w = sym (r.kept u is_settled) ∙ here in
-        elim (settled_now unsettled best.node u is_settled) [
-          | inr old ↦ r.falls v (w + c) (so_far.closed u v w c old before inner joined)
-          | inl same ↦
-              let w_is : best.weight ≡ w = same_Some best.weight w
-              (sym lightest.weighs ∙ sym (ap (at_node weights) same) ∙ before) in
-              let from : Joins network.edges best.node v c = rw same at joined in
-              elim (cases_Bool (among (set unsettled best.node false) v)) [
-                | inl waits ↦ rw (← w_is) (r.reached v c (of_node.whole v c from) waits)
-                | inr gone ↦ rw (r.kept v gone) (elim (settled_now unsettled best.node v gone) [
-                  | inl itself ↦ rw (itself, lightest.weighs) (omega (arith, w_is))
-                  | inr old ↦
-                      let y = so_far.settled v inner old in
-                      rw y.1 (omega (
-                        arith,
-                        w_is,
-                        so_far.lightest v best.node y.0 best.weight old y.1 lightest.waits lightest.weighs,
-                      ))
-                ])
-              ]
-        ]
+  closed_now : (u v w c : ℕ) → among (set unsettled best.node false) u ≡ false → at_node new u ≡ Some w
+      → inside v ≡ true → Joins network.edges u v c → fits (w + c) → IsAtMost (at_node new v) (w + c)
+  closed_now u v w c is_settled here inner joined fit =
+      let before : at_node weights u ≡ Some w = sym (r.kept u is_settled) ∙ here in
+      elim (settled_now unsettled best.node u is_settled) [
+        | inr old ↦ r.falls v (w + c) (so_far.closed u v w c old before inner joined fit)
+        | inl same ↦
+            let w_is : best.weight ≡ w = same_Some best.weight w
+            (sym lightest.weighs ∙ sym (ap (at_node weights) same) ∙ before) in
+            let from : Joins network.edges best.node v c = rw same at joined in
+            let arc = of_node.whole v c from in
+            elim (cases_Bool (among (set unsettled best.node false) v)) [
+              | inl waits ↦ rw (← w_is) (r.reached v c arc waits
+                  (within c (is_arc v c arc).light (subst (λ x. fits (x + c)) (sym w_is) fit)))
+              | inr gone ↦ rw (r.kept v gone) (elim (settled_now unsettled best.node v gone) [
+                | inl itself ↦ rw (itself, lightest.weighs) (omega (arith, w_is))
+                | inr old ↦
+                    let y = so_far.settled v inner old (is_arc v c arc).below in
+                    rw y.1 (omega (
+                      arith,
+                      w_is,
+                      so_far.lightest v best.node y.0 best.weight old y.1 lightest.waits lightest.weighs,
+                    ))
+              ])
+            ]
+      ]
 
-    lightest_now : (u v x y : ℕ) → among (set unsettled best.node false) u ≡ false → at_node new u ≡ Some x
-        → among (set unsettled best.node false) v ≡ true → at_node new v ≡ Some y → x ≤ y
-    lightest_now u v x y is_settled here waits there = grind (
-      arith,
-      among_below,
-      r.kept u is_settled,
-      unsettled_still unsettled best.node v (among_below unsettled best.node lightest.waits) waits,
-      settled_now unsettled best.node u is_settled,
-      so_far.lightest u best.node x best.weight,
-      r.cause v y there,
-    )
+  lightest_now : (u v x y : ℕ) → among (set unsettled best.node false) u ≡ false → at_node new u ≡ Some x
+      → among (set unsettled best.node false) v ≡ true → at_node new v ≡ Some y → x ≤ y
+  lightest_now u v x y is_settled here waits there = grind (
+    arith,
+    among_below,
+    r.kept u is_settled,
+    unsettled_still unsettled best.node v (among_below unsettled best.node lightest.waits) waits,
+    settled_now unsettled best.node u is_settled,
+    so_far.lightest u best.node x best.weight,
+    r.cause v y there,
+  )
 
-    through_light : (v c : ℕ) → Contains arcs (make_arc v c) → c ≤ MAX_WEIGHT
-    through_light v c has = (All-contains (IsArc network.nodes) arcs (make_arc v c) of_node.limits has).light
-
-    pub search_goes_on : IsSearch network inside root (set unsettled best.node false) new
-    search_goes_on =
-        let next : List Bool = set unsettled best.node false in
-        let fallen : unsettled_count next + 1 ≡ unsettled_count unsettled =
-        count_falls unsettled best.node lightest.waits in
+  sound_now : (v w : ℕ) → at_node new v ≡ Some w → IsReachedFrom network.edges inside sources v w
+  sound_now v w here = elim (r.cause v w here) [
+    | inl old ↦ so_far.sound v w old
+    | inr through ↦
+        let still = unsettled_still unsettled best.node v (among_below unsettled best.node lightest.waits)
+        through.waits in
+        let so = so_far.sound best.node best.weight lightest.weighs in
         record {
-          nodes = length-set unsettled best.node false ∙ so_far.nodes;
-          count = r.count ∙ so_far.count;
-          start = r.falls root 0 so_far.start;
-          inner = λ v waits. so_far.inner v (unsettled_still unsettled best.node v
-              (among_below unsettled best.node lightest.waits) waits).1;
-          settled = λ v inner gone. elim (settled_now unsettled best.node v gone) [
-            | inl same ↦ (best.weight, r.kept v gone ∙ ap (at_node weights) same ∙ lightest.weighs)
-            | inr old ↦ let y = so_far.settled v inner old in (y.0, r.kept v gone ∙ y.1)
-          ];
-          sound = λ v w here. elim (r.cause v w here) [
-            | inl old ↦ so_far.sound v w old
-            | inr through ↦
-                let still = unsettled_still unsettled best.node v (among_below unsettled best.node lightest.waits)
-                through.waits in
-                rw through.sum (walk_further network.edges inside root best.node v best.weight through.by
-                (so_far.sound best.node best.weight lightest.weighs) (so_far.inner v still.1)
-                (of_node.sound v through.by through.arc))
-          ];
-          closed = closed_now;
-          lightest = lightest_now;
-          slack = λ v w here.
-              grind (arith, r.cause v w here, so_far.slack best.node best.weight lightest.weighs, through_light);
-          bounded = λ v w here. grind (
-            arith,
-            r.cause v w here,
-            so_far.slack best.node best.weight lightest.weighs,
-            count_positive,
-            through_light,
-          );
+          source = so.source;
+          is_source = so.is_source;
+          walk = rw through.sum (walk_further network.edges inside so.source best.node v best.weight through.by
+              so.walk (so_far.inner v still.1) (of_node.sound v through.by through.arc));
         }
+  ]
+
+  pub search_goes_on : IsSearch network inside sources fits (set unsettled best.node false) new
+  search_goes_on = record {
+    nodes = length-set unsettled best.node false ∙ so_far.nodes;
+    count = r.count ∙ so_far.count;
+    start = λ v has. r.falls v 0 (so_far.start v has);
+    inner = λ v waits. so_far.inner v (unsettled_still unsettled best.node v
+        (among_below unsettled best.node lightest.waits) waits).1;
+    settled = λ v inner gone below. elim (settled_now unsettled best.node v gone) [
+      | inl same ↦ (best.weight, r.kept v gone ∙ ap (at_node weights) same ∙ lightest.weighs)
+      | inr old ↦ let y = so_far.settled v inner old below in (y.0, r.kept v gone ∙ y.1)
+    ];
+    sound = sound_now;
+    closed = closed_now;
+    lightest = lightest_now;
+  }
+
+  pub stays_bounded : IsBounded network unsettled weights → IsBounded network (set unsettled best.node false) new
+  stays_bounded so =
+      let fallen = count_falls unsettled best.node lightest.waits in
+      record {
+        slack = λ v w here.
+            grind (arith, r.cause v w here, so.slack best.node best.weight lightest.weighs, is_arc);
+        bounded = λ v w here. grind (
+          arith,
+          r.cause v w here,
+          so.slack best.node best.weight lightest.weighs,
+          count_positive,
+          is_arc,
+        );
+      }
 
 -- the queue's next is the lightest
 module _ {unsettled : List Bool} {weights : List (Option ℕ)} {waiting rest : List Waiting}
@@ -221,8 +320,8 @@ module _ {unsettled : List Bool} {weights : List (Option ℕ)} {waiting rest : L
           lightest = λ v w v_waits here. next.lightest w v (queue.whole v w v_waits here) v_waits;
         }
 
-    pub queue_goes_on : {arcs : List Arc} {new : List (Option ℕ)} {after : List Waiting}
-        → IsRelaxed arcs best.weight (set unsettled best.node false) weights new rest after
+    pub queue_goes_on : {arcs : List Arc} {radius : ℕ} {new : List (Option ℕ)} {after : List Waiting}
+        → IsRelaxed arcs best.weight radius (set unsettled best.node false) weights new rest after
         → IsQueue (set unsettled best.node false) new after
     queue_goes_on r = record {
       below = λ w v has. elim (r.since w v has) [
@@ -234,75 +333,37 @@ module _ {unsettled : List Bool} {weights : List (Option ℕ)} {waiting rest : L
       light = λ w v has waits. grind (arith, r.since w v has, unsettled_still unsettled best.node v next.below waits);
     }
 
--- the queue at the beginning
-pub queue_begins : {n : ℕ} (allowed : List Bool) (root : ℕ) {waiting : List Waiting} → length allowed ≡ n
-    → among allowed root ≡ true → IsPermutation (make_waiting 0 root ∷ []) waiting
-    → IsQueue allowed (set (replicate n None) root (Some 0)) waiting
-queue_begins {n} allowed root {waiting} count at_root pushed = record {
-  below = λ w v has. let r = only w v has in omega (arith, among_below allowed root at_root, r.1);
-  whole = λ v w waits here. let r = only_root n root v here in
-      rw (r.0, r.1)
-      (Contains-permutation (make_waiting 0 root ∷ []) waiting (make_waiting 0 root) pushed (0, omega arith, refl));
-  light = λ w v has waits. let r = only w v has in
-      rw (
-        ← r.1,
-        get_or-set_same {A = Option ℕ} (replicate n None) root (Some 0) None
-            (omega (arith, length-replicate {A = Option ℕ} n None, among_below allowed root at_root, count)),
-      ) (omega arith);
-}
-  where
-    only : (w v : ℕ) → Contains waiting (make_waiting w v) → (0 ≡ w) × (root ≡ v)
-    only w v has = one (Contains-permutation waiting (make_waiting 0 root ∷ []) (make_waiting w v)
-        (IsPermutation-sym (make_waiting 0 root ∷ []) waiting pushed) has)
-      where
-        one : Contains (make_waiting 0 root ∷ []) (make_waiting w v) → (0 ≡ w) × (root ≡ v)
-        one (zero, below, here) = (ap (λ (u : Waiting). u.0.0) here, ap (λ (u : Waiting). u.0.1) here)
-        one (suc k, below, here) = absurd (omega arith)
-
--- what the search and its queue keep
-pub record IsUnderWay (network : Network) (inside : ℕ → Bool) (root : ℕ) (unsettled : List Bool)
-    (weights : List (Option ℕ))
-    (waiting : List Waiting) : Type 0 where
-  pub found : IsSearch network inside root unsettled weights
-  pub queue : IsQueue unsettled weights waiting
-
--- one round, on a part of a longer list of weights
-pub search_settles : {network : Network} {inside : ℕ → Bool} {root : ℕ} {unsettled : List Bool}
-    {weights : List (Option ℕ)} {waiting remaining after : List Waiting}
-    → IsUnderWay network inside root unsettled weights waiting → {best : Candidate}
-    → IsNextUnsettled unsettled waiting remaining best → {arcs : List Arc}
-    → AreArcsOf network.nodes network.edges best.node arcs → {new : List (Option ℕ)} (rest : List (Option ℕ)) {k : ℕ}
-    → IsRelaxed arcs best.weight (set unsettled best.node false) weights new remaining after → length new ≡ k
-    → IsUnderWay network inside root (set unsettled best.node false) (take k (new ++ rest)) after
-search_settles so_far next of_node {new} rest {k} r count =
-    search (rules, take_at, search_goes_on, next_is_lightest, queue_goes_on)
-
 -- the end, where no unsettled node has a weight
-module _ {network : Network} {inside : ℕ → Bool} {root : ℕ} {unsettled : List Bool} {weights : List (Option ℕ)}
-    (so_far : IsSearch network inside root unsettled weights) {waiting : List Waiting}
+module _ {network : Network} {inside : ℕ → Bool} {sources : List ℕ} {fits : ℕ → Type 0}
+    (less_fits : (x y : ℕ) → x ≤ y → fits y → fits x) {unsettled : List Bool} {weights : List (Option ℕ)}
+    (so_far : IsSearch network inside sources fits unsettled weights) {waiting : List Waiting}
     (queue : IsQueue unsettled weights waiting) (none : AreSettled unsettled waiting) where
-  weighed_is_settled : (u w : ℕ) → at_node weights u ≡ Some w → among unsettled u ≡ false
+  pub weighed_is_settled : (u w : ℕ) → at_node weights u ≡ Some w → among unsettled u ≡ false
   weighed_is_settled u w here = elim (cases_Bool (among unsettled u)) [
     | inl waits ↦ absurd (none w u (queue.whole u w waits here) waits)
     | inr gone ↦ gone
   ]
 
   follows : (u : ℕ) (steps : List Step) (v w : ℕ) → at_node weights u ≡ Some w → IsWalk network.edges inside u steps v
-      → IsAtMost (at_node weights v) (w + weight_of steps)
-  follows u [] v w here walk = subst (λ o. IsAtMost o (w + 0)) (sym here ∙ ap (at_node weights) walk.1) (omega arith)
-  follows u (step ∷ steps) v w here walk =
+      → fits (w + weight_of steps) → IsAtMost (at_node weights v) (w + weight_of steps)
+  follows u [] v w here walk fit =
+      subst (λ o. IsAtMost o (w + 0)) (sym here ∙ ap (at_node weights) walk.1) (omega arith)
+  follows u (step ∷ steps) v w here walk fit =
       let inner : inside step.node ≡ true = walk_begins network.edges inside step.node steps v walk.2 in
       let y = at_most_some (at_node weights step.node) (w + step.weight)
-      (so_far.closed u step.node w step.weight (weighed_is_settled u w here) here inner walk.1) in
+      (so_far.closed u step.node w step.weight (weighed_is_settled u w here) here inner walk.1
+      (less_fits (w + step.weight) (w + (step.weight + weight_of steps)) (omega arith) fit)) in
       at_most_trans (at_node weights v) (y.0 + weight_of steps) (w + (step.weight + weight_of steps))
-      (follows step.node steps v y.0 y.1 walk.2) (omega (arith, y.2))
-
-  from_root : (steps : List Step) (v : ℕ) → IsWalk network.edges inside root steps v
-      → IsAtMost (at_node weights v) (weight_of steps)
-  from_root steps v walk =
-      let y = at_most_some (at_node weights root) 0 so_far.start in
-      at_most_trans (at_node weights v) (y.0 + weight_of steps) (weight_of steps) (follows root steps v y.0 y.1 walk)
+      (follows step.node steps v y.0 y.1 walk.2
+      (less_fits (y.0 + weight_of steps) (w + (step.weight + weight_of steps)) (omega (arith, y.2)) fit))
       (omega (arith, y.2))
 
-  pub search_ends : AreLeastWeights network inside root weights
-  search_ends = search (rules, from_root)
+  pub from_source : (source : ℕ) (steps : List Step) (v : ℕ) → Contains sources source
+      → IsWalk network.edges inside source steps v → fits (weight_of steps)
+      → IsAtMost (at_node weights v) (weight_of steps)
+  from_source source steps v is_source walk fit =
+      let y = at_most_some (at_node weights source) 0 (so_far.start source is_source) in
+      at_most_trans (at_node weights v) (y.0 + weight_of steps) (weight_of steps)
+      (follows source steps v y.0 y.1 walk
+      (less_fits (y.0 + weight_of steps) (weight_of steps) (omega (arith, y.2)) fit))
+      (omega (arith, y.2))

@@ -6,6 +6,7 @@ pub mod Layout
 pub mod Least
 pub mod Faults
 pub mod Search
+pub mod Near
 pub mod Parents
 pub mod WalkLaws
 pub mod Queue

@@ -1,14 +1,16 @@
 //! Graphs, as contracts see them: a number of nodes and a list of edges.
 
-ghost use Rattle.std.specs.Prelude.{◌≡◌, ◌<◌, ◌≤◌, ℕ, All, IfErr, IfNone, IfOk, IfSome, IsTrue, length};
+ghost use Rattle.std.specs.Prelude.{◌≡◌, ◌<◌, ◌≤◌, ◌^◌, [], ℕ, All, IfErr, IfNone, IfOk, IfSome, IsTrue, OnErr, OnOk, length};
 ghost use Rattle.net_graph.specs.Network.{IsEdge, IsGraphOf, IsNetwork};
 ghost use Rattle.net_graph.specs.Faults.{IsGraphFault};
 ghost use Rattle.net_graph.specs.Trees.{AreLeastWeights, AreParents, at_node};
 ghost use Rattle.net_graph.specs.Walks.{among};
 ghost use Rattle.net_graph.specs.Layout.{AreArcsOf};
+ghost use Rattle.net_graph.specs.Near.{AreNear};
 
 use crate::edge::{Edge, MAX_NODES};
 use crate::fault::{GraphFault, OutOfMemory};
+use crate::near::{Nearby, search_near};
 use crate::neighbours::{Arc, Neighbours};
 use crate::parents::parents_in;
 use crate::search::search_from;
@@ -83,6 +85,26 @@ impl Graph {
         ensures sound { IsNetwork self.now }
     {
         search_from(alloc, &self.neighbours, allowed, root)
+    }
+
+    /// Finds the nodes within `radius` of one of the sources, and the least weight of a walk from a
+    /// source to each. It takes as many steps as arcs leave the nodes that are found, and no memory
+    /// but for a queue. Where that is wanting nothing is found, and `nearby` serves the next search.
+    pub fn near(
+        &self,
+        alloc: Global,
+        sources: &[u32],
+        radius: u64,
+        nearby: &mut Nearby,
+    ) -> Result<(), OutOfMemory>
+        requires sources { All (λ v. v < self.now.nodes) sources.now }
+        requires radius { radius ≤ 2 ^ 40 }
+        requires room { length nearby.old.weights ≡ self.now.nodes }
+        ensures near { OnOk result (AreNear self.now sources.now radius nearby.new) }
+        ensures none { OnErr result (nearby.new.nodes ≡ []) }
+        ensures room { length nearby.new.weights ≡ self.now.nodes }
+    {
+        search_near(alloc, &self.neighbours, sources, radius, &mut nearby.marks)
     }
 
     /// The least walks from `root` through the nodes at which `allowed` holds true.

@@ -4,6 +4,7 @@
 ghost use Rattle.std.specs.Prelude.{◌≡◌, ◌≢◌, ◌+◌, ◌<◌, ◌≤◌, ◌↔◌, ℕ, Bool, true, List, All, length};
 ghost use Rattle.net_graph.specs.declared.edge.Edge.{Edge};
 ghost use Rattle.net_graph.specs.LeastWeights.{LeastWeightsAreBounded, LeastWeightsAreFound};
+ghost use Rattle.net_graph.specs.Near.{NearNodesAreWithin};
 ghost use Rattle.net_graph.specs.Network.{IsEdge};
 ghost use Rattle.net_graph.specs.Walks.{Joins, IsLeastWeight, IsUnreached, IsReached, among, everywhere};
 
@@ -71,6 +72,12 @@ pub fn all_allowed_is_everywhere()
 /// Where a walk leads to a node, the number `least_weight` is the least weight of one.
 pub fn least_weight_is_found()
     ensures { LeastWeightsAreFound }
+{}
+
+/// What a search has found is what lies within the radius of a source: a node whose least weight
+/// from the sources is so much is found just where that is at most the radius.
+pub fn near_nodes_are_within()
+    ensures { NearNodesAreWithin }
 {}
 
 /// No least weight is more than a walk through all nodes can weigh.

@@ -33,15 +33,24 @@ pub(crate) fn search_from(
     while let Some(lightest) = queue.next_unsettled(&unsettled) {
         unsettled[lightest.node] = false;
         let arcs = neighbours.arcs_of(lightest.node as u32);
-        relax(arcs, lightest.weight, &unsettled, &mut weights, &mut queue)?;
+        relax(
+            arcs,
+            lightest.weight,
+            u64::MAX,
+            &unsettled,
+            &mut weights,
+            &mut queue,
+        )?;
     }
     Ok(weights)
 }
 
-// Lowers the weight of each unsettled node to which an arc leads from a node of this weight.
-fn relax(
+// Lowers the weight of each unsettled node to which an arc leads from a node of this weight, where
+// it is within the radius.
+pub(crate) fn relax(
     arcs: &[Arc],
     weight: u64,
+    radius: u64,
     unsettled: &[bool],
     weights: &mut [Option<u64>],
     queue: &mut Queue,
@@ -49,20 +58,21 @@ fn relax(
     requires arcs { All (IsArc (length unsettled.now)) arcs.now }
     requires count { length unsettled.now ≡ length weights.old }
     requires weight { weight ≤ 2 ^ 40 }
-    ensures { OnOk result (IsRelaxed arcs.now weight unsettled.now weights.old weights.new
+    ensures { OnOk result (IsRelaxed arcs.now weight radius unsettled.now weights.old weights.new
         (heap_items queue.old.heap) (heap_items queue.new.heap)) }
 {
     for arc in arcs {
-        relax_arc(*arc, weight, unsettled, weights, queue)?;
+        relax_arc(*arc, weight, radius, unsettled, weights, queue)?;
     }
     Ok(())
 }
 
 // Lowers the weight of a node, if it is unsettled, to what it weighs by an arc from a node of this
-// weight.
+// weight, where that is within the radius.
 fn relax_arc(
     arc: Arc,
     weight: u64,
+    radius: u64,
     unsettled: &[bool],
     weights: &mut [Option<u64>],
     queue: &mut Queue,
@@ -70,12 +80,12 @@ fn relax_arc(
     requires arc { IsArc (length unsettled.now) arc }
     requires count { length unsettled.now ≡ length weights.old }
     requires weight { weight ≤ 2 ^ 40 }
-    ensures { OnOk result (IsRelaxed (arc ∷ []) weight unsettled.now weights.old weights.new
+    ensures { OnOk result (IsRelaxed (arc ∷ []) weight radius unsettled.now weights.old weights.new
         (heap_items queue.old.heap) (heap_items queue.new.heap)) }
 {
     let target = arc.target as usize;
     let through = weight + u64::from(arc.weight);
-    if unsettled[target] && is_lighter(through, weights[target]) {
+    if through <= radius && unsettled[target] && is_lighter(through, weights[target]) {
         weights[target] = Some(through);
         queue.push(through, arc.target)?;
     }

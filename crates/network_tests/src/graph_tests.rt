@@ -3,6 +3,7 @@
 ghost use Rattle.std.specs.Prelude.{◌≡◌, ◌<◌, All, IfSome, length};
 ghost use Rattle.net_graph.specs.Network.{IsEdge};
 
+use crate::near_tests::tell_near;
 use crate::rows::{Asked, WORD, ask_made, five_numbers, halves, tell, tell_node, within};
 use crate::sameness::same;
 use crate::subjects::ask;
@@ -95,6 +96,7 @@ impl Asked for Graph {
             "arcs" => tell_arcs(self, numbers[0], told),
             "walks" => tell_walks(alloc, self, numbers, told),
             "ends" => tell_ends(alloc, self, told),
+            "near" => tell_near(alloc, self, numbers, told),
             _ => tell_in_cluster(alloc, self, name, numbers, told),
         }
     }

@@ -9,6 +9,8 @@ mod distance_tests;
 #[cfg(test)]
 mod graph_tests;
 #[cfg(test)]
+mod near_tests;
+#[cfg(test)]
 mod plan_tests;
 #[cfg(test)]
 mod power_tests;

@@ -5,5 +5,5 @@ use Rattle.net_graph.proofs.search.relax.Given as goal
 
 abbrev pub invariant-loop-arc : goal.invariant-loop-arc
 invariant-loop-arc l =
-    IsRelaxed (take l.arc-index l.arcs) l.weight l.unsettled l.initial.weights l.weights
+    IsRelaxed (take l.arc-index l.arcs) l.weight l.radius l.unsettled l.initial.weights l.weights
     (heap_items l.initial.queue.heap) (heap_items l.queue.heap)

@@ -1,6 +1,7 @@
 use Rattle.std.specs.BinaryHeap.{heap_items}
 use Rattle.net_graph.specs.Walks.{among}
-use Rattle.net_graph.proofs.Searching.{IsUnderWay, unsettled_count}
+use Rattle.net_graph.proofs.Rooted.{IsUnderWay}
+use Rattle.net_graph.proofs.Searching.{unsettled_count}
 use Rattle.net_graph.proofs.search.search_from.Given as goal
 
 abbrev pub invariant-loop-lightest : goal.invariant-loop-lightest
