@@ -24,7 +24,7 @@ use Rattle.json_form.specs.declared.values.InputValues.{InputValues as ValuesKep
 use Rattle.json_form.specs.declared.rows.Kind.{Kind}
 use Rattle.json_form.specs.declared.rows.Kind.TheVariants as kinds
 use Rattle.json_form.specs.Reports.{done_value}
-use Rattle.json_form.specs.Shapes.{InputValues, call_in, edge_in, list_in, number_in}
+use Rattle.json_form.specs.Taking.{InputValues, call_in, edge_in, list_in, number_in}
 use Rattle.json_form.specs.Values.{list_by, whole}
 
 -- what stands before an item: a bracket before the first, else a comma

@@ -8,7 +8,7 @@ ghost use Rattle.text_line.specs.OrderLines.{order_lines};
 ghost use Rattle.json_form.specs.declared.fault.JsonFault.TheVariants as faults;
 ghost use Rattle.json_form.specs.TextOfJson.{IsJson, IsJsonText, IsNoJson};
 ghost use Rattle.json_form.specs.Left.{HasLines, HasNone, line_in, seen_values};
-ghost use Rattle.json_form.specs.Shapes.{each_in, list_in, listing_of_values, number_in};
+ghost use Rattle.json_form.specs.Taking.{each_in, list_in, listing_of_values, number_in};
 
 use crate::fault::JsonFault;
 use crate::lists::push_line;
