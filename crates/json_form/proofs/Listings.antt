@@ -81,7 +81,7 @@ text-is listing =
     ∙ ap (λ (l : List ℕ). concat edges ++ l) (sym (concat-append homes after_homes))
     ∙ sym (concat-append edges after_edges))
 
--- they behind a text
+-- they after a text
 pub text-behind : (text : List ℕ) (listing : ListingValue)
     → grown text (text_pieces listing) ≡ text ++ listing_text listing
 text-behind text listing = grown-is text (text_pieces listing) ∙ ap (λ (l : List ℕ). text ++ l) (text-is listing)

@@ -1,6 +1,7 @@
 -- Listings whose numbers are small: their values have the shape, and are readable.
 use Rattle.std.proofs.Common.{◌≡◌, ℕ, suc, ◌≤◌, List, [], ◌∷◌, ◌++◌, map, Option, Some, All, IsUtf8, option_and_then, le-leb, refl, ap, arith}
-use Rattle.std.proofs.lemmas.List.Elements.{All-head, All-tail}
+use Rattle.std.proofs.lemmas.List.Elements.{All-weaker, recursion_from_All}
+use Rattle.std.specs.List.{AllByRecursion}
 use Rattle.net_graph.specs.declared.edge.Edge.{Edge}
 use Rattle.net_reader.specs.declared.said.Call.{Call}
 use Rattle.net_reader.specs.declared.said.Call.TheVariants as calls
@@ -21,12 +22,10 @@ IsSmall n = n ≤ most_number
 
 -- of each element
 abbrev pub Each : {A : Type 0} → (A → Type 0) → List A → Type 0
-Each P [] = Unit {0}
-Each P (x ∷ xs) = P x × Each P xs
+Each P xs = AllByRecursion P xs
 
 pub each-of : {A : Type 0} (P Q : A → Type 0) (xs : List A) → ((x : A) → P x → Q x) → All P xs → Each Q xs
-each-of P Q [] f all = tt
-each-of P Q (x ∷ xs) f all = (f x (All-head P x xs all), each-of P Q xs f (All-tail P x xs all))
+each-of P Q xs f all = recursion_from_All Q xs (All-weaker P Q f xs all)
 
 pub small-number : {n : ℕ} → IsSmall n → number_in (whole n) ≡ Some n
 small-number {n} small = rw (le-leb n 999999999999999999 small) refl

@@ -1,7 +1,7 @@
 -- The listing that a value tells is the one that is taken out of it.
 use Rattle.std.proofs.Common.{◌≡◌, ◌⊎◌, inl, inr, ℕ, ◌≤◌, Bool, true, false, All, List, [], ◌∷◌, ◌++◌, map, Option, Some, None, nat_le, if◌then◌else◌, bytes_eq, codes, option_and_then, unwrap_or, refl, sym, subst, ap, ◌∙◌, arith}
 use Rattle.std.proofs.lemmas.Bool.Decides.{nat_tests}
-use Rattle.std.proofs.lemmas.List.Elements.{All-cons, All-nil}
+use Rattle.std.proofs.lemmas.List.Elements.{All-from_recursion}
 use Rattle.std.proofs.lemmas.Slice.Eq.{bytes_eq-Decides}
 use Rattle.std.specs.List.{concat}
 use Rattle.directory.specs.ListLaws.{same_some}
@@ -25,10 +25,6 @@ use Rattle.json_form.proofs.Each.{cons, cons-is}
 use Rattle.json_form.proofs.Small.{Each, IsSmall, IsSmallEdge, IsSmallListing, IsSmallSpoken, call-back, each-append, each-map, each-of, edge-back, list-back, numbers-back, small-number}
 
 -- ---- all numbers of a listing
-
-all-of : {A : Type 0} (P : A → Type 0) (xs : List A) → Each P xs → All P xs
-all-of P [] all = All-nil P
-all-of P (x ∷ xs) all = All-cons P x xs all.0 (all-of P xs all.1)
 
 each-parts : {A : Type 0} (P : A → Type 0) (xs ys : List A) → Each P (xs ++ ys) → Each P xs × Each P ys
 each-parts P [] ys all = (tt, all)
@@ -74,7 +70,7 @@ listing-small {listing} short =
 
 listing-short : {listing : ListingValue} → IsSmallListing listing → All (λ n. n ≤ most_number) (numbers_of listing)
 listing-short {listing} small =
-    all-of (λ n. n ≤ most_number) (numbers_of listing) (concat-each IsSmall (lists_of listing) (
+    All-from_recursion (λ n. n ≤ most_number) (numbers_of listing) (concat-each IsSmall (lists_of listing) (
       (small.format, (small.nodes, (small.k, (small.callers, tt)))),
       (
         small.homes,
@@ -293,7 +289,7 @@ members_from callers spoken edges k rest =
     member (codes "callers") callers (member (codes "calls") spoken (member (codes "edges") edges
     (member (codes "k") k rest)))
 
--- the members behind them, with those that the order adds
+-- the members after them, with those that the order adds
 abbrev members_to : (Members → Members) → Data → Data → Data → Members
 members_to with_order nodes subs track =
     member (codes "nodes") nodes

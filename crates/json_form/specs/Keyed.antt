@@ -20,7 +20,7 @@ needed_keys =
 abbrev pub keyed_but : ℕ → Members
 keyed_but place = keyed (take place needed_keys ++ drop (suc place) needed_keys)
 
--- the value of a lone node, of this k, without an order, and with these members behind the others
+-- the value of a lone node, of this k, without an order, and with these members after the others
 abbrev pub lone_value : Data → Members → Data
 lone_value k others =
     object

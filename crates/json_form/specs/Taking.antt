@@ -86,13 +86,13 @@ call_of_items (item value items) = do
 abbrev pub call_in : Data → Option ActorCall
 call_in value = option_and_then call_of_items (as_array value)
 
--- the value of this key, where it is that of the first member, and the members behind it
+-- the value of this key, where it is that of the first member, and the members after it
 abbrev pub next_member : List ℕ → Members → Option (Data × Members)
 next_member key no_members = None
 next_member key (member name value rest) =
     if bytes_eq name key then Some (value, rest) else None
 
--- the order, where it is the first member, else an empty list; and the members behind it
+-- the order, where it is the first member, else an empty list; and the members after it
 abbrev pub order_member : Members → Data × Members
 order_member members = unwrap_or (next_member (codes "order") members) (array no_items, members)
 
@@ -112,7 +112,7 @@ abbrev pub if_all : Members → InputValues → Option InputValues
 if_all no_members values = Some values
 if_all (member name value rest) values = None
 
--- the values, where the members have exactly the keys behind the first four, whose values these are
+-- the values, where the members have exactly the keys after the first four, whose values these are
 abbrev pub values_from : Data → Data → Data → Data → Members → Option InputValues
 values_from callers calls edges k members = do
   nodes ← next_member (codes "nodes") members

@@ -18,7 +18,7 @@ pub(crate) struct FirstValues {
     pub(crate) k: Value,
 }
 
-// The values of the keys behind them.
+// The values of the keys after them.
 #[derive(Drop)]
 pub(crate) struct LastValues {
     pub(crate) nodes: Value,
