@@ -1,5 +1,5 @@
--- Values for examples: a listing and the value of a lone node, and members of the keys of an input but its order, or
--- of all but one of these. Key laws: `example_shapes`, `example_rows` (computed).
+-- Values for examples: a listing and the value of a lone node, and members of the keys of an input
+-- but its order, or of all but one of these. Key laws: `example_shapes`, `example_rows` (computed).
 use Rattle.std.specs.Prelude.{ℕ, suc, List, [], ◌∷◌, ◌++◌, codes, drop, take}
 use Rattle.input_text.specs.Listing.{ListingValue}
 use Rattle.serde_json.specs.Data.{Data, Members, array, member, no_items, no_members, object}

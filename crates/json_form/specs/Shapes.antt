@@ -1,10 +1,9 @@
 -- Which JSON values tell a listing: the value that `tojson` writes of it, and the one without the
--- key `order`, where that list is empty; no number has more than the eighteen digits that a field of
--- an input text may have. Nothing else is asked: whether a listing is an input is for the grammar
--- of its text.
--- Key laws: `json_text` (it gives the text of this listing, and refuses what tells none),
--- `inputs_return` (the value of each input tells it), `shapes_are_taken` (which listing a value
--- tells is computed), `worked_shapes` (examples).
+-- key `order`, where that list is empty; no number has more than the eighteen digits that a field
+-- of an input text may have. Nothing else is asked: whether a listing is an input is for the
+-- grammar of its text. Key laws: `json_text` (it gives the text of this listing, and refuses what
+-- tells none), `inputs_return` (the value of each input tells it), `shapes_are_taken` (which
+-- listing a value tells is computed), `worked_shapes` (examples).
 use Rattle.std.specs.Prelude.{◌≡◌, ◌⊎◌, ℕ, ◌≤◌, All, List, [], ◌∷◌, ◌++◌, map}
 use Rattle.std.specs.List.{concat}
 use Rattle.input_text.specs.Listing.{ListingValue}

@@ -1,6 +1,6 @@
 -- What the code follows when it takes a value apart: it looks for each key in its turn, and for the
--- count of each row's numbers. What it takes a listing out of is what tells that listing, by Shapes.
--- Key law: `shapes_are_taken` (it takes a listing out of just what tells it).
+-- count of each row's numbers. It takes a listing out of just what tells that listing (Shapes).
+-- Key law: `shapes_are_taken`.
 use Rattle.std.specs.Prelude.{ℕ, List, [], ◌∷◌, Option, Some, None, nat_le, if◌then◌else◌, codes, option_and_then, unwrap_or}
 use Rattle.std.specs.Str.{bytes_eq}
 use Rattle.net_graph.specs.declared.edge.Edge.{Edge}

@@ -63,8 +63,8 @@ pub fn example_shapes()
     ensures long { listing_in (lone_value (whole 1000000000000000000) no_members) ≡ None }
 {}
 
-/// Which listing a value tells: with its order or, where that is empty, without; and no other order,
-/// and no number of nineteen digits.
+/// Which listing a value tells: with its order or, where that is empty, without; and no other
+/// order, and no number of nineteen digits.
 pub fn worked_shapes()
     ensures full { TellsListing (listing_value (lone_listing 1)) (lone_listing 1) }
     ensures brief { TellsListing (lone_value (whole 1) no_members) (lone_listing 1) }

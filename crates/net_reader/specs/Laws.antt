@@ -22,4 +22,5 @@ InputsAreValid =
 
 -- the rows that the code follows judge each line as the table does
 abbrev pub RowsAreTheTable : Type 0
-RowsAreTheTable = (said : Said) (fields : List (List ℕ)) → judge said fields ≡ judge_by_rows said fields
+RowsAreTheTable =
+    (said : Said) (fields : List (List ℕ)) → judge said fields ≡ judge_by_rows said fields

@@ -39,7 +39,8 @@ fields-rows said (Some word) None = refl
 fields-rows said None numbers = refl
 
 -- the rows judge as the table does
-pub judge-rows : (said : Said) (fields : List (List ℕ)) → judge said fields ≡ judge_by_rows said fields
+pub judge-rows : (said : Said) (fields : List (List ℕ))
+    → judge said fields ≡ judge_by_rows said fields
 judge-rows said [] = refl
 judge-rows said (field ∷ fields) =
     ap (λ (r : Result Said InputCause). if is_skipped (field ∷ fields) then Ok said else r)

@@ -1,6 +1,6 @@
--- The rows of the table as the code follows them: a row has the faults by their causes, whatever line
--- it is of. What these rows say of a line is what the table says of it.
--- Key laws: `Known::hear` judges a line by these rows; `rows_are_the_table` (as the table does).
+-- The rows of the table as the code follows them: a row has the faults by their causes, whatever
+-- line it is of. What these rows say of a line is what the table says of it. Key laws: `Known::hear`
+-- judges a line by these rows; `rows_are_the_table` (as the table does).
 use Rattle.std.specs.Prelude.{ℕ, Bool, true, false, not, List, [], ◌∷◌, ◌++◌, length, Option, Some, None, Result, Ok, Err, nat_lt, nat_le, ◌==◌, ◌&&◌, ◌||◌, if◌then◌else◌}
 use Rattle.std.specs.List.{list_any}
 use Rattle.net_reader.specs.declared.fault.InputCause.{InputCause}
