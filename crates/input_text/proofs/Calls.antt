@@ -8,7 +8,8 @@ use Rattle.net_reader.specs.declared.said.Call.{Call}
 use Rattle.net_reader.specs.declared.said.Call.TheVariants as calls
 use Rattle.net_reader.specs.declared.said.Spoken.{Spoken}
 use Rattle.net_reader.specs.Said.{Said, actors, is_off, off_after, place_after, place_of, script_of, subs}
-use Rattle.net_reader.specs.Table.{find_row, may_stand, most_calls, move_row, off_row, on_row, verdict}
+use Rattle.net_reader.specs.Table.{may_stand, most_calls}
+use Rattle.net_reader.specs.Rows.{find_row, move_row, off_row, on_row, verdict}
 use Rattle.net_reader.specs.Valid.{IsCourse, IsSearch}
 use Rattle.input_text.specs.declared.listing.ActorCall.{ActorCall}
 use Rattle.input_text.specs.Listing.{call_line, line_of_call, spoken_of}

@@ -8,7 +8,9 @@ use Rattle.net_graph.specs.Network.{IsEdge}
 use Rattle.net_reader.specs.Input.{after_line, read_from}
 use Rattle.net_reader.specs.TextLines.{lines_of, fields_of}
 use Rattle.net_reader.specs.Said.{Said, actors, nothing}
-use Rattle.net_reader.specs.Table.{Row, judge, may_stand, most_nodes, verdict, track_row, nodes_row, k_row, edge_row, sub_row, callers_row, order_row}
+use Rattle.net_reader.specs.Table.{judge, may_stand, most_nodes}
+use Rattle.net_reader.specs.RowLaws.{judge-rows}
+use Rattle.net_reader.specs.Rows.{judge_by_rows, Row, verdict, track_row, nodes_row, k_row, edge_row, sub_row, callers_row, order_row}
 use Rattle.outside.specs.Texts.{fields}
 use Rattle.text_line.specs.OrderLines.{order_line}
 use Rattle.input_text.specs.Listing.{edge_line, home_line, line_of}
@@ -17,7 +19,7 @@ use Rattle.std.proofs.lemmas.List.Folds.{concat-append}
 
 -- ---- texts that lead from what was said to what is said then
 
--- the text leads from one to the other, whatever stands before it and behind it
+-- the text leads from one to the other, whatever stands before it and after it
 abbrev pub Leads : Said → List ℕ → Said → Type 0
 Leads said text next = (before : ℕ) (rest : List ℕ)
     → (after : ℕ) × (read_from said before (lines_of (text ++ rest)) ≡ read_from next after (lines_of rest))
@@ -49,7 +51,8 @@ pub leads-word : (said : Said) {next : Said} {word : List ℕ} (numbers : List �
 leads-word said {next} {word} numbers known small stands good = λ before rest.
     let cut = line-cut word numbers rest known.some known.dense small in
     let judged : judge said (fields_of (word ++ fields numbers)) ≡ Ok next =
-    ap (judge said) (line-fields word numbers known.some known.dense small)
+    judge-rows said (fields_of (word ++ fields numbers))
+    ∙ ap (judge_by_rows said) (line-fields word numbers known.some known.dense small)
     ∙ rw (known.says, line-numbers numbers small, known.judged said numbers, stands, good) refl in (
       before + 1,
       ap (read_from said before) cut
@@ -96,7 +99,7 @@ small-all n (a ∷ numbers) few h =
 
 -- ---- several lines of one place
 
--- the place behind so many lines of a place
+-- the place after so many lines of a place
 abbrev pub behind : {A : Type 0} → ℕ → ℕ → List A → ℕ
 behind before place [] = before
 behind before place (x ∷ xs) = place
@@ -117,16 +120,16 @@ pub nodes-good : (said : Said) (n : ℕ) → 1 ≤ n → n ≤ most_nodes said.f
 nodes-good said n some few =
     grind arith
 
-wide-go : (a b c : Bool) → (b ≡ true → c ≡ true → ⊥) → a ≡ false → (a || (b && c)) ≡ false
-wide-go true b c h e = e
-wide-go false true true h e = absurd (h refl refl)
-wide-go false true false h e = refl
-wide-go false false c h e = refl
+or-and-false : (a b c : Bool) → (b ≡ true → c ≡ true → ⊥) → a ≡ false → (a || (b && c)) ≡ false
+or-and-false true b c h e = e
+or-and-false false true true h e = absurd (h refl refl)
+or-and-false false true false h e = refl
+or-and-false false false c h e = refl
 
 pub k-good : (said : Said) (k : ℕ) → 1 ≤ k → k ≤ 8 → (256 < said.nodes → 2 ≤ k)
     → verdict (k_row said (k ∷ [])) ≡ Ok (record said { place = 3; k = k })
 k-good said k some few wide =
-    grind (arith, wide-go)
+    grind (arith, or-and-false)
 
 pub callers-good : (said : Said) (callers : ℕ) → callers ≤ 64
     → verdict (callers_row said (callers ∷ [])) ≡ Ok (record said { place = 6; callers = callers })

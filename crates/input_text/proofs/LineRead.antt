@@ -14,7 +14,8 @@ use Rattle.word_line.specs.Forms.{number_of}
 use Rattle.net_reader.specs.declared.fault.InputCause.TheVariants.{Form}
 use Rattle.net_reader.specs.TextLines.{begins_comment, fields_from, fields_of, is_blank, lines_from, lines_of, numbers_of, piece, without_return, word_of}
 use Rattle.net_reader.specs.Said.{Said}
-use Rattle.net_reader.specs.Table.{Row, judge_word, may_stand, verdict}
+use Rattle.net_reader.specs.Table.{may_stand}
+use Rattle.net_reader.specs.Rows.{Row, judge_word, verdict}
 use Rattle.outside.specs.Texts.{fields}
 use Rattle.input_text.specs.Listing.{line_of}
 use Rattle.std.proofs.lemmas.Bool.{and_from, and_parts}
@@ -117,7 +118,7 @@ written {n} small =
       reads = grind (arith, number-go, digits-all);
     }
 
--- the fields of a word and numbers behind it
+-- the fields of a word and numbers after it
 word-fields : (word : List ℕ) (numbers : List ℕ) → list_all is_dense word ≡ true → All IsSmall numbers
     → fields_from [] (word ++ fields numbers) ≡ piece word ++ map decimal numbers
 word-fields word [] dense small = grind (arith, append-nil, fields-end, dense)

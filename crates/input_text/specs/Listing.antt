@@ -70,17 +70,17 @@ line_of_call actor calls.On = line_of (codes "on") (actor ∷ [])
 abbrev pub call_line : ActorCall → List ℕ
 call_line call = line_of_call call.actor call.call
 
--- the lines behind those of the network and its actors
+-- the lines after those of the network and its actors
 abbrev pub call_lines : ListingValue → List (List ℕ)
 call_lines listing = map call_line listing.calls ++ order_lines listing.order
 
--- the lines of the subscribers, and those behind them
+-- the lines of the subscribers, and those after them
 abbrev pub actor_lines : ListingValue → List (List ℕ)
 actor_lines listing =
     map home_line listing.homes
     ++ line_of (codes "callers") (listing.callers ∷ []) ∷ call_lines listing
 
--- the lines of the edges, and those behind them
+-- the lines of the edges, and those after them
 abbrev pub network_lines : ListingValue → List (List ℕ)
 network_lines listing = map edge_line listing.edges ++ actor_lines listing
 

@@ -8,7 +8,7 @@ use crate::listing::{ActorCall, Listing};
 use net_reader::{Call, Input};
 use std::alloc::{AllocError, Global};
 
-// The calls of an actor's script behind others.
+// The calls of an actor's script after others.
 fn push_calls(calls: &mut Vec<ActorCall>, actor: u32, script: &[Call]) -> Result<(), AllocError>
     ensures { OnOk result (calls.new.items ≡ calls.old.items ++ calls_of actor script.now) }
 {

@@ -176,7 +176,7 @@ impl<'a> InputLines<'a> {
         ensures line { IfSome result (λ line. self.old.left ≡ line.now ∷ drop 1 self.old.left) }
         ensures none { IfNone result (self.old.left ≡ []) }
 
-        // Once the borrow of the answer ends, the lines that are left are those behind it, and the
+        // Once the borrow of the answer ends, the lines that are left are those after it, and the
         // line is that of the answer, or empty where there was none left.
         ensures* after { sem 𝓛 (Rests (the_row (record { mir = named 1; lft = [] })) self.entry
             (λ new. (self.old.left ≡ new.line ∷ new.left)

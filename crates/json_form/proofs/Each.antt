@@ -7,7 +7,7 @@ use Rattle.serde_json.specs.Data.{Data, Items, item, no_items}
 use Rattle.serde_json.specs.View.{items_view, view}
 use Rattle.serde_json.specs.declared.value.Value.{Value}
 use Rattle.word_line.specs.Forms.{◌>>=◌}
-use Rattle.json_form.specs.Shapes.{each_in}
+use Rattle.json_form.specs.Taking.{each_in}
 use Rattle.directory.specs.ListLaws.{same_some, none_there}
 
 -- two lists, where both are read
@@ -16,12 +16,13 @@ both None ys = None
 both (Some xs) None = None
 both (Some xs) (Some ys) = Some (xs ++ ys)
 
-abbrev cons : {A : Type 0} → Option A → Option (List A) → Option (List A)
+-- a list with one element more, where both are read
+abbrev pub cons : {A : Type 0} → Option A → Option (List A) → Option (List A)
 cons None ys = None
 cons (Some x) None = None
 cons (Some x) (Some ys) = Some (x ∷ ys)
 
-cons-is : {A : Type 0} (x : Option A) (ys : Option (List A))
+pub cons-is : {A : Type 0} (x : Option A) (ys : Option (List A))
     → (x >>= (λ one. ys >>= (λ others. Some (one ∷ others)))) ≡ cons x ys
 cons-is None ys = refl
 cons-is (Some x) None = refl

@@ -9,3 +9,4 @@ mod Refused
 mod Return
 mod Small
 mod Texts
+mod Told

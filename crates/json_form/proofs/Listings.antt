@@ -12,11 +12,12 @@ use Rattle.json_form.specs.declared.fault.JsonFault.{JsonFault}
 use Rattle.json_form.specs.declared.fault.JsonFault.TheVariants as faults
 use Rattle.json_form.specs.declared.rows.Kind.{Kind}
 use Rattle.json_form.specs.declared.rows.Kind.TheVariants as kinds
-use Rattle.json_form.specs.TextOfJson.{IsJson, IsJsonText}
+use Rattle.json_form.specs.TextOfJson.{IsJson, IsJsonText, IsShapeless}
 use Rattle.json_form.specs.Left.{HasLines, HasNone, line_in}
-use Rattle.json_form.specs.Shapes.{InputValues, call_in, each_in, edge_in, list_in, listing_of_values, number_in, values_of}
+use Rattle.json_form.specs.Taking.{InputValues, call_in, each_in, edge_in, list_in, listing_of_values, number_in, values_of}
 use Rattle.json_form.proofs.Each.{each-map, option-map-some}
 use Rattle.json_form.proofs.Pieces.{grown, grown-is}
+use Rattle.json_form.proofs.Told.{none-told, shapes-taken}
 
 list-map-at : {A B : Type 0} (read : Data → Option A) (f : A → B) (o : Option Items)
     → option_and_then (each_in (λ v. option_map f (read v))) o ≡ option_map (map f) (option_and_then (each_in read) o)
@@ -80,7 +81,7 @@ text-is listing =
     ∙ ap (λ (l : List ℕ). concat edges ++ l) (sym (concat-append homes after_homes))
     ∙ sym (concat-append edges after_edges))
 
--- they behind a text
+-- they after a text
 pub text-behind : (text : List ℕ) (listing : ListingValue)
     → grown text (text_pieces listing) ≡ text ++ listing_text listing
 text-behind text listing = grown-is text (text_pieces listing) ∙ ap (λ (l : List ℕ). text ++ l) (text-is listing)
@@ -88,7 +89,18 @@ text-behind text listing = grown-is text (text_pieces listing) ∙ ap (λ (l : L
 listing-from : (o : Option Members) {values : InputValues} → option_and_then values_of o ≡ Some values
     → (o >>= (λ members. values_of members >>= listing_of_values)) ≡ listing_of_values values
 listing-from None is = absurd cc
-listing-from (Some members) is = rw is refl
+listing-from (Some _) is = rw is refl
+
+no-listing : (o : Option Members) → option_and_then values_of o ≡ None
+    → (o >>= (λ members. values_of members >>= listing_of_values)) ≡ None
+no-listing None is = refl
+no-listing (Some _) is = rw is refl
+
+-- what is answered where they aren't
+pub no-keys : {bytes : List ℕ} {value : Data} → IsJson bytes value → option_and_then values_of (as_object value) ≡ None
+    → IsShapeless bytes
+no-keys {value} json none =
+    record { value = value; json = json; shape = none-told (no-listing (as_object value) none) }
 
 -- what is answered where the keys are right
 pub answer-is : {bytes : List ℕ} {value : Data} {values : InputValues} (answer : Result (Vec ℕ Global) JsonFault)
@@ -100,12 +112,16 @@ answer-is {value} {values} (Ok text) json keys ok err =
     let back = option-map-some listing_text (listing_of_values values) ok in
     record {
       listing = back.0;
-      listed = record { value = value; json = json; shape = listing-from (as_object value) keys ∙ back.1 };
+      listed = record {
+        value = value;
+        json = json;
+        shape = (shapes-taken value back.0).0 (listing-from (as_object value) keys ∙ back.1);
+      };
       is = sym back.2;
     }
 answer-is (Err faults.Json) json keys ok (inl e) = absurd cc
 answer-is (Err faults.Json) json keys ok (inr e) = let wrong = e.0 in absurd cc
 answer-is (Err faults.Shape) json keys ok (inl e) = absurd cc
 answer-is {value} (Err faults.Shape) json keys ok (inr e) =
-    record { value = value; json = json; shape = listing-from (as_object value) keys ∙ e.1 }
+    record { value = value; json = json; shape = none-told (listing-from (as_object value) keys ∙ e.1) }
 answer-is (Err faults.OutOfMemory) json keys ok err = tt

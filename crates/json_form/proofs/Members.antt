@@ -2,7 +2,7 @@
 use Rattle.std.proofs.Common.{◌≡◌, ℕ, ◌<◌, Bool, true, false, List, [], ◌∷◌, Option, Some, None, String, Global, if◌then◌else◌, is_some, length, slice_get, string_bytes, bytes_eq, arith, refl, sym, ap, ◌∙◌}
 use Rattle.serde_json.specs.View.{members_view, view}
 use Rattle.serde_json.specs.declared.value.Value.{Value}
-use Rattle.json_form.specs.Shapes.{InputValues, if_all, next_member}
+use Rattle.json_form.specs.Taking.{InputValues, if_all, next_member}
 
 some-is : {A : Type 0} (b : Bool) (x : A) → is_some (if b then Some x else None) ≡ b
 some-is true x = refl

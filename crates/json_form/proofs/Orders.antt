@@ -9,10 +9,10 @@ use Rattle.serde_json.specs.View.{items_view}
 use Rattle.serde_json.specs.declared.value.Value.{Value}
 use Rattle.text_line.specs.OrderLaws.{pieces-cut}
 use Rattle.text_line.specs.OrderLines.{order_line, order_lines}
-use Rattle.json_form.specs.Shapes.{each_in, number_in}
+use Rattle.json_form.specs.Taking.{each_in, number_in}
 use Rattle.json_form.proofs.Each.{each-append, each-length}
 
--- the items before those that are left were read as numbers and written; with as many numbers behind
+-- the items before those that are left were read as numbers and written; with as many numbers after
 -- them as are left, the lines are those that were written and those of the others
 pub record HasWritten (items left : List Value) (start text line : List ℕ) : Type 0 where
   pub done : List Value

@@ -7,7 +7,7 @@ use Rattle.serde_json.specs.Written.{compact_text}
 use Rattle.json_form.specs.Left.{list_left, opening}
 use Rattle.json_form.specs.Values.{whole}
 
--- a text that pieces were put behind, one after another
+-- a text that pieces were put after, one after another
 abbrev pub grown : List ℕ → List (List ℕ) → List ℕ
 grown text [] = text
 grown text (piece ∷ pieces) = grown (text ++ piece) pieces
@@ -22,7 +22,7 @@ pub list-more : {A : Type 0} (begun : Bool) (value : A → Data) (x : A) (xs : L
 list-more true value x xs = refl
 list-more false value x xs = refl
 
--- numbers, each behind a comma
+-- numbers, each after a comma
 pub numbers-more : (xs ys : List ℕ)
     → list_left true whole (xs ++ ys) ≡ flat_map (λ n. 44 ∷ decimal n) xs ++ list_left true whole ys
 numbers-more [] ys = refl

@@ -2,7 +2,7 @@
 use Rattle.std.proofs.Common.{◌≡◌, ℕ, Bool, true, false, List, [], ◌∷◌, Option, Some, None, if◌then◌else◌, option_and_then, length, codes, bytes_eq, refl, ◌∙◌}
 use Rattle.net_reader.specs.declared.said.Call.{Call}
 use Rattle.net_reader.specs.declared.said.Call.TheVariants as calls
-use Rattle.json_form.specs.Shapes.{call_of, edge_of, find_of, move_of, switch_of}
+use Rattle.json_form.specs.Taking.{call_of, edge_of, find_of, move_of, switch_of}
 
 -- nothing is made of numbers whose count is wrong
 pub none-of : {A : Type 0} (f : List ℕ → Option A) (o : Option (List ℕ)) {count : ℕ}

@@ -12,41 +12,12 @@ use Rattle.input_text.specs.Listing.{ListingValue, calls_from, calls_of, input_t
 use Rattle.json.proofs.Printed.Utf8.{IsUtf8-are_ascii, IsUtf8-quoted}
 use Rattle.serde_json.specs.Data.{Data, Members, member, no_members}
 use Rattle.serde_json.specs.Written.{comma_if, compact_text, members_text}
-use Rattle.json_form.specs.Inputs.{call_value, edge_value, listing_value}
+use Rattle.json_form.specs.Inputs.{call_value, edge_value, listing_value, word_and_numbers}
 use Rattle.json_form.specs.Laws.{InputsReturn}
-use Rattle.json_form.specs.Shapes.{call_in, edge_in, listing_in}
 use Rattle.json_form.specs.Values.{list_by, whole, wholes}
 use Rattle.json_form.proofs.Readable.{IsReadable, array-readable, comma-utf8, line-read, line-utf8, whole-readable}
-use Rattle.json_form.proofs.Small.{Each, IsSmall, IsSmallCall, IsSmallEdge, IsSmallSpoken, call-back, call-readable, each-of, edge-back, edge-readable, list-back, list-readable, numbers-back, numbers-readable, small-number}
-
--- all numbers of a listing are small
-pub record IsSmallListing (listing : ListingValue) : Type 0 where
-  pub format : IsSmall listing.format
-  pub nodes : IsSmall listing.nodes
-  pub k : IsSmall listing.k
-  pub edges : Each IsSmallEdge listing.edges
-  pub homes : Each IsSmall listing.homes
-  pub callers : IsSmall listing.callers
-  pub spoken : Each IsSmallSpoken listing.calls
-  pub order : Each IsSmall listing.order
-
-each-map : {A : Type 0} (P Q : A → Type 0) (xs : List A) → ((x : A) → P x → Q x) → Each P xs → Each Q xs
-each-map P Q [] f all = tt
-each-map P Q (x ∷ xs) f all = (f x all.0, each-map P Q xs f all.1)
-
-shape-back : {listing : ListingValue} → IsSmallListing listing → listing_in (listing_value listing) ≡ Some listing
-shape-back {listing} small = rw (
-  small-number small.format,
-  small-number small.nodes,
-  small-number small.k,
-  list-back edge_in edge_value listing.edges
-      (each-map IsSmallEdge (λ x. edge_in (edge_value x) ≡ Some x) listing.edges edge-back small.edges),
-  numbers-back listing.homes small.homes,
-  small-number small.callers,
-  list-back call_in call_value listing.calls
-      (each-map IsSmallSpoken (λ x. call_in (call_value x) ≡ Some x) listing.calls call-back small.spoken),
-  numbers-back listing.order small.order,
-) refl
+use Rattle.json_form.proofs.Small.{Each, IsSmall, IsSmallEdge, IsSmallListing, IsSmallSpoken, call-readable, each-append, each-map, each-of, edge-readable, list-readable, numbers-readable}
+use Rattle.json_form.proofs.Told.{listing-tells}
 
 member-utf8 : (later : Bool) (k : List ℕ) (d : Data) (ms : Members) → IsUtf8 k → IsUtf8 (compact_text d)
     → IsUtf8 (members_text true ms) → IsUtf8 (members_text later (member k d ms))
@@ -133,6 +104,20 @@ listing-readable {listing} small =
 
 -- ---- the numbers of a valid input
 
+-- the numbers of a call, but for its actor
+abbrev pub IsSmallCall : Call → Type 0
+IsSmallCall (calls.Move to) = IsSmall to
+IsSmallCall (calls.Find from sub) = IsSmall from × IsSmall sub
+IsSmallCall calls.Off = Unit {0}
+IsSmallCall calls.On = Unit {0}
+
+spoken-small : {actor : ℕ} (call : Call) → IsSmall actor → IsSmallCall call
+    → Each IsSmall (word_and_numbers actor call).1
+spoken-small (calls.Move to) small more = (small, (more, tt))
+spoken-small (calls.Find from sub) small more = (small, (more.0, (more.1, tt)))
+spoken-small calls.Off small more = (small, tt)
+spoken-small calls.On small more = (small, tt)
+
 course-small : (format : ℕ) {n : ℕ} (here : ℕ) (off : Bool) (script : List Call) → n ≤ 1024
     → IsCourse format n here off script → Each IsSmallCall script
 course-small format here off [] few course = tt
@@ -154,14 +139,10 @@ search-small (calls.Find from sub) few some search = (
 search-small calls.Off few some search = absurd search
 search-small calls.On few some search = absurd search
 
-each-append : {A : Type 0} (P : A → Type 0) (xs ys : List A) → Each P xs → Each P ys → Each P (xs ++ ys)
-each-append P [] ys all more = more
-each-append P (x ∷ xs) ys all more = (all.0, each-append P xs ys all.1 more)
-
 own-small : {actor : ℕ} (script : List Call) → IsSmall actor → Each IsSmallCall script
     → Each IsSmallSpoken (calls_of actor script)
 own-small [] small all = tt
-own-small (call ∷ script) small all = ((small, all.0), own-small script small all.1)
+own-small (call ∷ script) small all = (spoken-small call small all.0, own-small script small all.1)
 
 listed-small : (actor : ℕ) (scripts : List (List Call)) → actor + length scripts ≤ 1024
     → ((i : ℕ) → i < length scripts → Each IsSmallCall (get_or scripts i []))
@@ -215,7 +196,7 @@ returned reads contents valid =
             utf8 = line-utf8 readable;
             reads = line-read readable (omega arith);
           };
-          shape = shape-back small;
+          shape = listing-tells small;
         };
         is = refl;
       },

@@ -9,37 +9,49 @@ use Rattle.net_reader.specs.declared.said.Call.TheVariants as calls
 use Rattle.net_reader.specs.Input.{Contents}
 use Rattle.input_text.specs.declared.listing.ActorCall.{ActorCall}
 use Rattle.input_text.specs.Listing.{ListingValue, listing_of}
-use Rattle.serde_json.specs.Data.{Data, member, no_members, object}
+use Rattle.serde_json.specs.Data.{Data, Members, member, no_members, object}
 use Rattle.json_form.specs.Values.{line_of_value, list_by, row, whole, wholes}
 
--- an edge: its ends and its weight
-abbrev pub edge_value : Edge → Data
-edge_value edge = wholes (edge.a ∷ edge.b ∷ edge.weight ∷ [])
+-- the numbers of an edge: its ends and its weight
+abbrev pub edge_numbers : Edge → List ℕ
+edge_numbers edge = edge.a ∷ edge.b ∷ edge.weight ∷ []
 
--- a call of an actor
-abbrev pub value_of_call : ℕ → Call → Data
-value_of_call actor (calls.Move to) = row (codes "move") (actor ∷ to ∷ [])
-value_of_call actor (calls.Find from sub) = row (codes "find") (actor ∷ from ∷ sub ∷ [])
-value_of_call actor calls.Off = row (codes "off") (actor ∷ [])
-value_of_call actor calls.On = row (codes "on") (actor ∷ [])
+-- an edge
+abbrev pub edge_value : Edge → Data
+edge_value edge = wholes (edge_numbers edge)
+
+-- the word of an actor's call, and its numbers
+abbrev pub word_and_numbers : ℕ → Call → List ℕ × List ℕ
+word_and_numbers actor (calls.Move to) = (codes "move", actor ∷ to ∷ [])
+word_and_numbers actor (calls.Find from sub) = (codes "find", actor ∷ from ∷ sub ∷ [])
+word_and_numbers actor calls.Off = (codes "off", actor ∷ [])
+word_and_numbers actor calls.On = (codes "on", actor ∷ [])
+
+-- the numbers of a call
+abbrev pub call_numbers : ActorCall → List ℕ
+call_numbers call = (word_and_numbers call.actor call.call).1
 
 -- a call
 abbrev pub call_value : ActorCall → Data
-call_value call = value_of_call call.actor call.call
+call_value call = row (word_and_numbers call.actor call.call).0 (call_numbers call)
 
--- the value of a listing
-abbrev pub listing_value : ListingValue → Data
-listing_value listing =
+-- the value of a listing, with the members that its order adds
+abbrev pub value_with : (Members → Members) → ListingValue → Data
+value_with with_order listing =
     object
     (member (codes "callers") (whole listing.callers)
     (member (codes "calls") (list_by call_value listing.calls)
     (member (codes "edges") (list_by edge_value listing.edges)
     (member (codes "k") (whole listing.k)
     (member (codes "nodes") (whole listing.nodes)
-    (member (codes "order") (wholes listing.order)
+    (with_order
     (member (codes "subs") (wholes listing.homes)
     (member (codes "track") (whole listing.format)
     no_members))))))))
+
+-- the value of a listing
+abbrev pub listing_value : ListingValue → Data
+listing_value listing = value_with (member (codes "order") (wholes listing.order)) listing
 
 -- the JSON of an input, whose calls stand by actor and within an actor in script order
 abbrev pub input_json_of : Contents → List ℕ

@@ -1,9 +1,13 @@
 -- The laws of the JSON of inputs, as named statements.
--- Key laws: `inputs_return` (`InputsReturn`), `one_text` (`OneListing`).
-use Rattle.std.specs.Prelude.{◌≡◌, ℕ, List, Ok}
+-- Key laws: `inputs_return` (`InputsReturn`), `one_text` (`OneListing`), `shapes_are_taken`
+-- (`ShapesAreTaken`).
+use Rattle.std.specs.Prelude.{◌≡◌, ◌↔◌, ℕ, List, Ok, Some}
 use Rattle.net_reader.specs.Input.{Contents, IsInput}
 use Rattle.net_reader.specs.Valid.{IsValid}
 use Rattle.input_text.specs.Listing.{ListingValue, input_text_of}
+use Rattle.serde_json.specs.Data.{Data}
+use Rattle.json_form.specs.Shapes.{TellsListing}
+use Rattle.json_form.specs.Taking.{listing_in}
 use Rattle.json_form.specs.TextOfJson.{IsListed, IsNoJson, IsShapeless, IsTextOfJson}
 use Rattle.json_form.specs.Inputs.{input_json_of}
 
@@ -29,3 +33,9 @@ NotRefused =
 -- and JSON without the shape is JSON
 abbrev pub OneCause : Type 0
 OneCause = (bytes : List ℕ) → IsShapeless bytes → IsNoJson bytes → ⊥
+
+-- the listing that a value tells, if it tells one, is the one that the code takes out of it
+abbrev pub ShapesAreTaken : Type 0
+ShapesAreTaken =
+    (value : Data) (listing : ListingValue)
+    → (listing_in value ≡ Some listing) ↔ TellsListing value listing

@@ -24,14 +24,14 @@ use Rattle.json_form.specs.declared.values.InputValues.{InputValues as ValuesKep
 use Rattle.json_form.specs.declared.rows.Kind.{Kind}
 use Rattle.json_form.specs.declared.rows.Kind.TheVariants as kinds
 use Rattle.json_form.specs.Reports.{done_value}
-use Rattle.json_form.specs.Shapes.{InputValues, call_in, edge_in, list_in, number_in}
+use Rattle.json_form.specs.Taking.{InputValues, call_in, edge_in, list_in, number_in}
 use Rattle.json_form.specs.Values.{list_by, whole}
 
 -- what stands before an item: a bracket before the first, else a comma
 abbrev pub opening : Bool → List ℕ
 opening begun = if begun then 44 ∷ [] else 91 ∷ []
 
--- what stands behind the last item, and before it where there is none
+-- what stands after the last item, and before it where there is none
 abbrev pub closing : Bool → List ℕ
 closing begun = if begun then codes "]" else codes "[]"
 
@@ -71,7 +71,7 @@ kind_text (At node number level weight) = codes ",\"kind\":\"find\""
 kind_text (OffAt node number level weight) = codes ",\"kind\":\"off\""
 kind_text (AgainFor why weight) = codes ",\"kind\":\"again\""
 
--- the pieces of a find that answers, behind its actor
+-- the pieces of a find that answers, after its actor
 abbrev pub answer_pieces : List ℕ → ℕ → ℕ → ℕ → ℕ → Option ℕ → ℕ → ℕ → ℕ → List (List ℕ)
 answer_pieces kind from sub node number level weight first last =
     member_text (codes ",\"first\"") first ∷ member_text (codes ",\"from\"") from ∷ kind

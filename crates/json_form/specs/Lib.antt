@@ -1,6 +1,7 @@
 pub mod Values
 pub mod Inputs
 pub mod Shapes
+pub mod Taking
 pub mod Keyed
 pub mod Reports
 pub mod TextOfJson

@@ -8,7 +8,7 @@ use Rattle.serde_json.specs.Data.{Data}
 use Rattle.serde_json.specs.Read.{read}
 use Rattle.json_form.specs.declared.fault.JsonFault.{JsonFault}
 use Rattle.json_form.specs.declared.fault.JsonFault.TheVariants as faults
-use Rattle.json_form.specs.Shapes.{listing_in}
+use Rattle.json_form.specs.Shapes.{TellsListing}
 
 -- the bytes are a text that `serde_json` reads as this value
 pub record IsJson (bytes : List ℕ) (value : Data) : Type 0 where
@@ -23,13 +23,13 @@ IsNoJson bytes = IsUtf8 bytes → read bytes ≡ None
 pub record IsListed (bytes : List ℕ) (listing : ListingValue) : Type 0 where
   pub value : Data
   pub json : IsJson bytes value
-  pub shape : listing_in value ≡ Some listing
+  pub shape : TellsListing value listing
 
--- the bytes are JSON without the shape
+-- the bytes are JSON that tells no listing
 pub record IsShapeless (bytes : List ℕ) : Type 0 where
   pub value : Data
   pub json : IsJson bytes value
-  pub shape : listing_in value ≡ None
+  pub shape : (listing : ListingValue) → TellsListing value listing → ⊥
 
 -- the bytes are the JSON of a listing, and this is its text
 pub record IsTextOfJson (bytes text : List ℕ) : Type 0 where

@@ -17,7 +17,7 @@ list_by value xs = array (items_of (map value xs))
 abbrev pub wholes : List ℕ → Data
 wholes ns = list_by whole ns
 
--- a word and the numbers behind it
+-- a word and the numbers after it
 abbrev pub row : List ℕ → List ℕ → Data
 row word ns = array (items_of (string word ∷ map whole ns))
 

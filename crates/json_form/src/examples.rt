@@ -7,10 +7,11 @@ ghost use Rattle.outside.specs.Texts.{◌then◌};
 ghost use Rattle.directory.specs.declared.answers.Done.TheVariants.{Again, Found, Switched};
 ghost use Rattle.directory.specs.declared.answers.Why.TheVariants.{NoEntry};
 ghost use Rattle.serde_json.specs.Data.{member, no_members, null, object};
-ghost use Rattle.json_form.specs.Inputs.{input_json_of};
-ghost use Rattle.json_form.specs.Keyed.{keyed_but};
+ghost use Rattle.json_form.specs.Inputs.{input_json_of, listing_value};
+ghost use Rattle.json_form.specs.Keyed.{keyed_but, lone_listing, lone_value};
 ghost use Rattle.json_form.specs.Reports.{report_json_of};
-ghost use Rattle.json_form.specs.Shapes.{call_in, edge_in, listing_in, lone_value, values_of};
+ghost use Rattle.json_form.specs.Shapes.{TellsListing};
+ghost use Rattle.json_form.specs.Taking.{call_in, edge_in, listing_in, values_of};
 ghost use Rattle.json_form.specs.Values.{row, whole, wholes};
 
 /// The JSON of an input.
@@ -54,21 +55,23 @@ pub fn example_report()
 /// Values with the shape of an input, the greatest number too, and without: an object without keys,
 /// one with a key too many, and a number with a digit too many.
 pub fn example_shapes()
-    ensures lone { listing_in (lone_value (whole 1) no_members) ≡ Some (record {
-      format = 1;
-      nodes = 1;
-      k = 1;
-      edges = [];
-      homes = 0 ∷ [];
-      callers = 0;
-      calls = [];
-      order = [];
-    }) }
+    ensures lone { listing_in (lone_value (whole 1) no_members) ≡ Some (lone_listing 1) }
     ensures most { is_some (listing_in (lone_value (whole 999999999999999999) no_members)) ≡ true }
     ensures none { listing_in (object no_members) ≡ None }
     ensures more { listing_in
         (lone_value (whole 1) (member (codes "zone") null no_members)) ≡ None }
     ensures long { listing_in (lone_value (whole 1000000000000000000) no_members) ≡ None }
+{}
+
+/// Which listing a value tells: with its order or, where that is empty, without; and no other
+/// order, and no number of nineteen digits.
+pub fn worked_shapes()
+    ensures full { TellsListing (listing_value (lone_listing 1)) (lone_listing 1) }
+    ensures brief { TellsListing (lone_value (whole 1) no_members) (lone_listing 1) }
+    ensures order { TellsListing (lone_value (whole 1) no_members)
+        (record (lone_listing 1) { order = 0 ∷ [] }) → ⊥ }
+    ensures long { TellsListing (lone_value (whole 1000000000000000000) no_members)
+        (lone_listing 1000000000000000000) → ⊥ }
 {}
 
 /// Rows that are no edges and no calls: a number is left out or one too many, or there is no word,

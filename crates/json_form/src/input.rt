@@ -18,7 +18,7 @@ use text_line::Line;
 // Numbers below this are written fast: those of all nodes, and of all actors, are among them.
 const FAST_NUMBERS: usize = 1_024;
 
-// An edge, behind what stands before it.
+// An edge, after what stands before it.
 fn write_edge(line: &mut Line, begun: bool, edge: &Edge)
     requires { line.old ≡ [] }
     ensures { line.new ≡ opening begun ++ compact_text (edge_value edge.now) }
@@ -42,7 +42,7 @@ fn write_row(line: &mut Line, word: &str, numbers: &[u32])
     line.word("]");
 }
 
-// A call, behind what stands before it.
+// A call, after what stands before it.
 fn write_call(line: &mut Line, begun: bool, call: &ActorCall)
     requires { line.old ≡ [] }
     ensures { line.new ≡ opening begun ++ compact_text (call_value call.now) }

@@ -1,5 +1,5 @@
 //! What holds of the JSON of inputs. Each public function is a law, and does nothing.
-ghost use Rattle.json_form.specs.Laws.{InputsReturn, NotRefused, OneCause, OneListing};
+ghost use Rattle.json_form.specs.Laws.{InputsReturn, NotRefused, OneCause, OneListing, ShapesAreTaken};
 
 use input_text::inputs_read;
 
@@ -16,4 +16,9 @@ pub fn one_text()
     ensures listing { OneListing }
     ensures right { NotRefused }
     ensures cause { OneCause }
+{}
+
+/// The listing that a value tells, if it tells one, is the one that is taken out of it.
+pub fn shapes_are_taken()
+    ensures { ShapesAreTaken }
 {}

@@ -11,9 +11,9 @@ mod rows;
 mod text;
 mod values;
 
-pub use examples::{example_input, example_report, example_rows, example_shapes};
+pub use examples::{example_input, example_report, example_rows, example_shapes, worked_shapes};
 pub use fault::JsonFault;
 pub use input::input_json;
-pub use laws::{inputs_return, one_text};
+pub use laws::{inputs_return, one_text, shapes_are_taken};
 pub use report::{ReportParts, report_json};
 pub use text::json_text;

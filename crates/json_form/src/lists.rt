@@ -38,7 +38,7 @@ pub(crate) fn write_opening(line: &mut Line, begun: bool)
     line.word(if begun { "," } else { "[" });
 }
 
-// What stands behind the items of a list.
+// What stands after the items of a list.
 pub(crate) fn write_closing(line: &mut Line, begun: bool)
     requires { line.old ≡ [] }
     ensures text { line.new ≡ closing begun }
@@ -54,7 +54,7 @@ fn opening_byte(begun: bool) -> u8
     if begun { b',' } else { b'[' }
 }
 
-// Numbers, each behind a comma.
+// Numbers, each after a comma.
 pub(crate) fn write_others(line: &mut Line, numbers: &[u32])
     requires { length line.old + 41 * length numbers.now ≤ 4096 }
     ensures text { line.new ≡ line.old ++ flat_map (λ n. 44 ∷ decimal n) numbers.now }
@@ -65,7 +65,7 @@ pub(crate) fn write_others(line: &mut Line, numbers: &[u32])
     }
 }
 
-// Writes some of the numbers of a list, of which there are some, and gives those behind them.
+// Writes the first numbers of a list that isn't empty, and returns the rest.
 pub(crate) fn write_numbers<'a>(line: &mut Line, begun: bool, numbers: &'a [u32]) -> &'a [u32]
     requires empty { line.old ≡ [] }
     requires some { 0 < length numbers.now }
@@ -81,7 +81,7 @@ pub(crate) fn write_numbers<'a>(line: &mut Line, begun: bool, numbers: &'a [u32]
     later
 }
 
-// What stands on the line goes behind the text.
+// What stands on the line goes after the text.
 pub(crate) fn push_line(text: &mut Vec<u8>, line: &mut Line) -> Result<(), AllocError>
     ensures text { OnOk result (text.new.items ≡ text.old.items ++ line.old) }
     ensures clear { line.new ≡ [] }

@@ -67,7 +67,7 @@ fn write_off(line: &mut Line, off: bool)
     });
 }
 
-// The kind of a find, behind what stands before it.
+// The kind of a find, after what stands before it.
 fn kind_of(found: Found) -> &'static str
     ensures text { result.now ≡ kind_text found }
     ensures short { length result.now ≤ 20 }
@@ -79,7 +79,7 @@ fn kind_of(found: Found) -> &'static str
     }
 }
 
-// What became of a find, behind what stands before it.
+// What became of a find, after what stands before it.
 fn write_find(line: &mut Line, find: FindLine)
     requires { length line.old ≤ 1 }
     ensures { line.new ≡ line.old ++ concat (done_pieces (line_of_find find)) }
@@ -118,7 +118,7 @@ fn write_find(line: &mut Line, find: FindLine)
     }
 }
 
-// What became of a switch, behind what stands before it.
+// What became of a switch, after what stands before it.
 fn write_switch(line: &mut Line, actor: u32, off: bool, node: u32, number: u32, ticket: u64)
     requires { length line.old ≤ 1 }
     ensures { line.new ≡ line.old ++ concat (done_pieces (Switched actor off node number ticket)) }
@@ -132,7 +132,7 @@ fn write_switch(line: &mut Line, actor: u32, off: bool, node: u32, number: u32, 
     line.word("}");
 }
 
-// What became of a move or of a switch, behind what stands before it.
+// What became of a move or of a switch, after what stands before it.
 fn write_step(line: &mut Line, call: &Done)
     requires begun { length line.old ≤ 1 }
     requires step { find_of call.now ≡ None }
@@ -171,7 +171,7 @@ fn write_step(line: &mut Line, call: &Done)
     }
 }
 
-// What became of a call, behind what stands before it.
+// What became of a call, after what stands before it.
 fn write_done(line: &mut Line, call: &Done)
     requires { length line.old ≤ 1 }
     ensures { line.new ≡ line.old ++ concat (done_pieces call.now) }
@@ -323,7 +323,7 @@ impl<'a> ReportParts<'a> {
     }
 }
 
-// The parts that are left, behind a text.
+// The parts that are left, after a text.
 fn push_parts(text: &mut Vec<u8>, parts: &mut ReportParts<'_>) -> Result<(), AllocError>
     ensures { OnOk result (text.new.items ≡ text.old.items ++ parts.old.left) }
 {

@@ -3,7 +3,7 @@ ghost use Rattle.std.specs.Prelude.{◌≡◌, ◌≢◌, ◌≤◌, ℕ, List, 
 ghost use Rattle.input_text.specs.Listing.{call_line, edge_line, line_of};
 ghost use Rattle.serde_json.specs.View.{items_view, view};
 ghost use Rattle.json_form.specs.Left.{line_in};
-ghost use Rattle.json_form.specs.Shapes.{call_in, call_of, each_in, edge_in, number_in, within_most};
+ghost use Rattle.json_form.specs.Taking.{call_in, call_of, each_in, edge_in, number_in, within_most};
 
 use serde_json::Value;
 use text_line::Line;

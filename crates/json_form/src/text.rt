@@ -8,7 +8,7 @@ ghost use Rattle.text_line.specs.OrderLines.{order_lines};
 ghost use Rattle.json_form.specs.declared.fault.JsonFault.TheVariants as faults;
 ghost use Rattle.json_form.specs.TextOfJson.{IsJson, IsJsonText, IsNoJson};
 ghost use Rattle.json_form.specs.Left.{HasLines, HasNone, line_in, seen_values};
-ghost use Rattle.json_form.specs.Shapes.{each_in, list_in, listing_of_values, number_in};
+ghost use Rattle.json_form.specs.Taking.{each_in, list_in, listing_of_values, number_in};
 
 use crate::fault::JsonFault;
 use crate::lists::push_line;
@@ -40,7 +40,7 @@ fn read_value(alloc: Global, bytes: &[u8]) -> Result<Value, JsonFault>
     }
 }
 
-// The line of a number behind the text, where the value is one.
+// The line of a number after the text, where the value is one.
 fn push_number(
     text: &mut Vec<u8>,
     line: &mut Line,
@@ -62,7 +62,7 @@ fn push_number(
     Ok(())
 }
 
-// The lines of items behind the text, where each has its shape.
+// The lines of items after the text, where each has its shape.
 fn push_each(
     text: &mut Vec<u8>,
     line: &mut Line,
@@ -86,7 +86,7 @@ fn push_each(
     Ok(())
 }
 
-// The lines of the items of a list behind the text, where each has its shape.
+// The lines of the items of a list after the text, where each has its shape.
 fn push_items(
     text: &mut Vec<u8>,
     line: &mut Line,
@@ -106,7 +106,7 @@ fn push_items(
     }
 }
 
-// The lines of an order behind the text, where the items are numbers.
+// The lines of an order after the text, where the items are numbers.
 fn push_lines(text: &mut Vec<u8>, line: &mut Line, items: &[Value]) -> Result<(), JsonFault>
     requires { line.old ≡ [] }
     ensures ok { OnOk result ((ns : List ℕ)
@@ -127,7 +127,7 @@ fn push_lines(text: &mut Vec<u8>, line: &mut Line, items: &[Value]) -> Result<()
     Ok(())
 }
 
-// The lines of the order behind the text, where the value is a list of numbers.
+// The lines of the order after the text, where the value is a list of numbers.
 fn push_order(text: &mut Vec<u8>, line: &mut Line, value: &Value) -> Result<(), JsonFault>
     requires { line.old ≡ [] }
     ensures ok { OnOk result ((ns : List ℕ) × (list_in number_in (view value.now) ≡ Some ns)
@@ -141,7 +141,7 @@ fn push_order(text: &mut Vec<u8>, line: &mut Line, value: &Value) -> Result<(), 
     }
 }
 
-// The lines of the listing that the values are behind the text, where they have the shape.
+// The lines of the listing that the values are after the text, where they have the shape.
 fn push_listing(text: &mut Vec<u8>, line: &mut Line, values: &InputValues) -> Result<(), JsonFault>
     requires { line.old ≡ [] }
     ensures ok { OnOk result ((lines : List ℕ)

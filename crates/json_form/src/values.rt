@@ -4,7 +4,7 @@ ghost use Rattle.serde_json.specs.Data.{Data, Members};
 ghost use Rattle.serde_json.specs.Find.{as_object};
 ghost use Rattle.serde_json.specs.View.{members_view, view};
 ghost use Rattle.json_form.specs.Left.{seen_values};
-ghost use Rattle.json_form.specs.Shapes.{next_member, order_member, values_from, values_of};
+ghost use Rattle.json_form.specs.Taking.{next_member, order_member, values_from, values_of};
 
 use serde_json::{Map, Value};
 use std::alloc::Global;
@@ -18,7 +18,7 @@ pub(crate) struct FirstValues {
     pub(crate) k: Value,
 }
 
-// The values of the keys behind them.
+// The values of the keys after them.
 #[derive(Drop)]
 pub(crate) struct LastValues {
     pub(crate) nodes: Value,

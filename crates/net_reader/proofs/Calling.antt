@@ -6,7 +6,8 @@ use Rattle.net_reader.specs.declared.said.Call.TheVariants as acts
 use Rattle.net_reader.specs.declared.word.Word.{Word}
 use Rattle.net_reader.specs.declared.word.Word.TheVariants as words
 use Rattle.net_reader.specs.Said.{Said, nothing, actors, script_of, place_after, off_after, place_of, is_off}
-use Rattle.net_reader.specs.Table.{verdict, row_of, may_stand, most_calls, place_of_word}
+use Rattle.net_reader.specs.Table.{may_stand, most_calls}
+use Rattle.net_reader.specs.Rows.{verdict, row_of, place_of_word}
 use Rattle.net_reader.specs.Valid.{IsCourse, IsSearch}
 use Rattle.net_reader.proofs.Heard.{Heard, heard, with_call as call_said}
 use Rattle.net_reader.proofs.Standing.{make, script_of-push}

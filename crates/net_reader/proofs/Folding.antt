@@ -1,11 +1,13 @@
 -- What each line keeps holds of all that is read.
-use Rattle.std.proofs.Common.{◌≡◌, ℕ, ◌+◌, ◌≤◌, true, List, [], ◌∷◌, Option, Some, None, Result, Ok, Err, refl, arith}
+use Rattle.std.proofs.Common.{◌≡◌, ℕ, ◌+◌, ◌≤◌, true, List, [], ◌∷◌, Option, Some, None, Result, Ok, Err, refl, sym, ◌∙◌, arith}
 use Rattle.std.proofs.lemmas.Bool.Decides.{nat_tests}
 use Rattle.net_reader.specs.declared.fault.InputCause.{InputCause}
 use Rattle.net_reader.specs.declared.word.Word.{Word}
 use Rattle.net_reader.specs.Said.{Said, nothing}
 use Rattle.net_reader.specs.TextLines.{word_of, numbers_of, lines_of, fields_of}
-use Rattle.net_reader.specs.Table.{judge_word, judge, verdict, row_of, may_stand, place_of_word}
+use Rattle.net_reader.specs.Table.{judge, may_stand}
+use Rattle.net_reader.specs.RowLaws.{judge-rows}
+use Rattle.net_reader.specs.Rows.{judge_by_rows, judge_word, verdict, row_of, place_of_word}
 use Rattle.net_reader.specs.Input.{after_line, read_from, read}
 
 -- each line that is taken keeps P
@@ -20,7 +22,8 @@ module _ (P : Said → Type 0) (kept : IsKeptByLines P) where
   keeps-spoken found (Some word) None h e = cc
   keeps-spoken found None numbers h e = cc
 
-  keeps-judged : {said : Said} (found : Said) (fields : List (List ℕ)) → P said → judge said fields ≡ Ok found → P found
+  keeps-judged : {said : Said} (found : Said) (fields : List (List ℕ)) → P said
+      → judge_by_rows said fields ≡ Ok found → P found
   keeps-judged {said} found [] h e = grind arith
   keeps-judged {said} found (field ∷ fields) h e =
       grind (arith, keeps-spoken found (word_of field) (numbers_of fields) h)
@@ -38,7 +41,8 @@ module _ (P : Said → Type 0) (kept : IsKeptByLines P) where
   keeps-lines : (lines : List (List ℕ)) → Reads lines
   keeps-lines [] = λ said n found h e. grind (arith, nat_tests)
   keeps-lines (line ∷ lines) = λ said n found h e.
-      keeps-after (judge said (fields_of line)) n lines (λ next. keeps-judged next (fields_of line) h)
+      keeps-after (judge said (fields_of line)) n lines
+      (λ next is. keeps-judged next (fields_of line) h (sym (judge-rows said (fields_of line)) ∙ is))
       (keeps-lines lines) e
 
 -- what holds of nothing and is kept by each line holds of what is read, and a callers line was read

@@ -10,7 +10,8 @@ use Rattle.net_reader.specs.declared.said.Call.TheVariants as calls
 use Rattle.net_reader.specs.declared.word.Word.{Word}
 use Rattle.net_reader.specs.declared.word.Word.TheVariants as words
 use Rattle.net_reader.specs.Said.{Said, subs, actors, place_of, is_off}
-use Rattle.net_reader.specs.Table.{verdict, row_of, most_nodes, most_calls}
+use Rattle.net_reader.specs.Table.{most_nodes, most_calls}
+use Rattle.net_reader.specs.Rows.{verdict, row_of}
 use Rattle.std.proofs.lemmas.Bool.{or_parts, leb-false}
 
 -- one call more

@@ -6,7 +6,8 @@ use Rattle.net_graph.specs.Network.{IsEdge}
 use Rattle.net_reader.specs.declared.word.Word.{Word}
 use Rattle.net_reader.specs.declared.word.Word.TheVariants as words
 use Rattle.net_reader.specs.Said.{Said, nothing}
-use Rattle.net_reader.specs.Table.{verdict, row_of, may_lack, may_all_lack, may_stand, most_nodes, place_of_word}
+use Rattle.net_reader.specs.Table.{may_lack, may_all_lack, may_stand, most_nodes}
+use Rattle.net_reader.specs.Rows.{verdict, row_of, place_of_word}
 use Rattle.net_reader.proofs.Heard.{Heard, heard}
 
 -- ---- where the lines may stand

@@ -102,7 +102,7 @@ pub number-at : {end value : ℕ} (at taken : ℕ) (piece : List ℕ) {rest afte
     → IsNumberTo end value (drop at piece) after
 number-at at taken piece front back number = rw (back, ← drop-drop taken at piece, ← front) number
 
--- the same numbers behind others
+-- the same numbers after others
 pub behind-others : {limit : ℕ} (before : List ℕ) {now numbers piece rest : List ℕ} → Takes limit [] numbers piece rest
     → now ≡ before ++ numbers → Takes limit before now piece rest
 behind-others before {numbers} takes is = record {

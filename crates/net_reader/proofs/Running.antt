@@ -55,16 +55,16 @@ inside-front (b ∷ hay) (suc k) h inside =
     and_from (is_inside b) (list_all is_inside (take k hay)) (inside 0 (omega arith))
     (inside-front hay k (omega (arith, h)) (λ i below. inside (suc i) (omega (arith, below))))
 
--- the first byte and those behind it
+-- the first byte and those after it
 pub first-byte : (xs : List ℕ) → 0 < length xs → xs ≡ get_or xs 0 0 ∷ take (length xs - 1) (drop 1 xs)
 first-byte [] h = absurd (omega arith)
 first-byte (x ∷ xs) h = grind (arith, take_all)
 
--- a run of no byte, a byte more, and a run behind it
+-- a run of no byte, a byte more, and a run after it
 pub run-none : (line : LineState) (piece : List ℕ) → IsRun line line piece piece
 run-none line piece = record { front = []; parts = refl; inside = refl; read = refl }
 
--- one run behind another
+-- one run after another
 pub run-join : {first line last : LineState} {piece rest after : List ℕ} → IsRun first line piece rest
     → IsRun line last rest after → IsRun first last piece after
 run-join {first} {after} run more = record {
@@ -114,7 +114,7 @@ pub run-still : (line : LineState) {field : Open} {found : Open × ℕ} (piece :
 run-still line piece begins e back =
     run-plain line 0 piece begins e back refl refl
 
--- a number at the front where no field is open, and the blank behind it
+-- a number at the front where no field is open, and the blank after it
 between-digits : (xs : List ℕ) → 0 < length xs → fold more opens.Between xs ≡ fold more (opens.Number 0 0) xs
 unfolding more
 between-digits [] h = absurd (omega arith)
@@ -148,7 +148,7 @@ run-number-blank line piece {rest} {b} count value taken between some within bac
     (run-more (run-number line piece count value taken between some within back plain is) (blank-inside b blank)
     (run-none last rest))
 
--- the word that begins a line, and the blank behind it
+-- the word that begins a line, and the blank after it
 begun : (line : LineState) (b : ℕ) → line.open_field ≡ opens.Blank → is_blank b ≡ false → eqb b 35 ≡ false
     → put line b ≡ record line { open_field = opens.Word (pack 1 b) }
 unfolding put more

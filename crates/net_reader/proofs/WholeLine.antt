@@ -11,7 +11,7 @@ use Rattle.net_reader.specs.declared.scan.Scan.{Scan}
 use Rattle.net_reader.specs.Said.{Said}
 use Rattle.net_reader.specs.Seen.{IsWell, said_or_fault, seen_known, seen_scan}
 use Rattle.net_reader.specs.Steps.{IsRun, LineState, ReaderState, after_bytes, close_as, end_line, fault_at, fresh, is_inside, is_plain, keep, more, next, past_line, put, release, word_in}
-use Rattle.net_reader.specs.Table.{judge_word}
+use Rattle.net_reader.specs.Rows.{judge_word}
 use Rattle.net_reader.specs.Whole.{IsComment, IsCommentTo, IsDigits, IsEnd, IsLast, IsLeft, IsNumbers, IsNumberTo, IsUpTo, Opens, Rests, between}
 use Rattle.net_reader.proofs.Digits.{below-most, plain-more, read-more, still-small}
 use Rattle.net_reader.proofs.Feeding.{fed-faulty, past, ran}
@@ -59,7 +59,7 @@ digit-behind {piece} {taken} {value} {digit} before within few is same =
       small = still-small value taken digit before.small low;
     }
 
--- digits, and the byte behind them
+-- digits, and the byte after them
 pub number-before : (piece : List ℕ) (taken value : ℕ) {end b : ℕ} {rest : List ℕ} → 0 < taken → taken ≤ length piece
     → list_all is_plain (take taken piece) ≡ true → opens.Number taken value ≡ fold more (opens.Number 0 0)
     (take taken piece) → end ≡ b → b ∷ rest ≡ drop taken piece → IsNumberTo end value piece rest
@@ -85,7 +85,7 @@ pub last-read : {end value : ℕ} {piece after rest : List ℕ} → IsNumberTo e
 last-read number (inl e) = inl (rw (← e.0, e.1) number)
 last-read number (inr e) = inr (rw (← e.0, ← e.1) number)
 
--- a number behind others, each with a blank behind it
+-- a number after others, each with a blank after it
 up-to-behind : {value end : ℕ} (numbers : List ℕ) {later piece middle rest : List ℕ}
     → ((word : ℕ) → IsRun (between word []) (between word numbers) piece middle) → IsNumberTo end value middle rest
     → keep numbers value ≡ later → IsUpTo later piece (end ∷ rest)
@@ -153,7 +153,7 @@ pub heard-whole : {old new : ReaderState} (m : ℕ) (said : Said) {word : Word} 
     → Opens word piece after → IsNumbers numbers after rest → after_bytes new rest ≡ after_bytes old piece
 heard-whole m said numbers rest is heard opening ends = rw (heard, is) (whole-read m said numbers rest opening ends)
 
--- and it is shorter behind
+-- and it is shorter after
 pub whole-shorter : {word : Word} (numbers : List ℕ) {piece after : List ℕ} (rest : List ℕ) → Opens word piece after
     → IsNumbers numbers after rest → length rest + 1 < length piece
 whole-shorter numbers rest opening (inl ends) =
@@ -200,7 +200,7 @@ pub still-rests : {old : Scan} (new : Scan) (said : Result Said InputFault) (m :
     → seen_scan new ≡ record (seen_scan old) { said = said; lines = m } → new.fault ≡ None → Rests new
 still-rests new said m rests same going = record { going = going; seen = grind (arith, same, rests.seen) }
 
--- what is left behind a line says the same as what stands there
+-- what is left after a line says the same as what stands there
 left-same : (fault : Option InputFault) (said : Said) (reader : ReaderState) (behind left : List ℕ)
     → reader.said ≡ said_or_fault fault said → IsLeft fault behind left
     → after_bytes reader left ≡ after_bytes reader behind
@@ -222,7 +222,7 @@ pub left-going : (fault : Option InputFault) (behind left : List ℕ) → IsLeft
 left-going None behind left is some = refl
 left-going (Some fault) behind left is some = absurd (omega (arith, ap length is, some))
 
--- a line with numbers that was heard whole, and what is left behind it
+-- a line with numbers that was heard whole, and what is left after it
 pub line-heard : (old new : Scan) {word : Word} (numbers : List ℕ) {piece after : List ℕ} (rest left : List ℕ)
     → Rests old → Opens word piece after → IsNumbers numbers after rest
     → record {

@@ -1,6 +1,8 @@
 pub mod TextLines
 pub mod Said
 pub mod Table
+pub mod Rows
+pub mod RowLaws
 pub mod Input
 pub mod Shown
 pub mod Steps

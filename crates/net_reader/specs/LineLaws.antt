@@ -1,5 +1,5 @@
 -- Short laws of lines and of the limits of formats, for the proofs of the crates above:
--- `without_return-behind` (a return behind a line is no part of it), `most_nodes-within` (each
+-- `without_return-behind` (a return after a line is no part of it), `most_nodes-within` (each
 -- format's limit of nodes is within that of networks).
 use Rattle.std.proofs.Common.{◌≡◌, ℕ, ◌≤◌, ◌==◌, Bool, true, false, List, [], ◌∷◌, ◌++◌, refl, ap, arith}
 use Rattle.std.specs.Prelude.{if◌then◌else◌}
@@ -7,7 +7,7 @@ use Rattle.net_graph.specs.declared.edge.TheConstants.{MAX_NODES}
 use Rattle.net_reader.specs.Table.{most_nodes}
 use Rattle.net_reader.specs.TextLines.{without_return}
 
--- a return behind a line is no part of it
+-- a return after a line is no part of it
 pub without_return-behind : (front : List ℕ) → without_return (front ++ 13 ∷ []) ≡ front
 without_return-behind [] = refl
 without_return-behind (a ∷ []) = refl

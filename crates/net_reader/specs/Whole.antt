@@ -9,10 +9,10 @@ use Rattle.net_reader.specs.declared.scan.Scan.{Scan}
 use Rattle.net_reader.specs.declared.word.Word.{Word}
 use Rattle.net_reader.specs.declared.word.Word.TheVariants.{Order}
 use Rattle.net_reader.specs.Seen.{seen_known, seen_scan}
-use Rattle.net_reader.specs.Table.{judge_word}
+use Rattle.net_reader.specs.Rows.{judge_word}
 use Rattle.net_reader.specs.Steps.{IsRun, LineState, close, fresh, is_plain, more, word_in}
 
--- a line behind its word and these numbers, each with a blank behind it
+-- a line after its word and these numbers, each with a blank after it
 abbrev pub between : ℕ → List ℕ → LineState
 between word numbers = record { open_field = opens.Between; word = word; numbers = numbers }
 
@@ -27,7 +27,7 @@ pub record Rests (scan : Scan) : Type 0 where
     line = fresh;
   }
 
--- what is left to be read behind a line: all that stands there, and nothing after a fault
+-- what is left to be read after a line: all that stands there, and nothing after a fault
 abbrev pub IsLeft : Option InputFault → List ℕ → List ℕ → Type 0
 IsLeft None behind left = left ≡ behind
 IsLeft (Some fault) behind left = left ≡ []
@@ -45,7 +45,7 @@ pub record IsDigits (piece : List ℕ) (taken value : ℕ) : Type 0 where
   pub read : opens.Number taken value ≡ fold more (opens.Number 0 0) (take taken piece)
   pub small : value < 10 ^ taken
 
--- a number, and the byte behind it, which ends it
+-- a number, and the byte after it, which ends it
 pub record IsNumberTo (end value : ℕ) (piece rest : List ℕ) : Type 0 where
   pub count : ℕ
   pub run : (line : LineState) → line.open_field ≡ opens.Between
@@ -55,7 +55,7 @@ pub record IsNumberTo (end value : ℕ) (piece rest : List ℕ) : Type 0 where
 abbrev pub IsEnd : ℕ → List ℕ → List ℕ → Type 0
 IsEnd end after rest = ((end ≡ 10) × (rest ≡ after)) ⊎ ((end ≡ 13) × (after ≡ 10 ∷ rest))
 
--- a comment, up to the byte behind it
+-- a comment, up to the byte after it
 pub record IsCommentTo (piece left : List ℕ) : Type 0 where
   pub run : IsRun fresh (record fresh { open_field = opens.Comment }) piece left
   pub shorter : length left < length piece
@@ -68,7 +68,7 @@ IsComment piece rest = IsCommentTo piece (10 ∷ rest) ⊎ IsCommentTo piece (13
 abbrev pub IsLast : ℕ → List ℕ → List ℕ → Type 0
 IsLast value piece rest = IsNumberTo 10 value piece rest ⊎ IsNumberTo 13 value piece (10 ∷ rest)
 
--- these numbers, up to the byte behind the last of them
+-- these numbers, up to the byte after the last of them
 pub record IsUpTo (numbers piece left : List ℕ) : Type 0 where
   pub last : ℕ → LineState
   pub run : (word : ℕ) → IsRun (between word []) (last word) piece left
@@ -79,7 +79,7 @@ abbrev pub IsNumbers : List ℕ → List ℕ → List ℕ → Type 0
 IsNumbers numbers piece rest =
     IsUpTo numbers piece (10 ∷ rest) ⊎ IsUpTo numbers piece (13 ∷ 10 ∷ rest)
 
--- the numbers of a line of the order so far, which are below the limit and few, behind those before
+-- the numbers of a line of the order so far, which are below the limit and few, after those before
 pub record IsTaking (limit : ℕ) (before now piece rest : List ℕ) : Type 0 where
   pub numbers : List ℕ
   pub run : (word : ℕ) → IsRun (between word []) (between word numbers) piece rest

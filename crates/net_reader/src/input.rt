@@ -37,8 +37,7 @@ fn empty_scripts(alloc: Global, actors: u32, room: usize) -> Result<Vec<Vec<Call
     Ok(scripts)
 }
 
-// Room for somewhat more calls than an actor makes where each makes as many as the next, so that
-// few scripts grow.
+// Room to reserve for a script: the mean number of calls of an actor, and a quarter more.
 fn room_of_script(actors: u32, calls: usize) -> usize {
     let mean = calls / actors.max(1) as usize;
     mean.saturating_add(mean / 4)

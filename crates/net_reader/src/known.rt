@@ -1,7 +1,8 @@
 //! What the lines have said so far.
 ghost use Rattle.std.specs.Prelude.{◌≡◌, ◌<◌, ◌≤◌, ◌^◌, ◌++◌, [], ◌∷◌, false, length, nat_le, not, Some, Err, is_ok, IfOk, IfSome, IfNone, IsTrue};
 ghost use Rattle.std.specs.List.{list_any};
-ghost use Rattle.net_reader.specs.Table.{judge_word, row_of, verdict, track_row, nodes_row, k_row, edge_row, sub_row, callers_row, move_row, find_row, switch_row, order_row, most_calls, most_nodes};
+ghost use Rattle.net_reader.specs.Table.{most_calls, most_nodes};
+ghost use Rattle.net_reader.specs.Rows.{judge_word, row_of, verdict, track_row, nodes_row, k_row, edge_row, sub_row, callers_row, move_row, find_row, switch_row, order_row};
 ghost use Rattle.net_reader.specs.Said.{nothing};
 ghost use Rattle.net_reader.specs.Steps.{word_in};
 ghost use Rattle.net_reader.specs.Seen.{seen_known, KeepsLimits, Judges};
@@ -327,7 +328,7 @@ impl Known {
     }
 
     /// What a line of the order says whose numbers stand here up to its end, and what stands
-    /// behind; none, and nothing is said, where it isn't one that can be taken.
+    /// after; none, and nothing is said, where it isn't one that can be taken.
     pub(crate) fn order_line<'a>(&mut self, piece: &'a [u8]) -> Result<Option<&'a [u8]>, AllocError>
         requires { KeepsLimits self.old }
         ensures heard { IfOk result (λ found. IfSome found (λ rest. HearsOrder self.old self.new

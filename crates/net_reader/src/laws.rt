@@ -1,5 +1,5 @@
 //! What holds of every text. Each public function is a law, and does nothing.
-ghost use Rattle.net_reader.specs.Laws.{InputsAreValid, TextSaysOne};
+ghost use Rattle.net_reader.specs.Laws.{InputsAreValid, RowsAreTheTable, TextSaysOne};
 
 /// A text says one thing: one input, or one fault.
 pub fn text_says_one()
@@ -9,4 +9,9 @@ pub fn text_says_one()
 /// Each input that a text says is valid.
 pub fn inputs_are_valid()
     ensures { InputsAreValid }
+{}
+
+/// The rows that the code follows judge each line as the table of the lines does.
+pub fn rows_are_the_table()
+    ensures { RowsAreTheTable }
 {}

@@ -21,6 +21,6 @@ pub use examples::{
 };
 pub use fault::{InputCause, InputFault, ReadRefusal};
 pub use input::Input;
-pub use laws::{inputs_are_valid, text_says_one};
+pub use laws::{inputs_are_valid, rows_are_the_table, text_says_one};
 pub use reader::{MAX_BYTES, Reader, read_input};
 pub use said::Call;

@@ -25,7 +25,7 @@ pub(crate) enum Open {
     Comment,
     /// The first field, packed.
     Word { packed: u64 },
-    /// No field, behind the first one.
+    /// No field, after the first one.
     Between,
     /// So many digits, and their number.
     Number { count: u32, value: u64 },
@@ -214,8 +214,8 @@ impl Line {
         }
     }
 
-    // Reads a number at the front, with the blank behind it where there is one, and gives what
-    // stands behind; where there is no number it reads nothing.
+    // Reads a number at the front, with the blank after it where there is one, and gives what
+    // stands after; where there is no number it reads nothing.
     #[inline(always)]
     fn number<'a>(&mut self, piece: &'a [u8]) -> Result<&'a [u8], AllocError>
         requires { self.old.field ≡ Open.Between }
@@ -241,7 +241,7 @@ impl Line {
     }
 
     // Reads all numbers at the front that stand one blank apart, where no field is open, and gives
-    // what stands behind.
+    // what stands after.
     fn numbers<'a>(&mut self, piece: &'a [u8]) -> Result<&'a [u8], AllocError>
         ensures { IfOk result (λ rest. IsRun (seen_line self.old) (seen_line self.new) piece.now
             rest.now) }
@@ -257,8 +257,8 @@ impl Line {
         Ok(rest)
     }
 
-    // What the field at the end is behind the bytes at the front that only go on with it, and what
-    // stands behind them.
+    // What the field at the end is after the bytes at the front that only go on with it, and what
+    // stands after them.
     fn go_on<'a>(&self, piece: &'a [u8]) -> (Open, &'a [u8])
         ensures { IsRun (seen_line self.now) (record (seen_line self.now) { open_field = result.0 })
             piece.now result.1.now }
@@ -279,7 +279,7 @@ impl Line {
         (field, piece.split_at(taken).1)
     }
 
-    // Reads the bytes at the front that don't end the line, and gives those behind.
+    // Reads the bytes at the front that don't end the line, and gives those after.
     pub(crate) fn run<'a>(&mut self, piece: &'a [u8]) -> Result<&'a [u8], AllocError>
         ensures { IfOk result (λ rest. IsRun (seen_line self.old) (seen_line self.new) piece.now
             rest.now) }
@@ -295,7 +295,7 @@ impl Line {
     }
 
     // Reads the first word of a line, of which this byte is the first, and where a blank stands
-    // behind it that and the numbers there; and gives what stands behind.
+    // after it that and the numbers there; and gives what stands after.
     #[inline(always)]
     fn first_word<'a>(&mut self, byte: u8, after: &'a [u8]) -> Result<&'a [u8], AllocError>
         requires fresh { self.old.field ≡ Open.Blank }
@@ -318,7 +318,7 @@ impl Line {
     }
 
     // Reads a byte that doesn't end the line and those that only go on with its field, and gives
-    // those behind.
+    // those after.
     #[inline(always)]
     fn read<'a>(&mut self, byte: u8, after: &'a [u8]) -> Result<&'a [u8], AllocError>
         ensures { IfOk result (λ rest. IsRun (put (seen_line self.old) byte) (seen_line self.new)

@@ -2,7 +2,7 @@
 //! them.
 ghost use Rattle.std.specs.Prelude.{◌≡◌, ◌<◌, ◌≤◌, ◌+◌, ◌^◌, length, IfOk, OnOk, IsTrue, None, Some, nat_lt, true, if◌then◌else◌};
 ghost use Rattle.net_reader.specs.Steps.{end_line, past_line, release, byte_read, next, after_bytes, end_result, fresh_reader, fault_at, number_of_place};
-ghost use Rattle.net_reader.specs.Table.{judge_word};
+ghost use Rattle.net_reader.specs.Rows.{judge_word};
 ghost use Rattle.net_reader.specs.Whole.{IsLeft, Opens, Rests};
 ghost use Rattle.net_reader.specs.declared.word.Word.TheVariants.{Order};
 ghost use Rattle.net_reader.specs.Seen.{seen_line, seen_known, seen_scan, KeepsLimits, Finishes, IsWell, Judges};
@@ -162,7 +162,7 @@ impl Scan {
         self.byte(byte)
     }
 
-    // Reads the bytes at the front that don't end a line, and gives those behind.
+    // Reads the bytes at the front that don't end a line, and gives those after.
     fn skip<'a>(&mut self, piece: &'a [u8]) -> Result<&'a [u8], AllocError>
         requires well { IsWell self.old.fault self.old.known }
         requires room { self.old.lines + length piece.now < 2 ^ 32 }
@@ -191,7 +191,7 @@ impl Scan {
         self.fault.is_none() && !self.begun && !self.held && self.line.is_fresh()
     }
 
-    // What a whole line with this word and these numbers says, and what is left to be read behind
+    // What a whole line with this word and these numbers says, and what is left to be read after
     // it: all that stands there, and nothing after a fault.
     #[inline(always)]
     fn hear<'a>(
@@ -226,8 +226,8 @@ impl Scan {
         }
     }
 
-    // Reads a line of the order at the front that lies whole there, behind its word and a blank,
-    // where it is plain, and gives what stands behind; or reads nothing.
+    // Reads a line of the order at the front that lies whole there, after its word and a blank,
+    // where it is plain, and gives what stands after; or reads nothing.
     fn whole_order<'a>(&mut self, piece: &'a [u8], after: &'a [u8]) -> Result<&'a [u8], AllocError>
         requires rests { Rests self.old }
         requires opens { Opens Order piece.now after.now }
@@ -251,7 +251,7 @@ impl Scan {
     }
 
     // Reads a line at the front that lies whole there, where it is plain, and gives what stands
-    // behind; or reads nothing.
+    // after; or reads nothing.
     fn whole_line<'a>(&mut self, piece: &'a [u8]) -> Result<&'a [u8], AllocError>
         requires rests { Rests self.old }
         requires well { IsWell self.old.fault self.old.known }
@@ -296,7 +296,7 @@ impl Scan {
     }
 
     // Reads the lines at the front that lie whole there, as long as they are plain, and gives what
-    // stands behind.
+    // stands after.
     fn whole_lines<'a>(&mut self, piece: &'a [u8]) -> Result<&'a [u8], AllocError>
         requires well { IsWell self.old.fault self.old.known }
         requires room { self.old.lines + length piece.now < 2 ^ 32 }

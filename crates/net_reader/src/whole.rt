@@ -26,7 +26,7 @@ const FIND: u32 = 0x646e_6966;
 
 const EDGE: u32 = 0x6567_6465;
 
-// The word of a line of the order, where a blank stands behind it, and what stands behind that.
+// The word of a line of the order, where a blank stands after it, and what stands after that.
 #[inline(always)]
 fn opening_of_order(piece: &[u8]) -> Option<(Word, &[u8])>
     ensures { IfSome result (λ found. Opens found.0 piece.now found.1.now) }
@@ -37,8 +37,8 @@ fn opening_of_order(piece: &[u8]) -> Option<(Word, &[u8])>
     }
 }
 
-// The word of a line of a kind of which there are many, where a blank stands behind it, and what
-// stands behind that. Four letters are told at once.
+// The word of a line of a kind of which there are many, where a blank stands after it, and what
+// stands after that. Four letters are told at once.
 #[inline(always)]
 pub(crate) fn opening(piece: &[u8]) -> Option<(Word, &[u8])>
     ensures { IfSome result (λ found. Opens found.0 piece.now found.1.now) }
@@ -57,7 +57,7 @@ pub(crate) fn opening(piece: &[u8]) -> Option<(Word, &[u8])>
     }
 }
 
-// The number of so many digits at the front with the byte behind them as one digit more, where it
+// The number of so many digits at the front with the byte after them as one digit more, where it
 // is one.
 #[inline(always)]
 fn digit_more(piece: &[u8], taken: usize, value: u64) -> Option<u64>
@@ -149,7 +149,7 @@ fn long_number(piece: &[u8]) -> Option<(u64, &[u8])>
     }
 }
 
-// The number at the front that a blank ends, and what stands behind the blank. Most have at most
+// The number at the front that a blank ends, and what stands after the blank. Most have at most
 // three digits.
 #[inline(always)]
 fn number(piece: &[u8]) -> Option<(u64, &[u8])>
@@ -165,7 +165,7 @@ fn number(piece: &[u8]) -> Option<(u64, &[u8])>
     long_number(piece)
 }
 
-// The number at the front that the end of the line ends, and what stands behind it, where it has
+// The number at the front that the end of the line ends, and what stands after it, where it has
 // more than three digits. As a call it leaves the lines around it fewer steps.
 #[inline(never)]
 fn long_last(piece: &[u8]) -> Option<(u64, &[u8])>
@@ -200,7 +200,7 @@ fn last_number(piece: &[u8]) -> Option<(u64, &[u8])>
     long_last(piece)
 }
 
-// What stands behind the end of a line that begins with this byte, before the bytes after it.
+// What stands after the end of a line that begins with this byte, before the bytes after it.
 #[inline(always)]
 fn past_end(end: u8, after: &[u8]) -> Option<&[u8]>
     ensures { IfSome result (λ rest. IsEnd end after.now rest.now) }
@@ -217,7 +217,7 @@ fn past_end(end: u8, after: &[u8]) -> Option<&[u8]>
     }
 }
 
-// What stands behind a comment at the front, and the end of its line.
+// What stands after a comment at the front, and the end of its line.
 #[inline(always)]
 pub(crate) fn past_comment(piece: &[u8]) -> Option<&[u8]>
     ensures { IfSome result (λ rest. IsComment piece.now rest.now) }
@@ -232,7 +232,7 @@ pub(crate) fn past_comment(piece: &[u8]) -> Option<&[u8]>
     Some(rest)
 }
 
-// The two numbers that stand one blank apart before the end of the line, and what stands behind it.
+// The two numbers that stand one blank apart before the end of the line, and what stands after it.
 #[inline(always)]
 pub(crate) fn two_numbers(piece: &[u8]) -> Option<(u64, u64, &[u8])>
     ensures { IfSome result (λ found. IsNumbers (found.0 ∷ found.1 ∷ []) piece.now found.2.now) }
@@ -276,7 +276,7 @@ pub(crate) fn edge_numbers(piece: &[u8]) -> Option<(u64, u64, u64, &[u8])>
 }
 
 // Writes down the numbers below the limit that stand one blank apart before the end of the line,
-// and gives how many they are and what stands behind the line; none where the line isn't so, has
+// and gives how many they are and what stands after the line; none where the line isn't so, has
 // more numbers than there is room for, or stands so near the end of the piece that it might be cut.
 #[inline(always)]
 fn take_numbers<'a>(numbers: &mut [u32], limit: u64, piece: &'a [u8]) -> Option<(usize, &'a [u8])>
@@ -306,7 +306,7 @@ fn take_numbers<'a>(numbers: &mut [u32], limit: u64, piece: &'a [u8]) -> Option<
 }
 
 // Adds to an order the numbers below the limit that stand one blank apart before the end of the
-// line, and gives what stands behind it; where the line isn't so, or has more than an order's line
+// line, and gives what stands after it; where the line isn't so, or has more than an order's line
 // may have, it adds nothing.
 pub(crate) fn push_line<'a>(
     order: &mut Vec<u32>,

@@ -1,6 +1,7 @@
 //! The words that begin a line, and where their lines may stand.
 ghost use Rattle.std.specs.Prelude.{◌≡◌};
-ghost use Rattle.net_reader.specs.Table.{may_stand, place_of_word};
+ghost use Rattle.net_reader.specs.Table.{may_stand};
+ghost use Rattle.net_reader.specs.Rows.{place_of_word};
 ghost use Rattle.net_reader.specs.Steps.{number_of_place, word_in};
 
 /// The word that begins a line.
@@ -33,7 +34,7 @@ pub(crate) enum Place {
     Orders,
 }
 
-// Whether a line with this word may stand behind the last one.
+// Whether a line with this word may stand after the last one.
 pub(crate) fn may_follow(last: Place, word: Word) -> bool
     ensures { result ≡ may_stand (number_of_place last) (place_of_word word) }
 {

@@ -1,6 +1,6 @@
 use Rattle.std.proofs.Common.{option_and_then, sym, ap, ◌∙◌}
 use Rattle.serde_json.specs.View.{items_view}
-use Rattle.json_form.specs.Shapes.{each_in, edge_of, number_in}
+use Rattle.json_form.specs.Taking.{each_in, edge_of, number_in}
 use Rattle.json_form.proofs.Refused.{edge-none, none-of}
 use Rattle.json_form.proofs.rows.write_edge.Goals as goal
 

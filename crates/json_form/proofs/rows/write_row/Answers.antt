@@ -2,7 +2,7 @@ use Rattle.std.proofs.Common.{◌≡◌, ℕ, ◌++◌, ◌∷◌, [], List, Som
 use Rattle.std.proofs.lemmas.List.{take_all}
 use Rattle.outside.specs.Texts.{field, fields}
 use Rattle.serde_json.specs.View.{items_view, view}
-use Rattle.json_form.specs.Shapes.{each_in, number_in}
+use Rattle.json_form.specs.Taking.{each_in, number_in}
 use Rattle.json_form.proofs.Each.{each-length, each-more, each-stuck, fields-more}
 use Rattle.json_form.proofs.rows.write_row.Goals as goal
 

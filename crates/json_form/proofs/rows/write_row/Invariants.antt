@@ -1,7 +1,7 @@
 use Rattle.std.proofs.Common.{◌≡◌, ℕ, ◌≤◌, ◌+◌, ◌*◌, ◌++◌, List, Some, length, take}
 use Rattle.outside.specs.Texts.{fields}
 use Rattle.serde_json.specs.View.{items_view}
-use Rattle.json_form.specs.Shapes.{each_in, number_in}
+use Rattle.json_form.specs.Taking.{each_in, number_in}
 use Rattle.json_form.proofs.rows.write_row.Given as goal
 
 abbrev pub invariant-loop-item : goal.invariant-loop-item

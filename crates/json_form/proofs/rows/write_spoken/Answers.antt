@@ -1,6 +1,6 @@
 use Rattle.std.proofs.Common.{sym, ◌∙◌}
 use Rattle.serde_json.specs.View.{items_view}
-use Rattle.json_form.specs.Shapes.{call_of, each_in, number_in}
+use Rattle.json_form.specs.Taking.{call_of, each_in, number_in}
 use Rattle.json_form.proofs.Refused.{none-of, spoken-find, spoken-move, spoken-off, spoken-on}
 use Rattle.json_form.proofs.rows.write_spoken.Goals as goal
 

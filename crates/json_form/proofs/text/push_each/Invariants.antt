@@ -2,7 +2,7 @@ use Rattle.std.proofs.Common.{◌≡◌, ℕ, ◌++◌, [], List, Some, take}
 use Rattle.std.specs.List.{concat}
 use Rattle.serde_json.specs.View.{items_view}
 use Rattle.json_form.specs.Left.{line_in}
-use Rattle.json_form.specs.Shapes.{each_in}
+use Rattle.json_form.specs.Taking.{each_in}
 use Rattle.json_form.proofs.text.push_each.Given as goal
 
 abbrev pub invariant-loop-item : goal.invariant-loop-item

@@ -3,7 +3,7 @@ use Rattle.std.proofs.lemmas.Result.{IfErr-weaker, on_ok_weaker}
 use Rattle.std.specs.List.{concat}
 use Rattle.serde_json.specs.View.{items_view, view}
 use Rattle.json_form.specs.Left.{line_in}
-use Rattle.json_form.specs.Shapes.{each_in, list_in}
+use Rattle.json_form.specs.Taking.{each_in, list_in}
 use Rattle.json_form.proofs.Listings.{lines-known, lines-none}
 use Rattle.json_form.proofs.text.push_items.Goals as goal
 

@@ -1,5 +1,5 @@
 use Rattle.std.proofs.Common.{◌<◌, ◌++◌, ℕ, List, inr, length, refl, ap, ◌∙◌, arith, rules}
-use Rattle.json_form.specs.Shapes.{number_in}
+use Rattle.json_form.specs.Taking.{number_in}
 use Rattle.json_form.proofs.Each.{none-by-count}
 use Rattle.json_form.proofs.Orders.{all-written, empty-list, line-written, min-is, none-written, some-stuck}
 use Rattle.json_form.proofs.text.push_lines.Goals as goal
