@@ -33,6 +33,7 @@ mod tracks;
 mod trails;
 mod trees;
 mod valid;
+mod whole;
 mod words;
 mod wrong;
 
@@ -75,5 +76,6 @@ pub use tracks::{line_costs, line_tracks};
 pub use trails::{worked_counts, worked_phases, worked_trails, wrong_numbers};
 pub use trees::{worked_parents, wrong_graphs, wrong_parents};
 pub use valid::worked_scripts;
+pub use whole::{whole_finds, whole_steps};
 pub use words::{worked_loads, worked_names, worked_numbers};
 pub use wrong::wrong_lines;
