@@ -1,4 +1,4 @@
-//! Tests of runs, whole and by hand: what becomes of all calls, and that two threads meet.
+//! Tests of runs, whole and by hand: what becomes of all calls, and that three threads meet.
 #![tactic(auto)]
 
 #[cfg(test)]

@@ -1,4 +1,4 @@
-//! Two callers that let each other go on: they need two threads.
+//! Three callers that let one another go on: they need three threads.
 ghost use Rattle.std.specs.Prelude.{false};
 
 use crate::runs::run;
@@ -7,12 +7,12 @@ use runner::Gate;
 use std::sync::atomic::{AtomicU64, Ordering};
 use std::test::Fail;
 
-// How often a caller reads the other's flag before it gives up.
+// How often a caller reads another's flag before it gives up.
 const READS: u64 = 200_000_000;
 
 const TRIES: u64 = 50_000_000;
 
-// What one caller says to the other, and what was recorded of it.
+// What one caller says to the others, and what was recorded of it.
 #[derive(Drop)]
 struct Caller {
     came: AtomicU64,
@@ -30,28 +30,29 @@ fn new_caller() -> Caller {
     }
 }
 
-// The gate of the callers 1 and 2: neither makes its first visit before both have come, nor its
-// second before the other has made one.
+// The gate of the callers 1, 2 and 3: none makes its first visit before all have come, nor its
+// second before the others have made one.
 #[derive(Drop)]
 struct Meeting {
     first: Caller,
     second: Caller,
+    third: Caller,
 }
 
 impl Meeting {
     fn own(&self, actor: u32) -> &Caller {
-        if actor == 1 {
-            &self.first
-        } else {
-            &self.second
+        match actor {
+            1 => &self.first,
+            2 => &self.second,
+            _ => &self.third,
         }
     }
 
-    fn other(&self, actor: u32) -> &Caller {
-        if actor == 1 {
-            &self.second
-        } else {
-            &self.first
+    fn others(&self, actor: u32) -> (&Caller, &Caller) {
+        match actor {
+            1 => (&self.second, &self.third),
+            2 => (&self.first, &self.third),
+            _ => (&self.first, &self.second),
         }
     }
 }
@@ -80,16 +81,17 @@ impl Gate for Meeting {
     ghost is_shut = { λ _. false };
 
     fn may_go(&self, actor: u32, done: u64) -> bool {
-        let (own, other) = (self.own(actor), self.other(actor));
+        let own = self.own(actor);
+        let (one, other) = self.others(actor);
         if done == 0 {
             set(&own.came);
-            if sees(&other.came) {
+            if sees(&one.came) && sees(&other.came) {
                 set(&own.saw);
             }
             return true;
         }
         if done == 1 {
-            if !is_set(&other.made) {
+            if !is_set(&one.made) || !is_set(&other.made) {
                 return false;
             }
             set(&own.went_on);
@@ -103,30 +105,27 @@ impl Gate for Meeting {
     }
 }
 
-// Whether each of the callers saw that the other had come, and whether each went on.
-fn told(gate: &Meeting) -> [bool; 4] {
-    [
-        is_set(&gate.first.saw),
-        is_set(&gate.second.saw),
-        is_set(&gate.first.went_on),
-        is_set(&gate.second.went_on),
-    ]
+// Whether a caller saw that the others had come, and went on.
+fn has_met(caller: &Caller) -> bool {
+    is_set(&caller.saw) && is_set(&caller.went_on)
 }
 
-// Whether the first two tickets are one of each caller.
-fn begins_with_both(outcome: &Outcome) -> bool {
+// Whether the first three tickets are one of each caller.
+fn begins_with_all(outcome: &Outcome) -> bool {
     let order = outcome.order.as_slice();
-    order.starts_with(&[1, 2]) || order.starts_with(&[2, 1])
+    order.len() >= 3 && (1..=3).all(|caller| order[..3].contains(&caller))
 }
 
 #[test]
-fn two_workers_meet(rt: HostRuntime) -> Result<(), Fail> {
+fn three_workers_meet(rt: HostRuntime) -> Result<(), Fail> {
     let gate = Meeting {
         first: new_caller(),
         second: new_caller(),
+        third: new_caller(),
     };
-    let calls = "callers 2\nfind 1 0 0\nfind 2 0 0\n";
+    let calls = "callers 3\nfind 1 0 0\nfind 2 0 0\nfind 3 0 0\n";
     let outcome = run(&rt, rt.alloc(), calls, &gate, TRIES)?;
-    assert!(rt; told(&gate) == [true; 4] && begins_with_both(&outcome));
+    let [one, two, three] = [&gate.first, &gate.second, &gate.third];
+    assert!(rt; has_met(one) && has_met(two) && has_met(three) && begins_with_all(&outcome));
     Ok(())
 }

@@ -10,13 +10,13 @@ ghost use Rattle.report_check.specs.declared.verdict.Flaw.{Flaw};
 ghost use Rattle.report_check.specs.declared.verdict.Verdict.TheVariants.{Unsound as Flawed};
 ghost use Rattle.report_text.specs.ReportText.{report_of};
 ghost use Rattle.word_line.specs.declared.command.Command.{Command};
-ghost use Rattle.word_line.specs.declared.command.Command.TheVariants.{Census, Check, Cover, Make, Replay, Run};
+ghost use Rattle.word_line.specs.declared.command.Command.TheVariants.{Census, Check, Cover, FromJson, Make, Replay, Run};
 ghost use Rattle.word_line.specs.declared.load.Load.{Load};
 ghost use Rattle.track.specs.declared.status.Status.{Status};
 ghost use Rattle.track.specs.declared.status.Status.TheVariants.{Done, Refused, BadWords, OutOfMemory, ReadFailed, WriteFailed, TooLong, Unsound};
 ghost use Rattle.track.specs.Ends.{Ends, EndsAlone, EndsAs, IsShort, Streams, Tells, status_number, streams};
 ghost use Rattle.track.specs.Laws.{BytesHaveOneText, IsComplete, IsCompleteAlone, RunsAreReplayed};
-ghost use Rattle.track.specs.Results.{IsText, in_order, outcome_for, verdict_for};
+ghost use Rattle.track.specs.Results.{IsText, SaysByJson, in_order, outcome_for, verdict_for};
 ghost use Rattle.track.specs.Transfer.{IsEndOf};
 
 /// A status with bytes left, a fault, or something written that it may not come with.
@@ -174,9 +174,10 @@ pub fn told_numbers()
 {}
 
 /// What the laws of the top calls say where all that they ask for holds: two texts of a cover are
-/// one, and it isn't refused too; a census that has memory is done, and a check whose report has a
-/// flaw says so; and a run prints an order whole, of which each replay has the same text. What was
-/// written, where nothing stood before, is the one text of the bytes, or a front of it.
+/// one, and it isn't refused too; a census that has memory is done, as is JSON that says an input,
+/// and a check whose report has a flaw says so; and a run prints an order whole, of which each
+/// replay has the same text. What was written, where nothing stood before, is the one text of the
+/// bytes, or a front of it.
 pub fn told_laws()
     ensures one { BytesHaveOneText → (bytes one other : List ℕ) (s t : Status)
         → IsText Cover bytes s one → IsText Cover bytes t other → one ≡ other }
@@ -193,6 +194,11 @@ pub fn told_laws()
         → IsShort Check bytes → IsInput (input_part bytes) (Ok contents)
         → verdict_for contents (report_part bytes) ≡ Flawed line flaw
         → (status ≡ OutOfMemory → ⊥) → status ≡ Unsound }
+    ensures json { IsComplete → (bytes : List ℕ) (contents : Contents) (status : Status)
+        (left written : Option (List ℕ)) → EndsAs FromJson status
+        (streams (Some bytes) 0 (Some []) 0) (streams left 0 written 0)
+        → IsShort FromJson bytes → SaysByJson bytes contents
+        → (status ≡ OutOfMemory → ⊥) → status ≡ Done }
     ensures alone { IsCompleteAlone → (text : List ℕ) (status : Status)
         (left written : Option (List ℕ)) → EndsAlone text status
         (streams left 0 (Some []) 0) (streams left 0 written 0)

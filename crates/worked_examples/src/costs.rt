@@ -14,7 +14,7 @@ ghost use Rattle.move_cost.specs.Rate.{IsWithinRate};
 ghost use Rattle.plan_laws.specs.Examples.{line_setting};
 ghost use Rattle.stretch_laws.specs.Costs.{AfterConfirm, AtRest, ClimbsEndEarly, Costs, CurrentAfterConfirm, InPassage, IsMet, NewBeforeCommit, OldBeforeCommit, ReadingIsBounded, readers_up_to};
 ghost use Rattle.stretch_laws.specs.Tracking.{IsTracking, RestingFindsAreNearer, radius};
-ghost use Rattle.trail_laws.specs.Phases.{IsAtRest, IsBeforeCommit, IsCurrent, IsPassingFrom, IsSettled};
+ghost use Rattle.trail_laws.specs.Phases.{IsAtRest, IsBeforeCommit, IsCurrent, IsPassingFrom, IsSettled, IsShortByPhase};
 ghost use Rattle.trail_laws.specs.Rightness.{IsAnswered};
 ghost use Rattle.trail_laws.specs.Trail.{IsLed, mark_seen};
 ghost use Rattle.worked_examples.specs.Examples.{find_from};
@@ -101,6 +101,14 @@ pub fn worked_climbs()
         → IsAnswered found × (found_weight found ≤ 336) }
 {}
 
+/// Where a level gathers nothing, as each does whose threshold is 1, a current address is where its
+/// subscriber stands, once the moves are settled: no way leads on.
+pub fn short_ways()
+    ensures { (setting : Setting) (sub way : ℕ) (history : History) (address : Address)
+        → IsShortByPhase setting sub history 0 address way → setting.threshold 0 ≡ 1
+        → IsSettled setting sub history → IsCurrent setting sub history 0 address → way ≡ 0 }
+{}
+
 /// A cost is of the whole way, from the leader, node 0, to the address's node and on from there: it
 /// is 3 here, and no less. The marks lead along it, in no more hops than there are nodes; and they
 /// do too when what is known is as high as the subscriber's number.
@@ -120,7 +128,7 @@ pub fn wrong_costs()
 {}
 
 /// Over three levels of clusters 3 radii wide, a subscriber that made one move of weight 1 writes
-/// at most 156, and purges one mark.
+/// at most 156, and purges one mark, however far it moved.
 pub fn wrong_rates()
     ensures most { IsWithinRate 3 3
         (record { sub = 0; moves = 1; moved = 1; written = 156; purged = 1 }) }
@@ -128,4 +136,6 @@ pub fn wrong_rates()
         (record { sub = 0; moves = 1; moved = 1; written = 157; purged = 1 }) → ⊥ }
     ensures purged { IsWithinRate 3 3
         (record { sub = 0; moves = 1; moved = 1; written = 156; purged = 2 }) → ⊥ }
+    ensures far { IsWithinRate 3 3
+        (record { sub = 0; moves = 1; moved = 2; written = 156; purged = 2 }) → ⊥ }
 {}

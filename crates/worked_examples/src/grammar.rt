@@ -12,6 +12,7 @@ ghost use Rattle.net_reader.specs.declared.said.Spoken.{Spoken};
 ghost use Rattle.net_reader.specs.Input.{IsInput, read};
 ghost use Rattle.net_reader.specs.TextLines.{begins_comment, is_blank, word_of};
 ghost use Rattle.net_reader.specs.Reading.{most_bytes};
+ghost use Rattle.net_reader.specs.Said.{place_after};
 ghost use Rattle.net_reader.specs.Shown.{◌then◌, refusal_at, two_nodes};
 ghost use Rattle.net_reader.specs.Table.{judge, may_stand, most_calls, most_nodes};
 ghost use Rattle.worked_examples.specs.Grammar.{apart_at, apart_text, by_sub, first_edge, line_words, moved_once, said_up_to, switched_off, switched_on};
@@ -128,6 +129,7 @@ pub fn worked_calls()
     ensures on_twice { judge switched_on (codes "on" ∷ codes "0" ∷ []) ≡ Err Switched }
     ensures move_on { judge switched_on (codes "move" ∷ codes "0" ∷ codes "2" ∷ [])
         ≡ Ok (by_sub (Off ∷ On ∷ Move 2 ∷ [])) }
+    ensures place { map (place_after 3) ((Off ∷ []) ∷ (Off ∷ On ∷ Move 2 ∷ []) ∷ []) ≡ 3 ∷ 2 ∷ [] }
 {}
 
 /// Fields are parted by spaces and tabs alone, and a comment begins with one sign alone, which is

@@ -14,6 +14,7 @@ mod faults;
 mod finds;
 mod grammar;
 mod handsets;
+mod made;
 mod marks;
 mod moments;
 mod moves;
@@ -24,12 +25,15 @@ mod passes;
 mod plans;
 mod powers;
 mod puts;
+mod readings;
+mod refusals;
 mod rules;
 mod texts;
 mod tracks;
 mod trails;
 mod trees;
 mod valid;
+mod whole;
 mod words;
 mod wrong;
 
@@ -41,7 +45,9 @@ pub use cells::{worked_cells, worked_rungs, worked_words};
 pub use censuses::worked_censuses;
 pub use chases::{worked_chases, wrong_chases};
 pub use closing::{wrong_causes, wrong_orders};
-pub use costs::{worked_climbs, worked_costs, worked_meetings, wrong_costs, wrong_rates};
+pub use costs::{
+    short_ways, worked_climbs, worked_costs, worked_meetings, wrong_costs, wrong_rates,
+};
 pub use covers::{worked_spares, wrong_distances, wrong_homes, wrong_phases, wrong_tree_faults};
 pub use faults::{worked_move_faults, worked_switch_faults, wrong_find_faults, wrong_move_faults};
 pub use finds::{worked_finds, worked_parts, wrong_parts};
@@ -49,6 +55,7 @@ pub use grammar::{
     worked_apart, worked_bytes, worked_calls, worked_limits, worked_lines, worked_places,
 };
 pub use handsets::told_handsets;
+pub use made::worked_made;
 pub use marks::{worked_comings, worked_marks};
 pub use moments::{told_moments, wrong_losses};
 pub use moves::{worked_moves, wrong_moves};
@@ -61,11 +68,14 @@ pub use passes::{
 pub use plans::{worked_levels, worked_measures, wrong_matches, wrong_overlaps, wrong_plans};
 pub use powers::worked_powers;
 pub use puts::worked_puts;
+pub use readings::worked_readings;
+pub use refusals::{has_own_room, order_or_tracker, play_openly, readable_load, worker_or_pass};
 pub use rules::{told_tickets, wrong_logs, wrong_moments, wrong_views};
-pub use texts::{worked_causes, worked_json, worked_plan_lines, worked_plan_text};
+pub use texts::{worked_causes, worked_json, worked_plan_lines, worked_plan_text, worked_shapes};
 pub use tracks::{line_costs, line_tracks};
 pub use trails::{worked_counts, worked_phases, worked_trails, wrong_numbers};
 pub use trees::{worked_parents, wrong_graphs, wrong_parents};
 pub use valid::worked_scripts;
+pub use whole::{whole_finds, whole_steps};
 pub use words::{worked_loads, worked_names, worked_numbers};
 pub use wrong::wrong_lines;

@@ -9,9 +9,10 @@ ghost use Rattle.directory.specs.Finds.{key_of};
 ghost use Rattle.directory.specs.Histories.{History, cell, puts_to};
 ghost use Rattle.directory.specs.Keys.{opening};
 ghost use Rattle.directory.specs.Legal.{ArePuts, IsLegal};
-ghost use Rattle.directory.specs.Orders.{AreValid, IsPlayed, history_of};
+ghost use Rattle.directory.specs.Orders.{AreValid, IsPlayed, Scripts, history_of};
 ghost use Rattle.directory.specs.Outcomes.{outcome_of, step_line, step_lines};
 ghost use Rattle.directory.specs.Puts.{steps_in};
+ghost use Rattle.directory.specs.Settings.{Setting};
 ghost use Rattle.directory.specs.Standing.{number, standing};
 ghost use Rattle.directory.specs.Statements.{BeginningIsLegal, DueIsLegal, NextIsDecided, RestKeepsOpening, StandsAtStop, StepLinesGrow};
 ghost use Rattle.directory.specs.Writes.{visits};
@@ -29,12 +30,16 @@ ghost use Rattle.worked_examples.specs.Examples.{find_from};
 ghost use Rattle.worked_examples.specs.Trails.{line_mark};
 
 /// Behind five puts of the move to node 2 its sixth is legal, and no other put is; behind all six
-/// the first put of a move on to node 0 is.
+/// the first put of a move on to node 0 is. The next put is legal in a network of 65,536 nodes too.
 pub fn worked_nexts()
     ensures due { DueIsLegal → (visit : Visit)
         → slice_get (visits line_setting 0 (move_to 2 ∷ [])) 5 ≡ Some visit
         → ArePuts line_setting 0 (take 5 (visits line_setting 0 (move_to 2 ∷ [])))
         → ArePuts line_setting 0 (take 5 (visits line_setting 0 (move_to 2 ∷ [])) ++ visit ∷ []) }
+    ensures wide { DueIsLegal → (setting : Setting) (sub : ℕ) (puts : List Visit) (visit : Visit)
+        → setting.nodes ≡ 65536 → ArePuts setting sub puts
+        → slice_get (visits setting sub (steps_in puts)) (length puts) ≡ Some visit
+        → ArePuts setting sub (puts ++ visit ∷ []) }
     ensures decided { NextIsDecided → (visit : Visit)
         → ArePuts line_setting 0 (take 5 (visits line_setting 0 (move_to 2 ∷ [])) ++ visit ∷ [])
         → slice_get (visits line_setting 0 (move_to 2 ∷ [])) 5 ≡ Some visit }
@@ -46,7 +51,8 @@ pub fn worked_nexts()
 
 /// After a commit of the move to node 2 the subscriber stands there. Where it makes no step, each
 /// mark is as it was. Behind the line of a move comes that of the next one. Under every order the
-/// line of a find that meets the move is within 137 times the distance, and twice the passage.
+/// line of a find that meets the move is within 137 times the distance, and twice the passage; and
+/// so it is of whichever scripts in a network of 65,536 nodes.
 pub fn worked_stops()
     ensures stands { StandsAtStop → (history : History) → IsLegal line_setting 0 history
         → steps_in (puts_to 0 history) ≡ move_to 2 ∷ [] → number 0 history ≡ 1
@@ -64,6 +70,10 @@ pub fn worked_stops()
         → (order : List ℕ) → All (IsLineWithin (λ d p. 137 * d + 2 * p) line_setting
         (history_of line_setting (line_scripts (move_to 2 ∷ []) (find_from 2 ∷ [])) order))
         (outcome_of line_setting (line_scripts (move_to 2 ∷ []) (find_from 2 ∷ [])) order).calls }
+    ensures wide { OutcomesAreNear → (setting : Setting) (scripts : Scripts) (order : List ℕ)
+        → setting.nodes ≡ 65536 → IsTracking setting 3 2 → AreValid setting scripts
+        → All (IsLineWithin (λ d p. 137 * d + 2 * p) setting (history_of setting scripts order))
+        (outcome_of setting scripts order).calls }
 {}
 
 /// A Coming at node 2 leads one who knows of the last commit to where the subscriber stands, in at

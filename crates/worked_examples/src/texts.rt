@@ -4,6 +4,8 @@ ghost use Rattle.directory.specs.declared.answers.Done.TheVariants.{Again, Moved
 ghost use Rattle.directory.specs.declared.answers.Why.TheVariants.{Chased, Empty as EmptyAt};
 ghost use Rattle.json_form.specs.Inputs.{input_json_of};
 ghost use Rattle.json_form.specs.Reports.{report_json_of};
+ghost use Rattle.json_form.specs.Shapes.{call_in, listing_of_values};
+ghost use Rattle.json_form.specs.Values.{row, whole, wholes};
 ghost use Rattle.net_graph.specs.Walks.{make_edge};
 ghost use Rattle.net_reader.specs.declared.said.Call.TheVariants.{Find, Move, Off, On};
 ghost use Rattle.outside.specs.Texts.{◌then◌};
@@ -95,4 +97,29 @@ pub fn worked_json()
         ≡ codes "{\"calls\":[{\"actor\":9,\"first\":4,\"from\":8,\"kind\":\"again\"," then
         codes "\"last\":3,\"node\":null,\"sub\":7,\"weight\":5,\"why\":\"chased\"}]," then
         codes "\"order\":[],\"visits\":0}" then 10 ∷ [] }
+{}
+
+/// A row of a move has its actor first, and in the values of keys k isn't the number of nodes.
+pub fn worked_shapes()
+    ensures row { call_in (row (codes "move") (0 ∷ 5 ∷ []))
+        ≡ Some (record { actor = 0; call = Move 5 }) }
+    ensures values { listing_of_values (record {
+      callers = whole 0;
+      calls = wholes [];
+      edges = wholes [];
+      k = whole 2;
+      nodes = whole 3;
+      order = wholes [];
+      subs = wholes [];
+      track = whole 1;
+    }) ≡ Some (record {
+      format = 1;
+      nodes = 3;
+      k = 2;
+      edges = [];
+      homes = [];
+      callers = 0;
+      calls = [];
+      order = [];
+    }) }
 {}

@@ -1,6 +1,6 @@
 use Rattle.std.proofs.Common.{◌≡◌, ◌⊎◌, ◌++◌, ℕ, List, [], Some, refl, ap, ◌∙◌, inl, inr, arith}
 use Rattle.outside.specs.Calls.{HasFaulted}
-use Rattle.word_line.specs.declared.command.Command.TheVariants.{Census, Check, Cover}
+use Rattle.word_line.specs.declared.command.Command.TheVariants.{Census, Check, Cover, FromJson}
 use Rattle.track.specs.Ends.{streams}
 use Rattle.track.specs.Results.{verdict_status}
 use Rattle.track.specs.declared.status.Status.{Status}
@@ -31,6 +31,9 @@ returns c = record {
   checked = λ law bytes contents status left written line flaw ends short input flawed enough.
       with-memory (law Check status (streams (Some bytes) 0 (Some []) 0) (streams left 0 written 0) bytes contents ends
       refl short input calm calm) enough ∙ ap verdict_status flawed;
+  json = λ law bytes contents status left written ends short input enough.
+      with-memory (law FromJson status (streams (Some bytes) 0 (Some []) 0) (streams left 0 written 0) bytes contents ends
+      refl short input calm calm) enough;
   alone = λ law text status left written ends enough.
       with-memory (law text status (streams left 0 (Some []) 0) (streams left 0 written 0) ends calm) enough;
   printed = λ law bytes contents status text input is printed.

@@ -11,6 +11,10 @@ unfolding writes highest steps_from
 returns-clause-due c = λ law visit next legal.
     law line_setting 0 (take 5 (visits line_setting 0 (move_to 2 ∷ []))) visit (omega arith) legal next
 
+pub returns-clause-wide : goal.returns-clause-wide
+returns-clause-wide c = λ law setting sub puts visit wide legal next.
+    law setting sub puts visit (omega (arith, wide)) legal next
+
 pub returns-clause-decided : goal.returns-clause-decided
 unfolding writes highest steps_from
 returns-clause-decided c = λ law visit legal.

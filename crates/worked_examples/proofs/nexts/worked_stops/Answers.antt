@@ -32,3 +32,7 @@ returns-clause-lines c = λ law seen more six eight.
 pub returns-clause-near : goal.returns-clause-near
 returns-clause-near c = λ law tracking valid order.
     law line_setting 3 2 (line_scripts (move_to 2 ∷ []) (find_from 2 ∷ [])) order (omega arith) tracking valid
+
+pub returns-clause-wide : goal.returns-clause-wide
+returns-clause-wide c = λ law setting scripts order wide tracking valid.
+    law setting 3 2 scripts order (omega (arith, wide)) tracking valid
