@@ -1,0 +1,2 @@
+//! What a sound report of an input is, in the report's own words.
+#![tactic(auto)]
