@@ -23,3 +23,4 @@ mod LinesTold
 mod TurnsTold
 mod PlacesTold
 mod Followed
+mod SoundTold
