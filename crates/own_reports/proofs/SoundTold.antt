@@ -75,8 +75,6 @@ sound-texts means sparse valid_scripts played done in_order count turns places c
     over-in means valid_scripts played done contents order valid in
     let kept = places contents order valid in
     record {
-      outcome = outcome;
-      text_is = refl;
       follows = followed turns setting scripts order;
       distance = setting.distance;
       distances = distances-are means contents valid;

@@ -38,10 +38,9 @@ AreDistances contents distance =
 abbrev pub stretch_for : ℕ → ℕ → ℕ
 stretch_for degree k = 16 * degree * (2 * k - 1) + 24 * k
 
--- a text is a sound report of an input
-pub record IsSoundText (contents : Contents) (text : List ℕ) : Type 0 where
-  pub outcome : Outcome
-  pub text_is : text ≡ report_of outcome
+-- what became of an input's calls is a sound report, in the input's order, completed, and with
+-- what its network promises
+pub record IsSoundReport (contents : Contents) (outcome : Outcome) : Type 0 where
   pub follows : Follows contents.order outcome.order
   pub distance : ℕ → ℕ → ℕ
   pub distances : AreDistances contents distance
@@ -49,3 +48,15 @@ pub record IsSoundText (contents : Contents) (text : List ℕ) : Type 0 where
   pub few : degree ^ contents.k ≤ contents.k ^ contents.k * contents.nodes
   pub sound : IsSound contents distance (stretch_for degree contents.k) outcome.calls
       outcome.order
+
+-- a text is a sound report of an input
+pub record IsSoundText (contents : Contents) (text : List ℕ) : Type 0 where
+  pub outcome : Outcome
+  pub text_is : text ≡ report_of outcome
+  pub report : IsSoundReport contents outcome
+
+-- a text is a sound report of an input's calls, under the order that the text itself prints
+pub record IsSoundRun (contents : Contents) (text : List ℕ) : Type 0 where
+  pub outcome : Outcome
+  pub text_is : text ≡ report_of outcome
+  pub report : IsSoundReport (record contents { order = outcome.order }) outcome
