@@ -1,7 +1,6 @@
 -- What `replay` and `run` tell, in the words of soundness.
-use Rattle.std.proofs.Common.{◌≡◌, inl, inr, ℕ, Bool, true, false, List, Option, Some, None, Result, Ok, Err, refl, sym, ◌∙◌, subst, arith}
+use Rattle.std.proofs.Common.{◌≡◌, ℕ, Bool, true, false, List, Option, Some, Result, Ok, Err, refl, sym, ◌∙◌, subst, arith}
 use Rattle.std.proofs.lemmas.Option.{IfSome_then}
-use Rattle.directory.specs.Outcomes.{Outcome}
 use Rattle.outside.specs.Bytes.{append_known}
 use Rattle.net_reader.specs.Input.{Contents, IsInput}
 use Rattle.net_reader.specs.Laws.{InputsAreValid}
@@ -11,8 +10,8 @@ use Rattle.own_reports.specs.SoundTexts.{OwnReportsAreSoundTexts}
 use Rattle.soundness.specs.Sound.{IsSoundReport, IsSoundRun, IsSoundText}
 use Rattle.word_line.specs.declared.command.Command.{Command}
 use Rattle.word_line.specs.declared.command.Command.TheVariants as commands
-use Rattle.track.specs.Ends.{Ends, EndsIf, IsTextWritten, Streams, Tells, status_number}
-use Rattle.track.specs.Results.{IsRightAnswer, in_order}
+use Rattle.track.specs.Ends.{Ends, Streams, Tells, status_number}
+use Rattle.track.specs.Results.{IsRightAnswer}
 use Rattle.track.specs.Sounds.{IsSoundlyWritten, WritesSoundly}
 use Rattle.track.specs.declared.status.Status.{Status}
 use Rattle.track.specs.declared.status.Status.TheVariants as statuses
