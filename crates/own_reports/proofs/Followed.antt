@@ -1,6 +1,6 @@
 -- The order of an outcome is the one that was given, completed: a turn of an actor that is done is
 -- left out, and what is left comes by actor.
-use Rattle.std.proofs.Common.{◌≡◌, ◌⊎◌, inl, inr, ℕ, zero, suc, ◌+◌, ◌<◌, ◌≤◌, ◌==◌, ltb, Bool, true, false, cond, List, [], ◌∷◌, ◌++◌, length, map, fold, Option, Some, None, refl, ap, sym, ◌∙◌, arith, subst, append_assoc, append-nil, length-append}
+use Rattle.std.proofs.Common.{◌≡◌, ◌⊎◌, inl, inr, ℕ, zero, suc, ◌+◌, ◌<◌, ◌≤◌, ◌==◌, ltb, Bool, true, false, cond, List, [], ◌∷◌, ◌++◌, length, fold, Option, Some, None, refl, ap, sym, ◌∙◌, arith, subst, append_assoc, append-nil, length-append}
 use Rattle.std.specs.Prelude.{filter, flat_map, option_map, option_to_list, replicate, slice_get}
 use Rattle.std.proofs.lemmas.Bool.{cases_lt}
 use Rattle.std.proofs.lemmas.Bool.Decides.{nat_tests}
@@ -11,7 +11,7 @@ use Rattle.entry_word.specs.declared.visit.Visit.{Visit}
 use Rattle.directory.specs.Histories.{History, own}
 use Rattle.directory.specs.HistoryLaws.{next-caller, next-sub, turn-none}
 use Rattle.directory.specs.Looks.{look_by}
-use Rattle.directory.specs.Orders.{Caller, IsDone, Scripts, actors, after_turn, after_turns, caller_in, history_of, last_turns, most_turns, next, next_key, script_visits}
+use Rattle.directory.specs.Orders.{Caller, IsDone, Scripts, actors, after_turn, after_turns, history_of, last_turns, most_turns, next, next_key, script_visits}
 use Rattle.directory.specs.Settings.{Setting, subs}
 use Rattle.directory.specs.Statements.{CallersKept, OwnGrow}
 use Rattle.directory.specs.Writes.{numbers_from}
@@ -183,6 +183,7 @@ module _ (laws : TurnLaws) (setting : Setting) (scripts : Scripts) where
         where
           not-less : (a b : ℕ) → b ≡ a → ltb a b ≡ false
           not-less a b e = grind (arith, nat_tests)
+
       put-in : (before : List ℕ) → turns_of actor before < turns_of actor all
           → with_turn all before actor ≡ before ++ actor ∷ []
       put-in before less = rw (lt-true (turns_of actor before) (turns_of actor all) less) refl

@@ -294,6 +294,7 @@ next-found actor commit ticket past (other ∷ order) e =
         first-found actor commit (suc commit) order (omega arith)
         ∙ ap (λ t. find (λ at. ltb commit at) (tickets_from actor (suc t) order)) same
     deeper (suc past) e later = later past (omega (arith, e))
+
     skip : (b : Bool) → find (λ at. ltb commit at) (tickets_from actor (suc ticket) order)
         ≡ find (λ at. ltb commit at)
         (cond b (ticket ∷ tickets_from actor (suc ticket) order) (tickets_from actor (suc ticket) order))

@@ -1,11 +1,10 @@
 -- What the directory reports of a valid input is a sound text.
-use Rattle.std.proofs.Common.{◌≡◌, ℕ, ◌+◌, ◌-◌, ◌*◌, ◌^◌, ◌<◌, ◌≤◌, ◌&&◌, Bool, true, cond, ltb, List, refl, ap, sym, ◌∙◌, arith, subst, get_or}
+use Rattle.std.proofs.Common.{◌≡◌, ℕ, ◌+◌, ◌-◌, ◌*◌, ◌^◌, ◌≤◌, ◌&&◌, true, cond, ltb, refl, ap, sym, ◌∙◌, arith, subst, get_or}
 use Rattle.std.proofs.lemmas.Bool.{and_from}
 use Rattle.directory.specs.Orders.{Scripts, history_of}
 use Rattle.directory.specs.Outcomes.{Outcome}
 use Rattle.directory.specs.Settings.{Setting}
 use Rattle.directory.specs.Statements.{CallersCount, OrdersAreDone, OrdersArePlayed, ScriptsInOrder}
-use Rattle.directory.specs.declared.answers.Done.{Done}
 use Rattle.distances.specs.Table.{dist}
 use Rattle.net_graph.specs.Walks.{IsLeastWeight, everywhere}
 use Rattle.net_reader.specs.Input.{Contents}
@@ -18,9 +17,9 @@ use Rattle.report_check.specs.InputLaws.{network-valid}
 use Rattle.report_check.specs.Inputs.{network_of, plan_for}
 use Rattle.scripts.specs.Laws.{ScriptsAreValid}
 use Rattle.scripts.specs.Scripts.{scripts_of}
-use Rattle.soundness.specs.Sound.{AreDistances, IsSound, stretch_for}
+use Rattle.soundness.specs.Sound.{AreDistances, stretch_for}
 use Rattle.soundness.specs.Weights.{IsWeighed}
-use Rattle.own_reports.specs.Reports.{KeepsParts, PlacesAreTold, outcome_under}
+use Rattle.own_reports.specs.Reports.{PlacesAreTold, outcome_under}
 use Rattle.own_reports.specs.SoundTexts.{OwnReportsAreSoundTexts}
 use Rattle.own_reports.proofs.Cuts.{IsOver}
 use Rattle.own_reports.proofs.Followed.{TurnLaws, followed}

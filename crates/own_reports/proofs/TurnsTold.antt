@@ -1,12 +1,11 @@
 -- The tickets of each actor fall into the runs of its lines.
-use Rattle.std.proofs.Common.{◌≡◌, inl, inr, ℕ, zero, suc, ◌+◌, ◌<◌, ◌≤◌, ◌==◌, Bool, true, false, cond, ltb, List, [], ◌∷◌, ◌++◌, length, map, drop, get_or, refl, ap, sym, ◌∙◌, arith, subst, append-nil}
-use Rattle.std.specs.Prelude.{flat_map, filter}
+use Rattle.std.proofs.Common.{◌≡◌, inl, inr, ℕ, zero, suc, ◌+◌, ◌<◌, ◌≤◌, ◌==◌, Bool, true, false, cond, ltb, List, [], ◌∷◌, ◌++◌, length, map, drop, refl, ap, sym, ◌∙◌, arith, subst, append-nil}
+use Rattle.std.specs.Prelude.{flat_map}
 use Rattle.std.specs.List.{list_all}
 use Rattle.std.proofs.lemmas.Bool.{and_parts, cases_lt}
 use Rattle.std.proofs.lemmas.Bool.Decides.{nat_tests}
 use Rattle.std.proofs.lemmas.List.{get_or_past, length-drop, length-map}
 use Rattle.std.proofs.lemmas.List.Elements.{filter-append}
-use Rattle.entry_word.specs.declared.visit.Visit.{Visit}
 use Rattle.directory.specs.CallLines.{actor_of}
 use Rattle.directory.specs.Histories.{History, tickets, tickets_from}
 use Rattle.directory.specs.Orders.{IsDone, IsPlayed, Scripts}
@@ -49,6 +48,7 @@ none-of test actor ticket (other ∷ later) all none =
     differ same passes =
         let is : other ≡ actor = grind (arith, nat_tests, same) in
         let bad : true ≡ false = sym passes ∙ ap test is ∙ none in absurd cc
+
     at_test : (b : Bool) → (b ≡ true → ⊥) → order_tickets actor (suc ticket) later ≡ []
         → cond b (ticket ∷ order_tickets actor (suc ticket) later) (order_tickets actor (suc ticket) later) ≡ []
     at_test true none rest = absurd (none refl)

@@ -4,7 +4,8 @@ ghost use Rattle.own_reports.specs.SoundTexts.{OwnReportsAreSoundTexts};
 
 use directory::{
     all_scripts_done, done_is_rest, each_visit_is_next, every_order_is_legal, lines_are_made,
-    lines_grow, looks_fall, next_is_own, own_after, scripts_in_order, tickets_tell, told_by_writes, writes_are_small,
+    lines_grow, looks_fall, next_is_own, own_after, scripts_in_order, tickets_tell, told_by_writes,
+    writes_are_small,
 };
 use entry_word::mark_words;
 use region_plan::{plan_is_bounding, plan_is_sparse, plan_means};
