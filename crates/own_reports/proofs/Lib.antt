@@ -19,3 +19,8 @@ mod Sizes
 mod Fits
 mod Formed
 mod Sound
+mod LinesTold
+mod TurnsTold
+mod PlacesTold
+mod Followed
+mod SoundTold

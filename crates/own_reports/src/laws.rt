@@ -1,9 +1,11 @@
 //! The laws of the directory's own reports.
 ghost use Rattle.own_reports.specs.Reports.{OutcomesHaveForm, OwnReportsAreSound, PlacesAreTold, TicketsAreTold};
+ghost use Rattle.own_reports.specs.SoundTexts.{OwnReportsAreSoundTexts};
 
 use directory::{
     all_scripts_done, done_is_rest, each_visit_is_next, every_order_is_legal, lines_are_made,
-    lines_grow, looks_fall, scripts_in_order, tickets_tell, told_by_writes, writes_are_small,
+    lines_grow, looks_fall, next_is_own, own_after, scripts_in_order, tickets_tell, told_by_writes,
+    writes_are_small,
 };
 use entry_word::mark_words;
 use region_plan::{plan_is_bounding, plan_is_sparse, plan_means};
@@ -88,4 +90,22 @@ pub fn own_reports_are_sound()
     plans_track();
     reports_are_read();
     tickets_are_told();
+}
+
+/// What the directory reports of a valid input is a sound text, under every order: each line is
+/// that of a call, tickets fall into runs, answers name places, finds that are to be made again met
+/// a move, weights are within what is promised, and the order is the one that was given, completed.
+pub fn own_reports_are_sound_texts()
+    ensures { OwnReportsAreSoundTexts }
+{
+    all_scripts_done();
+    each_visit_is_next();
+    lines_grow();
+    next_is_own();
+    own_after();
+    places_are_told();
+    plan_is_sparse();
+    plan_means();
+    scripts_are_valid();
+    scripts_in_order();
 }

@@ -3,4 +3,7 @@
 
 mod laws;
 
-pub use laws::{outcomes_have_form, own_reports_are_sound, places_are_told, tickets_are_told};
+pub use laws::{
+    outcomes_have_form, own_reports_are_sound, own_reports_are_sound_texts, places_are_told,
+    tickets_are_told,
+};

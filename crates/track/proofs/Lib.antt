@@ -4,3 +4,4 @@ mod Ending
 mod OneText
 mod Words
 mod Replaying
+mod Sounding

@@ -5,3 +5,4 @@ pub mod Ends
 pub mod Laws
 pub mod Places
 pub mod Examples
+pub mod Sounds

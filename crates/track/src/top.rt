@@ -5,6 +5,7 @@ ghost use Rattle.word_line.specs.Forms.{bytes_of, command_of};
 ghost use Rattle.track.specs.Bodies.{IsAnswered, IsEnded};
 ghost use Rattle.track.specs.Results.{HasLoad, is_made_alike, is_served, text_alone};
 ghost use Rattle.track.specs.Ends.{EndsAs, EndsIf, Tells, streams};
+ghost use Rattle.track.specs.Sounds.{WritesSoundly};
 ghost use Rattle.track.specs.Transfer.{IsEndOf, write_status};
 ghost use Rattle.track.specs.declared.status.Status.TheVariants.{BadWords, Done};
 
@@ -18,8 +19,9 @@ use crate::transfer::{read_all, read_text};
 use crate::trial::{write_made, write_trial};
 use crate::writing::write_body;
 use make_load::words_are_loads;
-use net_reader::MAX_BYTES;
+use net_reader::{MAX_BYTES, inputs_are_valid};
 use outside::{Sink, Source};
+use own_reports::own_reports_are_sound_texts;
 use report_check::cut_text;
 use runner::Gate;
 use std::alloc::{AllocError, Global};
@@ -233,7 +235,8 @@ fn serve_by_threads<R: Threads + Sync, S: Source, K: Sink, G: Gate>(
 /// Status 0 comes with the whole text, and 1 with the line that refuses the input; 2 are words that
 /// read and write nothing; 3 is want of memory; 4 a fault of the source; 5 a fault of the sink,
 /// where what was written begins the text; 6 an input, or a text with a report, that is too long; 8
-/// comes with the line that tells a report's first flaw.
+/// comes with the line that tells a report's first flaw. What `replay` writes with status 0 is a
+/// sound report of the input, in the report's own words (docs/BELIEF.md).
 pub fn command<S: Source, K: Sink>(
     alloc: Global,
     words: &[String],
@@ -245,11 +248,15 @@ pub fn command<S: Source, K: Sink>(
         (S.left source.old) (S.faults source.old) (K.written sink.old) (K.faults sink.old))
         (streams
         (S.left source.new) (S.faults source.new) (K.written sink.new) (K.faults sink.new)) }
+    ensures sound { WritesSoundly (command_of (bytes_of words.now)) result
+        (S.left source.old) (K.written sink.old) (K.written sink.new) }
     ensures untouched { result ≡ 2 → (source.new ≡ source.old) × (sink.new ≡ sink.old) }
     ensures unread { IfSome (command_of (bytes_of words.now))
         (λ command. IsSome (text_alone command)) → source.new ≡ source.old }
     ensures rest { IsEndOf (S.left source.old) (S.left source.new) }
 {
+    inputs_are_valid();
+    own_reports_are_sound_texts();
     words_are_loads();
     match read_words(words) {
         Ok(command) => u8::from(serve(alloc, command, source, sink)),
@@ -277,11 +284,15 @@ pub fn command_with_threads<R: Threads + Sync, S: Source, K: Sink, G: Gate>(
         (S.left source.old) (S.faults source.old) (K.written sink.old) (K.faults sink.old))
         (streams
         (S.left source.new) (S.faults source.new) (K.written sink.new) (K.faults sink.new)) }
+    ensures sound { WritesSoundly (command_of (bytes_of words.now)) result
+        (S.left source.old) (K.written sink.old) (K.written sink.new) }
     ensures untouched { result ≡ 2 → (source.new ≡ source.old) × (sink.new ≡ sink.old) }
     ensures unread { IfSome (command_of (bytes_of words.now))
         (λ command. IsSome (text_alone command)) → source.new ≡ source.old }
     ensures rest { IsEndOf (S.left source.old) (S.left source.new) }
 {
+    inputs_are_valid();
+    own_reports_are_sound_texts();
     words_are_loads();
     match read_words(words) {
         Ok(command) => {

@@ -4,6 +4,7 @@ use Rattle.word_line.specs.Forms.{bytes_of, command_of}
 use Rattle.word_line.specs.declared.command.Command.{Command}
 use Rattle.word_line.specs.declared.command.WordsFault.TheVariants as refusals
 use Rattle.track.specs.Results.{text_alone}
+use Rattle.track.proofs.Sounding.{soundly}
 use Rattle.track.proofs.Words.{at_none, at_some, has_load, told_of}
 use Rattle.track.proofs.top.command_with_threads.Goals as goal
 
@@ -26,3 +27,13 @@ pub serve_by_threads-status-requires-after_bounds : goal.serve_by_threads-status
 serve_by_threads-status-requires-after_bounds g c = λ bounds lives.
     has_load c.words_are_loads.ensures (bytes_of c.args.words.now) refusals.Refused c.in-Ok.command c.read_words.ensures
     c.in-Ok.is
+
+pub returns-in-Ok-clause-sound : goal.returns-in-Ok-clause-sound
+returns-in-Ok-clause-sound g c =
+    soundly c.inputs_are_valid.ensures c.own_reports_are_sound_texts.ensures true
+    (command_of (bytes_of c.args.words.now)) _ _ _ (returns-in-Ok-clause-told g c)
+
+pub returns-in-Err-clause-sound : goal.returns-in-Err-clause-sound
+returns-in-Err-clause-sound g c =
+    soundly c.inputs_are_valid.ensures c.own_reports_are_sound_texts.ensures true
+    (command_of (bytes_of c.args.words.now)) _ _ _ (returns-in-Err-clause-told g c)
