@@ -6,6 +6,7 @@ pub mod Faults
 pub mod Finds
 pub mod Handles
 pub mod Held
+pub mod Looks
 pub mod Members
 pub mod Moves
 pub mod Openings

@@ -10,6 +10,7 @@ mod edges;
 mod fault;
 mod finders;
 mod handle;
+mod looks;
 mod members;
 mod movers;
 mod object;
