@@ -52,29 +52,27 @@ opening-put plan starts (Presence node sub) some known full =
     let s : ℕ = slice_index starts sub in
     elim (cases_Bool (eqb node s)) [
       | inl same ↦ record {
-          index = 0;
-          write = mark_at s (Here 0);
-          put = refl;
-          cell = ap (λ (n : ℕ). Presence n sub) (sym (eqb-true node s same));
-        }
+        index = 0;
+        write = mark_at s (Here 0);
+        put = refl;
+        cell = ap (λ (n : ℕ). Presence n sub) (sym (eqb-true node s same));
+      }
       | inr other ↦ absurd (full (rw (lt-ltb sub (length starts) known, other) refl))
     ]
 opening-put plan starts (Entry level cluster sub) some known full =
     let s : ℕ = slice_index starts sub in
     elim (cases_Bool (ltb level (levels (setting_of plan starts)))) [
       | inl low ↦ elim (cases_Bool (eqb cluster (home plan level s))) [
-          | inl same ↦ record {
-              index = suc level;
-              write = entry_at level (home plan level s) (Some (record { number = 0; node = s }));
-              put = rw (
-                    lt-ltb level (levels_of plan)
-                        (omega (arith, some, ltb-true level (levels (setting_of plan starts)) low)),
-                  )
-                  refl;
-              cell = ap (λ (c : ℕ). Entry level c sub)
-                  (sym (eqb-true cluster (home plan level s) same));
-            }
-          | inr other ↦ absurd (full (rw (lt-ltb sub (length starts) known, low, other) refl))
-        ]
+        | inl same ↦ record {
+          index = suc level;
+          write = entry_at level (home plan level s) (Some (record { number = 0; node = s }));
+          put = rw (lt-ltb level (levels_of plan)
+              (omega (arith, some, ltb-true level (levels (setting_of plan starts)) low)))
+              refl;
+          cell = ap (λ (c : ℕ). Entry level c sub)
+              (sym (eqb-true cluster (home plan level s) same));
+        }
+        | inr other ↦ absurd (full (rw (lt-ltb sub (length starts) known, low, other) refl))
+      ]
       | inr high ↦ absurd (full (rw (lt-ltb sub (length starts) known, high) refl))
     ]

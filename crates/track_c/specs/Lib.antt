@@ -1,4 +1,5 @@
 pub mod Callers
+pub mod Censuses
 pub mod Crews
 pub mod Edges
 pub mod Facts
@@ -12,6 +13,7 @@ pub mod Moves
 pub mod Openings
 pub mod Owned
 pub mod Plans
+pub mod Rooms
 pub mod Saving
 pub mod Subscribers
 pub mod Told

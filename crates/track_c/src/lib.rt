@@ -5,6 +5,7 @@
 
 mod callers;
 mod cells;
+mod censuses;
 mod crews;
 mod edges;
 mod fault;
@@ -16,6 +17,7 @@ mod movers;
 mod object;
 mod openings;
 mod plans;
+mod rooms;
 mod saving;
 mod subscribers;
 mod telling;

@@ -120,12 +120,7 @@ impl Finder {
 }
 
 // The find of an object makes a look.
-fn look_in(
-    object: &mut Object,
-    word: u64,
-    cell: &mut TrackCell,
-    answer: &mut TrackAnswer,
-) -> u32
+fn look_in(object: &mut Object, word: u64, cell: &mut TrackCell, answer: &mut TrackAnswer) -> u32
     ensures { TellsLook (and_then (finder_in (seen_object object.old)) (after_turn word)) result
         (seen_object object.old) (seen_object object.new)
         (looking cell.old answer.old) (looking cell.new answer.new) }
