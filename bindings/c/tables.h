@@ -164,9 +164,9 @@ static const char *turns[] = {
     "turn f 0x0001000000070000 | 14 at 1 number 7 level -1 weight 0",
     "again f 3 0 4294967295 | 0",
     "run f | 0 at 3 number 0 level -1 weight 0",
-    "find p 0 9 | 0 again no entry 0 weight 0",
+    "find p 0 9 | 0 again no entry 0 weight 2",
     "again f 0 9 4294967295 | 0",
-    "run f | 0 again no entry 0 weight 0",
+    "run f | 0 again no entry 0 weight 2",
     0,
 };
 

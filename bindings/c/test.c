@@ -148,13 +148,13 @@ static bool play_plan(char **w) {
 
 /* Tells what a look came to, and that the place of the other is as it was. */
 static void tell_look(uint32_t code, const track_cell *cell, const track_answer *answer) {
-    char rest[sizeof told - 8];
+    char rest[sizeof told];
     if ((code != TRACK_OK && cell->kind != 77) || (code != TRACK_ENDED && answer->kind != 77)) exit(2);
     tell_cell(code, cell);
     if (code != TRACK_ENDED) return;
     tell_answer(TRACK_OK, answer);
-    snprintf(rest, sizeof rest, "%s", told + 1);
-    snprintf(told, sizeof told, "%u%s", code, rest);
+    memcpy(rest, told, sizeof told);
+    snprintf(told, sizeof told, "%u%.400s", code, rest + 1);
 }
 
 /* Looks at the cells that a find looks at, until it has its answer. */
