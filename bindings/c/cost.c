@@ -1,5 +1,6 @@
 /* What calls cost, in nanoseconds: the steps of a find, a whole find over cells in memory, a put. Usage: cost NETWORK
- * Each figure is the mean of a million or so. Times are of one machine and one run: compare them with one another. */
+ * A find is made twice: by a finder that begins again in its place, with a call for each look; and by a finder of its own,
+ * with two. Each figure is the mean of a million or so. Times are of one machine and one run: compare them with one another. */
 #define _POSIX_C_SOURCE 199309L
 
 #include "track.h"
@@ -63,6 +64,20 @@ int main(int count, char **words) {
         }
     }
     printf("put %.1f\n", (now() - begun) / (double)puts);
+    must(track_finder_new(&plan, 0, 0, 1, &finder));
+    begun = now();
+    for (uint32_t find = 0; find < FINDS; find++) {
+        must(track_finder_again(&finder, find % sizes.nodes, 0, 1));
+        must(track_finder_next(&finder, &cell));
+        uint32_t code;
+        for (looks++; (code = track_finder_look(&finder, *place_of(&cell), &cell, &answer)) == TRACK_OK;) looks++;
+        if (code != TRACK_ENDED) must(code);
+    }
+    double one = now() - begun;
+    must(track_close(&finder));
+    printf("find %.0f, of %.1f looks with a call for each; a look, with its share of the begin, %.1f\n", one / FINDS,
+           (double)looks / FINDS, one / (double)looks);
+    looks = 0;
     begun = now();
     for (uint32_t find = 0; find < FINDS; find++) {
         must(track_finder_new(&plan, find % sizes.nodes, 0, 1, &finder));
@@ -77,7 +92,7 @@ int main(int count, char **words) {
         must(track_close(&finder));
     }
     double ends = now() - begun;
-    printf("find %.0f, of %.1f looks; a look %.1f; its begin and end %.0f\n", all / FINDS, (double)looks / FINDS,
+    printf("find %.0f, of %.1f looks with two calls for each; a look %.1f; its begin and end %.0f\n", all / FINDS, (double)looks / FINDS,
            (all - ends) / (double)looks, ends / FINDS);
     must(track_close(&mover));
     must(track_close(&plan));

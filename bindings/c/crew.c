@@ -70,9 +70,12 @@ static void *find_all(void *given) {
     struct job *job = given;
     uint32_t last[SUBS] = {0};
     track_answer answer;
+    track_census census;
     must_be(track_caller_find(&job->member, 0, 0, &answer), TRACK_UNRESERVED, "a find without room");
     must_be(track_caller_find(&job->member, NODES, 0, &answer), TRACK_NO_NODE, "a find from nowhere");
     must_be(track_caller_find(&job->member, 0, SUBS, &answer), TRACK_NO_SUBSCRIBER, "a find of nobody");
+    must_be(track_caller_census(&job->member, 0, &census), TRACK_UNRESERVED, "a census without room");
+    must_be(track_caller_census(&job->member, NODES, &census), TRACK_NO_NODE, "a census of nowhere");
     for (uint32_t i = 0; i < FINDS;) {
         uint32_t sub = (i + job->number) % SUBS, code = track_caller_find(&job->member, i % NODES, sub, &answer);
         if (code == TRACK_HELD) {
@@ -104,6 +107,7 @@ static void play(track_handle *plan, long *right, long *again, long *held) {
     struct job jobs[SUBS + CALLERS];
     pthread_t threads[SUBS + CALLERS];
     track_answer answer;
+    track_census census;
     uint32_t number;
     must(track_crew_new(plan, starts, SUBS, CALLERS, &crew), "new");
     memset(jobs, 0, sizeof jobs);
@@ -117,6 +121,13 @@ static void play(track_handle *plan, long *right, long *again, long *held) {
         if (pthread_create(&threads[i], 0, i < SUBS ? move_round : find_all, &jobs[i])) exit(1);
     for (int i = 0; i < SUBS + CALLERS; i++) pthread_join(threads[i], 0);
     must(track_actor_reserve(&jobs[SUBS].member, ROOM), "reserve");
+    /* A census lists who is at a node and on, and all are off. */
+    uint64_t ticket = 0;
+    for (uint32_t node = 0; node < NODES; node++) {
+        must(track_caller_census(&jobs[SUBS].member, node, &census), "census");
+        if (census.who || census.count || (node && census.ticket != ticket + 1)) jobs[SUBS].wrong++;
+        ticket = census.ticket;
+    }
     for (uint32_t sub = 0; sub < SUBS; sub++) {
         must(track_caller_find(&jobs[SUBS].member, sub, sub, &answer), "the last find");
         if (answer.kind != TRACK_OFF || answer.number != MOVES || answer.node != (sub + MOVES) % NODES) jobs[SUBS].wrong++;
@@ -136,6 +147,7 @@ int main(int count, char **words) {
     track_handle plan = TRACK_EMPTY, crew = TRACK_EMPTY;
     track_refusal why;
     track_answer answer;
+    track_census census;
     uint32_t far[] = {NODES}, many[65] = {0};
     long right = 0, again = 0, held = 0;
     must(track_plan_read((const uint8_t *)text, strlen(text), &plan, &why), "read");
@@ -144,6 +156,8 @@ int main(int count, char **words) {
     must_be(track_crew_new(&plan, many, 1, 65, &crew), TRACK_COUNT_TOO_LARGE, "a crew of 65 callers");
     must_be(track_crew_new(&plan, far, 1, 1, &crew), TRACK_NO_NODE, "a crew that starts nowhere");
     must_be(track_caller_find(&plan, 0, 0, &answer), TRACK_OTHER_KIND, "a find of a plan");
+    must_be(track_caller_census(&plan, 0, &census), TRACK_OTHER_KIND, "a census of a plan");
+    must_be(track_caller_census(&crew, 0, &census), TRACK_EMPTY_HANDLE, "a census of nothing");
     for (int i = 0; i < rounds; i++) play(&plan, &right, &again, &held);
     must(track_close(&plan), "close");
     printf("%d crews: %ld answers right, %ld to be made again; %ld calls were held\n", rounds, right, again, held);

@@ -177,7 +177,9 @@ static void ask(track_handle *at) {
     track_answer answer;
     track_place place;
     uint32_t node;
-    switch (draw(7)) {
+    track_room room;
+    switch (draw(8)) {
+    case 6: is_listed("track_plan_room", track_plan_room(at, number(), &room), of_handle | CAN(TRACK_NO_NODE)); break;
     case 0: is_listed("track_plan_sizes", track_plan_sizes(at, &sizes), of_handle); break;
     case 1: is_listed("track_plan_start", track_plan_start(at, number(), &node), of_handle | CAN(TRACK_NO_SUBSCRIBER)); break;
     case 2:
@@ -194,7 +196,16 @@ static void ask(track_handle *at) {
 
 static void step(track_handle *at) {
     track_put put = {{0, 0, 0, 0, 0}, 0};
-    switch (draw(5)) {
+    track_cell cell;
+    track_answer answer;
+    switch (draw(7)) {
+    case 5:
+        is_listed("track_finder_look", track_finder_look(at, word(), &cell, &answer), of_handle | CAN(TRACK_BAD_WORD) | CAN(TRACK_ENDED));
+        break;
+    case 6:
+        is_listed("track_finder_again", track_finder_again(at, number(), number(), number()),
+                  of_handle | CAN(TRACK_NO_NODE) | CAN(TRACK_NO_SUBSCRIBER));
+        break;
     case 0: is_listed("track_finder_saw", track_finder_saw(at, word()), of_handle | CAN(TRACK_ENDED) | CAN(TRACK_BAD_WORD)); break;
     case 1:
         is_listed("track_mover_move", track_mover_move(at, number()),
@@ -218,7 +229,11 @@ static void join_crew(void) {
     uint64_t ticket;
     track_handle *one = any(), *other = any();
     if (one == other) return;
-    switch (draw(7)) {
+    track_census census;
+    switch (draw(8)) {
+    case 6:
+        is_listed("track_caller_census", track_caller_census(one, number(), &census), of_handle | CAN(TRACK_NO_NODE) | CAN(TRACK_UNRESERVED));
+        break;
     case 0:
         is_listed("track_crew_new", track_crew_new(one, starts, (size_t)draw(4), draw(9) ? draw(4) : number(), other),
                   of_handle | CAN(TRACK_FULL_HANDLE) | CAN(TRACK_NO_SUBSCRIBER) | CAN(TRACK_COUNT_TOO_LARGE) | CAN(TRACK_NO_NODE));

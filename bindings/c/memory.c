@@ -55,8 +55,10 @@ static void play(void) {
                  again = TRACK_EMPTY;
     track_handle crew = TRACK_EMPTY, members[] = {TRACK_EMPTY, TRACK_EMPTY, TRACK_EMPTY}, none = TRACK_EMPTY;
     const uint32_t starts[] = {0, 5};
-    uint32_t number;
+    uint32_t number, code;
     uint64_t ticket;
+    track_census census;
+    track_room room;
     track_refusal refusal;
     track_put put;
     track_cell cell;
@@ -78,10 +80,12 @@ static void play(void) {
     }
     check(track_crew_next(&crew, &none, &number) == TRACK_PAST_END && track_close(&crew) == TRACK_OK, "the end of a crew");
     MAKE(members[0], track_actor_reserve(&members[0], 1000));
-    MAKE(members[2], track_actor_reserve(&members[2], 1000));
+    check(track_plan_room(&plan, 0, &room) == TRACK_OK, "room");
+    MAKE(members[2], track_actor_reserve(&members[2], room.looks + 1));
     check(track_subscriber_move(&members[0], 3) == TRACK_OK, "move");
     while (track_subscriber_step(&members[0], &ticket) == TRACK_OK) {}
     check(track_caller_find(&members[2], 0, 0, &answer) == TRACK_OK && answer.node == 3, "find");
+    check(track_caller_census(&members[2], 3, &census) == TRACK_OK && census.who == 1, "census");
     for (uint32_t i = 0; i < 3; i++) check(track_close(&members[i]) == TRACK_OK, "close");
     check(track_close(&plan) == TRACK_OK, "close");
     for (uint32_t to = 5; to; to--) {
@@ -90,6 +94,10 @@ static void play(void) {
     }
     while (track_finder_next(&finder, &cell) == TRACK_OK) check(track_finder_saw(&finder, 0) == TRACK_OK, "saw");
     check(track_finder_answer(&finder, &answer) == TRACK_OK && answer.kind == TRACK_AGAIN, "answer");
+    long before = made;
+    check(track_finder_again(&finder, 1, 0, 2) == TRACK_OK, "again");
+    while ((code = track_finder_look(&finder, 0, &cell, &answer)) == TRACK_OK) {}
+    check(code == TRACK_ENDED && answer.kind == TRACK_AGAIN && made == before, "looks that want memory");
     check(track_close(&other) == TRACK_OK && track_close(&built) == TRACK_OK, "close");
     check(track_close(&finder) == TRACK_OK && track_close(&mover) == TRACK_OK && track_close(&again) == TRACK_OK, "close");
 }

@@ -19,7 +19,11 @@ static const char *plans[] = {
     "opening q 5 1 5 | 16",
     "opening q 5 1 4294967295 | 16",
     "opening z 5 1 0 | 2",
+    "room q 0 | 0 looks 13 puts 15",
+    "room q 4 | 6 looks 77 puts 77",
+    "room z 0 | 2 looks 77 puts 77",
     "mover q 0 1 m | 0",
+    "room m 0 | 3 looks 77 puts 77",
     "sizes m | 3",
     "share m y | 3",
     "start m 0 | 3 77",
@@ -135,6 +139,37 @@ static const char *finds[] = {
     0,
 };
 
+static const char *turns[] = {
+    "read p line | 0",
+    "open p 0 3 | 16 after 5",
+    "turn z 0 | 2",
+    "turn p 0 | 3",
+    "again z 0 0 1 | 2",
+    "again p 0 0 1 | 3",
+    "finder p 0 0 1 f | 0",
+    "turn f 0xffffffffffffffff | 17",
+    "turn f 0x0002000000010004 | 17",
+    "turn f 0 | 0 entry 0 of 0 at 0 of level 0",
+    "turn f 0x0001000000010000 | 0 presence 0 of 0",
+    "turn f 0x0001000000010000 | 14 at 0 number 1 level 0 weight 0",
+    "turn f 0xffffffffffffffff | 14 at 0 number 1 level 0 weight 0",
+    "saw f 0 | 14",
+    "again f 4 0 1 | 6",
+    "again f 0 1 1 | 7",
+    "answer f | 0 at 0 number 1 level 0 weight 0",
+    "again f 0 0 1 | 0",
+    "answer f | 15",
+    "run f | 0 at 3 number 0 level 2 weight 9",
+    "again f 1 0 1 | 0",
+    "turn f 0x0001000000070000 | 14 at 1 number 7 level -1 weight 0",
+    "again f 3 0 4294967295 | 0",
+    "run f | 0 at 3 number 0 level -1 weight 0",
+    "find p 0 9 | 0 again no entry 0 weight 2",
+    "again f 0 9 4294967295 | 0",
+    "run f | 0 again no entry 0 weight 2",
+    0,
+};
+
 static const char *states[] = {
     "read p line | 0",
     "mover p 0 3 m | 0",
@@ -223,6 +258,6 @@ static const struct {
     const char *name;
     const char **rows;
 } tables[] = {
-    {"plans", plans}, {"refused", refused}, {"built", built}, {"moves", moves}, {"finds", finds}, {"states", states},
+    {"plans", plans}, {"refused", refused}, {"built", built}, {"moves", moves}, {"finds", finds}, {"turns", turns}, {"states", states},
     {"words", words},
 };

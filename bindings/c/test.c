@@ -129,6 +129,10 @@ static bool play_plan(char **w) {
         track_put put;
         uint32_t code = track_plan_opening(handle(w[1]), number(w[2]), number(w[3]), number(w[4]), &put);
         tell_put(code, &put);
+    } else if (!strcmp(w[0], "room")) {
+        track_room room = {77, 77};
+        uint32_t code = track_plan_room(handle(w[1]), number(w[2]), &room);
+        snprintf(told, sizeof told, "%u looks %llu puts %llu", code, (unsigned long long)room.looks, (unsigned long long)room.puts);
     } else if (!strcmp(w[0], "open")) {
         track_put put;
         uint32_t i = 0, code;
@@ -140,6 +144,17 @@ static bool play_plan(char **w) {
         return false;
     }
     return true;
+}
+
+/* Tells what a look came to, and that the place of the other is as it was. */
+static void tell_look(uint32_t code, const track_cell *cell, const track_answer *answer) {
+    char rest[sizeof told];
+    if ((code != TRACK_OK && cell->kind != 77) || (code != TRACK_ENDED && answer->kind != 77)) exit(2);
+    tell_cell(code, cell);
+    if (code != TRACK_ENDED) return;
+    tell_answer(TRACK_OK, answer);
+    memcpy(rest, told, sizeof told);
+    snprintf(told, sizeof told, "%u%.400s", code, rest + 1);
 }
 
 /* Looks at the cells that a find looks at, until it has its answer. */
@@ -166,6 +181,19 @@ static bool play_finder(char **w) {
         tell_cell(code, &cell);
     } else if (!strcmp(w[0], "saw")) {
         tell(track_finder_saw(handle(w[1]), strtoull(w[2], 0, 0)));
+    } else if (!strcmp(w[0], "turn")) {
+        track_cell cell = {77, 0, 0, 0, 0};
+        track_answer answer = {77, 0, 0, 0, 0, 0, 0};
+        uint32_t code = track_finder_look(handle(w[1]), strtoull(w[2], 0, 0), &cell, &answer);
+        tell_look(code, &cell, &answer);
+    } else if (!strcmp(w[0], "again")) {
+        tell(track_finder_again(handle(w[1]), number(w[2]), number(w[3]), number(w[4])));
+    } else if (!strcmp(w[0], "run")) {
+        track_cell cell = {77, 0, 0, 0, 0};
+        track_answer answer;
+        uint32_t code = track_finder_next(handle(w[1]), &cell);
+        while (code == TRACK_OK) code = track_finder_look(handle(w[1]), *word_at(&cell), &cell, &answer);
+        tell_answer(code == TRACK_ENDED ? 0 : code, &answer);
     } else if (!strcmp(w[0], "answer")) {
         track_answer answer;
         uint32_t code = track_finder_answer(handle(w[1]), &answer);

@@ -21,8 +21,10 @@
  *
  * CODES. Each call answers TRACK_OK, or why it did nothing. Unless it answers TRACK_OK, every
  * handle and every place that it was lent are as before, but for the `track_refusal` beside
- * TRACK_BAD_NETWORK, and for the looks that a caller made before TRACK_HELD. Where several causes hold, the first in the call's list is answered; TRACK_NO_MEMORY
- * may come in the place of any answer of a call that lists it, but not of TRACK_FULL_HANDLE.
+ * TRACK_BAD_NETWORK, for what track_finder_look tells by TRACK_ENDED, and for the looks that a
+ * caller made before TRACK_HELD. Where several causes hold, the first in the call's list is
+ * answered; TRACK_NO_MEMORY may come in the place of any answer of a call that lists it, but not of
+ * TRACK_FULL_HANDLE.
  */
 #ifndef TRACK_H
 #define TRACK_H
@@ -144,6 +146,18 @@ typedef struct {
     uint64_t weight;  /* what the find travelled, in the unit of the edges */
 } track_answer;
 
+/* What a census found: bit s of `who` is set where subscriber s is at the node, and so many bits are. Its ticket is
+ * how many visits of all came before it. */
+typedef struct {
+    uint64_t ticket, who;
+    uint32_t count;
+} track_census;
+
+/* How many visits a find may make, and how many a move: no find from the node has more looks, and no move more puts. */
+typedef struct {
+    uint64_t looks, puts;
+} track_room;
+
 /* Where a mover stands, by the puts made: the number counts its moves, off is 1 or 0. */
 typedef struct {
     uint32_t sub, node, number, off;
@@ -199,6 +213,10 @@ uint32_t track_plan_start(track_handle *plan, uint32_t sub, uint32_t *node);
  * TRACK_EMPTY_HANDLE, TRACK_OTHER_KIND; TRACK_NO_NODE; TRACK_PAST_END: index is past the last level. */
 uint32_t track_plan_opening(track_handle *plan, uint32_t sub, uint32_t node, uint32_t index, track_put *put);
 
+/* How many visits a find from a node may make, and how many a move.
+ * TRACK_EMPTY_HANDLE, TRACK_OTHER_KIND; TRACK_NO_NODE. */
+uint32_t track_plan_room(track_handle *plan, uint32_t node, track_room *room);
+
 /* ---- Finders: next, look there, saw; until next answers TRACK_ENDED, and answer the answer ---- */
 
 /* A find of subscriber `sub`, one of `subs`, from a node, into `finder`. Who doesn't count subscribers
@@ -216,6 +234,17 @@ uint32_t track_finder_saw(track_handle *finder, uint64_t word);
 
 /* The answer of a find. TRACK_EMPTY_HANDLE, TRACK_OTHER_KIND; TRACK_LOOKING. */
 uint32_t track_finder_answer(track_handle *finder, track_answer *answer);
+
+/* As `saw`, and then `next` or `answer`, in one call: the look at the cell that came next read this word. With TRACK_OK
+ * `cell` is the one to look at then; with TRACK_ENDED the find has its answer, which is in `answer`, and so it is of a
+ * find that had it before. The place of the other is as it was. So a find takes a call for each look:
+ *     while ((code = track_finder_look(&finder, word_of(&cell), &cell, &answer)) == TRACK_OK) {}
+ * TRACK_EMPTY_HANDLE, TRACK_OTHER_KIND; TRACK_BAD_WORD; TRACK_ENDED. */
+uint32_t track_finder_look(track_handle *finder, uint64_t word, track_cell *cell, track_answer *answer);
+
+/* Begins another find in the place of this one, over the same plan, wherever this one is: no memory is wanted.
+ * TRACK_EMPTY_HANDLE, TRACK_OTHER_KIND; TRACK_NO_NODE; TRACK_NO_SUBSCRIBER. */
+uint32_t track_finder_again(track_handle *finder, uint32_t from, uint32_t sub, uint32_t subs);
 
 /* ---- Movers: move or switch, and then next, write, made; until next answers TRACK_AT_REST ---- */
 
@@ -261,7 +290,8 @@ uint32_t track_mover_load(track_handle *plan, const uint64_t *words, size_t coun
  *
  * A crew is the subscribers and the callers of one such directory. track_crew_new makes it, track_crew_next
  * hands out its members one by one, and each then goes to a thread of its own. A look, and a put, is a
- * visit: a member reserves room for its visits before it makes them, 8 bytes each. No call waits: where
+ * visit: a member reserves room for its visits before it makes them, 8 bytes each; track_plan_room tells
+ * how many a find or a move may make. No call waits: where
  * another member is inside a node at that moment, the answer is TRACK_HELD. */
 
 /* A crew over a plan: `count` subscribers, 1 to 64, of which subscriber i starts at starts[i], and 0 to 64
@@ -285,6 +315,10 @@ uint32_t track_actor_reserve(track_handle *actor, uint64_t visits);
  * TRACK_UNRESERVED where there is less room than the most looks of such a find; TRACK_HELD. With the last
  * the looks made so far have used their room. */
 uint32_t track_caller_find(track_handle *caller, uint32_t from, uint32_t sub, track_answer *answer);
+
+/* Which subscribers are at a node. It is one visit. TRACK_EMPTY_HANDLE, TRACK_OTHER_KIND; TRACK_NO_NODE;
+ * TRACK_UNRESERVED; TRACK_HELD. */
+uint32_t track_caller_census(track_handle *caller, uint32_t node, track_census *census);
 
 /* Begins a move to a node. TRACK_EMPTY_HANDLE, TRACK_OTHER_KIND; TRACK_NO_NODE; TRACK_SAME_PLACE;
  * TRACK_UNDER_WAY; TRACK_IS_OFF; TRACK_NUMBERS_SPENT. */

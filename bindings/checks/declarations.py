@@ -23,6 +23,8 @@ STRUCTS = {
     "track_edge": ("TrackEdge", "EdgeFields", "Edge"),
     "track_cell": ("TrackCell", "CellFields", "CellFields"),
     "track_put": ("TrackPut", "PutFields", "PutFields"),
+    "track_census": ("TrackCensus", "CensusFields", "CensusFields"),
+    "track_room": ("TrackRoom", "RoomFields", "RoomFields"),
     "track_answer": ("TrackAnswer", "AnswerFields", "AnswerFields"),
     "track_place": ("TrackPlace", "PlaceFields", "PlaceFields"),
     "track_fields": ("TrackFields", "WordFields", "WordFields"),

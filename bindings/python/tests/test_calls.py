@@ -117,6 +117,32 @@ class Calls(unittest.TestCase):
             again.run(cells.__setitem__)
             self.assertEqual(again.place, track.Place(0, 0, 1, False))
 
+    def test_a_find_takes_a_call_for_each_look(self):
+        plan, cells, _ = opened()
+        finder = track.Finder(plan, 0, 0, subs=1)
+        cell = finder.next()
+        looks = 0
+        while isinstance(cell, track.Cell):
+            cell, looks = finder.look(cells.get(cell, 0)), looks + 1
+        self.assertEqual(cell, finder.answer())
+        self.assertEqual((cell.node, finder.look(0)), (3, cell))
+        self.assertLessEqual(looks, plan.room(0).looks)
+        with self.assertRaises(track.NoNode):
+            finder.again(4, 0, subs=1)
+        with self.assertRaises(track.NoSubscriber):
+            finder.again(0, 1, subs=1)
+        self.assertEqual(finder.answer(), cell)
+        finder.again(3, 0)
+        with self.assertRaises(track.BadWord):
+            finder.look(2**64 - 1)
+        self.assertEqual(finder.run(lambda cell: cells.get(cell, 0))[:2], (3, 0))
+
+    def test_a_plan_tells_how_much_room_visits_want(self):
+        plan, _, _ = opened()
+        self.assertEqual(plan.room(0).puts, 3 + 2 * plan.levels + plan.nodes)
+        with self.assertRaises(track.NoNode):
+            plan.room(4)
+
     def test_objects_outlive_their_plan(self):
         plan, cells, mover = opened()
         finder = track.Finder(plan, 0, 0)
@@ -162,6 +188,9 @@ class Calls(unittest.TestCase):
         puts.start()
         puts.join()
         self.assertEqual(caller.find(0, 0)[:3], (1, 1, False))
+        self.assertEqual([caller.census(node).subs for node in range(4)], [(), (0,), (), ()])
+        with self.assertRaises(track.NoNode):
+            caller.census(4)
         subscriber.switch(True)
         with self.assertRaises(track.UnderWay):
             subscriber.switch(True)

@@ -17,6 +17,15 @@ pub enum Member {
     Caller(u32, Caller),
 }
 
+/// The subscribers that are at a node.
+#[derive(Clone, Debug, PartialEq, Eq, Hash)]
+pub struct Census {
+    /// How many visits of all came before it.
+    pub ticket: u64,
+    /// Their numbers, in order.
+    pub subs: Vec<u32>,
+}
+
 /// Looks for subscribers. It goes on after its crew is dropped.
 pub struct Caller(Handle);
 
@@ -54,6 +63,16 @@ impl Caller {
     /// more looks than there is room for; [`Error::Held`] where another member was inside a node just then.
     pub fn find(&mut self, from: u32, sub: u32) -> Result<Answer, Error> {
         Ok(self.0.find(from, sub)?.into())
+    }
+
+    /// The subscribers that are at a node; it is one visit. [`Error::NoNode`], [`Error::Unreserved`]; [`Error::Held`] where
+    /// another member was inside the node just then.
+    pub fn census(&mut self, node: u32) -> Result<Census, Error> {
+        let told = self.0.census(node)?;
+        Ok(Census {
+            ticket: told.ticket,
+            subs: (0..64).filter(|sub| told.who >> sub & 1 == 1).collect(),
+        })
     }
 }
 

@@ -44,6 +44,15 @@ pub struct Answer {
     pub weight: u64,
 }
 
+/// What a find comes to by a look.
+#[derive(Clone, Copy, Debug, PartialEq, Eq, Hash)]
+pub enum Came {
+    /// The cell to look at next.
+    Next(Cell),
+    /// Its answer.
+    Done(Answer),
+}
+
 impl From<AnswerFields> for Answer {
     fn from(it: AnswerFields) -> Self {
         let outcome = match (it.kind, it.why) {
@@ -87,15 +96,34 @@ impl Finder {
         Ok(self.0.answer()?.into())
     }
 
+    /// [`Finder::saw`], and then [`Finder::next_cell`] or [`Finder::answer`], in one call: the look at the cell that came next
+    /// read this word. The answer stays once it is there. [`Error::BadWord`].
+    pub fn look(&mut self, word: u64) -> Result<Came, Error> {
+        Ok(match self.0.look(word)? {
+            Ok(cell) => Came::Next(cell.into()),
+            Err(answer) => Came::Done(answer.into()),
+        })
+    }
+
+    /// Begins another find in the place of this one, over the same plan. [`Error::NoNode`], and then this one stands.
+    pub fn again(&mut self, from: u32, sub: u32) -> Result<(), Error> {
+        self.0.again(from, sub, u32::MAX)
+    }
+
     /// All looks that are left, by `look`, which reads a cell; and the answer. Where `look` fails the find can go on: a look
     /// changes nothing.
     pub fn run<E: From<Error>>(
         &mut self,
         mut look: impl FnMut(Cell) -> Result<u64, E>,
     ) -> Result<Answer, E> {
-        while let Some(cell) = self.next_cell()? {
-            self.saw(look(cell)?)?;
+        let Some(mut cell) = self.next_cell()? else {
+            return Ok(self.answer()?);
+        };
+        loop {
+            match self.look(look(cell)?)? {
+                Came::Next(next) => cell = next,
+                Came::Done(answer) => return Ok(answer),
+            }
         }
-        Ok(self.answer()?)
     }
 }

@@ -57,8 +57,8 @@ mod plan;
 mod sys;
 
 pub use cells::{Address, Cell, Mark, Put};
-pub use crew::{Caller, Crew, Member, Subscriber};
+pub use crew::{Caller, Census, Crew, Member, Subscriber};
 pub use error::{Cause, Error};
-pub use finder::{Answer, Finder, Outcome, Why};
+pub use finder::{Answer, Came, Finder, Outcome, Why};
 pub use mover::{Mover, Place};
-pub use plan::{Edge, Plan};
+pub use plan::{Edge, Plan, Room};

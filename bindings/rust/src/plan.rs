@@ -1,5 +1,5 @@
 //! The plan of a network: its levels, clusters and homes.
-use crate::sys::{EdgeFields, Handle, Sizes};
+use crate::sys::{EdgeFields, Handle, RoomFields, Sizes};
 use crate::{Crew, Error, Finder, Mover, Put};
 
 /// An edge of a network: it joins two nodes in both directions.
@@ -11,6 +11,15 @@ pub struct Edge {
     pub b: u32,
     /// Its weight, 1 to 1,048,576.
     pub weight: u64,
+}
+
+/// How many visits are wanted: no find from a node has more looks, and no move more puts.
+#[derive(Clone, Copy, Debug, PartialEq, Eq, Hash)]
+pub struct Room {
+    /// Of a find.
+    pub looks: u64,
+    /// Of a move.
+    pub puts: u64,
 }
 
 /// The plan of a network. `share` gives another owner of the same, for another thread.
@@ -68,6 +77,12 @@ impl Plan {
     /// Where a subscriber of the plan's text starts; [`Error::NoSubscriber`] where the text says no such.
     pub fn start(&self, sub: u32) -> Result<u32, Error> {
         self.handle.start(sub)
+    }
+
+    /// How many visits a find from a node may make, and how many a move. [`Error::NoNode`].
+    pub fn room(&self, node: u32) -> Result<Room, Error> {
+        let RoomFields { looks, puts } = self.handle.room(node)?;
+        Ok(Room { looks, puts })
     }
 
     /// The cells of a new subscriber at its start node that aren't 0. Write them, in any order, before its first find or

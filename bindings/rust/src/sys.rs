@@ -66,6 +66,21 @@ pub(crate) struct AnswerFields {
 
 #[repr(C)]
 #[derive(Clone, Copy, Default)]
+pub(crate) struct CensusFields {
+    pub ticket: u64,
+    pub who: u64,
+    pub count: u32,
+}
+
+#[repr(C)]
+#[derive(Clone, Copy, Default)]
+pub(crate) struct RoomFields {
+    pub looks: u64,
+    pub puts: u64,
+}
+
+#[repr(C)]
+#[derive(Clone, Copy, Default)]
 pub(crate) struct PlaceFields {
     pub sub: u32,
     pub node: u32,
@@ -106,10 +121,18 @@ extern "C" {
         index: u32,
         put: *mut PutFields,
     ) -> u32;
+    fn track_plan_room(plan: *mut Raw, node: u32, room: *mut RoomFields) -> u32;
     fn track_finder_new(plan: *mut Raw, from: u32, sub: u32, subs: u32, finder: *mut Raw) -> u32;
     fn track_finder_next(finder: *mut Raw, cell: *mut CellFields) -> u32;
     fn track_finder_saw(finder: *mut Raw, word: u64) -> u32;
     fn track_finder_answer(finder: *mut Raw, answer: *mut AnswerFields) -> u32;
+    fn track_finder_look(
+        finder: *mut Raw,
+        word: u64,
+        cell: *mut CellFields,
+        answer: *mut AnswerFields,
+    ) -> u32;
+    fn track_finder_again(finder: *mut Raw, from: u32, sub: u32, subs: u32) -> u32;
     fn track_mover_new(plan: *mut Raw, sub: u32, node: u32, mover: *mut Raw) -> u32;
     fn track_mover_move(mover: *mut Raw, to: u32) -> u32;
     fn track_mover_switch(mover: *mut Raw, off: bool) -> u32;
@@ -134,6 +157,7 @@ extern "C" {
     fn track_crew_next(crew: *mut Raw, member: *mut Raw, number: *mut u32) -> u32;
     fn track_actor_reserve(actor: *mut Raw, visits: u64) -> u32;
     fn track_caller_find(caller: *mut Raw, from: u32, sub: u32, answer: *mut AnswerFields) -> u32;
+    fn track_caller_census(caller: *mut Raw, node: u32, census: *mut CensusFields) -> u32;
     fn track_subscriber_move(subscriber: *mut Raw, to: u32) -> u32;
     fn track_subscriber_switch(subscriber: *mut Raw, off: bool) -> u32;
     fn track_subscriber_step(subscriber: *mut Raw, ticket: *mut u64) -> u32;
@@ -225,6 +249,10 @@ impl Handle {
         self.told(|plan, put| unsafe { track_plan_opening(plan, sub, node, index, put) })
     }
 
+    pub fn room(&self, node: u32) -> Result<RoomFields, Error> {
+        self.told(|plan, room| unsafe { track_plan_room(plan, node, room) })
+    }
+
     pub fn finder(&self, from: u32, sub: u32, subs: u32) -> Result<Self, Error> {
         Self::made(|finder| unsafe { track_finder_new(self.0.get(), from, sub, subs, finder) })
     }
@@ -239,6 +267,20 @@ impl Handle {
 
     pub fn answer(&self) -> Result<AnswerFields, Error> {
         self.told(|finder, answer| unsafe { track_finder_answer(finder, answer) })
+    }
+
+    /// The cell to look at next, or else the answer.
+    pub fn look(&self, word: u64) -> Result<Result<CellFields, AnswerFields>, Error> {
+        let (mut cell, mut answer) = (CellFields::default(), AnswerFields::default());
+        let code = unsafe { track_finder_look(self.0.get(), word, &mut cell, &mut answer) };
+        match check(code) {
+            Err(Error::Ended) => Ok(Err(answer)),
+            told => told.map(|()| Ok(cell)),
+        }
+    }
+
+    pub fn again(&self, from: u32, sub: u32, subs: u32) -> Result<(), Error> {
+        check(unsafe { track_finder_again(self.0.get(), from, sub, subs) })
     }
 
     pub fn mover(&self, sub: u32, node: u32) -> Result<Self, Error> {
@@ -296,6 +338,10 @@ impl Handle {
 
     pub fn find(&self, from: u32, sub: u32) -> Result<AnswerFields, Error> {
         self.told(|caller, answer| unsafe { track_caller_find(caller, from, sub, answer) })
+    }
+
+    pub fn census(&self, node: u32) -> Result<CensusFields, Error> {
+        self.told(|caller, census| unsafe { track_caller_census(caller, node, census) })
     }
 
     pub fn begin_move(&self, to: u32) -> Result<(), Error> {

@@ -2,7 +2,7 @@
 use std::collections::HashMap;
 
 use track::{
-    Address, Caller, Cause, Cell, Edge, Error, Mark, Member, Mover, Outcome, Place, Plan, Put,
+    Address, Caller, Came, Cause, Cell, Edge, Error, Mark, Member, Mover, Outcome, Place, Plan, Put,
     Subscriber,
 };
 
@@ -199,6 +199,33 @@ fn edges_make_the_same_plan() {
 }
 
 #[test]
+fn a_find_takes_a_call_for_each_look() {
+    let (plan, cells, _) = opened();
+    let room = plan.room(0).expect("room");
+    assert_eq!(room.puts, u64::from(3 + 2 * plan.levels() + plan.nodes()));
+    assert_eq!(plan.room(4).err(), Some(Error::NoNode));
+    let mut finder = plan.find(0, 0).expect("a find");
+    let first = finder.next_cell().expect("a look").expect("a cell");
+    let (mut came, mut looks) = (Came::Next(first), 0);
+    while let Came::Next(cell) = came {
+        came = finder
+            .look(cells.get(&cell).copied().unwrap_or(0))
+            .expect("a look");
+        looks += 1;
+    }
+    assert!(looks <= room.looks);
+    assert_eq!(came, Came::Done(finder.answer().expect("an answer")));
+    assert_eq!(finder.look(u64::MAX), Ok(came));
+    assert_eq!(finder.again(4, 0), Err(Error::NoNode));
+    assert_eq!(finder.look(0), Ok(came));
+    assert_eq!(finder.again(3, 0), Ok(()));
+    assert_eq!(finder.look(u64::MAX), Err(Error::BadWord));
+    assert_eq!(finder.answer(), Err(Error::Looking));
+    let answer = finder.run(|cell| Ok::<u64, Error>(cells.get(&cell).copied().unwrap_or(0)));
+    assert_eq!(answer.map(|it| it.weight), Ok(0));
+}
+
+#[test]
 fn words() {
     let marks = [
         Mark::Nothing,
@@ -274,4 +301,11 @@ fn members_of_a_crew_move_and_find_on_threads_of_their_own() {
         off: false,
     };
     assert_eq!(answer.outcome, wanted);
+    let listed = caller.census(1).expect("a census");
+    assert_eq!(listed.subs, [0]);
+    assert_eq!(
+        caller.census(3).map(|it| (it.ticket, it.subs)),
+        Ok((listed.ticket + 1, vec![]))
+    );
+    assert_eq!(caller.census(4).err(), Some(Error::NoNode));
 }

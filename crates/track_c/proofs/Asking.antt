@@ -5,6 +5,7 @@ use Rattle.std.specs.Prelude.{Option, Some, None, Result, Err}
 use Rattle.std.specs.Option.{is_some}
 use Rattle.directory.specs.Finds.{FindCall}
 use Rattle.track_c.specs.Callers.{IsFindOf, caller_in}
+use Rattle.track_c.specs.Censuses.{IsCensusBy}
 use Rattle.track_c.specs.Crews.{HandsNext, IsCrewAnswer, MakesCrew, crew_in, handing, with_pass_left}
 use Rattle.track_c.specs.Faults.{Answer, TellsWithMemory, and_then, code_of}
 use Rattle.track_c.specs.Held.{Held, IsMade, PlanHeld, into, nothing, plan_in, seen, seen_made}
@@ -48,6 +49,12 @@ pub no-caller-find : (call : FindCall) (before now : Held) → before ≡ nothin
     → IsFindOf (caller_in before) call (Err EmptyHandle) before now
 no-caller-find call before now is empty =
     subst (λ (h : Held). IsFindOf (caller_in h) call (Err EmptyHandle) h now) (sym is) (refl, empty)
+
+-- nor a census
+pub no-caller-census : (node : ℕ) (before now : Held) → before ≡ nothing → now ≡ nothing
+    → IsCensusBy (caller_in before) node (Err EmptyHandle) before now
+no-caller-census node before now is empty =
+    subst (λ (h : Held). IsCensusBy (caller_in h) node (Err EmptyHandle) h now) (sym is) (refl, empty)
 
 -- an empty handle has no put
 pub no-subscriber-step : (before now : Held) → before ≡ nothing → now ≡ nothing

@@ -1,4 +1,5 @@
 pub mod Callers
+pub mod Censuses
 pub mod Crews
 pub mod Edges
 pub mod Facts
@@ -6,11 +7,13 @@ pub mod Faults
 pub mod Finds
 pub mod Handles
 pub mod Held
+pub mod Looks
 pub mod Members
 pub mod Moves
 pub mod Openings
 pub mod Owned
 pub mod Plans
+pub mod Rooms
 pub mod Saving
 pub mod Subscribers
 pub mod Told

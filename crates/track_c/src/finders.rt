@@ -6,6 +6,7 @@ ghost use Rattle.track_c.specs.Faults.{Tells, TellsWithMemory, and_then};
 ghost use Rattle.track_c.specs.Finds.{after_look, answer_in, entry_fits, fits, mark_fits, new_finder, next_look};
 ghost use Rattle.track_c.specs.Handles.{held};
 ghost use Rattle.track_c.specs.Held.{IsMade, a_finder, finder_in, into, plan_in, seen_finder, seen_object};
+ghost use Rattle.track_c.specs.Looks.{begun_again};
 
 use crate::cells::{TrackAnswer, TrackCell, tell_answer, tell_cell};
 use crate::fault::Fault;
@@ -41,7 +42,7 @@ fn entry_fits_in(nodes: u32, word: u64) -> bool
 }
 
 // Whether a cell may hold this word.
-fn fits_in(nodes: u32, key: Key, word: u64) -> bool
+pub fn fits_in(nodes: u32, key: Key, word: u64) -> bool
     ensures { result ≡ fits nodes key word }
 {
     match key {
@@ -52,7 +53,7 @@ fn fits_in(nodes: u32, key: Key, word: u64) -> bool
 
 impl Finder {
     // The cell that it looks at next.
-    fn next_cell(&self) -> Result<TrackCell, Fault>
+    pub fn next_cell(&self) -> Result<TrackCell, Fault>
         ensures { result ≡ next_look (seen_finder self.now) }
     {
         match self.walk.next(&self.network.plan) {
@@ -79,8 +80,26 @@ impl Finder {
         Ok(())
     }
 
+    // It begins again, over its plan.
+    fn again(&mut self, from: u32, sub: u32, subs: u32) -> Result<(), Fault>
+        ensures { MatchResult result
+            (λ _. begun_again from sub subs (seen_finder self.old)
+            ≡ Ok (a_finder (seen_finder self.new)))
+            (λ fault. (begun_again from sub subs (seen_finder self.old) ≡ Err fault)
+            × (seen_finder self.new ≡ seen_finder self.old)) }
+    {
+        match Walk::new(from, sub, subs, &self.network.plan) {
+            Ok(walk) => {
+                self.walk = walk;
+                Ok(())
+            }
+            Err(WalkFault::NoNode) => Err(Fault::NoNode),
+            Err(WalkFault::NoSubscriber) => Err(Fault::NoSubscriber),
+        }
+    }
+
     // Its answer.
-    fn found(&self) -> Result<TrackAnswer, Fault>
+    pub fn found(&self) -> Result<TrackAnswer, Fault>
         ensures { result ≡ answer_in (seen_finder self.now) }
     {
         match self.walk.answer() {
@@ -126,6 +145,25 @@ fn read_in(object: &mut Object, word: u64) -> Result<(), Fault>
 {
     match object {
         Object::Finder(finder) => finder.read(word),
+        Object::Plan(_)
+        | Object::Mover(_)
+        | Object::Crew(_)
+        | Object::Caller(_)
+        | Object::Subscriber(_) => Err(Fault::OtherKind),
+    }
+}
+
+// The find of an object begins again.
+fn again_in(object: &mut Object, from: u32, sub: u32, subs: u32) -> Result<(), Fault>
+    ensures { MatchResult result
+        (λ _. and_then (finder_in (seen_object object.old)) (begun_again from sub subs)
+        ≡ Ok (seen_object object.new))
+        (λ fault. (and_then (finder_in (seen_object object.old)) (begun_again from sub subs)
+        ≡ Err fault)
+        × (seen_object object.new ≡ seen_object object.old)) }
+{
+    match object {
+        Object::Finder(finder) => finder.again(from, sub, subs),
         Object::Plan(_)
         | Object::Mover(_)
         | Object::Crew(_)
@@ -221,4 +259,24 @@ pub extern "C" fn track_finder_answer(
     let found = found_in(&object);
     finder.put(object);
     tell(answer, found)
+}
+
+/// A finder begins again in its place: another find over its plan.
+#[unsafe(no_mangle)]
+pub extern "C" fn track_finder_again(
+    alloc: Global,
+    finder: &mut TrackHandle,
+    from: u32,
+    sub: u32,
+    subs: u32,
+) -> u32
+    ensures { Tells (and_then (finder_in (held finder.old)) (begun_again from sub subs)) result
+        (held finder.old) (held finder.new) }
+{
+    let Some(mut object) = finder.take(alloc) else {
+        return Fault::EmptyHandle.code();
+    };
+    let begun = again_in(&mut object, from, sub, subs);
+    finder.put(object);
+    done(begun)
 }

@@ -5,16 +5,19 @@
 
 mod callers;
 mod cells;
+mod censuses;
 mod crews;
 mod edges;
 mod fault;
 mod finders;
 mod handle;
+mod looks;
 mod members;
 mod movers;
 mod object;
 mod openings;
 mod plans;
+mod rooms;
 mod saving;
 mod subscribers;
 mod telling;

@@ -6,7 +6,7 @@ ghost use Rattle.track_c.specs.Faults.{Tells, and_then};
 ghost use Rattle.track_c.specs.Handles.{held};
 ghost use Rattle.track_c.specs.Held.{plan_in, seen_network, seen_object};
 ghost use Rattle.track_c.specs.Moves.{put_told};
-ghost use Rattle.track_c.specs.Openings.{opening_put, opening_write, write_or_end};
+ghost use Rattle.track_c.specs.Openings.{OpeningIsPut, PutsAreOpening, opening_put, opening_write, write_or_end};
 
 use crate::cells::{TrackPut, tell_cell};
 use crate::fault::Fault;
@@ -109,3 +109,10 @@ pub extern "C" fn track_plan_opening(
     plan.put(object);
     tell(put, found)
 }
+
+/// The puts of an opening are the directory's own: each tells what its cell holds, and each cell
+/// that isn't 0 has one. The call does nothing.
+pub fn openings_are_the_directorys()
+    ensures puts { PutsAreOpening }
+    ensures cells { OpeningIsPut }
+{}

@@ -60,6 +60,14 @@ class AnswerFields(ctypes.Structure):
     _fields_ = [*_numbers("kind why node number climbed level"), ("weight", u64)]
 
 
+class CensusFields(ctypes.Structure):
+    _fields_ = [("ticket", u64), ("who", u64), ("count", u32)]
+
+
+class RoomFields(ctypes.Structure):
+    _fields_ = [("looks", u64), ("puts", u64)]
+
+
 class PlaceFields(ctypes.Structure):
     _fields_ = _numbers("sub node number off")
 
@@ -77,10 +85,13 @@ SIGNATURES: dict[str, list] = {
     "track_plan_sizes": [_handle, _to(Sizes)],
     "track_plan_start": [_handle, number, _to(u32)],
     "track_plan_opening": [_handle, number, number, number, _to(PutFields)],
+    "track_plan_room": [_handle, number, _to(RoomFields)],
     "track_finder_new": [_handle, number, number, number, _handle],
     "track_finder_next": [_handle, _to(CellFields)],
     "track_finder_saw": [_handle, word],
     "track_finder_answer": [_handle, _to(AnswerFields)],
+    "track_finder_look": [_handle, word, _to(CellFields), _to(AnswerFields)],
+    "track_finder_again": [_handle, number, number, number],
     "track_mover_new": [_handle, number, number, _handle],
     "track_mover_move": [_handle, number],
     "track_mover_switch": [_handle, boolean],
@@ -94,6 +105,7 @@ SIGNATURES: dict[str, list] = {
     "track_crew_next": [_handle, _handle, _to(u32)],
     "track_actor_reserve": [_handle, word],
     "track_caller_find": [_handle, number, number, _to(AnswerFields)],
+    "track_caller_census": [_handle, number, _to(CensusFields)],
     "track_subscriber_move": [_handle, number],
     "track_subscriber_switch": [_handle, boolean],
     "track_subscriber_step": [_handle, _to(u64)],

@@ -2,12 +2,19 @@
 from __future__ import annotations
 
 import ctypes
-from typing import Optional, Sequence, Union
+from typing import NamedTuple, Optional, Sequence, Union
 
-from ._library import AnswerFields, Handle, Owner, calls, must
+from ._library import AnswerFields, CensusFields, Handle, Owner, calls, must
 from .errors import AtRest, PastEnd
 from .finders import Again, Found, answer_of
 from .plans import Plan
+
+
+class Census(NamedTuple):
+    """The subscribers that are at a node, and how many visits of all came before it."""
+
+    ticket: int
+    subs: tuple[int, ...]
 
 
 class Member(Owner):
@@ -32,6 +39,13 @@ class Caller(Member):
         told = AnswerFields()
         must(calls.track_caller_find(self._handle, start, sub, told))
         return answer_of(told)
+
+    def census(self, node: int) -> Census:
+        """The subscribers that are at a node; it is one visit. Raises NoNode, Unreserved; Held where another member was inside the
+        node just then."""
+        told = CensusFields()
+        must(calls.track_caller_census(self._handle, node, told))
+        return Census(told.ticket, tuple(sub for sub in range(64) if told.who >> sub & 1))
 
 
 class Subscriber(Member):

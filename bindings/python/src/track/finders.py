@@ -77,9 +77,26 @@ class Finder(Owner):
         must(calls.track_finder_answer(self._handle, told))
         return answer_of(told)
 
+    def look(self, word: int) -> Union[Cell, Found, Again]:
+        """`saw`, and then `next` or `answer`, in one call: the look at the cell that came next read this word. It tells the cell to
+        look at then, or the answer, which stays once it is there. Raises BadWord."""
+        fields, told = CellFields(), AnswerFields()
+        try:
+            must(calls.track_finder_look(self._handle, word, fields, told))
+        except Ended:
+            return answer_of(told)
+        return cell_of(fields)
+
+    def again(self, start: int, sub: int, subs: Optional[int] = None) -> None:
+        """Begins another find in the place of this one, over the same plan. Raises NoNode, NoSubscriber, and then this one stands."""
+        must(calls.track_finder_again(self._handle, start, sub, UNCOUNTED if subs is None else subs))
+
     def run(self, look: Callable[[Cell], int]) -> Union[Found, Again]:
         """All looks that are left, by `look`, which reads a cell; and the answer. If it raises, the find can go on: a look changes
         nothing."""
-        while (cell := self.next()) is not None:
-            self.saw(look(cell))
-        return self.answer()
+        came = self.next()
+        if came is None:
+            return self.answer()
+        while isinstance(came, Cell):
+            came = self.look(look(came))
+        return came

@@ -1,9 +1,9 @@
 """The plan of a network: its levels, clusters and homes."""
 from __future__ import annotations
 
-from typing import Iterable, Iterator, Union
+from typing import Iterable, Iterator, NamedTuple, Union
 
-from ._library import Edge, Owner, PutFields, Refusal, Sizes, calls, long_calls, must, must_read, u32
+from ._library import Edge, Owner, PutFields, Refusal, RoomFields, Sizes, calls, long_calls, must, must_read, u32
 from .cells import Put, put_of
 
 
@@ -11,6 +11,13 @@ def _checked(value: int, bits: int) -> int:
     if not 0 <= value < 1 << bits:
         raise OverflowError(f"{value} isn't a number of {bits} bits")
     return value
+
+
+class Room(NamedTuple):
+    """No find from a node has more looks, and no move more puts."""
+
+    looks: int
+    puts: int
 
 
 class Plan(Owner):
@@ -55,6 +62,12 @@ class Plan(Owner):
         node = u32()
         must(calls.track_plan_start(self._handle, sub, node))
         return node.value
+
+    def room(self, node: int) -> Room:
+        """How many visits a find from a node may make, and how many a move. Raises NoNode."""
+        room = RoomFields()
+        must(calls.track_plan_room(self._handle, node, room))
+        return Room(room.looks, room.puts)
 
     def opening(self, sub: int, node: int) -> Iterator[Put]:
         """The cells of a new subscriber at its start node that aren't 0. Write them, in any order, before its first find or move.
