@@ -4,7 +4,7 @@ ghost use Rattle.directory.specs.declared.answers.Done.TheVariants.{Again, Moved
 ghost use Rattle.directory.specs.declared.answers.Why.TheVariants.{Chased, Empty as EmptyAt};
 ghost use Rattle.json_form.specs.Inputs.{input_json_of};
 ghost use Rattle.json_form.specs.Reports.{report_json_of};
-ghost use Rattle.json_form.specs.Shapes.{call_in, listing_of_values};
+ghost use Rattle.json_form.specs.Taking.{call_in, listing_of_values};
 ghost use Rattle.json_form.specs.Values.{row, whole, wholes};
 ghost use Rattle.net_graph.specs.Walks.{make_edge};
 ghost use Rattle.net_reader.specs.declared.said.Call.TheVariants.{Find, Move, Off, On};
